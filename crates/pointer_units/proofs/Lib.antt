@@ -1,0 +1,13 @@
+pub mod Prefixes
+pub mod Beginnings
+pub mod Naming
+pub mod Cutting
+pub mod Walks
+pub mod Accepted
+pub mod Sources
+pub mod Fitting
+pub mod Placing
+pub mod Unfits
+pub mod Lines
+pub mod Valid
+pub mod Zeros

@@ -1,0 +1,6 @@
+use Rattle.pointer_units.specs.Units.{words_of}
+use Rattle.pointer_units.proofs.Accepted.{same_unit}
+use Rattle.pointer_units.proofs.laws.one_unit.Goals as goal
+
+pub returns : goal.returns
+returns c = λ text one other h k. same_unit (words_of text) one other h.tokens k.tokens

@@ -1,0 +1,10 @@
+pub mod Tokens
+pub mod Units
+pub mod Refusals
+pub mod Faults
+pub mod Laws
+pub mod Constraints
+pub mod Words
+pub mod Steps
+pub mod ReadFaults
+pub mod Report

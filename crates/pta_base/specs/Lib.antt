@@ -1,0 +1,4 @@
+pub mod Outside
+pub mod Kind
+pub mod MemoryUnits
+pub mod MemorySink

@@ -1,0 +1,5 @@
+pub mod Words
+pub mod Outcome
+pub mod Outside
+pub mod Faults
+pub mod Laws

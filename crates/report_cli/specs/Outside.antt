@@ -1,0 +1,26 @@
+-- What a call leaves behind outside.
+use Rattle.std.specs.Prelude.{◌≡◌, ℕ, ◌≤◌, List, ◌++◌, length, take, Option, option_map, codes}
+use Rattle.pta_base.specs.Outside.{IsSteady}
+
+-- what was written grew by a text; both are told, or neither
+abbrev pub Grows : Option (List ℕ) → Option (List ℕ) → List ℕ → Type 0
+Grows before after text = after ≡ option_map (λ written. written ++ text) before
+
+-- what was written grew by a beginning of a text
+abbrev pub GrowsInPart : Option (List ℕ) → Option (List ℕ) → List ℕ → Type 0
+GrowsInPart before after text = (count : ℕ) × (count ≤ length text) × Grows before after (take count text)
+
+-- a text went to a sink that may fail: whole where no fault rose there, and else in part
+pub record Receives (before after : Option (List ℕ)) (faults_before faults_after : ℕ) (text : List ℕ) : Type 0 where
+  pub whole : IsSteady faults_before faults_after → Grows before after text
+  pub part : GrowsInPart before after text
+
+-- the lines that speak of the outside
+abbrev pub source_fault : List ℕ → List ℕ
+source_fault name = codes "source fault " ++ name ++ codes "\n"
+
+abbrev pub sink_fault : List ℕ
+sink_fault = codes "sink fault\n"
+
+abbrev pub out_of_memory : List ℕ
+out_of_memory = codes "out of memory\n"

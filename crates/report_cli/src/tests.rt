@@ -1,0 +1,241 @@
+// Worked calls of `analyse` over texts and sinks in memory: what no clause says of the kinds in memory, and that a call
+// with ample memory succeeds.
+use crate::analyse;
+use pta_base::{Failed, Gate, MemorySink, MemoryUnits, Sink, Units};
+use std::test::Fail;
+use std::thread::Threads;
+
+struct OpenGate;
+
+impl Gate for OpenGate {
+    fn pass(&self, _worker: u32, _turn: u32) {}
+}
+
+/// What a call answered, and what it wrote.
+#[derive(Drop)]
+struct Answered {
+    status: u8,
+    out: Vec<u8>,
+    err: Vec<u8>,
+}
+
+/// A call with these words, where each text stands under its name and some reads and writes fail.
+fn answer_of<R: Threads + Sync + AllocGlobal>(
+    rt: &R,
+    words: &[&str],
+    texts: &[(&str, &str)],
+    reads: &[u64],
+    writes: &[u64],
+) -> Result<Answered, Fail> {
+    let mut list = Vec::new(rt.alloc());
+    for word in words {
+        list.push(word.to_string(rt.alloc())?)?;
+    }
+    let mut named = Vec::new(rt.alloc());
+    for (name, text) in texts {
+        named.push((
+            name.to_string(rt.alloc())?,
+            text.as_bytes().to_vec(rt.alloc())?,
+        ))?;
+    }
+    let mut units = MemoryUnits::new(named, reads.to_vec(rt.alloc())?);
+    let Ok(mut out) = MemorySink::new(rt.alloc(), 65536, writes.to_vec(rt.alloc())?) else {
+        return Err(Fail::from("no memory"));
+    };
+    let Ok(mut err) = MemorySink::new(rt.alloc(), 65536, Vec::new(rt.alloc())) else {
+        return Err(Fail::from("no memory"));
+    };
+    let status = analyse(
+        rt,
+        rt.alloc(),
+        list.as_slice(),
+        &mut units,
+        &mut out,
+        &mut err,
+        &OpenGate,
+    );
+    Ok(Answered {
+        status,
+        out: out.written().to_vec(rt.alloc())?,
+        err: err.written().to_vec(rt.alloc())?,
+    })
+}
+
+const ROW_1: &str = "int x,*p; int main(void){p=&x;return 0;}";
+
+#[test]
+fn worked_rows(rt: HostRuntime) -> Result<(), Fail> {
+    for (text, status, out, err) in [
+        (ROW_1, 0, "pta 1\nset p: x\nend\n", ""),
+        (
+            "int x,*p,*q,*r; int main(void){p=q;q=r;r=p;r=&x;return 0;}",
+            0,
+            "pta 1\nset p: x\nset q: x\nset r: x\nend\n",
+            "",
+        ),
+        (
+            "int *p; int main(void){return 0;}",
+            0,
+            "pta 1\nset p:\nend\n",
+            "",
+        ),
+        (
+            "int x; int main(void){x=1;return 0;}",
+            4,
+            "",
+            "a.i:1:25: not accepted not-built\n",
+        ),
+        ("", 4, "", "a.i:1:1: not accepted not-built\n"),
+        (
+            "int x,*p;\nint main(void){\np=&x;\nreturn 0;",
+            4,
+            "",
+            "a.i:4:10: not accepted not-built\n",
+        ),
+        (
+            "int x,*p,*q;\nint main(void){p=&x;q=&p;return 0;}",
+            4,
+            "",
+            "a.i:2:25: not accepted not-built\n",
+        ),
+    ] {
+        let made = answer_of(&rt, &["a.i"], &[("a.i", text)], &[], &[])?;
+        assert_eq!(rt; made.status, status, "{text}");
+        assert_eq!(rt; made.out.as_slice(), out.as_bytes(), "{text}");
+        assert_eq!(rt; made.err.as_slice(), err.as_bytes(), "{text}");
+    }
+    Ok(())
+}
+
+#[test]
+fn words_that_are_not_right(rt: HostRuntime) -> Result<(), Fail> {
+    for words in [
+        [].as_slice(),
+        ["a.i", "a.i"].as_slice(),
+        ["--workers", "0", "a.i"].as_slice(),
+        ["-x", "a.i"].as_slice(),
+        ["a$i"].as_slice(),
+        [""].as_slice(),
+    ] {
+        let made = answer_of(&rt, words, &[("a.i", ROW_1)], &[], &[])?;
+        assert_eq!(rt; made.status, 2);
+        assert_eq!(rt; made.out.as_slice(), b"".as_slice());
+        assert_eq!(rt; made.err.as_slice(), b"usage\n".as_slice());
+    }
+    let both = answer_of(
+        &rt,
+        &["a.i", "b.i"],
+        &[("a.i", ROW_1), ("b.i", ROW_1)],
+        &[],
+        &[],
+    )?;
+    assert_eq!(rt; both.status, 4);
+    assert_eq!(rt;
+        both.err.as_slice(),
+        b"b.i:1:1: not accepted not-built\n".as_slice()
+    );
+    Ok(())
+}
+
+#[test]
+fn a_read_that_fails(rt: HostRuntime) -> Result<(), Fail> {
+    for read in 0..2u64 {
+        let made = answer_of(&rt, &["a.i"], &[("a.i", ROW_1)], &[read], &[])?;
+        assert_eq!(rt; made.status, 7, "read {read}");
+        assert_eq!(rt; made.out.as_slice(), b"".as_slice());
+        assert_eq!(rt; made.err.as_slice(), b"source fault a.i\n".as_slice());
+    }
+    let later = answer_of(&rt, &["a.i"], &[("a.i", ROW_1)], &[2], &[])?;
+    assert_eq!(rt; later.status, 0);
+    let missing = answer_of(&rt, &["b.i"], &[("a.i", ROW_1)], &[], &[])?;
+    assert_eq!(rt; missing.status, 7);
+    assert_eq!(rt; missing.err.as_slice(), b"source fault b.i\n".as_slice());
+    Ok(())
+}
+
+#[test]
+fn a_write_that_fails(rt: HostRuntime) -> Result<(), Fail> {
+    let made = answer_of(&rt, &["a.i"], &[("a.i", ROW_1)], &[], &[0])?;
+    assert_eq!(rt; made.status, 8);
+    assert_eq!(rt; made.out.as_slice(), b"".as_slice());
+    assert_eq!(rt; made.err.as_slice(), b"sink fault\n".as_slice());
+    let later = answer_of(&rt, &["a.i"], &[("a.i", ROW_1)], &[], &[1])?;
+    assert_eq!(rt; later.status, 0);
+    Ok(())
+}
+
+#[test]
+fn a_set_of_two_words(rt: HostRuntime) -> Result<(), Fail> {
+    let mut text = "int v0".to_string(rt.alloc())?;
+    let mut sets = "pta 1\nset p: v0".to_string(rt.alloc())?;
+    let mut stores = "p=&v0;".to_string(rt.alloc())?;
+    for number in 1..65u32 {
+        text.push_str(format!(in rt.alloc(); ",v{number}")?.as_str())?;
+        stores.push_str(format!(in rt.alloc(); "p=&v{number};")?.as_str())?;
+        sets.push_str(format!(in rt.alloc(); " v{number}")?.as_str())?;
+    }
+    text.push_str(",*p,*q; int main(void){")?;
+    text.push_str(stores.as_str())?;
+    text.push_str("q=&v64;return 0;}")?;
+    sets.push_str("\nset q: v64\nend\n")?;
+    let made = answer_of(&rt, &["a.i"], &[("a.i", text.as_str())], &[], &[])?;
+    assert_eq!(rt; made.status, 0);
+    assert_eq!(rt; made.out.as_slice(), sets.as_bytes());
+    Ok(())
+}
+
+/// Texts of which a read gives one byte at the most.
+#[derive(Drop)]
+struct ByteUnits(MemoryUnits);
+
+impl Units for ByteUnits {
+    ghost text = { λ units name. ⟦<MemoryUnits as Units>⟧.text units.0 name };
+
+    ghost faults = { λ units name. ⟦<MemoryUnits as Units>⟧.faults units.0 name };
+
+    fn read(&mut self, name: &str, at: u64, buf: &mut [u8]) -> Result<usize, Failed> {
+        self.0.read(name, at, &mut buf[..1])
+    }
+}
+
+/// A sink that takes one byte of a piece.
+#[derive(Drop)]
+struct ByteSink(MemorySink);
+
+impl Sink for ByteSink {
+    ghost written = { λ sink. ⟦<MemorySink as Sink>⟧.written sink.0 };
+
+    ghost faults = { λ sink. ⟦<MemorySink as Sink>⟧.faults sink.0 };
+
+    fn write(&mut self, piece: &[u8]) -> Result<usize, Failed> {
+        self.0.write(&piece[..1])
+    }
+}
+
+#[test]
+fn bytes_one_at_a_time(rt: HostRuntime) -> Result<(), Fail> {
+    let text = ROW_1.as_bytes().to_vec(rt.alloc())?;
+    let word = "a.i".to_string(rt.alloc())?;
+    let named = vec![in rt.alloc(); ("a.i".to_string(rt.alloc())?, text)]?;
+    let words = vec![in rt.alloc(); word]?;
+    let mut units = ByteUnits(MemoryUnits::new(named, Vec::new(rt.alloc())));
+    let Ok(out) = MemorySink::new(rt.alloc(), 64, Vec::new(rt.alloc())) else {
+        return Err(Fail::from("no memory"));
+    };
+    let Ok(mut err) = MemorySink::new(rt.alloc(), 64, Vec::new(rt.alloc())) else {
+        return Err(Fail::from("no memory"));
+    };
+    let mut slow = ByteSink(out);
+    let status = analyse(
+        &rt,
+        rt.alloc(),
+        words.as_slice(),
+        &mut units,
+        &mut slow,
+        &mut err,
+        &OpenGate,
+    );
+    assert_eq!(rt; status, 0);
+    assert_eq!(rt; slow.0.written(), b"pta 1\nset p: x\nend\n".as_slice());
+    Ok(())
+}

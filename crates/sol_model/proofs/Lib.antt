@@ -1,0 +1,10 @@
+pub mod Shown
+pub mod Monotone
+pub mod Members
+pub mod InRange
+pub mod Pairs
+pub mod Turns
+pub mod Fitting
+pub mod Words
+pub mod Closed
+pub mod Growing
