@@ -1,12 +1,12 @@
 pub mod Prefixes
 pub mod Beginnings
 pub mod Naming
-pub mod Cutting
 pub mod Walks
 pub mod Accepted
+pub mod Exclusion
+pub mod Spans
 pub mod Sources
 pub mod Fitting
-pub mod Placing
 pub mod Unfits
 pub mod Lines
 pub mod Valid

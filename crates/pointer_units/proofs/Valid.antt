@@ -1,5 +1,5 @@
 -- The system of an accepted unit is valid.
-use Rattle.std.proofs.Common.{◌≡◌, ℕ, zero, suc, ◌+◌, ◌*◌, ◌^◌, ◌<◌, ◌≤◌, Bool, true, false, cond, ◌⊎◌, List, [], ◌∷◌, ◌++◌, map, flat_map, length, All, Some, slice_get, refl, sym, ◌∙◌, ap, subst, inl, inr, arith, length-append}
+use Rattle.std.proofs.Common.{◌≡◌, ℕ, zero, suc, ◌+◌, ◌-◌, ◌*◌, ◌^◌, ◌<◌, ◌≤◌, Bool, true, false, cond, ◌⊎◌, List, [], ◌∷◌, ◌++◌, map, flat_map, take, min, length, All, Some, slice_get, refl, sym, ◌∙◌, ap, subst, inl, inr, arith, length-append, length-take}
 use Rattle.std.specs.Prelude.{count_by, codes, if◌then◌else◌}
 use Rattle.std.proofs.lemmas.Bool.{cases_Bool}
 use Rattle.std.proofs.lemmas.List.{length-map}
@@ -19,9 +19,8 @@ use Rattle.pointer_units.specs.declared.unit.Assignment.{Assignment}
 use Rattle.pointer_units.specs.declared.unit.PointerUnit.{PointerUnit}
 use Rattle.pointer_units.specs.Constraints.{location_of, main_location, main_function, scalar, constraints_of, constraints_from, system_of}
 use Rattle.pointer_units.specs.Faults.{IsAccepted}
-use Rattle.pointer_units.specs.Tokens.{tokens_from}
-use Rattle.pointer_units.specs.Units.{Declaration, items_of, is_pointer, item_tokens, declaration_tokens, assignment_tokens, sides_tokens, unit_tokens, words_of}
-use Rattle.pointer_units.proofs.Cutting.{token_count}
+use Rattle.pointer_units.specs.Tokens.{bytes_in, words_of}
+use Rattle.pointer_units.specs.Units.{Declaration, items_of, is_pointer, item_tokens, declaration_tokens, assignment_tokens, sides_tokens, unit_tokens}
 
 -- a unit has at most as many items and assignments as tokens
 item_count : (pointer : Bool) (name : List ℕ) → 1 ≤ length (item_tokens (record { name = name; pointer = pointer }))
@@ -59,12 +58,15 @@ unit_count declarations assignments =
 pub accepted_size : (unit : PointerUnit) → IsAccepted unit → length unit.items + length unit.assignments + 10 ≤ 16384
 accepted_size unit accepted =
     let text = accepted.0 in
-    let of = accepted.1.tokens in
-    let size = accepted.1.size in
-    let tokens : length (words_of text) ≡ length (tokens_from 0 text) = length-map (tokens_from 0 text) (λ (token : ℕ × List ℕ). token.1) in
-    let source : length (words_of text) ≡ length (unit_tokens of.declarations unit.assignments) = ap length of.source in
+    let list = accepted.1 in
+    let few = accepted.2 in
+    let of = accepted.3.tokens in
+    let size = accepted.3.size in
+    let tokens : length (words_of text list) ≡ length (take (length list - 1) list) = length-map (take (length list - 1) list) (bytes_in text) in
+    let front : length (take (length list - 1) list) ≡ min (length list - 1) (length list) = length-take (length list - 1) list in
+    let source : length (words_of text list) ≡ length (unit_tokens of.declarations unit.assignments) = ap length of.source in
     let items : length (items_of of.declarations) ≡ length unit.items = ap length of.items in
-    omega (arith, token_count 0 text, unit_count of.declarations unit.assignments)
+    omega (arith, unit_count of.declarations unit.assignments)
 
 pub count_is : (unit : PointerUnit) → location_count (system_of unit) ≡ length unit.items + 1
 count_is unit = length-append (map location_of unit.items) (main_location ∷ []) ∙ ap (λ n. n + 1) (length-map unit.items location_of)
@@ -151,7 +153,7 @@ accepted_valid unit accepted =
     let size = accepted_size unit accepted in
     record {
       rows = omega arith;
-      constraints = constraints_valid (system_of unit) unit.items (length unit.items + 1) unit.assignments (omega arith) (omega arith) accepted.1.tokens.named.known (omega arith);
+      constraints = constraints_valid (system_of unit) unit.items (length unit.items + 1) unit.assignments (omega arith) (omega arith) accepted.3.tokens.named.known (omega arith);
       locations = λ l fact found. elim (location_cases unit.items l fact found) [
         | inl p ↦ subst (IsLocationValid (system_of unit) l) (sym p.2) (item_valid unit l p.0 p.1)
         | inr p ↦ subst (IsLocationValid (system_of unit) l) (sym p.1) (main_valid unit l p.0)

@@ -1,10 +1,11 @@
 -- Which token of a text is the first that does not fit.
-use Rattle.std.specs.Prelude.{◌≡◌, ℕ, ◌+◌, ◌<◌, ◌≤◌, ◌⊎◌, List, [], ◌∷◌, ◌++◌, length, take, All, slice_get}
+use Rattle.std.specs.Prelude.{◌≡◌, ℕ, ◌+◌, ◌<◌, ◌≤◌, ◌⊎◌, List, [], ◌∷◌, ◌++◌, length, take, All, slice_get, Some}
 use Rattle.std.specs.Option.{option_map_or}
 use Rattle.pointer_units.specs.declared.unit.Assignment.{Assignment}
 use Rattle.pointer_units.specs.declared.unit.PointerUnit.{PointerUnit}
-use Rattle.pointer_units.specs.Tokens.{tokens_from, line_behind, column_behind}
-use Rattle.pointer_units.specs.Units.{Declaration, items_of, sides_tokens, front_tokens, unit_tokens, AreNamed, IsLevel, AreTokensOf, words_of}
+use Rattle.c_lexer.specs.declared.Token.{Token}
+use Rattle.pointer_units.specs.Tokens.{words_of}
+use Rattle.pointer_units.specs.Units.{Declaration, items_of, sides_tokens, front_tokens, unit_tokens, AreNamed, IsLevel, AreTokensOf}
 
 -- some tokens don't reach over the `;` of the first of the open assignments
 abbrev pub EndsBefore : List Declaration → List Assignment → List Assignment → List (List ℕ) → Type 0
@@ -31,14 +32,13 @@ pub record IsFirstUnfit (tokens : List (List ℕ)) (number : ℕ) : Type 0 where
   pub unfit : number < length tokens → ¬ IsBeginning (take (number + 1) tokens)
   pub unfinished : number ≡ length tokens → (unit : PointerUnit) → ¬ AreTokensOf tokens unit
 
--- the number of the first byte of a text's token, or of the byte behind the text
-abbrev pub start_of : List ℕ → ℕ → ℕ
-start_of text number = option_map_or (λ token. token.0) (slice_get (tokens_from 0 text) number) (length text)
+-- the line and the column of a token, by its number; the end is the last one
+abbrev pub IsPlaceOf : List Token → ℕ → ℕ → ℕ → Type 0
+IsPlaceOf list number line column = (token : Token) × (slice_get list number ≡ Some token) × (line ≡ token.line) × (column ≡ token.column)
 
--- a text is refused at a line and a column, both from 1: where it is over 16,384 bytes, at its start, and else at the first
--- token that doesn't fit
-abbrev pub IsRefusedAt : List ℕ → ℕ → ℕ → Type 0
-IsRefusedAt text line column =
-    ((16384 < length text) × (line ≡ 1) × (column ≡ 1))
-    ⊎ ((length text ≤ 16384) × ((number : ℕ) × IsFirstUnfit (words_of text) number
-    × (line ≡ line_behind (take (start_of text number) text)) × (column ≡ column_behind (take (start_of text number) text))))
+-- a text with its tokens is refused at a line and a column, both from 1: where it is over 16,384 bytes, at its first token,
+-- and else at the first that doesn't fit
+abbrev pub IsRefusedAt : List ℕ → List Token → ℕ → ℕ → Type 0
+IsRefusedAt text list line column =
+    ((16384 < length text) × IsPlaceOf list 0 line column)
+    ⊎ ((length text ≤ 16384) × ((number : ℕ) × IsFirstUnfit (words_of text list) number × IsPlaceOf list number line column))

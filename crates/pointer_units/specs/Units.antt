@@ -5,7 +5,8 @@ use Rattle.std.specs.Option.{option_map_or}
 use Rattle.pointer_units.specs.declared.unit.Item.{Item}
 use Rattle.pointer_units.specs.declared.unit.Assignment.{Assignment}
 use Rattle.pointer_units.specs.declared.unit.PointerUnit.{PointerUnit}
-use Rattle.pointer_units.specs.Tokens.{is_letter, is_word, tokens_from}
+use Rattle.c_lexer.specs.declared.Token.{Token}
+use Rattle.pointer_units.specs.Tokens.{is_letter, is_word, words_of}
 
 -- the words that are no names, of those that begin with a letter: the keywords of C11 6.4.1, `main`, `asm`, `typeof` and
 -- the names of the library functions and objects that are known
@@ -91,10 +92,6 @@ abbrev pub IsLevel : List Item → Assignment → Type 0
 IsLevel items assignment =
     level_of items assignment.to ≡ level_of items assignment.from + (if assignment.address then 1 else 0)
 
--- the words of a text's tokens
-abbrev pub words_of : List ℕ → List (List ℕ)
-words_of text = map (λ token. token.1) (tokens_from 0 text)
-
 -- tokens are those of a right unit
 pub record AreTokensOf (tokens : List (List ℕ)) (unit : PointerUnit) : Type 0 where
   pub declarations : List Declaration
@@ -103,7 +100,7 @@ pub record AreTokensOf (tokens : List (List ℕ)) (unit : PointerUnit) : Type 0 
   pub named : AreNamed unit.items unit.assignments
   pub levels : All (IsLevel unit.items) unit.assignments
 
--- a text of at most 16,384 bytes is that of a right unit
-pub record Accepts (text : List ℕ) (unit : PointerUnit) : Type 0 where
+-- a text of at most 16,384 bytes with its tokens is that of a right unit
+pub record Accepts (text : List ℕ) (list : List Token) (unit : PointerUnit) : Type 0 where
   pub size : length text ≤ 16384
-  pub tokens : AreTokensOf (words_of text) unit
+  pub tokens : AreTokensOf (words_of text list) unit

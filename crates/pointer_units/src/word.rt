@@ -1,23 +1,17 @@
-// The tokens of a text.
-ghost use Rattle.std.specs.Prelude.{◌≡◌, ◌≤◌, ◌<◌, ◌^◌, length, map, All, IfOk};
-ghost use Rattle.std.specs.List.{prefix_len};
-ghost use Rattle.pointer_units.specs.Tokens.{is_space, is_letter, is_word, tokens_from};
-ghost use Rattle.pointer_units.specs.Words.{token_of};
+// The words of a text's tokens.
+ghost use Rattle.std.specs.Prelude.{◌≡◌, ◌≤◌, ◌<◌, length, IfOk};
+ghost use Rattle.c_lexer.specs.Laws.{Ordered};
+ghost use Rattle.pointer_units.specs.Tokens.{is_letter, is_word, bytes_in, words_of};
+ghost use Rattle.pointer_units.specs.Words.{bytes_of};
 
-use std::alloc::{AllocError, Global};
+use c_lexer::Token;
+use pta_base::OutOfMemory;
+use std::alloc::Global;
 
-/// A token, and the number of its first byte in the text.
+/// The bytes of a token.
 #[derive(Clone, Copy)]
 pub(crate) struct Word<'a> {
-    pub start: usize,
     pub bytes: &'a [u8],
-}
-
-/// Whether a byte is white space.
-pub(crate) fn is_space(byte: u8) -> bool
-    ensures { result ≡ is_space byte }
-{
-    byte == b' ' || (b'\t'..=b'\r').contains(&byte)
 }
 
 /// Whether a byte is an ASCII letter.
@@ -27,34 +21,36 @@ pub(crate) fn is_letter(byte: u8) -> bool
     byte.is_ascii_alphabetic()
 }
 
-/// Whether a byte is one of a word: a letter, a digit or an underscore.
+/// Whether a byte is one of a name: a letter, a digit or an underscore.
 pub(crate) fn is_word(byte: u8) -> bool
     ensures { result ≡ is_word byte }
 {
     is_letter(byte) || byte.is_ascii_digit() || byte == b'_'
 }
 
-/// How many bytes of a word a text begins with.
-fn word_len(text: &[u8]) -> usize
-    ensures { result ≡ prefix_len is_word text.now }
+/// The bytes of a token of a text.
+fn bytes_in(text: &[u8], token: Token) -> &[u8]
+    requires order { token.start ≤ token.end }
+    requires within { token.end ≤ length text.now }
+    ensures { result.now ≡ bytes_in text.now token }
 {
-    text.iter().take_while(|byte| is_word(**byte)).count()
+    &text[token.start as usize..token.end as usize]
 }
 
-/// The tokens of a text.
-pub(crate) fn words_of<'a>(alloc: Global, text: &'a [u8]) -> Result<Vec<Word<'a>>, AllocError>
-    ensures { IfOk result (λ words. map token_of words.items ≡ tokens_from 0 text.now) }
+/// The words of a text's tokens: the bytes of each, but for the end.
+pub(crate) fn words_of<'a>(
+    alloc: Global,
+    text: &'a [u8],
+    list: &[Token],
+) -> Result<Vec<Word<'a>>, OutOfMemory>
+    requires some { 0 < length list.now }
+    requires spans { Ordered 0 (length text.now) list.now }
+    ensures { IfOk result (λ words. bytes_of words.items ≡ words_of text.now list.now) }
 {
     let mut words = Vec::new(alloc);
-    let mut start = 0;
-    let mut rest = text;
-    while let [first, ..] = rest {
-        let (bytes, behind) = rest.split_at(word_len(rest).max(1));
-        if !is_space(*first) {
-            words.push(Word { start, bytes })?;
-        }
-        start += bytes.len();
-        rest = behind;
+    for number in 0..list.len() - 1 {
+        let bytes = bytes_in(text, list[number]);
+        words.push(Word { bytes })?;
     }
     Ok(words)
 }

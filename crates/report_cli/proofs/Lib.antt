@@ -5,3 +5,4 @@ pub mod Refused
 pub mod Lifted
 pub mod Answered
 pub mod OneAnswer
+pub mod Feeds

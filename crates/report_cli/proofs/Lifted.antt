@@ -1,13 +1,18 @@
 -- What holds of texts that were read as far as a limit holds of the whole texts.
-use Rattle.std.proofs.Common.{◌≡◌, ℕ, ◌+◌, ◌<◌, ◌≤◌, ◌⊎◌, List, [], ◌∷◌, ◌++◌, Option, Some, None, option_map, IfSome, map, take, length, min, refl, sym, ◌∙◌, ap, subst, inl, inr, arith, take_all, length-take}
+use Rattle.std.proofs.Common.{◌≡◌, ℕ, ◌+◌, ◌<◌, ◌≤◌, ◌^◌, ◌⊎◌, List, [], ◌∷◌, ◌++◌, Option, Some, None, option_map, IfSome, map, take, length, min, refl, sym, ◌∙◌, ap, subst, inl, inr, arith, take_all, length-take}
 use Rattle.std.specs.Prelude.{option_and_then, zip}
+use Rattle.c_lexer.specs.declared.Token.{Token}
+use Rattle.c_lexer.specs.declared.LexFault.{LexFault}
+use Rattle.c_lexer.specs.declared.LexFault.TheVariants.{BadByte, Unended, BadNumber, TooLong, OutOfMemory}
+use Rattle.c_lexer.specs.Cut.{IsTokens, IsFault}
+use Rattle.c_grammar.specs.Reads.{Fault, malformed, unsupported, too_deep}
 use Rattle.pointer_units.specs.declared.unit.PointerUnit.{PointerUnit}
-use Rattle.pointer_units.specs.Units.{Accepts}
-use Rattle.pointer_units.specs.Refusals.{IsRefusedAt}
-use Rattle.report_cli.specs.declared.solved.UnitsFault.{UnitsFault}
-use Rattle.report_cli.specs.declared.solved.UnitsFault.TheVariants.{Refused}
+use Rattle.report_cli.specs.declared.fault.UnitsFault.{UnitsFault}
+use Rattle.report_cli.specs.declared.fault.UnitsFault.TheVariants.{Refused}
 use Rattle.report_cli.specs.Faults.{IsFaultOf}
-use Rattle.report_cli.specs.Outcome.{NamedText, Answer, told_units, Denotes, Refuses}
+use Rattle.report_cli.specs.Answers.{NamedText, Answer, told_units}
+use Rattle.report_cli.specs.Alone.{IsReadAs, IsRefusedAlone, FirstAlone, AreReadAlone, lexical_refusal, syntax_refusal}
+use Rattle.report_cli.specs.Outcome.{Denotes, IsRefusedTogether, Refuses}
 
 -- the names of told units are those that were asked for
 named_first : (name : List ℕ) (names : List (List ℕ)) (o : Option (List ℕ)) (told : Option (List NamedText)) → IfSome told (λ units. names ≡ map (λ (unit : NamedText). unit.0) units)
@@ -21,49 +26,81 @@ names_told text_of [] = refl
 names_told text_of (name ∷ names) = named_first name names (text_of name) (told_units text_of names) (names_told text_of names)
 
 -- the whole text, where it isn't over the limit
-whole_text : (text : List ℕ) → length (take 16385 text) ≤ 16384 → take 16385 text ≡ text
+whole_text : (text : List ℕ) → length (take 16777217 text) ≤ 2 ^ 24 → take 16777217 text ≡ text
 whole_text text short =
-    let long : length (take 16385 text) ≡ min 16385 (length text) = simp length-take in
-    let le : length text ≤ 16385 = omega arith in
-    take_all 16385 text le
-
-accepts_whole : (text : List ℕ) (program : PointerUnit) → Accepts (take 16385 text) program → Accepts text program
-accepts_whole text program accepted =
-    let P : List ℕ → Type 0 = λ t. Accepts t program in subst P (whole_text text accepted.size) accepted
-
-refused_whole : (text : List ℕ) (line column : ℕ) → IsRefusedAt (take 16385 text) line column → IsRefusedAt text line column
-refused_whole text line column refused = elim refused [
-  | inl long ↦ (let le : length (take 16385 text) ≡ min 16385 (length text) = simp length-take in let more = long.0 in let over : 16384 < length text = omega arith in inl (over, long.1, long.2))
-  | inr short ↦ (let P : List ℕ → Type 0 = λ t. IsRefusedAt t line column in subst P (whole_text text short.0) (inr short))
-]
+    let long : length (take 16777217 text) ≡ min 16777217 (length text) = simp length-take in
+    let le : length text ≤ 16777217 = omega arith in
+    take_all 16777217 text le
 
 -- names, and texts as far as they were read
 abbrev pub AreReadUnits : List (List ℕ) → List (List ℕ) → List NamedText → Type 0
-AreReadUnits names texts told = (names ≡ map (λ (unit : NamedText). unit.0) told) × (texts ≡ map (λ (unit : NamedText). take 16385 unit.1) told)
+AreReadUnits names texts told = (names ≡ map (λ (unit : NamedText). unit.0) told) × (texts ≡ map (λ (unit : NamedText). take 16777217 unit.1) told)
 
 read_units : (told : List NamedText) → List NamedText
 read_units [] = []
-read_units (unit ∷ told) = (unit.0, take 16385 unit.1) ∷ read_units told
+read_units (unit ∷ told) = (unit.0, take 16777217 unit.1) ∷ read_units told
 
-zip_read : (told : List NamedText) → zip (map (λ (unit : NamedText). unit.0) told) (map (λ (unit : NamedText). take 16385 unit.1) told) ≡ read_units told
+zip_read : (told : List NamedText) → zip (map (λ (unit : NamedText). unit.0) told) (map (λ (unit : NamedText). take 16777217 unit.1) told) ≡ read_units told
 unfolding read_units
 zip_read [] = refl
-zip_read (unit ∷ told) = ap (λ (rest : List NamedText). (unit.0, take 16385 unit.1) ∷ rest) (zip_read told)
+zip_read (unit ∷ told) = ap (λ (rest : List NamedText). (unit.0, take 16777217 unit.1) ∷ rest) (zip_read told)
 
 units_read : (names texts : List (List ℕ)) (told : List NamedText) → AreReadUnits names texts told → zip names texts ≡ read_units told
 units_read names texts told read = ap (λ (n : List (List ℕ)). zip n texts) read.0 ∙ ap (zip (map (λ (unit : NamedText). unit.0) told)) read.1 ∙ zip_read told
 
+read_as_whole : (unit : NamedText) (list : List Token) → IsReadAs (unit.0, take 16777217 unit.1) list → IsReadAs unit list
+unfolding IsReadAs
+read_as_whole unit list read =
+    let P : List ℕ → Type 0 = λ t. IsReadAs (unit.0, t) list in subst P (whole_text unit.1 read.0.0) read
+
+lexical_whole : (unit : NamedText) (answer : Answer) (fault : LexFault) → (fault ≡ OutOfMemory → ⊥) → IsFault (take 16777217 unit.1) fault → answer ≡ lexical_refusal (unit.0, take 16777217 unit.1) fault → IsRefusedAlone unit answer
+unfolding IsRefusedAlone
+lexical_whole unit answer (BadByte at) real is said =
+    let P : List ℕ → Type 0 = λ t. IsRefusedAlone (unit.0, t) answer in subst P (whole_text unit.1 is.0) (inl (BadByte at, real, is, said))
+lexical_whole unit answer (Unended at) real is said =
+    let P : List ℕ → Type 0 = λ t. IsRefusedAlone (unit.0, t) answer in subst P (whole_text unit.1 is.0) (inl (Unended at, real, is, said))
+lexical_whole unit answer (BadNumber at) real is said =
+    let P : List ℕ → Type 0 = λ t. IsRefusedAlone (unit.0, t) answer in subst P (whole_text unit.1 is.0) (inl (BadNumber at, real, is, said))
+lexical_whole unit answer TooLong real is said =
+    let le : length (take 16777217 unit.1) ≡ min 16777217 (length unit.1) = simp length-take in
+    let over : 2 ^ 24 < length unit.1 = omega arith in inl (TooLong, real, over, said)
+lexical_whole unit answer OutOfMemory real is said = absurd (real refl)
+
+refused_alone_whole : (unit : NamedText) (answer : Answer) → IsRefusedAlone (unit.0, take 16777217 unit.1) answer → IsRefusedAlone unit answer
+unfolding IsRefusedAlone
+refused_alone_whole unit answer (inl h) = lexical_whole unit answer h.0 h.1 h.2 h.3
+refused_alone_whole unit answer (inr h) =
+    let P : List ℕ → Type 0 = λ t. IsRefusedAlone (unit.0, t) answer in subst P (whole_text unit.1 h.1.0) (inr h)
+
+first_alone_whole : (told : List NamedText) (answer : Answer) → FirstAlone (read_units told) answer → FirstAlone told answer
+unfolding read_units
+first_alone_whole [] answer h = h
+first_alone_whole (unit ∷ told) answer (inl h) = inl (refused_alone_whole unit answer h)
+first_alone_whole (unit ∷ told) answer (inr h) = inr ((h.0.0, read_as_whole unit h.0.0 h.0.1), first_alone_whole told answer h.1)
+
+all_alone_whole : (told : List NamedText) → AreReadAlone (read_units told) → AreReadAlone told
+unfolding read_units
+all_alone_whole [] h = h
+all_alone_whole (unit ∷ told) h = ((h.0.0, read_as_whole unit h.0.0 h.0.1), all_alone_whole told h.1)
+
+together_whole : (told : List NamedText) (answer : Answer) → IsRefusedTogether (read_units told) answer → IsRefusedTogether told answer
+unfolding read_units IsReadAs
+together_whole [] answer h = h
+together_whole (unit ∷ []) answer h =
+    let P : List ℕ → Type 0 = λ t. IsRefusedTogether ((unit.0, t) ∷ []) answer in subst P (whole_text unit.1 h.1.0.0) h
+together_whole (unit ∷ second ∷ told) answer h = (all_alone_whole (unit ∷ second ∷ told) h.0, h.1)
+
 denotes_whole : (told : List NamedText) (program : PointerUnit) → Denotes (read_units told) program → Denotes told program
-unfolding Denotes read_units
+unfolding Denotes read_units IsReadAs
 denotes_whole [] program denoted = denoted
-denotes_whole (unit ∷ []) program denoted = accepts_whole unit.1 program denoted
+denotes_whole (unit ∷ []) program denoted =
+    let P : List ℕ → Type 0 = λ t. Denotes ((unit.0, t) ∷ []) program in subst P (whole_text unit.1 denoted.1.0.0) denoted
 denotes_whole (unit ∷ second ∷ told) program denoted = denoted
 
 refuses_whole : (told : List NamedText) (answer : Answer) → Refuses (read_units told) answer → Refuses told answer
-unfolding Refuses read_units
-refuses_whole [] answer refused = refused
-refuses_whole (unit ∷ []) answer refused = (refused.0, refused.1, refused_whole unit.1 refused.0 refused.1 refused.2, refused.3)
-refuses_whole (unit ∷ second ∷ told) answer refused = refused
+unfolding Refuses
+refuses_whole told answer (inl h) = inl (first_alone_whole told answer h)
+refuses_whole told answer (inr h) = inr (together_whole told answer h)
 
 pub denotes_told : (names texts : List (List ℕ)) (told : List NamedText) (program : PointerUnit) → AreReadUnits names texts told → Denotes (zip names texts) program → Denotes told program
 denotes_told names texts told program read denoted =
@@ -75,18 +112,48 @@ refuses_told names texts told answer read refused =
 
 -- what follows from the told texts and what was read of them
 pub with_told : (told : Option (List NamedText)) (names texts : List (List ℕ)) (Q : List NamedText → Type 0) → IfSome told (λ units. names ≡ map (λ (unit : NamedText). unit.0) units)
-    → IfSome told (λ units. texts ≡ map (λ (unit : NamedText). take 16385 unit.1) units) → ((units : List NamedText) → AreReadUnits names texts units → Q units) → IfSome told Q
+    → IfSome told (λ units. texts ≡ map (λ (unit : NamedText). take 16777217 unit.1) units) → ((units : List NamedText) → AreReadUnits names texts units → Q units) → IfSome told Q
 with_told None names texts Q named read follows = tt
 with_told (Some units) names texts Q named read follows = follows units (named, read)
 
--- a refusal has one status
-pub refuses_status : (units : List NamedText) (answer : Answer) → Refuses units answer → answer.status ≡ 4
-unfolding Refuses
-refuses_status [] answer refused = absurd refused
-refuses_status (unit ∷ []) answer refused = ap (λ (a : Answer). a.status) refused.3
-refuses_status (unit ∷ second ∷ others) answer refused = ap (λ (a : Answer). a.status) refused
+-- the statuses of refusals
+abbrev pub IsStatus : ℕ → Type 0
+IsStatus status = (status ≡ 3) ⊎ ((status ≡ 4) ⊎ (status ≡ 6))
 
-pub refused_status : (units : List NamedText) (fault : UnitsFault) (status : ℕ) (line : List ℕ) → fault ≡ Refused status line → IsFaultOf units fault → status ≡ 4
+lexical_status : (unit : NamedText) (fault : LexFault) → (fault ≡ OutOfMemory → ⊥) → IsStatus (lexical_refusal unit fault).status
+lexical_status unit (BadByte at) real = inl refl
+lexical_status unit (Unended at) real = inl refl
+lexical_status unit (BadNumber at) real = inl refl
+lexical_status unit TooLong real = inr (inr refl)
+lexical_status unit OutOfMemory real = absurd (real refl)
+
+syntax_status : (name : List ℕ) (list : List Token) (fault : Fault) → IsStatus (syntax_refusal name list fault).status
+syntax_status name list (malformed number) = inl refl
+syntax_status name list (unsupported kind number) = inr (inl refl)
+syntax_status name list (too_deep number) = inr (inr refl)
+
+status_of : (answer other : Answer) → answer ≡ other → IsStatus other.status → IsStatus answer.status
+status_of answer other same h = let P : Answer → Type 0 = λ a. IsStatus a.status in subst P (sym same) h
+
+alone_status : (units : List NamedText) (answer : Answer) → FirstAlone units answer → IsStatus answer.status
+unfolding IsRefusedAlone
+alone_status [] answer h = absurd h
+alone_status (unit ∷ units) answer (inl (inl h)) = status_of answer _ h.3 (lexical_status unit h.0 h.1)
+alone_status (unit ∷ units) answer (inl (inr h)) = status_of answer _ h.4 (syntax_status unit.0 h.0 h.2)
+alone_status (unit ∷ units) answer (inr h) = alone_status units answer h.1
+
+together_status : (units : List NamedText) (answer : Answer) → IsRefusedTogether units answer → IsStatus answer.status
+together_status [] answer h = absurd h
+together_status (unit ∷ []) answer h = status_of answer _ h.2.3 (inr (inl refl))
+together_status (unit ∷ second ∷ others) answer h = status_of answer _ h.1 (inr (inl refl))
+
+-- a refusal has one of these statuses
+pub refuses_status : (units : List NamedText) (answer : Answer) → Refuses units answer → IsStatus answer.status
+unfolding Refuses
+refuses_status units answer (inl h) = alone_status units answer h
+refuses_status units answer (inr h) = together_status units answer h
+
+pub refused_status : (units : List NamedText) (fault : UnitsFault) (status : ℕ) (line : List ℕ) → fault ≡ Refused status line → IsFaultOf units fault → IsStatus status
 refused_status units fault status line is refused =
     let P : UnitsFault → Type 0 = λ f. IsFaultOf units f in
     refuses_status units (record { status = status; out = []; err = line }) (subst P is refused)

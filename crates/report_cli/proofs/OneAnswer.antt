@@ -1,16 +1,22 @@
 -- Words and texts have one answer at most.
-use Rattle.std.proofs.Common.{◌≡◌, ℕ, ◌+◌, ◌⊎◌, inl, inr, List, [], ◌∷◌, ◌++◌, flat_map, length, Bool, if◌then◌else◌, refl, sym, ◌∙◌, ap, subst, codes, arith}
+use Rattle.std.proofs.Common.{◌≡◌, ℕ, ◌+◌, ◌⊎◌, inl, inr, List, [], ◌∷◌, ◌++◌, flat_map, length, Bool, if◌then◌else◌, refl, sym, ◌∙◌, ap, subst, codes, Ok, Err}
 use Rattle.std.specs.List.{range_with_len}
 use Rattle.sol_model.specs.Families.{Family}
 use Rattle.sol_model.specs.Solutions.{IsLeast}
 use Rattle.sol_model.proofs.Monotone.{same_least}
 use Rattle.pointer_units.specs.declared.unit.PointerUnit.{PointerUnit}
-use Rattle.pointer_units.specs.Units.{is_pointer, name_of, words_of}
-use Rattle.pointer_units.proofs.Beginnings.{no_first_unfit}
+use Rattle.pointer_units.specs.Units.{is_pointer, name_of, Accepts}
 use Rattle.pointer_units.specs.Constraints.{system_of}
 use Rattle.pointer_units.specs.Report.{member_text, members_text, set_line, lines_text, report_of}
-use Rattle.pointer_units.specs.Laws.{OneUnit, OneRefusal, NeverBoth}
-use Rattle.report_cli.specs.Outcome.{NamedText, Answer, Denotes, IsReport, Refuses, OutcomeOf, Outcome, not_built}
+use Rattle.pointer_units.specs.Laws.{OneUnit}
+use Rattle.pointer_units.specs.Refusals.{IsRefusedAt}
+use Rattle.pointer_units.proofs.Exclusion as place_law
+use Rattle.c_lexer.specs.declared.Token.{Token}
+use Rattle.c_lexer.proofs.OneCut.{one_cut}
+use Rattle.c_grammar.proofs.Unique.{opens_one}
+use Rattle.report_cli.specs.Answers.{NamedText, Answer}
+use Rattle.report_cli.specs.Alone.{Reading, IsReadAs, IsRefusedAlone, FirstAlone, AreReadAlone, lexical_refusal, syntax_refusal}
+use Rattle.report_cli.specs.Outcome.{Denotes, IsReport, IsRefusedTogether, Refuses, OutcomeOf, Outcome, not_built}
 use Rattle.report_cli.specs.Laws.{OneOutcome}
 
 flat_map-same : {X : Type 0} (f g : X → List ℕ) (xs : List X) → ((x : X) → f x ≡ g x) → flat_map f xs ≡ flat_map g xs
@@ -30,32 +36,93 @@ one_report : (program : PointerUnit) (one other : List ℕ) → IsReport program
 unfolding IsReport
 one_report program one other is_one is_other = is_one.2 ∙ report-same program is_one.0 is_other.0 (same_least (system_of program) is_one.0 is_other.0 is_one.1 is_other.1) ∙ sym is_other.2
 
+-- a unit has one list of tokens
+one_list : (unit : NamedText) (one other : List Token) → IsReadAs unit one → IsReadAs unit other → one ≡ other
+unfolding IsReadAs
+one_list unit one other h k = one_cut.tokens unit.1 one other h.0 k.0
+
+-- a unit that is refused alone isn't read
+alone_or_read : (unit : NamedText) (answer : Answer) (list : List Token) → IsRefusedAlone unit answer → IsReadAs unit list → ⊥
+unfolding IsRefusedAlone IsReadAs
+alone_or_read unit answer list (inl h) read = one_cut.either unit.1 list h.0 h.1 read.0 h.2
+alone_or_read unit answer list (inr h) read =
+    let same : h.0 ≡ list = one_cut.tokens unit.1 h.0 list h.1 read.0 in
+    let P : List Token → Type 0 = λ l. Reading unit.1 l (Err h.2) in
+    let both : Err h.2 ≡ Ok read.1.0 = opens_one unit.1 list _ _ _ _ (subst P same h.3) _ read.1.1 in cc
+
+-- a unit is refused alone in one way
+one_alone : (unit : NamedText) (one other : Answer) → IsRefusedAlone unit one → IsRefusedAlone unit other → one ≡ other
+unfolding IsRefusedAlone
+one_alone unit one other (inl h) (inl k) =
+    h.3 ∙ ap (lexical_refusal unit) (one_cut.fault unit.1 h.0 k.0 h.1 k.1 h.2 k.2) ∙ sym k.3
+one_alone unit one other (inl h) (inr k) = absurd (one_cut.either unit.1 k.0 h.0 h.1 k.1 h.2)
+one_alone unit one other (inr h) (inl k) = absurd (one_cut.either unit.1 h.0 k.0 k.1 h.1 k.2)
+one_alone unit one other (inr h) (inr k) =
+    let same : h.0 ≡ k.0 = one_cut.tokens unit.1 h.0 k.0 h.1 k.1 in
+    let P : List Token → Type 0 = λ l. Reading unit.1 l (Err h.2) in
+    let fault : Err h.2 ≡ Err k.2 = opens_one unit.1 k.0 _ _ _ _ (subst P same h.3) _ k.3 in
+    let is : h.2 ≡ k.2 = cc in
+    h.4 ∙ ap (λ (list : List Token). syntax_refusal unit.0 list h.2) same ∙ ap (syntax_refusal unit.0 k.0) is ∙ sym k.4
+
+one_first : (units : List NamedText) (one other : Answer) → FirstAlone units one → FirstAlone units other → one ≡ other
+one_first [] one other h k = absurd h
+one_first (unit ∷ units) one other (inl h) (inl k) = one_alone unit one other h k
+one_first (unit ∷ units) one other (inl h) (inr k) = absurd (alone_or_read unit one k.0.0 h k.0.1)
+one_first (unit ∷ units) one other (inr h) (inl k) = absurd (alone_or_read unit other h.0.0 k h.0.1)
+one_first (unit ∷ units) one other (inr h) (inr k) = one_first units one other h.1 k.1
+
+first_or_read : (units : List NamedText) (answer : Answer) → FirstAlone units answer → AreReadAlone units → ⊥
+first_or_read [] answer h k = h
+first_or_read (unit ∷ units) answer (inl h) k = alone_or_read unit answer k.0.0 h k.0.1
+first_or_read (unit ∷ units) answer (inr h) k = first_or_read units answer h.1 k.1
+
+read_together : (units : List NamedText) (answer : Answer) → IsRefusedTogether units answer → AreReadAlone units
+read_together [] answer h = tt
+read_together (unit ∷ []) answer h = ((h.0, h.1), tt)
+read_together (unit ∷ second ∷ others) answer h = h.0
+
+one_together : (units : List NamedText) (one other : Answer) → IsRefusedTogether units one → IsRefusedTogether units other → one ≡ other
+one_together [] one other h k = absurd h
+one_together (unit ∷ []) one other h k =
+    let list : h.0 ≡ k.0 = one_list unit h.0 k.0 h.1 k.1 in
+    let P : List Token → Type 0 = λ l. IsRefusedAt unit.1 l h.2.0 h.2.1 in
+    let same = place_law.one_refusal unit.1 k.0 h.2.0 h.2.1 k.2.0 k.2.1 (subst P list h.2.2) k.2.2 in
+    h.2.3 ∙ ap (λ (line : ℕ). not_built unit.0 line h.2.1) same.0 ∙ ap (λ (column : ℕ). not_built unit.0 k.2.0 column) same.1 ∙ sym k.2.3
+one_together (unit ∷ second ∷ others) one other h k = h.1 ∙ sym k.1
+
+one_refusal : (units : List NamedText) (one other : Answer) → Refuses units one → Refuses units other → one ≡ other
+unfolding Refuses
+one_refusal units one other (inl h) (inl k) = one_first units one other h k
+one_refusal units one other (inl h) (inr k) = absurd (first_or_read units one h (read_together units other k))
+one_refusal units one other (inr h) (inl k) = absurd (first_or_read units other k (read_together units one h))
+one_refusal units one other (inr h) (inr k) = one_together units one other h k
+
 one_program : OneUnit → (units : List NamedText) (one other : PointerUnit) → Denotes units one → Denotes units other → one ≡ other
 unfolding Denotes
 one_program law [] one other h k = absurd h
-one_program law (unit ∷ []) one other h k = law unit.1 one other h k
+one_program law (unit ∷ []) one other h k =
+    let list : h.0 ≡ k.0 = one_list unit h.0 k.0 h.1 k.1 in
+    let P : List Token → Type 0 = λ l. Accepts unit.1 l one in law unit.1 k.0 one other (subst P list h.2) k.2
 one_program law (unit ∷ second ∷ others) one other h k = absurd h
 
-one_refusal : OneRefusal → (units : List NamedText) (one other : Answer) → Refuses units one → Refuses units other → one ≡ other
+denoted_together : (units : List NamedText) (program : PointerUnit) (answer : Answer) → Denotes units program → IsRefusedTogether units answer → ⊥
+unfolding Denotes
+denoted_together [] program answer h k = h
+denoted_together (unit ∷ []) program answer h k =
+    let list : h.0 ≡ k.0 = one_list unit h.0 k.0 h.1 k.1 in
+    let P : List Token → Type 0 = λ l. Accepts unit.1 l program in place_law.never_both unit.1 k.0 k.2.0 k.2.1 program k.2.2 (subst P list h.2)
+denoted_together (unit ∷ second ∷ others) program answer h k = h
+
+denoted_alone : (units : List NamedText) (program : PointerUnit) → Denotes units program → AreReadAlone units
+unfolding Denotes
+denoted_alone [] program h = tt
+denoted_alone (unit ∷ []) program h = ((h.0, h.1), tt)
+denoted_alone (unit ∷ second ∷ others) program h = absurd h
+
+pub denotes_or_refuses : (units : List NamedText) (program : PointerUnit) (answer : Answer) → Denotes units program → Refuses units answer → ⊥
 unfolding Refuses
-one_refusal law [] one other h k = absurd h
-one_refusal law (unit ∷ []) one other h k =
-    let same = law unit.1 h.0 h.1 k.0 k.1 h.2 k.2 in
-    h.3 ∙ ap (λ (line : ℕ). not_built unit.0 line h.1) same.0 ∙ ap (λ (column : ℕ). not_built unit.0 k.0 column) same.1 ∙ sym k.3
-one_refusal law (unit ∷ second ∷ others) one other h k = h ∙ sym k
-
-pub denotes_or_refuses : NeverBoth → (units : List NamedText) (program : PointerUnit) (answer : Answer) → Denotes units program → Refuses units answer → ⊥
-unfolding Denotes Refuses
-denotes_or_refuses law [] program answer h k = h
-denotes_or_refuses law (unit ∷ []) program answer h k = law unit.1 k.0 k.1 program k.2 h
-denotes_or_refuses law (unit ∷ second ∷ others) program answer h k = h
-
--- a text that is refused has no unit that accepts it
-pub never_both : NeverBoth
-never_both text line column unit refused accepts = elim refused [
-  | inl long ↦ let size = accepts.size in let more = long.0 in omega arith
-  | inr place ↦ no_first_unfit (words_of text) place.1.0 unit place.1.1 accepts.tokens
-]
+denotes_or_refuses units program answer h (inl k) = first_or_read units answer k (denoted_alone units program h)
+denotes_or_refuses units program answer h (inr k) = denoted_together units program answer h k
 
 answer-same : (one other : Answer) → one.status ≡ other.status → one.out ≡ other.out → one.err ≡ other.err → one ≡ other
 answer-same one other status out err =
@@ -63,17 +130,17 @@ answer-same one other status out err =
     ∙ ap (λ (text : List ℕ). let a : Answer = record { status = other.status; out = text; err = one.err } in a) out
     ∙ ap (λ (text : List ℕ). let a : Answer = record { status = other.status; out = other.out; err = text } in a) err
 
-of_units : OneUnit → OneRefusal → NeverBoth → (units : List NamedText) (one other : Answer) → OutcomeOf units one → OutcomeOf units other → one ≡ other
-of_units unit_law refusal_law never units one other (inl h) (inl k) =
-    let same = one_program unit_law units h.0 k.0 h.1 k.1 in
+of_units : OneUnit → (units : List NamedText) (one other : Answer) → OutcomeOf units one → OutcomeOf units other → one ≡ other
+of_units law units one other (inl h) (inl k) =
+    let same = one_program law units h.0 k.0 h.1 k.1 in
     let P : PointerUnit → Type 0 = λ program. IsReport program one.out in
     answer-same one other (h.3 ∙ sym k.3) (one_report k.0 one.out other.out (subst P same h.2) k.2) (h.4 ∙ sym k.4)
-of_units unit_law refusal_law never units one other (inl h) (inr k) = absurd (denotes_or_refuses never units h.0 other h.1 k)
-of_units unit_law refusal_law never units one other (inr h) (inl k) = absurd (denotes_or_refuses never units k.0 one k.1 h)
-of_units unit_law refusal_law never units one other (inr h) (inr k) = one_refusal refusal_law units one other h k
+of_units law units one other (inl h) (inr k) = absurd (denotes_or_refuses units h.0 other h.1 k)
+of_units law units one other (inr h) (inl k) = absurd (denotes_or_refuses units k.0 one k.1 h)
+of_units law units one other (inr h) (inr k) = one_refusal units one other h k
 
-pub one_outcome : OneUnit → OneRefusal → NeverBoth → OneOutcome
-one_outcome unit_law refusal_law never words units one other (inl h) (inl k) = h.1 ∙ sym k.1
-one_outcome unit_law refusal_law never words units one other (inl h) (inr k) = absurd (h.0 k.0)
-one_outcome unit_law refusal_law never words units one other (inr h) (inl k) = absurd (k.0 h.0)
-one_outcome unit_law refusal_law never words units one other (inr h) (inr k) = of_units unit_law refusal_law never units one other h.1 k.1
+pub one_outcome : OneUnit → OneOutcome
+one_outcome law words units one other (inl h) (inl k) = h.1 ∙ sym k.1
+one_outcome law words units one other (inl h) (inr k) = absurd (h.0 k.0)
+one_outcome law words units one other (inr h) (inl k) = absurd (k.0 h.0)
+one_outcome law words units one other (inr h) (inr k) = of_units law units one other h.1 k.1

@@ -4,7 +4,7 @@ use Rattle.std.specs.Prelude.{option_and_then}
 use Rattle.std.specs.declared.alloc.Global.{Global}
 use Rattle.std.proofs.lemmas.List.{map-append, take_more, get_or-map, length-map}
 use Rattle.report_cli.specs.Words.{texts_of}
-use Rattle.report_cli.specs.Outcome.{NamedText, told_units}
+use Rattle.report_cli.specs.Answers.{NamedText, told_units}
 
 with_last : List ℕ → Option (List NamedText) → Option (List ℕ) → Option (List NamedText)
 with_last name told last = option_and_then (λ (units : List NamedText). option_map (λ (text : List ℕ). units ++ (name, text) ∷ []) last) told

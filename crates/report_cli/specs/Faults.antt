@@ -1,10 +1,43 @@
 -- What the fault of units says.
-use Rattle.std.specs.Prelude.{List}
-use Rattle.report_cli.specs.declared.solved.UnitsFault.{UnitsFault}
-use Rattle.report_cli.specs.declared.solved.UnitsFault.TheVariants.{Refused, Memory}
-use Rattle.report_cli.specs.Outcome.{NamedText, IsRefusedBy}
+use Rattle.std.specs.Prelude.{◌≡◌, List, [], ℕ}
+use Rattle.c_lexer.specs.declared.Token.{Token}
+use Rattle.c_lexer.specs.declared.LexFault.{LexFault}
+use Rattle.c_lexer.specs.declared.LexFault.TheVariants.{BadByte, Unended, BadNumber, TooLong}
+use Rattle.c_lexer.specs.declared.LexFault.TheVariants as lex
+use Rattle.c_grammar.specs.Reads.{malformed, unsupported, too_deep}
+use Rattle.c_parser.specs.declared.ParseFault.{ParseFault}
+use Rattle.c_parser.specs.declared.ParseFault.TheVariants.{Malformed, Unsupported, TooDeep, OutOfMemory}
+use Rattle.report_cli.specs.declared.fault.UnitsFault.{UnitsFault}
+use Rattle.report_cli.specs.declared.fault.UnitsFault.TheVariants.{Refused, Memory}
+use Rattle.report_cli.specs.Answers.{NamedText, Answer}
+use Rattle.report_cli.specs.Alone.{IsRefusedAlone, lexical_refusal, syntax_refusal}
+use Rattle.report_cli.specs.Outcome.{IsRefusedBy}
+
+-- a fault is a refusal
+abbrev pub fault_of : Answer → UnitsFault
+fault_of answer = Refused answer.status answer.err
 
 -- a refusal is that of the units; want of memory says nothing of them
 abbrev pub IsFaultOf : List NamedText → UnitsFault → Type 0
 IsFaultOf units (Refused status line) = IsRefusedBy units status line
 IsFaultOf units Memory = Unit {0}
+
+-- a refusal is that of a unit alone
+abbrev pub IsFaultAlone : NamedText → UnitsFault → Type 0
+IsFaultAlone unit (Refused status line) = IsRefusedAlone unit (record { status = status; out = []; err = line })
+IsFaultAlone unit Memory = Unit {0}
+
+-- the refusal for a lexical fault
+abbrev pub IsLexical : NamedText → LexFault → UnitsFault → Type 0
+IsLexical unit (BadByte at) fault = fault ≡ fault_of (lexical_refusal unit (BadByte at))
+IsLexical unit (Unended at) fault = fault ≡ fault_of (lexical_refusal unit (Unended at))
+IsLexical unit (BadNumber at) fault = fault ≡ fault_of (lexical_refusal unit (BadNumber at))
+IsLexical unit TooLong fault = fault ≡ fault_of (lexical_refusal unit TooLong)
+IsLexical unit lex.OutOfMemory fault = fault ≡ Memory
+
+-- the refusal for a fault of syntax
+abbrev pub IsSyntactic : List ℕ → List Token → ParseFault → UnitsFault → Type 0
+IsSyntactic name list (Malformed number) fault = fault ≡ fault_of (syntax_refusal name list (malformed number))
+IsSyntactic name list (Unsupported kind number) fault = fault ≡ fault_of (syntax_refusal name list (unsupported kind number))
+IsSyntactic name list (TooDeep number) fault = fault ≡ fault_of (syntax_refusal name list (too_deep number))
+IsSyntactic name list OutOfMemory fault = fault ≡ Memory

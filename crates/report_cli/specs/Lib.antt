@@ -1,4 +1,6 @@
 pub mod Words
+pub mod Answers
+pub mod Alone
 pub mod Outcome
 pub mod Outside
 pub mod Faults

@@ -1,9 +1,12 @@
 // The top call: from the words of the command line to a report.
 #![tactic(auto)]
 
+mod alone;
+mod fault;
 mod input;
 pub mod laws;
 mod output;
+mod places;
 mod reading;
 mod solved;
 #[cfg(test)]

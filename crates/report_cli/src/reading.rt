@@ -2,7 +2,7 @@
 ghost use Rattle.std.specs.Prelude.{◌≡◌, ℕ, ◌≤◌, List, Some, Err, ◌+◌, map, take, length, slice_get, IfOk, IfSome, OnOk};
 ghost use Rattle.pta_base.specs.Outside.{HasRisen};
 ghost use Rattle.report_cli.specs.Words.{texts_of};
-ghost use Rattle.report_cli.specs.Outcome.{told_units};
+ghost use Rattle.report_cli.specs.Answers.{told_units};
 
 use crate::input::{ReadFault, read_text};
 use pta_base::{Listing, Units};

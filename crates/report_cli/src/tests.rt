@@ -87,16 +87,32 @@ fn worked_rows(rt: HostRuntime) -> Result<(), Fail> {
         ),
         ("", 4, "", "a.i:1:1: not accepted not-built\n"),
         (
-            "int x,*p;\nint main(void){\np=&x;\nreturn 0;",
-            4,
-            "",
-            "a.i:4:10: not accepted not-built\n",
-        ),
-        (
             "int x,*p,*q;\nint main(void){p=&x;q=&p;return 0;}",
             4,
             "",
             "a.i:2:25: not accepted not-built\n",
+        ),
+        (
+            "# 1 \"a.c\"\nint x,*p; int main(void){p=&x;return 0;}",
+            0,
+            "pta 1\nset p: x\nend\n",
+            "",
+        ),
+        ("int $;", 3, "", "a.i:1:5: malformed\n"),
+        ("int main(void){", 3, "", "a.i:1:16: malformed\n"),
+        ("char*s=\"ab", 3, "", "a.i:1:8: malformed\n"),
+        ("int main(void){return 0}", 3, "", "a.i:1:24: malformed\n"),
+        (
+            "int f(a) int a; {return 0;}",
+            4,
+            "",
+            "a.i:1:7: not accepted old-parameters\n",
+        ),
+        (
+            "int n;int main(void){\n1.5;\nreturn 0;}",
+            4,
+            "",
+            "a.i:2:1: not accepted floating\n",
         ),
     ] {
         let made = answer_of(&rt, &["a.i"], &[("a.i", text)], &[], &[])?;
@@ -237,5 +253,44 @@ fn bytes_one_at_a_time(rt: HostRuntime) -> Result<(), Fail> {
     );
     assert_eq!(rt; status, 0);
     assert_eq!(rt; slow.0.written(), b"pta 1\nset p: x\nend\n".as_slice());
+    Ok(())
+}
+
+#[test]
+fn texts_past_the_limits(rt: HostRuntime) -> Result<(), Fail> {
+    let mut deep = "int main(void){".to_string(rt.alloc())?;
+    for _ in 0..256u32 {
+        deep.push_str("{")?;
+    }
+    deep.push_str(";")?;
+    let refused = answer_of(&rt, &["a.i"], &[("a.i", deep.as_str())], &[], &[])?;
+    assert_eq!(rt; refused.status, 6);
+    assert_eq!(rt;
+        refused.err.as_slice(),
+        b"a.i:1:272: too deep 257\n".as_slice()
+    );
+    let mut spaces = " ".to_string(rt.alloc())?;
+    for _ in 0..24u32 {
+        let same = spaces.as_str().to_string(rt.alloc())?;
+        spaces.push_str(same.as_str())?;
+    }
+    spaces.push_str(" ")?;
+    let long = answer_of(&rt, &["a.i"], &[("a.i", spaces.as_str())], &[], &[])?;
+    assert_eq!(rt; long.status, 6);
+    assert_eq!(rt;
+        long.err.as_slice(),
+        b"a.i: too large text 16777217\n".as_slice()
+    );
+    Ok(())
+}
+
+#[test]
+fn units_in_order(rt: HostRuntime) -> Result<(), Fail> {
+    let texts = [("a.i", ROW_1), ("b.i", "int x = ;"), ("c.i", "int $;")];
+    let first = answer_of(&rt, &["a.i", "b.i", "c.i"], &texts, &[], &[])?;
+    assert_eq!(rt; first.status, 3);
+    assert_eq!(rt; first.err.as_slice(), b"b.i:1:9: malformed\n".as_slice());
+    let other = answer_of(&rt, &["c.i", "a.i", "b.i"], &texts, &[], &[])?;
+    assert_eq!(rt; other.err.as_slice(), b"c.i:1:5: malformed\n".as_slice());
     Ok(())
 }

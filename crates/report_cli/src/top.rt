@@ -3,19 +3,21 @@ ghost use Rattle.std.specs.Prelude.{◌≡◌, ◌≢◌, ◌⊎◌, ℕ, ◌<�
 ghost use Rattle.pta_base.specs.Outside.{HasRisen, IsSteady};
 ghost use Rattle.pointer_units.specs.declared.unit.PointerUnit.{PointerUnit};
 ghost use Rattle.report_cli.specs.Words.{AreUnitWords, texts_of};
-ghost use Rattle.report_cli.specs.Outcome.{told_units, Denotes, IsReport, IsRefusedBy, Answer, Outcome};
+ghost use Rattle.report_cli.specs.Answers.{told_units, Answer};
+ghost use Rattle.report_cli.specs.Outcome.{Denotes, IsReport, IsRefusedBy, Outcome};
 ghost use Rattle.report_cli.specs.Outside.{Grows, GrowsInPart, Receives, source_fault, sink_fault, out_of_memory};
 
+use crate::fault::UnitsFault;
 use crate::output::{say, write_text};
 use crate::reading::{ReadingFault, read_units};
-use crate::solved::{UnitsFault, report_of_units};
+use crate::solved::report_of_units;
 use crate::words::are_unit_words;
 use pta_base::{Gate, Listing, Sink, Units};
 use std::alloc::{AllocError, Global};
 use std::thread::Threads;
 
 /// A text of this many bytes is too long, so that no more of it needs to be read.
-const LIMIT: usize = 16385;
+const LIMIT: usize = 16_777_217;
 
 /// Says that memory wanted.
 fn out_of_memory<E: Sink>(err: &mut E) -> u8
@@ -78,7 +80,7 @@ fn answer_units<O: Sink, E: Sink>(
 ) -> u8
     requires present { 0 < length words.now }
     requires count { length texts.now ≡ length words.now }
-    ensures listed { (result ≡ 0) ⊎ ((result ≡ 4) ⊎ ((result ≡ 8) ⊎ (result ≡ 9))) }
+    ensures listed { (result ≡ 0) ⊎ (((result ≡ 3) ⊎ ((result ≡ 4) ⊎ (result ≡ 6))) ⊎ ((result ≡ 8) ⊎ (result ≡ 9))) }
     ensures delivered { result ≡ 0 → (program : PointerUnit) × (report : List ℕ) × Denotes (zip (texts_of words.now) texts.now) program × IsReport program report
         × Grows (O.written out.old) (O.written out.new) report × (E.written err.new ≡ E.written err.old) }
     ensures broken { result ≡ 8 → (program : PointerUnit) × (report : List ℕ) × Denotes (zip (texts_of words.now) texts.now) program × IsReport program report
@@ -103,8 +105,9 @@ fn answer_units<O: Sink, E: Sink>(
 
 /// Does all that the program does: reads the units that the words name, writes the report of their program to `out` or
 /// the line of a refusal to `err`, and answers the status. The statuses are 0 for a report that was written whole, 2 for words that
-/// aren't right, 4 for a form of text that isn't built, at its first token that doesn't fit, 7 for a unit that could not be
-/// read, 8 for a report that could not be written and 9 for want of memory. All memory is taken before the first byte is
+/// aren't right, 3 for a text that has no tokens (C11 6.4) or whose tokens are no unit (C11 6.9), 4 for a construct that isn't
+/// accepted or a form of text that isn't built, 6 for a text of more than 2^24 bytes or more than 256 constructs that nest,
+/// each at its place, 7 for a unit that could not be read, 8 for a report that could not be written and 9 for want of memory. All memory is taken before the first byte is
 /// written. The runtime is there for threads, and the gate for their pieces of work; nothing calls them yet.
 pub fn analyse<R: Threads + Sync, U: Units, O: Sink, E: Sink, G: Gate + Sync>(
     _rt: &R,
@@ -127,7 +130,7 @@ pub fn analyse<R: Threads + Sync, U: Units, O: Sink, E: Sink, G: Gate + Sync>(
         × Grows (O.written out.old) (O.written out.new) answer.out
         × Receives (E.written err.old) (E.written err.new) (E.faults err.old) (E.faults err.new) answer.err) }
     ensures usage { (result ≡ 2 → AreUnitWords (texts_of words.now) → ⊥) × ((AreUnitWords (texts_of words.now) → ⊥) → result ≡ 2) }
-    ensures listed { (result ≡ 0) ⊎ ((result ≡ 2) ⊎ ((result ≡ 4) ⊎ ((result ≡ 7) ⊎ ((result ≡ 8) ⊎ (result ≡ 9))))) }
+    ensures listed { (result ≡ 0) ⊎ ((result ≡ 2) ⊎ (((result ≡ 3) ⊎ ((result ≡ 4) ⊎ (result ≡ 6))) ⊎ ((result ≡ 7) ⊎ ((result ≡ 8) ⊎ (result ≡ 9))))) }
     ensures kept { result ≢ 0 → result ≢ 8 → O.written out.new ≡ O.written out.old }
 
     // Where the words are right, the texts denote a program, and the outside doesn't fail, the report is written.

@@ -1,19 +1,14 @@
 -- Rows that grow by what the rules demand, step by step.
-use Rattle.std.proofs.Common.{◌≡◌, ℕ, ◌+◌, ◌*◌, ◌/◌, ◌%◌, ◌-◌, ◌^◌, ◌<◌, ◌≤◌, List, length, set, get_or, bit_or, sum_by, Contains, Option, Some, None, IsSome, ◌⊎◌, inl, inr, refl, sym, ◌∙◌, ap, subst, arith, length-set}
+use Rattle.std.proofs.Common.{◌≡◌, ℕ, ◌+◌, ◌*◌, ◌/◌, ◌%◌, ◌-◌, ◌^◌, ◌<◌, ◌≤◌, List, length, set, get_or, bit_or, sum_by, ◌⊎◌, inl, inr, sym, ◌∙◌, ap, subst, arith, length-set}
 use Rattle.std.specs.Int.{bit_at}
-use Rattle.std.proofs.lemmas.Bool.{cases_lt, false≢true}
+use Rattle.std.proofs.lemmas.Bool.{cases_lt}
 use Rattle.std.proofs.lemmas.Nat.{same_from_place, le_or_l}
 use Rattle.std.proofs.lemmas.List.Elements.{All-contains}
 use Rattle.std.proofs.lemmas.List.Sums.{sum_by-set}
-use Rattle.pta_base.specs.declared.effect.Effect.{Effect}
 use Rattle.sol_model.specs.declared.system.System.{System}
-use Rattle.sol_model.specs.declared.system.CallSite.{CallSite}
-use Rattle.sol_model.specs.declared.system.Function.{Function}
-use Rattle.sol_model.specs.declared.system.Constraint.TheVariants.{Call}
 use Rattle.sol_model.specs.declared.rows.Rows.{Rows}
 use Rattle.sol_model.specs.Families.{Family, Has, IsInside, Adds, AddsAll, shown, members, room_left}
-use Rattle.sol_model.specs.Growth.{IsPart, Grows, IsReached, HasEffect}
-use Rattle.sol_model.specs.Rules.{TargetEdge, EffectEdge}
+use Rattle.sol_model.specs.Growth.{IsPart, Grows}
 use Rattle.sol_model.specs.Solutions.{IsEdge, IsGiven}
 use Rattle.sol_model.specs.Systems.{IsValid, IsRow, IsConstraintValid}
 use Rattle.sol_model.proofs.Shown.{bit_shown, within_shown}
@@ -30,15 +25,6 @@ pub record JoinedBelow (width : ℕ) (old now : List ℕ) (from to i : ℕ) : Ty
   pub kept : IsInside (shown width old) (shown width now)
   pub nothing_else : (r l : ℕ) → Has (shown width now) r l → Has (shown width old) r l ⊎ ((r ≡ to) × Has (shown width old) from l)
   pub room : sum_by (λ word. 2 ^ 64 - word) now ≤ sum_by (λ word. 2 ^ 64 - word) old
-
-pub joined_none : (width : ℕ) (words : List ℕ) (from to : ℕ) → JoinedBelow width words words from to 0
-joined_none width words from to = record {
-  size = refl;
-  added = λ location h has. absurd (omega arith);
-  kept = λ r l h. h;
-  nothing_else = λ r l h. inl h;
-  room = omega arith;
-}
 
 pub joined_next : (width : ℕ) (old now : List ℕ) (from to i : ℕ) → i < width → to * width + width ≤ length old → JoinedBelow width old now from to i
     → JoinedBelow width old (set now (to * width + i) (bit_or (get_or now (to * width + i) 0) (get_or now (from * width + i) 0))) from to (i + 1)
@@ -78,49 +64,9 @@ joined_next width old now from to i inside there so_far =
     }
 
 -- ---- rows that grow
-pub grows_refl : (system : System) (rows : Rows) → IsPart system rows → Grows system rows rows
-grows_refl system rows part = record { part = part; kept = λ r l h. h; room = omega arith }
-
-pub grows_then : (system : System) (old now new : Rows) → Grows system old now → Grows system now new → Grows system old new
-grows_then system old now new one other = record {
-  part = other.part;
-  kept = λ r l h. other.kept r l (one.kept r l h);
-  room = let a = one.room in let b = other.room in omega arith;
-}
-
 -- what is demanded from some facts is demanded from more
 pub edge_more : (system : System) (F G : Family) (a b : ℕ) → IsInside F G → IsEdge system F a b → IsEdge system G a b
 edge_more system F G a b inside edge = (edge.0, edge.1, more_edge system F G inside edge.0 a b edge.2)
-
-pub reached_more : (system : System) (F G : Family) (call : CallSite) (number : ℕ) (function : Function) → IsInside F G → IsReached system F call number function → IsReached system G call number function
-reached_more system F G call number function inside reached = record {
-  place = reached.place;
-  listed = reached.listed;
-  known = reached.known;
-  target = record { known = reached.target.known; reached = inside _ _ reached.target.reached; agrees = reached.target.agrees };
-}
-
--- what a target demands is an edge
-pub reached_edge : (system : System) (F : Family) (call : CallSite) (number : ℕ) (function : Function) (a b : ℕ) → IsReached system F call number function → TargetEdge system F call number function function.library a b → IsEdge system F a b
-reached_edge system F call number function a b reached edge = (Call reached.place, reached.listed, (call, number, function, reached.known, reached.target, edge))
-
-effect_of_target : (system : System) (F : Family) (call : CallSite) (number : ℕ) (function : Function) (effect : Effect) (library : Option ℕ) (a b : ℕ) → IsSome library → Contains function.effects effect → EffectEdge system F call number effect a b → TargetEdge system F call number function library a b
-effect_of_target system F call number function effect None a b some listed edge = absurd (false≢true some)
-effect_of_target system F call number function effect (Some library) a b some listed edge = (effect, listed, edge)
-
--- what an effect demands is an edge
-pub effect_edge : (system : System) (F : Family) (call : CallSite) (number : ℕ) (effect : Effect) (a b : ℕ) → HasEffect system F call number effect → EffectEdge system F call number effect a b → IsEdge system F a b
-effect_edge system F call number effect a b has edge =
-    reached_edge system F call number has.function a b has.reached
-    (effect_of_target system F call number has.function effect (has.function).library a b has.library has.listed edge)
-
-pub effect_more : (system : System) (F G : Family) (call : CallSite) (number : ℕ) (effect : Effect) → IsInside F G → HasEffect system F call number effect → HasEffect system G call number effect
-effect_more system F G call number effect inside has = record {
-  function = has.function;
-  reached = reached_more system F G call number has.function inside has.reached;
-  library = has.library;
-  listed = has.listed;
-}
 
 module _ (system : System) (valid : IsValid system) (rows : Rows) (part : IsPart system rows) where
   -- both rows of an edge are rows

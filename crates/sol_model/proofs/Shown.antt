@@ -1,13 +1,13 @@
 -- The family that words show, bit by bit.
-use Rattle.std.proofs.Common.{◌≡◌, ◌≢◌, ◌⊎◌, ℕ, zero, suc, ◌+◌, ◌*◌, ◌/◌, ◌%◌, ◌-◌, ◌^◌, ◌<◌, ◌≤◌, ◌&&◌, eqb, IsFalse, List, length, get_or, set, replicate, sum_by, bit_and, bit_or, refl, sym, ◌∙◌, ap, inl, inr, arith, min, max}
+use Rattle.std.proofs.Common.{◌≡◌, ◌≢◌, ◌⊎◌, ℕ, zero, suc, ◌+◌, ◌*◌, ◌/◌, ◌%◌, ◌-◌, ◌^◌, ◌<◌, ◌≤◌, ◌&&◌, eqb, IsFalse, List, length, get_or, set, replicate, sum_by, bit_and, bit_or, refl, sym, ◌∙◌, ap, inl, inr, arith, min}
 use Rattle.std.specs.Int.{bit_at, bit_not, trailing_zeros, w64}
 use Rattle.std.proofs.lemmas.Nat.{same_from_place, le_or_l, mod_below, and_le_l}
-use Rattle.std.proofs.lemmas.Nat.Bits.{bit_at_and, bit_at_or, bit_at_not, bit_at_set_same, bit_at_set_other, bit_at-lt, bit_at-zero, bit_at-trailing_zeros}
+use Rattle.std.proofs.lemmas.Nat.Bits.{bit_at_and, bit_at_not, bit_at_set_same, bit_at_set_other, bit_at-lt, bit_at-zero, bit_at-trailing_zeros}
 use Rattle.std.proofs.lemmas.Bool.{ltb-true, lt-ltb, eqb-true, eq-eqb, ne_eqb, cases_eq, and_parts, and_from, false≢true}
 use Rattle.std.proofs.lemmas.List.{get_or-set_other}
 use Rattle.std.proofs.lemmas.Grind.{get_or-set_at}
 use Rattle.std.proofs.lemmas.List.Sums.{sum_by-set}
-use Rattle.sol_model.specs.Families.{Has, IsInside, Adds, shown}
+use Rattle.sol_model.specs.Families.{Has, Adds, shown}
 
 -- the bit of a location
 abbrev pub bit_of : ℕ → List ℕ → ℕ → ℕ → ℕ
@@ -175,51 +175,3 @@ zeros_show_nothing width n row location h =
     let one : bit_of width (replicate n 0) row location ≡ 1 = bit_shown width (replicate n 0) row location h in
     let zero_bit : bit_of width (replicate n 0) row location ≡ 0 = ap (λ w. bit_at w (location % 64)) (get_zero n (row * width + location / 64)) ∙ bit_at-zero _ in
     absurd (omega arith)
-
--- ---- a mask of bits in one word, as one step on a shared word sets it
-module _ (width : ℕ) (words : List ℕ) (at mask : ℕ) (inside : at < length words) where
-  abbrev with_mask : List ℕ
-  with_mask = set words at (bit_or (get_or words at 0) mask)
-
-  mask_here : (r l : ℕ) → r * width + l / 64 ≡ at → bit_of width with_mask r l ≡ max (bit_of width words r l) (bit_at mask (l % 64))
-  mask_here r l e =
-      ap (λ n. bit_at n (l % 64)) (get_or-set_at words at (r * width + l / 64) (bit_or (get_or words at 0) mask) 0 e inside)
-      ∙ bit_at_or (get_or words at 0) mask (l % 64)
-      ∙ ap (λ i. max (bit_at (get_or words i 0) (l % 64)) (bit_at mask (l % 64))) (sym e)
-
-  mask_elsewhere : (r l : ℕ) → r * width + l / 64 ≢ at → bit_of width with_mask r l ≡ bit_of width words r l
-  mask_elsewhere r l e = ap (λ n. bit_at n (l % 64)) (get_or-set_other words at (r * width + l / 64) _ 0 e)
-
-  -- no fact is lost
-  pub with_mask_keeps : IsInside (shown width words) (shown width with_mask)
-  with_mask_keeps r l h =
-      let one = bit_shown width words r l h in
-      let small : bit_at mask (l % 64) < 2 = bit_at-lt _ _ in
-      shown_from_bit width with_mask r l (within_shown width words r l h) (elim (cases_eq (r * width + l / 64) at) [
-        | inl e ↦ (let b = mask_here r l e in omega arith)
-        | inr e ↦ mask_elsewhere r l e ∙ one
-      ])
-
-  -- each location of the mask is there
-  pub with_mask_adds : (r l : ℕ) → l < 64 * width → r * width + l / 64 ≡ at → bit_at mask (l % 64) ≡ 1 → Has (shown width with_mask) r l
-  with_mask_adds r l within e bit =
-      let b = mask_here r l e in
-      let small : bit_of width words r l < 2 = bit_at-lt _ _ in
-      shown_from_bit width with_mask r l within (omega arith)
-
-  -- and nothing else is new
-  pub with_mask_only : (r l : ℕ) → Has (shown width with_mask) r l → Has (shown width words) r l ⊎ ((r * width + l / 64 ≡ at) × (bit_at mask (l % 64) ≡ 1))
-  with_mask_only r l h =
-      let within = within_shown width with_mask r l h in
-      let one = bit_shown width with_mask r l h in
-      elim (cases_eq (r * width + l / 64) at) [
-        | inl e ↦ (let b = mask_here r l e in
-            elim (cases_eq (bit_at mask (l % 64)) 1) [
-              | inl set_bit ↦ inr (e, set_bit)
-              | inr unset ↦
-                  (let small : bit_at mask (l % 64) < 2 = bit_at-lt _ _ in
-                  let low : bit_of width words r l < 2 = bit_at-lt _ _ in
-                  inl (shown_from_bit width words r l within (omega arith)))
-            ])
-        | inr e ↦ inl (shown_from_bit width words r l within (sym (mask_elsewhere r l e) ∙ one))
-      ]

@@ -1,29 +1,10 @@
-use Rattle.std.proofs.Common.{◌≡◌, ◌≤◌, length, take, inr, arith, sym, ◌∙◌, ap, subst}
-use Rattle.pointer_units.specs.Tokens.{line_behind, column_behind}
-use Rattle.pointer_units.specs.Units.{AreTokensOf, words_of}
-use Rattle.pointer_units.specs.Faults.{IsRefusal}
-use Rattle.pointer_units.specs.ReadFaults.{IsReadFault}
-use Rattle.pointer_units.specs.Refusals.{IsFirstUnfit}
-use Rattle.pointer_units.specs.Words.{bytes_of}
-use Rattle.pointer_units.proofs.Placing.{bytes_are, word_count}
+use Rattle.std.proofs.Common.{List, length, sym, subst}
+use Rattle.c_lexer.specs.declared.Token.{Token}
+use Rattle.c_lexer.specs.Laws.{Ordered}
+use Rattle.c_lexer.proofs.OneCut.{ordered}
 use Rattle.pointer_units.proofs.reading.read_unit.Goals as goal
 
-pub read_words-requires : goal.read_words-requires
-read_words-requires c =
-    let count : length c.in-Ok.words.items ≤ length c.args.text.now = word_count c.in-Ok.words.items c.args.text.now c.in-Ok.ensures in
-    let same : c.as_slice.result.now ≡ c.in-Ok.words.items = c.as_slice.ensures.value in
-    omega (arith, ap length same)
-
-pub returns-in-Ok-read_words-clause-accepted : goal.returns-in-Ok-read_words-clause-accepted
-returns-in-Ok-read_words-clause-accepted c =
-    let same : bytes_of c.as_slice.result.now ≡ words_of c.args.text.now = ap bytes_of c.as_slice.ensures.value ∙ bytes_are c.in-Ok.words.items c.args.text.now c.in-Ok.ensures in
-    record { size = omega arith; tokens = subst (λ tokens. AreTokensOf tokens c.in-Ok-read_words.unit) same c.in-Ok-read_words.ensures.unit }
-
-pub returns-in-Err-Unfit-clause-refused : goal.returns-in-Err-Unfit-clause-refused
-returns-in-Err-Unfit-clause-refused c =
-    let text = c.args.text.now in
-    let same : bytes_of c.as_slice.result.now ≡ words_of text = ap bytes_of c.as_slice.ensures.value ∙ bytes_are c.in-Ok.words.items text c.in-Ok.ensures in
-    let first : IsFirstUnfit (words_of text) c.in-Err-Unfit.number = subst (λ tokens. IsFirstUnfit tokens c.in-Err-Unfit.number) same (subst (IsReadFault (bytes_of c.as_slice.result.now)) c.in-Err-Unfit.field-0-is c.in-Err-Unfit.ensures.fault) in
-    let start = c.start_of.ensures.start in
-    subst (IsRefusal text) (sym c.refusal.ensures)
-    (inr (omega arith, (c.in-Err-Unfit.number, first, ap (λ n. line_behind (take n text)) start, ap (λ n. column_behind (take n text)) start)))
+pub words_of-requires-clause-spans : goal.words_of-requires-clause-spans
+words_of-requires-clause-spans c =
+    let P : List Token → Type 0 = λ list. Ordered 0 (length c.args.tokens.now.text.now) list in
+    subst P (sym c.as_slice-list.ensures.value) (ordered c.args.tokens.now.text.now c.args.tokens.now.list.items c.requires.right)

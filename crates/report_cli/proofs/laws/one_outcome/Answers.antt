@@ -2,4 +2,4 @@ use Rattle.report_cli.proofs.OneAnswer as answers
 use Rattle.report_cli.proofs.laws.one_outcome.Goals as goal
 
 pub returns : goal.returns
-returns c = answers.one_outcome c.one_unit.ensures c.one_refusal.ensures c.never_both.ensures
+returns c = answers.one_outcome c.one_unit.ensures

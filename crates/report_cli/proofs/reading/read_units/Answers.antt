@@ -1,6 +1,6 @@
 use Rattle.std.proofs.Common.{rules, arith, ◌≡◌, ◌<◌, ◌+◌, ◌++◌, ◌∷◌, [], List, ℕ, Option, length, take, sym, ◌∙◌, ap, subst, IfSome}
 use Rattle.report_cli.specs.Words.{texts_of}
-use Rattle.report_cli.specs.Outcome.{told_units}
+use Rattle.report_cli.specs.Answers.{told_units}
 use Rattle.report_cli.proofs.Told.{AreRead, read_more}
 use Rattle.report_cli.proofs.reading.read_units.Goals as goal
 

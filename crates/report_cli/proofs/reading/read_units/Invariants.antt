@@ -1,6 +1,6 @@
 use Rattle.std.proofs.Common.{◌≡◌, ℕ, ◌≤◌, List, map, take, length, IfSome}
 use Rattle.report_cli.specs.Words.{texts_of}
-use Rattle.report_cli.specs.Outcome.{told_units}
+use Rattle.report_cli.specs.Answers.{told_units}
 use Rattle.report_cli.proofs.reading.read_units.Given as goal
 
 -- what was read is that of the told texts of the words so far

@@ -3,17 +3,43 @@ use Rattle.std.proofs.Common.{map, take}
 use Rattle.sol_model.proofs.Members.{Contains-at}
 use Rattle.pta_base.specs.Outside.{HasRisen}
 use Rattle.report_cli.specs.Words.{AreUnitWords, texts_of}
-use Rattle.report_cli.specs.Outcome.{NamedText, Answer, told_units, refusal}
+use Rattle.report_cli.specs.Answers.{NamedText, Answer, told_units, refusal}
 use Rattle.report_cli.specs.Outside.{Receives, source_fault}
-use Rattle.report_cli.proofs.Lifted.{names_told, with_told, denotes_told, refuses_told, refuses_status}
-use Rattle.report_cli.proofs.OneAnswer.{denotes_or_refuses, never_both}
+use Rattle.report_cli.proofs.Lifted.{IsStatus, names_told, with_told, denotes_told, refuses_told}
+use Rattle.report_cli.proofs.OneAnswer.{denotes_or_refuses}
 use Rattle.report_cli.proofs.Answered.{not_risen, grows_nothing, receives_nothing, always, name_of_word}
 use Rattle.report_cli.proofs.top.analyse.Goals as goal
 
 -- what was read is a beginning of what is told
-read_so_far : (o : Option (List NamedText)) (items slice : List (List ℕ)) → slice ≡ items → IfSome o (λ told. items ≡ map (λ (unit : NamedText). take 16385 unit.1) told) → IfSome o (λ told. slice ≡ map (λ (unit : NamedText). take 16385 unit.1) told)
+read_so_far : (o : Option (List NamedText)) (items slice : List (List ℕ)) → slice ≡ items → IfSome o (λ told. items ≡ map (λ (unit : NamedText). take 16777217 unit.1) told) → IfSome o (λ told. slice ≡ map (λ (unit : NamedText). take 16777217 unit.1) told)
 read_so_far o items slice same read =
-    let P : List (List ℕ) → Type 0 = λ texts. IfSome o (λ told. texts ≡ map (λ (unit : NamedText). take 16385 unit.1) told) in subst P (sym same) read
+    let P : List (List ℕ) → Type 0 = λ texts. IfSome o (λ told. texts ≡ map (λ (unit : NamedText). take 16777217 unit.1) told) in subst P (sym same) read
+
+-- the statuses of refusals are those of no other answer
+no_success : (status : ℕ) → IsStatus status → status ≡ 0 → ⊥
+no_success status (inl three) e = omega arith
+no_success status (inr (inl four)) e = omega arith
+no_success status (inr (inr six)) e = omega arith
+
+no_two : (status : ℕ) → IsStatus status → status ≡ 2 → ⊥
+no_two status (inl three) e = omega arith
+no_two status (inr (inl four)) e = omega arith
+no_two status (inr (inr six)) e = omega arith
+
+no_seven : (status : ℕ) → IsStatus status → status ≡ 7 → ⊥
+no_seven status (inl three) e = omega arith
+no_seven status (inr (inl four)) e = omega arith
+no_seven status (inr (inr six)) e = omega arith
+
+no_eight : (status : ℕ) → IsStatus status → status ≡ 8 → ⊥
+no_eight status (inl three) e = omega arith
+no_eight status (inr (inl four)) e = omega arith
+no_eight status (inr (inr six)) e = omega arith
+
+no_nine : (status : ℕ) → IsStatus status → status ≡ 9 → ⊥
+no_nine status (inl three) e = omega arith
+no_nine status (inr (inl four)) e = omega arith
+no_nine status (inr (inr six)) e = omega arith
 
 not_both : IsTrue false → ⊥
 not_both h = cc
@@ -59,12 +85,13 @@ returns-clause-outcome g c not7 not8 not9 =
             given.4,
             receives_nothing _ _ _ _ given.5,
           )
-      | inr (inl four) ↦
-          let given = c.answer_units.ensures.refused (λ e. absurd (omega arith)) not8 not9 in (
+      | inr (inl refused) ↦
+          let not0 : c.answer_units.result ≡ 0 → ⊥ = no_success _ refused in
+          let given = c.answer_units.ensures.refused not0 not8 not9 in (
             record { status = c.answer_units.result; out = []; err = given.0 },
             inr (words, inr (refuses_told (texts_of c.args.words.now) c.as_slice.result.now told _ read given.1)),
             refl,
-            grows_nothing _ _ (c.answer_units.ensures.kept (λ e. absurd (omega arith)) not8),
+            grows_nothing _ _ (c.answer_units.ensures.kept not0 not8),
             given.2,
           )
       | inr (inr (inl eight)) ↦ absurd (not8 eight)
@@ -75,7 +102,7 @@ pub returns-clause-usage : goal.returns-clause-usage
 returns-clause-usage g c = (
   (λ two. elim c.answer_units.ensures.listed [
     | inl zero ↦ absurd (omega arith)
-    | inr (inl four) ↦ absurd (omega arith)
+    | inr (inl refused) ↦ absurd (no_two _ refused two)
     | inr (inr (inl eight)) ↦ absurd (omega arith)
     | inr (inr (inr nine)) ↦ absurd (omega arith)
   ]),
@@ -85,7 +112,7 @@ returns-clause-usage g c = (
 pub returns-clause-listed : goal.returns-clause-listed
 returns-clause-listed g c = elim c.answer_units.ensures.listed [
   | inl zero ↦ inl zero
-  | inr (inl four) ↦ inr (inr (inl four))
+  | inr (inl refused) ↦ inr (inr (inl refused))
   | inr (inr (inl eight)) ↦ inr (inr (inr (inr (inl eight))))
   | inr (inr (inr nine)) ↦ inr (inr (inr (inr (inr nine))))
 ]
@@ -93,7 +120,7 @@ returns-clause-listed g c = elim c.answer_units.ensures.listed [
 pub returns-clause-source : goal.returns-clause-source
 returns-clause-source g c seven = elim c.answer_units.ensures.listed [
   | inl zero ↦ absurd (omega arith)
-  | inr (inl four) ↦ absurd (omega arith)
+  | inr (inl refused) ↦ absurd (no_seven _ refused seven)
   | inr (inr (inl eight)) ↦ absurd (omega arith)
   | inr (inr (inr nine)) ↦ absurd (omega arith)
 ]
@@ -104,9 +131,9 @@ returns-clause-complete g c =
     (names_told (g.U.Units.text c.args.units.now) (texts_of c.args.words.now)) (read_so_far _ _ _ c.as_slice.ensures.value c.in-Ok.ensures.texts)
     (λ told read words program denoted sources sink. elim c.answer_units.ensures.listed [
       | inl zero ↦ inl zero
-      | inr (inl four) ↦
-          let given = c.answer_units.ensures.refused (λ e. absurd (omega arith)) (λ e. absurd (omega arith)) (λ e. absurd (omega arith)) in
-          absurd (denotes_or_refuses never_both told program _ denoted (refuses_told (texts_of c.args.words.now) c.as_slice.result.now told _ read given.1))
+      | inr (inl refused) ↦
+          let given = c.answer_units.ensures.refused (no_success _ refused) (no_eight _ refused) (no_nine _ refused) in
+          absurd (denotes_or_refuses told program _ denoted (refuses_told (texts_of c.args.words.now) c.as_slice.result.now told _ read given.1))
       | inr (inr (inl eight)) ↦ absurd (not_risen _ _ sink (c.answer_units.ensures.cause eight))
       | inr (inr (inr nine)) ↦ inr nine
     ])

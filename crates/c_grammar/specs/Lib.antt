@@ -1,0 +1,15 @@
+pub mod Words
+pub mod Productions
+pub mod Names
+pub mod Log
+pub mod Terminals
+pub mod Tree
+pub mod Table
+pub mod Refusals
+pub mod Notes
+pub mod First
+pub mod Fits
+pub mod Reads
+pub mod Yield
+pub mod Order
+pub mod Numbers

@@ -1,0 +1,157 @@
+//! The scopes of names while a unit is read.
+ghost use Rattle.c_grammar.specs.Log.{known, Restores, Forgets};
+ghost use Rattle.c_grammar.specs.Names as names;
+ghost use Rattle.c_grammar.specs.Names.{Names};
+ghost use Rattle.std.specs.Prelude.{◌≡◌, ◌<◌, nat_lt, length, IfOk, OnOk, OnErr};
+
+use pta_base::OutOfMemory;
+use std::alloc::Global;
+use std::collections::HashMap;
+use std::marker::Model;
+
+/// A declared name, whether it is a typedef name, and what the name meant before.
+#[derive(Drop)]
+struct Declared {
+    name: Vec<u8>,
+    is_type: bool,
+    before: Option<bool>,
+}
+
+/// What each name means now: whether it is a typedef name, or nothing where no open scope declares it.
+type Meanings = HashMap<Vec<u8>, Option<bool>>;
+
+/// The open scopes with the names that they declare (C11 6.2.1). The file's scope is always open.
+#[derive(Drop)]
+pub struct Scopes {
+    enclosing: Vec<Vec<Declared>>,
+    innermost: Vec<Declared>,
+    current: Meanings,
+    alloc: Global,
+}
+
+impl Model for Scopes {
+    ghost use Rattle.c_grammar.specs.Names.{Names};
+
+    ghost Value = { Names };
+
+    ghost use Rattle.c_grammar.specs.Log.{seen, seen_all, seen_scope, Kept};
+    ghost use Rattle.std.specs.Prelude.{map};
+
+    ghost view = { λ s. record { enclosing = map seen_scope s.enclosing.items; innermost = seen_all s.innermost.items } };
+
+    ghost invariant = { λ s. Kept s.enclosing.items s.innermost.items s.current };
+}
+
+/// A copy of a name.
+fn copied(name: &[u8], alloc: Global) -> Result<Vec<u8>, OutOfMemory>
+    ensures { IfOk result (λ copy. copy.items ≡ name.now) }
+{
+    let mut copy = Vec::new(alloc);
+    copy.extend_from_slice(name)?;
+    Ok(copy)
+}
+
+/// What a name means now.
+fn meaning(current: &Meanings, name: &[u8]) -> Option<bool>
+    ensures { result ≡ known current.now name.now }
+{
+    match current.get(name) {
+        Some(meaning) => *meaning,
+        None => None,
+    }
+}
+
+/// Gives a name that has been declared the meaning that it had before.
+fn restore(current: &mut Meanings, name: &[u8], before: Option<bool>)
+    ensures { Restores current.old name.now before current.new }
+{
+    if let Some(meaning) = current.get_mut(name) {
+        *meaning = before;
+    }
+}
+
+/// Gives all names of a scope, from the last one on, the meanings that they had before.
+fn forget(scope: &mut Vec<Declared>, current: &mut Meanings)
+    ensures { Forgets scope.old.items current.old current.new }
+{
+    while let Some(declared) = scope.pop() {
+        restore(current, &declared.name, declared.before);
+    }
+}
+
+impl Scopes {
+    /// Only the file's scope is open, and it declares nothing.
+    pub fn new(alloc: Global) -> Scopes
+        ensures { result ≡ names.no_names }
+    {
+        Scopes {
+            enclosing: Vec::new(alloc),
+            innermost: Vec::new(alloc),
+            current: HashMap::new(alloc),
+            alloc,
+        }
+    }
+
+    /// Opens a scope. Where memory runs out, the scopes stay as they were.
+    pub fn enter(&mut self) -> Result<(), OutOfMemory>
+        ensures ok { OnOk result (self.new ≡ names.entered self.old) }
+        ensures err { OnErr result (self.new ≡ self.old) }
+    {
+        self.enclosing.reserve(1)?;
+        let scope = std::mem::replace(&mut self.innermost, Vec::new(self.alloc));
+        self.enclosing.push(scope)?;
+        Ok(())
+    }
+
+    /// Whether a scope is open within the file's.
+    pub fn is_nested(&self) -> bool
+        ensures { result ≡ nat_lt 0 (length self.now.enclosing) }
+    {
+        !self.enclosing.is_empty()
+    }
+
+    /// Closes the innermost scope, which isn't the file's.
+    pub fn leave(&mut self)
+        requires { 0 < length self.old.enclosing }
+        ensures { self.new ≡ names.left self.old }
+    {
+        forget(&mut self.innermost, &mut self.current);
+        if let Some(scope) = self.enclosing.pop() {
+            self.innermost = scope;
+        }
+    }
+
+    /// Declares a name in the innermost scope, as a typedef name or as another one. Where memory runs out, the scopes stay as
+    /// they were.
+    pub fn declare(&mut self, name: &[u8], is_type: bool) -> Result<(), OutOfMemory>
+        ensures ok { OnOk result (self.new ≡ names.declared self.old (name.now, is_type)) }
+        ensures err { OnErr result (self.new ≡ self.old) }
+    {
+        let key = copied(name, self.alloc)?;
+        let kept = copied(name, self.alloc)?;
+        let before = meaning(&self.current, name);
+        self.innermost.push(Declared {
+            name: kept,
+            is_type,
+            before,
+        })?;
+        match self.current.insert(key, Some(is_type)) {
+            Ok(_) => Ok(()),
+            Err(_) => {
+                let _ = self.innermost.pop();
+                Err(OutOfMemory)
+            }
+        }
+    }
+
+    /// Whether a name is a typedef name: the innermost declaration of it says (C11 6.2.1p4). Without a declaration only
+    /// `__builtin_va_list` is one.
+    pub fn is_type(&self, name: &[u8]) -> bool
+        ensures { result ≡ names.is_type self.now name.now }
+    {
+        match meaning(&self.current, name) {
+            Some(is_type) => is_type,
+            None => name == b"__builtin_va_list".as_slice(),
+        }
+    }
+}

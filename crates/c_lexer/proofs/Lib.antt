@@ -1,0 +1,10 @@
+pub mod Tables
+pub mod Lines
+pub mod Values
+pub mod Quoted
+pub mod Classes
+pub mod Openings
+pub mod Longest
+pub mod Words
+pub mod Steps
+pub mod OneCut

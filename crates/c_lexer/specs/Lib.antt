@@ -1,0 +1,12 @@
+pub mod Bytes
+pub mod Spellings
+pub mod Spells
+pub mod Places
+pub mod Numbers
+pub mod Quotes
+pub mod Escapes
+pub mod Pieces
+pub mod Meanings
+pub mod Cut
+pub mod States
+pub mod Laws

@@ -1,0 +1,10 @@
+pub mod Trees
+pub mod Layout
+pub mod Table
+pub mod Made
+pub mod Parts
+pub mod Paths
+pub mod Index
+pub mod Keys
+pub mod Inside
+pub mod Bounds

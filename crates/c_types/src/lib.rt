@@ -1,0 +1,10 @@
+// C's types: terms, tags, sizes and node trees.
+#![tactic(auto)]
+
+mod index;
+pub mod layout;
+mod parts;
+pub mod table;
+pub mod term;
+#[cfg(test)]
+mod tests;

@@ -1,0 +1,4 @@
+pub mod Pairs
+pub mod Taking
+pub mod Gaining
+pub mod Alone

@@ -1,0 +1,103 @@
+//! The book of edges.
+ghost use Rattle.std.specs.Prelude.{◌≡◌, ◌+◌, ◌++◌, ◌<◌, [], ◌∷◌, Some, length, take, Contains, slice_get, OnErr, IfOk, MatchBool};
+ghost use Rattle.std.specs.List.Sorted.{IsStrictlySortedBy};
+ghost use Rattle.edge_book.specs.Edges.{AreApart, pair_order, with_pairs};
+
+use indexmap::IndexSet;
+use pta_base::OutOfMemory;
+use std::alloc::Global;
+use std::marker::Model;
+
+/// Edges between rows, each once, in order of arrival. An edge `(a, b)` says that the set of row `a` is included in
+/// that of row `b`. Contracts see a book as the list of its edges.
+#[derive(Drop)]
+pub struct EdgeBook {
+    edges: IndexSet<(u32, u32)>,
+    alloc: Global,
+}
+
+impl Model for EdgeBook {
+    ghost use Rattle.std.specs.Prelude.{List, ℕ};
+    ghost use Rattle.edge_book.specs.Edges.{AreApart};
+
+    ghost Value = { List (ℕ × ℕ) };
+
+    ghost view = { λ b. b.edges.keys };
+
+    ghost invariant = { λ b. AreApart b.edges.keys };
+}
+
+/// One pair of a list.
+fn pair_at(pairs: &[(u32, u32)], i: usize) -> (u32, u32)
+    requires { i < length pairs.now }
+    ensures { slice_get pairs.now i ≡ Some result }
+{
+    pairs[i]
+}
+
+impl EdgeBook {
+    /// A book with no edge.
+    pub fn new(alloc: Global) -> EdgeBook
+        ensures { result ≡ [] }
+    {
+        EdgeBook {
+            edges: IndexSet::new(alloc),
+            alloc,
+        }
+    }
+
+    /// Adds an edge at the end if the book doesn't have it, and answers whether it is new. After want of memory the
+    /// book is as it was.
+    pub fn add(&mut self, from: u32, to: u32) -> Result<bool, OutOfMemory>
+        ensures added { IfOk result (λ new. MatchBool new (self.new ≡ self.old ++ (from, to) ∷ []) (self.new ≡ self.old)) }
+        ensures new { IfOk result (λ new. MatchBool new (Contains self.old (from, to) → ⊥) (Contains self.old (from, to))) }
+        ensures err { OnErr result (self.new ≡ self.old) }
+    {
+        Ok(self.edges.insert((from, to))?)
+    }
+
+    /// Adds an edge, and answers how many edges are new: 1 or 0.
+    pub(crate) fn add_one(&mut self, from: u32, to: u32) -> Result<u32, OutOfMemory>
+        ensures ok { IfOk result (λ new. (self.new ≡ with_pairs self.old ((from, to) ∷ [])) × (length self.new ≡ length self.old + new)) }
+        ensures err { OnErr result (self.new ≡ self.old) }
+    {
+        if self.add(from, to)? { Ok(1) } else { Ok(0) }
+    }
+
+    /// How many edges the book has. No edge stands twice.
+    pub fn len(&self) -> usize
+        ensures len { result ≡ length self.now }
+        ensures once { AreApart self.now }
+    {
+        self.edges.len()
+    }
+
+    /// The edge of a number, counted from 0 in order of arrival; none exactly past the end.
+    pub fn get(&self, index: usize) -> Option<(u32, u32)>
+        ensures { result ≡ slice_get self.now index }
+    {
+        self.edges.get_index(index).copied()
+    }
+
+    /// An empty list of pairs, in the book's memory.
+    pub(crate) fn no_pairs(&self) -> Vec<(u32, u32)>
+        ensures { result.items ≡ [] }
+    {
+        Vec::new(self.alloc)
+    }
+
+    /// Adds pairs in their order, and answers how many of them are new.
+    pub(crate) fn add_all(&mut self, pairs: &[(u32, u32)]) -> Result<u32, OutOfMemory>
+        requires { IsStrictlySortedBy pair_order pairs.now }
+        ensures ok { IfOk result (λ new. (self.new ≡ with_pairs self.old pairs.now) × (length self.new ≡ length self.old + new)) }
+        ensures err { OnErr result ((count : _) × (self.new ≡ with_pairs self.old (take count pairs.now))) }
+    {
+        let mut new = 0u32;
+        for i in 0..pairs.len() {
+            let (from, to) = pair_at(pairs, i);
+            let more = self.add_one(from, to)?;
+            new = new.checked_add(more).ok_or(OutOfMemory)?;
+        }
+        Ok(new)
+    }
+}

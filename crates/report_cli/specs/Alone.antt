@@ -1,0 +1,62 @@
+-- What is asked of each unit alone: its tokens and its syntax.
+use Rattle.std.specs.Prelude.{◌≡◌, ◌⊎◌, ℕ, List, [], ◌∷◌, ◌++◌, Result, Ok, Err, slice_get, codes, decimal}
+use Rattle.std.specs.Option.{option_map_or}
+use Rattle.pta_base.specs.Kind.{name_of}
+use Rattle.c_lexer.specs.declared.Token.{Token}
+use Rattle.c_lexer.specs.declared.LexFault.{LexFault}
+use Rattle.c_lexer.specs.declared.LexFault.TheVariants.{BadByte, Unended, BadNumber, TooLong, OutOfMemory}
+use Rattle.c_lexer.specs.Cut.{IsTokens, IsFault}
+use Rattle.c_lexer.specs.Places.{line_of, column_of}
+use Rattle.c_grammar.specs.Names.{no_names}
+use Rattle.c_grammar.specs.Productions.{p_unit}
+use Rattle.c_grammar.specs.Reads.{State, Fault, malformed, unsupported, too_deep, Opens}
+use Rattle.c_parser.specs.Parse.{begin}
+use Rattle.report_cli.specs.Answers.{NamedText, Answer, refusal, place_text}
+
+-- text that is no C11, at a place
+abbrev pub malformed_at : List ℕ → Answer
+malformed_at place = refusal 3 (place ++ codes ": malformed")
+
+-- the refusal of a unit for its first lexical fault; want of memory is none
+abbrev pub lexical_refusal : NamedText → LexFault → Answer
+lexical_refusal unit (BadByte at) = malformed_at (place_text unit.0 (line_of unit.1 at) (column_of unit.1 at))
+lexical_refusal unit (Unended at) = malformed_at (place_text unit.0 (line_of unit.1 at) (column_of unit.1 at))
+lexical_refusal unit (BadNumber at) = malformed_at (place_text unit.0 (line_of unit.1 at) (column_of unit.1 at))
+lexical_refusal unit TooLong = refusal 6 (unit.0 ++ codes ": too large text 16777217")
+lexical_refusal unit OutOfMemory = refusal 9 (codes "out of memory")
+
+-- the place of a token, by its number
+abbrev pub token_place : List ℕ → List Token → ℕ → List ℕ
+token_place name list number = option_map_or (λ token. place_text name token.line token.column) (slice_get list number) name
+
+-- the refusal of a unit for the first token that doesn't fit its grammar
+abbrev pub syntax_refusal : List ℕ → List Token → Fault → Answer
+syntax_refusal name list (malformed number) = malformed_at (token_place name list number)
+syntax_refusal name list (unsupported kind number) = refusal 4 (token_place name list number ++ codes ": not accepted " ++ name_of kind)
+syntax_refusal name list (too_deep number) = refusal 6 (token_place name list number ++ codes ": too deep 257")
+
+-- reading a unit from its first token on gives this state, or this first fault
+abbrev pub Reading : List ℕ → List Token → Result State Fault → Type 0
+Reading text list result = Opens text list p_unit 0 (begin 0 no_names []) result
+
+-- a unit has no tokens, or its tokens are those of no unit
+unfoldable pub IsRefusedAlone : NamedText → Answer → Type 0
+IsRefusedAlone unit answer =
+    ((fault : LexFault) × (fault ≡ OutOfMemory → ⊥) × IsFault unit.1 fault × (answer ≡ lexical_refusal unit fault))
+    ⊎ ((list : List Token) × IsTokens unit.1 list × (fault : Fault) × Reading unit.1 list (Err fault) × (answer ≡ syntax_refusal unit.0 list fault))
+
+-- a unit has tokens that are those of a unit
+unfoldable pub IsReadAs : NamedText → List Token → Type 0
+IsReadAs unit list = IsTokens unit.1 list × ((state : State) × Reading unit.1 list (Ok state))
+
+abbrev pub IsReadAlone : NamedText → Type 0
+IsReadAlone unit = (list : List Token) × IsReadAs unit list
+
+-- the first of some units that is refused alone
+abbrev pub FirstAlone : List NamedText → Answer → Type 0
+FirstAlone [] answer = ⊥
+FirstAlone (unit ∷ units) answer = IsRefusedAlone unit answer ⊎ (IsReadAlone unit × FirstAlone units answer)
+
+abbrev pub AreReadAlone : List NamedText → Type 0
+AreReadAlone [] = Unit {0}
+AreReadAlone (unit ∷ units) = IsReadAlone unit × AreReadAlone units

@@ -1,0 +1,128 @@
+// The tokens and the syntax of a unit alone.
+ghost use Rattle.std.specs.Prelude.{◌≡◌, ◌+◌, ◌≤◌, ◌∷◌, ◌++◌, length, map, zip, IfOk, IfErr, OnOk, codes};
+ghost use Rattle.pta_base.specs.Kind.{name_of};
+ghost use Rattle.c_lexer.specs.declared.LexFault.TheVariants.{OutOfMemory};
+ghost use Rattle.report_cli.specs.Words.{texts_of};
+ghost use Rattle.report_cli.specs.Answers.{refusal};
+ghost use Rattle.report_cli.specs.Alone.{lexical_refusal, syntax_refusal, malformed_at, token_place, IsReadAs, AreReadAlone};
+ghost use Rattle.report_cli.specs.Faults.{fault_of, IsFaultAlone, IsLexical, IsSyntactic};
+
+use crate::fault::UnitsFault;
+use crate::places::{column_of, line_of, place_text, token_place};
+use c_lexer::lexer::tokens;
+use c_lexer::{LexFault, Token, Tokens};
+use c_parser::ParseFault;
+use c_units::parse_unit;
+use pta_base::{Kind, Listing};
+use std::alloc::{AllocError, Global};
+
+/// The refusal of a text that is no C11, at a place.
+fn malformed(place: Vec<u8>) -> Result<UnitsFault, AllocError>
+    ensures { IfOk result (λ fault. fault ≡ fault_of (malformed_at place.items)) }
+{
+    let mut line = place;
+    line.extend_from_slice(b": malformed")?;
+    line.extend_from_slice(b"\n")?;
+    Ok(UnitsFault::Refused {
+        status: 3,
+        line: Listing::of(line),
+    })
+}
+
+/// The refusal of a construct that isn't accepted, at a place.
+fn not_accepted(place: Vec<u8>, kind: Kind) -> Result<UnitsFault, AllocError>
+    ensures { IfOk result (λ fault. fault ≡ fault_of (refusal 4 (place.items ++ codes ": not accepted " ++ name_of kind))) }
+{
+    let mut line = place;
+    line.extend_from_slice(b": not accepted ")?;
+    line.extend_from_slice(kind.name().as_bytes())?;
+    line.extend_from_slice(b"\n")?;
+    Ok(UnitsFault::Refused {
+        status: 4,
+        line: Listing::of(line),
+    })
+}
+
+/// The refusal of the 257th of the constructs that nest, at a place.
+fn too_deep(place: Vec<u8>) -> Result<UnitsFault, AllocError>
+    ensures { IfOk result (λ fault. fault ≡ fault_of (refusal 6 (place.items ++ codes ": too deep 257"))) }
+{
+    let mut line = place;
+    line.extend_from_slice(b": too deep 257")?;
+    line.extend_from_slice(b"\n")?;
+    Ok(UnitsFault::Refused {
+        status: 6,
+        line: Listing::of(line),
+    })
+}
+
+/// The refusal of a text that is too long.
+fn too_large(alloc: Global, name: &str) -> Result<UnitsFault, AllocError>
+    ensures { IfOk result (λ fault. fault ≡ fault_of (refusal 6 (name.now ++ codes ": too large text 16777217"))) }
+{
+    let mut line = Vec::from_slice(alloc, name.as_bytes())?;
+    line.extend_from_slice(b": too large text 16777217")?;
+    line.extend_from_slice(b"\n")?;
+    Ok(UnitsFault::Refused {
+        status: 6,
+        line: Listing::of(line),
+    })
+}
+
+/// The refusal for a lexical fault.
+fn lexical(
+    alloc: Global,
+    name: &str,
+    text: &[u8],
+    fault: LexFault,
+) -> Result<UnitsFault, AllocError>
+    ensures { IfOk result (IsLexical (name.now, text.now) fault) }
+{
+    match fault {
+        LexFault::BadByte(at) | LexFault::Unended(at) | LexFault::BadNumber(at) => {
+            malformed(place_text(alloc, name, line_of(text, at), column_of(text, at))?)
+        }
+        LexFault::TooLong => too_large(alloc, name),
+        LexFault::OutOfMemory => Ok(UnitsFault::Memory),
+    }
+}
+
+/// The refusal for a fault of syntax.
+fn syntactic(
+    alloc: Global,
+    name: &str,
+    list: &[Token],
+    fault: ParseFault,
+) -> Result<UnitsFault, AllocError>
+    ensures { IfOk result (IsSyntactic name.now list.now fault) }
+{
+    match fault {
+        ParseFault::Malformed(number) => malformed(token_place(alloc, name, list, number)?),
+        ParseFault::Unsupported(kind, number) => not_accepted(
+            token_place(alloc, name, list, number)?,
+            kind,
+        ),
+        ParseFault::TooDeep(number) => too_deep(token_place(alloc, name, list, number)?),
+        ParseFault::OutOfMemory => Ok(UnitsFault::Memory),
+    }
+}
+
+/// The tokens of a unit whose syntax is right, or the fault that refuses it alone.
+pub(crate) fn read_alone<'a>(
+    alloc: Global,
+    name: &str,
+    text: &'a [u8],
+) -> Result<Tokens<'a>, UnitsFault>
+    ensures read { IfOk result (λ tokens. (tokens.text.now ≡ text.now) × IsReadAs (name.now, text.now) tokens.list.items) }
+    ensures few { IfOk result (λ tokens. length tokens.list.items ≤ length text.now + 1) }
+    ensures refused { IfErr result (IsFaultAlone (name.now, text.now)) }
+{
+    let tokens = match tokens(alloc, text) {
+        Ok(tokens) => tokens,
+        Err(fault) => return Err(lexical(alloc, name, text, fault)?),
+    };
+    match parse_unit(alloc, &tokens, 0) {
+        Ok(_) => Ok(tokens),
+        Err(fault) => Err(syntactic(alloc, name, tokens.list.as_slice(), fault)?),
+    }
+}

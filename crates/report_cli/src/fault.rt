@@ -1,0 +1,32 @@
+// Why units have no report.
+ghost use Rattle.std.specs.Prelude.{◌≡◌};
+
+use pta_base::{Listing, OutOfMemory};
+use std::alloc::AllocError;
+
+/// Why units have no report: they are refused with a status and a line, or memory wanted.
+#[derive(Drop)]
+pub(crate) enum UnitsFault {
+    Refused { status: u8, line: Listing<u8> },
+    Memory,
+}
+
+impl From<AllocError> for UnitsFault {
+    ghost use Rattle.report_cli.specs.declared.fault.UnitsFault.TheVariants.{Memory};
+
+    ghost from_gives = { λ _ e. e ≡ Memory };
+
+    fn from(_: AllocError) -> Self {
+        UnitsFault::Memory
+    }
+}
+
+impl From<OutOfMemory> for UnitsFault {
+    ghost use Rattle.report_cli.specs.declared.fault.UnitsFault.TheVariants.{Memory};
+
+    ghost from_gives = { λ _ e. e ≡ Memory };
+
+    fn from(_: OutOfMemory) -> Self {
+        UnitsFault::Memory
+    }
+}

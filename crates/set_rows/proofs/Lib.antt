@@ -1,0 +1,6 @@
+pub mod Keeps
+pub mod Holding
+pub mod Copies
+pub mod Adding
+pub mod Events
+pub mod Samples

@@ -1,0 +1,7 @@
+// Small systems of inclusion constraints, solved, against least sets and call graphs that were worked out on paper.
+#![tactic(auto)]
+
+#[cfg(test)]
+mod parts;
+#[cfg(test)]
+mod tests;
