@@ -1,4 +1,7 @@
 // Texts with their reports, and with the places at which they are refused.
+ghost use Rattle.std.specs.Prelude.{IfOk};
+ghost use Rattle.pointer_units.specs.Faults.{IsAccepted};
+
 use crate::{PointerUnit, UnitFault, read_unit, report, system};
 use c_lexer::lexer::tokens;
 use sol_model::plain_solve;
@@ -6,11 +9,14 @@ use std::alloc::Global;
 use std::test::Fail;
 
 /// The unit of a text, where it has tokens.
-fn unit_of_text(alloc: Global, text: &[u8]) -> Result<PointerUnit, UnitFault> {
-    match tokens(alloc, text) {
-        Ok(tokens) => read_unit(alloc, &tokens),
-        Err(_) => Err(UnitFault::OutOfMemory),
-    }
+fn unit_of_text(alloc: Global, text: &[u8]) -> Result<PointerUnit, UnitFault>
+    ensures { IfOk result IsAccepted }
+{
+    let Ok(tokens) = tokens(alloc, text) else {
+        return Err(UnitFault::OutOfMemory);
+    };
+    let unit = read_unit(alloc, &tokens)?;
+    Ok(unit)
 }
 
 /// The report of a text.
