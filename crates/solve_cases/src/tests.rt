@@ -4,6 +4,7 @@ use crate::parts::{
     object, store, system,
 };
 use call_graph::{graph, is_target};
+use edge_book::EdgeBook;
 use pta_base::{Effect, OutOfMemory};
 use sol_model::{Constraint, System, is_closed, plain_solve};
 use std::alloc::Global;
@@ -638,5 +639,70 @@ fn invalid(rt: HostRuntime) -> Result<(), OutOfMemory> {
     assert!(&rt; !is_valid_with(alloc, 3, store(0, 1), 1, &[], none)?);
     assert!(&rt; !is_valid_with(alloc, 3, store(0, 1), 2, &[(0, 0), (0, 1)], none)?);
     assert!(&rt; !is_valid_with(alloc, 3, store(0, 1), 2, &[], Effect::GivesArgument(0))?);
+    Ok(())
+}
+
+/// How many edges the first call of a system adds to a book for one location.
+fn new_edges(
+    rt: &impl Abort,
+    book: &mut EdgeBook,
+    system: &System,
+    location: u32,
+) -> Result<u32, OutOfMemory> {
+    assert!(rt; is_valid(system));
+    assert!(rt; !system.calls.as_slice().is_empty());
+    assert!(rt; (location as usize) < system.locations.len());
+    book.edges_of_call(system, 0, location)
+}
+
+#[test]
+fn edges_of_a_call_for_one_target(rt: HostRuntime) -> Result<(), OutOfMemory> {
+    let case = system(
+        rt.alloc(),
+        12,
+        &[
+            object(POINTER),
+            code(0),
+            object(POINTER),
+            code(1),
+            object(INTEGER),
+        ],
+        &[called(0)],
+        &[
+            FunctionPart {
+                location: 1,
+                signature: 2,
+                parameters: &[&[2], &[5]],
+                results: &[6],
+                effects: &[],
+            },
+            FunctionPart {
+                location: 3,
+                signature: 3,
+                parameters: &[&[2]],
+                results: &[6],
+                effects: &[],
+            },
+        ],
+        &[CallPart {
+            caller: 1,
+            callee: 7,
+            signature: 2,
+            arguments: &[&[8], &[9], &[10]],
+            results: &[11],
+            fresh: &[],
+        }],
+    )?;
+    let mut book = EdgeBook::new(rt.alloc());
+    for (location, new) in [(3, 0), (4, 0), (1, 3), (1, 0)] {
+        assert_eq!(&rt;
+            new_edges(&rt, &mut book, &case, location)?,
+            new,
+            "for {location}"
+        );
+    }
+    for (index, edge) in [(6, 11), (8, 2), (9, 5)].iter().enumerate() {
+        assert_eq!(&rt; book.get(index), Some(*edge));
+    }
     Ok(())
 }
