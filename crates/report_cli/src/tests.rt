@@ -293,3 +293,52 @@ fn units_in_order(rt: HostRuntime) -> Result<(), Fail> {
     assert_eq!(rt; other.err.as_slice(), b"c.i:1:5: malformed\n".as_slice());
     Ok(())
 }
+
+/// A unit as a compiler's preprocessor writes it.
+const LIST_UNIT: &str = "# 1 \"list.c\"
+# 1 \"/usr/include/stdlib.h\" 1 3 4
+typedef unsigned long size_t;
+extern void *malloc (size_t __size) __attribute__ ((__nothrow__ , __leaf__)) __attribute__ ((__malloc__));
+extern int *__errno_location (void) __attribute__ ((__nothrow__ , __leaf__)) __attribute__ ((__const__));
+extern const unsigned short int **__ctype_b_loc (void);
+enum { _ISalpha = ((2) < 8 ? ((1 << (2)) << 8) : ((1 << (2)) >> 8)) };
+extern double strtod (const char *__restrict __nptr, char **__restrict __endptr);
+# 3 \"list.c\" 2
+struct node { struct node *next; const char *word; };
+static struct node *head;
+static void push(const char *w)
+{
+  struct node *n = malloc(sizeof *n);
+  if (!n) return;
+  n->next = head;
+  n->word = w;
+  head = n;
+}
+int main(int argc, char **argv)
+{
+  if ((*__ctype_b_loc ())[(int) (('a'))] & (unsigned short int) _ISalpha)
+    push(\"one\");
+  if ((*__errno_location ()) == 0)
+    push(argv[0]);
+  return 0;
+}
+";
+
+#[test]
+fn a_unit_cut_after_each_line(rt: HostRuntime) -> Result<(), Fail> {
+    let mut text = String::new(rt.alloc());
+    for (number, line) in LIST_UNIT.lines().enumerate() {
+        text.push_str(line)?;
+        text.push_str("\n")?;
+        let made = answer_of(&rt, &["list.i"], &[("list.i", text.as_str())], &[], &[])?;
+        if (11..=17).contains(&number) || (19..=25).contains(&number) {
+            let behind = u64::try_from(number).unwrap_or(0).saturating_add(2);
+            let line = format!(in rt.alloc(); "list.i:{behind}:1: malformed\n")?;
+            assert_eq!(rt; made.status, 3, "line {number}");
+            assert_eq!(rt; made.err.as_slice(), line.as_bytes(), "line {number}");
+        } else {
+            assert_eq!(rt; made.status, 4, "line {number}");
+        }
+    }
+    Ok(())
+}
