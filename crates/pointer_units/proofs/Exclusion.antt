@@ -1,5 +1,5 @@
 -- A text that is refused has no unit, and one place.
-use Rattle.std.proofs.Common.{◌≡◌, ℕ, refl, List, Some, slice_get, inl, inr, arith, sym, ◌∙◌, ap}
+use Rattle.std.proofs.Common.{◌≡◌, ℕ, refl, List, slice_get, inl, inr, arith, sym, ◌∙◌, ap}
 use Rattle.std.proofs.lemmas.Option.{same_Some}
 use Rattle.c_lexer.specs.declared.Token.{Token}
 use Rattle.pointer_units.specs.Tokens.{words_of}

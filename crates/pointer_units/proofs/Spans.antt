@@ -1,5 +1,5 @@
 -- Where tokens lie in their text.
-use Rattle.std.proofs.Common.{◌≡◌, ℕ, zero, suc, ◌+◌, ◌<◌, ◌≤◌, List, [], ◌∷◌, ◌++◌, length, get_or, arith, length-append, ap}
+use Rattle.std.proofs.Common.{◌≡◌, ℕ, zero, suc, ◌<◌, ◌≤◌, List, [], ◌∷◌, ◌++◌, length, get_or, arith, length-append, ap}
 use Rattle.c_lexer.specs.declared.Token.{Token}
 use Rattle.c_lexer.specs.Laws.{Ordered}
 use Rattle.c_lexer.specs.Cut.{IsTokens, all_tokens, token_at}

@@ -1,6 +1,5 @@
 -- Which token of a text is the first that does not fit.
 use Rattle.std.specs.Prelude.{◌≡◌, ℕ, ◌+◌, ◌<◌, ◌≤◌, ◌⊎◌, List, [], ◌∷◌, ◌++◌, length, take, All, slice_get, Some}
-use Rattle.std.specs.Option.{option_map_or}
 use Rattle.pointer_units.specs.declared.unit.Assignment.{Assignment}
 use Rattle.pointer_units.specs.declared.unit.PointerUnit.{PointerUnit}
 use Rattle.c_lexer.specs.declared.Token.{Token}

@@ -1,5 +1,5 @@
 -- Units of pointers to int: their tokens, and which are right.
-use Rattle.std.specs.Prelude.{◌≡◌, ◌≢◌, ℕ, ◌+◌, ◌<◌, ◌≤◌, ◌&&◌, Bool, false, not, bytes_eq, IsTrue, if◌then◌else◌, List, [], ◌∷◌, ◌++◌, map, flat_map, length, All, AllPairs, slice_get, codes}
+use Rattle.std.specs.Prelude.{◌≡◌, ◌≢◌, ℕ, ◌+◌, ◌<◌, ◌≤◌, ◌&&◌, Bool, false, not, bytes_eq, IsTrue, if◌then◌else◌, List, [], ◌∷◌, ◌++◌, flat_map, length, All, AllPairs, slice_get, codes}
 use Rattle.std.specs.List.{list_all, list_any}
 use Rattle.std.specs.Option.{option_map_or}
 use Rattle.pointer_units.specs.declared.unit.Item.{Item}

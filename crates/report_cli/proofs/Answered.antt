@@ -1,9 +1,9 @@
 -- From what was read to what is told.
-use Rattle.std.proofs.Common.{◌≡◌, ℕ, ◌+◌, ◌<◌, ◌≤◌, ◌⊎◌, inl, inr, List, [], ◌∷◌, ◌++◌, Option, Some, None, option_map, IfSome, take, length, slice_get, get_or, string_bytes, String, refl, sym, ◌∙◌, ap, subst, arith, rules, append-nil}
+use Rattle.std.proofs.Common.{◌≡◌, ℕ, ◌<◌, inl, inr, List, [], Option, Some, None, IfSome, length, slice_get, get_or, string_bytes, String, sym, ◌∙◌, ap, arith, rules, append-nil}
 use Rattle.std.specs.declared.alloc.Global.{Global}
 use Rattle.pta_base.specs.Outside.{HasRisen, IsSteady}
 use Rattle.report_cli.specs.Words.{texts_of}
-use Rattle.report_cli.specs.Outside.{Grows, GrowsInPart, Receives}
+use Rattle.report_cli.specs.Outside.{Grows, Receives}
 use Rattle.report_cli.proofs.Texts.{text_at}
 
 -- nothing was written

@@ -1,10 +1,10 @@
 -- What holds of texts that were read as far as a limit holds of the whole texts.
-use Rattle.std.proofs.Common.{◌≡◌, ℕ, ◌+◌, ◌<◌, ◌≤◌, ◌^◌, ◌⊎◌, List, [], ◌∷◌, ◌++◌, Option, Some, None, option_map, IfSome, map, take, length, min, refl, sym, ◌∙◌, ap, subst, inl, inr, arith, take_all, length-take}
+use Rattle.std.proofs.Common.{◌≡◌, ℕ, ◌<◌, ◌≤◌, ◌^◌, ◌⊎◌, List, [], ◌∷◌, Option, Some, None, option_map, IfSome, map, take, length, min, refl, sym, ◌∙◌, ap, subst, inl, inr, arith, take_all, length-take}
 use Rattle.std.specs.Prelude.{option_and_then, zip}
 use Rattle.c_lexer.specs.declared.Token.{Token}
 use Rattle.c_lexer.specs.declared.LexFault.{LexFault}
 use Rattle.c_lexer.specs.declared.LexFault.TheVariants.{BadByte, Unended, BadNumber, TooLong, OutOfMemory}
-use Rattle.c_lexer.specs.Cut.{IsTokens, IsFault}
+use Rattle.c_lexer.specs.Cut.{IsFault}
 use Rattle.c_grammar.specs.Reads.{Fault, malformed, unsupported, too_deep}
 use Rattle.pointer_units.specs.declared.unit.PointerUnit.{PointerUnit}
 use Rattle.report_cli.specs.declared.fault.UnitsFault.{UnitsFault}

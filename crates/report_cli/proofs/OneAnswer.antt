@@ -1,13 +1,12 @@
 -- Words and texts have one answer at most.
-use Rattle.std.proofs.Common.{◌≡◌, ℕ, ◌+◌, ◌⊎◌, inl, inr, List, [], ◌∷◌, ◌++◌, flat_map, length, Bool, if◌then◌else◌, refl, sym, ◌∙◌, ap, subst, codes, Ok, Err}
+use Rattle.std.proofs.Common.{◌≡◌, ℕ, ◌+◌, inl, inr, List, [], ◌∷◌, ◌++◌, flat_map, length, Bool, if◌then◌else◌, refl, sym, ◌∙◌, ap, subst, codes, Ok, Err}
 use Rattle.std.specs.List.{range_with_len}
 use Rattle.sol_model.specs.Families.{Family}
-use Rattle.sol_model.specs.Solutions.{IsLeast}
 use Rattle.sol_model.proofs.Monotone.{same_least}
 use Rattle.pointer_units.specs.declared.unit.PointerUnit.{PointerUnit}
 use Rattle.pointer_units.specs.Units.{is_pointer, name_of, Accepts}
 use Rattle.pointer_units.specs.Constraints.{system_of}
-use Rattle.pointer_units.specs.Report.{member_text, members_text, set_line, lines_text, report_of}
+use Rattle.pointer_units.specs.Report.{member_text, set_line, report_of}
 use Rattle.pointer_units.specs.Laws.{OneUnit}
 use Rattle.pointer_units.specs.Refusals.{IsRefusedAt}
 use Rattle.pointer_units.proofs.Exclusion as place_law
@@ -16,7 +15,7 @@ use Rattle.c_lexer.proofs.OneCut.{one_cut}
 use Rattle.c_grammar.proofs.Unique.{opens_one}
 use Rattle.report_cli.specs.Answers.{NamedText, Answer}
 use Rattle.report_cli.specs.Alone.{Reading, IsReadAs, IsRefusedAlone, FirstAlone, AreReadAlone, lexical_refusal, syntax_refusal}
-use Rattle.report_cli.specs.Outcome.{Denotes, IsReport, IsRefusedTogether, Refuses, OutcomeOf, Outcome, not_built}
+use Rattle.report_cli.specs.Outcome.{Denotes, IsReport, IsRefusedTogether, Refuses, OutcomeOf, not_built}
 use Rattle.report_cli.specs.Laws.{OneOutcome}
 
 flat_map-same : {X : Type 0} (f g : X → List ℕ) (xs : List X) → ((x : X) → f x ≡ g x) → flat_map f xs ≡ flat_map g xs

@@ -1,5 +1,5 @@
 -- Units whose texts are told, one after the other.
-use Rattle.std.proofs.Common.{◌≡◌, ℕ, ◌+◌, ◌<◌, List, [], ◌∷◌, ◌++◌, Option, Some, None, option_map, IfSome, map, take, length, refl, sym, ◌∙◌, ap, subst, get_or, string_bytes, String, arith}
+use Rattle.std.proofs.Common.{◌≡◌, ℕ, ◌+◌, ◌<◌, List, [], ◌∷◌, ◌++◌, Option, Some, None, option_map, IfSome, map, take, length, refl, sym, ◌∙◌, ap, subst, get_or, string_bytes, String}
 use Rattle.std.specs.Prelude.{option_and_then}
 use Rattle.std.specs.declared.alloc.Global.{Global}
 use Rattle.std.proofs.lemmas.List.{map-append, take_more, get_or-map, length-map}

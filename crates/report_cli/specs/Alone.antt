@@ -1,5 +1,5 @@
 -- What is asked of each unit alone: its tokens and its syntax.
-use Rattle.std.specs.Prelude.{◌≡◌, ◌⊎◌, ℕ, List, [], ◌∷◌, ◌++◌, Result, Ok, Err, slice_get, codes, decimal}
+use Rattle.std.specs.Prelude.{◌≡◌, ◌⊎◌, ℕ, List, [], ◌∷◌, ◌++◌, Result, Ok, Err, slice_get, codes}
 use Rattle.std.specs.Option.{option_map_or}
 use Rattle.pta_base.specs.Kind.{name_of}
 use Rattle.c_lexer.specs.declared.Token.{Token}

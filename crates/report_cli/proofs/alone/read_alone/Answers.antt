@@ -1,4 +1,4 @@
-use Rattle.std.proofs.Common.{◌≡◌, List, ℕ, Ok, sym, subst}
+use Rattle.std.proofs.Common.{List, ℕ, Ok, subst}
 use Rattle.c_lexer.specs.declared.Token.{Token}
 use Rattle.c_parser.specs.Parse.{Faults}
 use Rattle.report_cli.specs.Alone.{IsReadAs, Reading}

@@ -1,4 +1,4 @@
-use Rattle.std.proofs.Common.{rules, arith, ◌≡◌, ◌<◌, ◌+◌, ◌++◌, ◌∷◌, [], List, ℕ, Option, length, take, sym, ◌∙◌, ap, subst, IfSome}
+use Rattle.std.proofs.Common.{rules, ◌≡◌, ◌<◌, ◌+◌, ◌++◌, ◌∷◌, [], List, ℕ, Option, length, take, sym, ◌∙◌, ap, subst, IfSome}
 use Rattle.report_cli.specs.Words.{texts_of}
 use Rattle.report_cli.specs.Answers.{told_units}
 use Rattle.report_cli.proofs.Told.{AreRead, read_more}

@@ -1,4 +1,4 @@
-use Rattle.std.proofs.Common.{◌≡◌, ℕ, ◌≤◌, List, map, take, length, IfSome}
+use Rattle.std.proofs.Common.{◌≡◌, ℕ, List, map, take, length, IfSome}
 use Rattle.report_cli.specs.Words.{texts_of}
 use Rattle.report_cli.specs.Answers.{told_units}
 use Rattle.report_cli.proofs.reading.read_units.Given as goal

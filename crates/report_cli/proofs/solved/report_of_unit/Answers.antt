@@ -1,4 +1,4 @@
-use Rattle.std.proofs.Common.{◌≡◌, List, ℕ, ◌+◌, ◌≤◌, length, refl, sym, ap, subst, arith}
+use Rattle.std.proofs.Common.{List, ℕ, length, sym, ap, subst, arith}
 use Rattle.sol_model.specs.declared.system.System.{System}
 use Rattle.sol_model.specs.Families.{members}
 use Rattle.sol_model.specs.Solutions.{IsLeast}

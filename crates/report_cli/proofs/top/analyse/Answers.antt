@@ -1,9 +1,8 @@
-use Rattle.std.proofs.Common.{◌≡◌, ◌≢◌, ℕ, ◌⊎◌, ◌<◌, ◌+◌, List, [], length, IfSome, inl, inr, refl, sym, ap, subst, arith, codes, IsTrue, false, Option, Err}
+use Rattle.std.proofs.Common.{◌≡◌, ℕ, List, [], IfSome, inl, inr, refl, sym, ap, subst, arith, codes, IsTrue, false, Option, Err}
 use Rattle.std.proofs.Common.{map, take}
 use Rattle.sol_model.proofs.Members.{Contains-at}
-use Rattle.pta_base.specs.Outside.{HasRisen}
 use Rattle.report_cli.specs.Words.{AreUnitWords, texts_of}
-use Rattle.report_cli.specs.Answers.{NamedText, Answer, told_units, refusal}
+use Rattle.report_cli.specs.Answers.{NamedText, told_units, refusal}
 use Rattle.report_cli.specs.Outside.{Receives, source_fault}
 use Rattle.report_cli.proofs.Lifted.{IsStatus, names_told, with_told, denotes_told, refuses_told}
 use Rattle.report_cli.proofs.OneAnswer.{denotes_or_refuses}
