@@ -152,7 +152,10 @@ impl TypeTable {
     /// The members of a tag in order; None exactly where it isn't complete.
     pub fn members(&self, tag: u32) -> Option<&[MemberTerm]>
         requires { tag < self.now.tags }
-        ensures { MatchOption result (members_in self.now tag ≡ None) (λ m. members_in self.now tag ≡ Some m.now) }
+        ensures list { MatchOption result (members_in self.now tag ≡ None) (λ m. members_in self.now tag ≡ Some m.now) }
+
+        // Their types are the table's.
+        ensures types { IfSome result (λ m. All (λ member. member.ty.0 < length self.now.terms) m.now) }
     {
         match self.tags[tag as usize] {
             Some(k) => Some(self.completed[k as usize].members.as_slice()),

@@ -4,7 +4,7 @@ use Rattle.std.proofs.lemmas.Option.{slice_get_within, get_or_from_slice_get}
 use Rattle.std.proofs.lemmas.List.Elements.{All-get_or}
 use Rattle.core_tree.specs.Typed.{CoreTrees}
 use Rattle.core_tree.specs.declared.node.Node.{Node}
-use Rattle.core_tree.specs.Valid.{InRange, ChildOnce, IsChild, Under, here, below, Has, child_in}
+use Rattle.core_tree.specs.Range.{InRange, ChildOnce, IsChild, Under, here, below, Has, child_in}
 
 pub child_has : (u : CoreTrees) (p n : ℕ) (node : Node) → slice_get u.nodes p ≡ Some node → IsChild u p n → Has node.children n
 child_has u p n node at (k, e) = (k, sym (ap (λ o. child_in o k) at) ∙ e)
@@ -13,7 +13,7 @@ pub has_child : (u : CoreTrees) (p n : ℕ) (node : Node) → slice_get u.nodes 
 has_child u p n node at (k, e) = (k, ap (λ o. child_in o k) at ∙ e)
 
 -- a parent is a node
-parent_node : (u : CoreTrees) (p n : ℕ) → IsChild u p n → (node : Node) × (slice_get u.nodes p ≡ Some node)
+pub parent_node : (u : CoreTrees) (p n : ℕ) → IsChild u p n → (node : Node) × (slice_get u.nodes p ≡ Some node)
 parent_node u p n (k, e) = go (slice_get u.nodes p) refl
   where
     go : (o : Option Node) → slice_get u.nodes p ≡ o → (node : Node) × (slice_get u.nodes p ≡ Some node)

@@ -1,95 +1,58 @@
 -- One row for each kind of node: how it stands over its children.
-use Rattle.std.specs.Prelude.{ℕ, ◌≡◌, ◌≢◌, ◌+◌, Bool, true, false, ⊤, List, [], ◌∷◌, Option, Some, None, slice_get, length, reverse, ◌⊎◌, All}
-use Rattle.c_types.specs.Trees.{Ctype, Ctypes, NoTypes, MoreTypes, VoidType, BoolType, IntegerType, PointerTo, ArrayOf, FunctionFrom, StructureOf, UnionOf}
+use Rattle.std.specs.Prelude.{ℕ, ℤ, ◌≡◌, ◌≢◌, ◌+◌, Bool, true, false, ⊤, List, [], ◌∷◌, Option, Some, None, slice_get, length, reverse, ◌⊎◌, All}
+use Rattle.c_types.specs.Trees.{Ctype, Ctypes, NoTypes, MoreTypes, VoidType, PointerTo, ArrayOf, FunctionFrom}
 use Rattle.c_types.specs.declared.term.Form.{Form}
 use Rattle.c_types.specs.declared.term.Form.TheVariants.{Fixed, Variadic, Unspecified}
-use Rattle.c_types.specs.declared.term.MemberTerm.{MemberTerm}
-use Rattle.std.specs.List.{Contains}
-use Rattle.std.specs.Option.{option_map}
 use Rattle.c_types.specs.declared.term.PathStep.{PathStep}
 use Rattle.c_types.specs.Paths.{type_at_path}
-use Rattle.c_types.specs.Table.{Table, type_of, members_in}
+use Rattle.c_types.specs.Table.{type_of}
 use Rattle.core_tree.specs.declared.node.Node.{Node}
 use Rattle.core_tree.specs.declared.node.Entity.{Entity}
 use Rattle.core_tree.specs.declared.node.Op.{Op}
 use Rattle.core_tree.specs.declared.node.Op.TheVariants.{Multiply, Divide, Remainder, Plus, Minus, ShiftLeft, ShiftRight, Less, Greater, LessEqual, GreaterEqual, Equal, NotEqual, And, Xor, Or, Complement, Not}
 use Rattle.core_tree.specs.declared.node.NodeKind.{NodeKind}
 use Rattle.core_tree.specs.declared.node.NodeKind.TheVariants.{Named, Text, Literal, FunctionName, Deref, Member, Number, NullValue, Fetch, AddressOf, Decay, PointerAdd, Convert, Upcast, Assign, Update, Choose, Sequence, CallNode, MemberOfValue, Arith, Expression, Block, If, While, DoWhile, For, Switch, Case, Default, Label, Goto, Break, Continue, Return, Initialise, Skip}
-use Rattle.core_tree.specs.Typed.{CoreTrees, PlaceNode, ValueNode, sort_at, type_at, IsPlace, IsValue, IsStatement, IsInteger, IsPointer, IsScalar, IsStored, decayed, IsComplete, Holds, IsPromoted, IsPassed, LacksLength}
+use Rattle.core_tree.specs.Typed.{CoreTrees, PlaceNode, ValueNode, sort_at, type_at, IsPlace, IsValue, IsStatement, IsInteger, IsPointer, IsScalar, IsStored, decayed, Holds, IsPromoted, IsPassed, LacksLength}
+use Rattle.type_rules.specs.Members.{IsMemberOf, width_of}
+use Rattle.type_rules.specs.Sizes.{PointsToObject}
+use Rattle.type_rules.specs.Conversions.{IsFirstOf}
+pub use Rattle.type_rules.specs.Kinds.{IsFunction, IsArray, IsComparable, character, int, long}
+pub use Rattle.type_rules.specs.Members.{tag_of, in_list, member_at}
+pub use Rattle.type_rules.specs.Conversions.{Agree, Converts}
 
--- member k of a structure or union, which is no flexible array
-abbrev pub tag_of : Ctype → Option ℕ
-tag_of (StructureOf tag) = Some tag
-tag_of (UnionOf tag) = Some tag
-tag_of t = None
+-- member k of a structure or union
+abbrev pub IsMember : CoreTrees → Ctype → ℕ → Ctype → Type 0
+IsMember u whole k t = IsMemberOf u.types whole k t
 
-abbrev pub in_list : Option (List MemberTerm) → ℕ → Option MemberTerm
-in_list None k = None
-in_list (Some members) k = slice_get members k
-
-abbrev pub member_at : Table → Option ℕ → ℕ → Option MemberTerm
-member_at table None k = None
-member_at table (Some tag) k = in_list (members_in table tag) k
-
-pub record IsMember (u : CoreTrees) (whole : Ctype) (k : ℕ) (t : Ctype) : Type 0 where
-  pub member : MemberTerm
-  pub stands : member_at u.types (tag_of whole) k ≡ Some member
-  pub type : type_of u.types member.ty.0 ≡ t
-
--- a place that is a bit-field
-abbrev pub bits_of : CoreTrees → Option MemberTerm → Option ℕ
-bits_of u None = None
-bits_of u (Some m) = m.bits
+-- the width of a place that is a bit-field
+abbrev pub width_at : CoreTrees → NodeKind → List ℕ → Option ℕ
+width_at u (Member k) (p ∷ rest) = width_of (member_at u.types (tag_of (type_at u p)) k)
+width_at u kind children = None
 
 abbrev pub place_bits : CoreTrees → Option Node → Option ℕ
 place_bits u None = None
-place_bits u (Some n) =
-    elim n.kind [
-      | Member k ↦ elim n.children [ [] ↦ None | p ∷ rest ↦ bits_of u (member_at u.types (tag_of (type_at u p)) k) ]
-      | _ ↦ None
-    ]
+place_bits u (Some n) = width_at u n.kind n.children
 
 -- the type of an entity
 abbrev pub entity_type : CoreTrees → Option Entity → Option Ctype
 entity_type u None = None
 entity_type u (Some e) = Some (type_of u.types e.ty.0)
 
--- types agree: the same, or a list () with any list, or an array without a length with one of any length
-abbrev pub Agree : Ctype → Ctype → Type 0
-Agree (FunctionFrom r ps Unspecified) (FunctionFrom s qs f) = r ≡ s
-Agree (FunctionFrom r ps f) (FunctionFrom s qs Unspecified) = r ≡ s
-Agree (ArrayOf a None) (ArrayOf b n) = a ≡ b
-Agree (ArrayOf a n) (ArrayOf b None) = a ≡ b
-Agree a b = a ≡ b
+abbrev pub IsEntityIn : CoreTrees → Option Entity → Ctype → Type 0
+IsEntityIn u None t = ⊥
+IsEntityIn u (Some entity) t = Agree t (type_of u.types entity.ty.0)
 
+-- the entity has a type that agrees with this one
 abbrev pub IsEntityOf : CoreTrees → ℕ → Ctype → Type 0
-IsEntityOf u e t = (entity : Entity) × (slice_get u.entities e ≡ Some entity) × Agree t (type_of u.types entity.ty.0)
+IsEntityOf u e t = IsEntityIn u (slice_get u.entities e) t
 
-abbrev pub IsFunction : Ctype → Type 0
-IsFunction (FunctionFrom r ps f) = ⊤
-IsFunction t = ⊥
+-- a value of integer type
+abbrev pub IsNumeral : CoreTrees → ℕ → Type 0
+IsNumeral u n = (sort_at u n ≡ ValueNode) × IsInteger (type_at u n)
 
-abbrev pub character : Ctype
-character = IntegerType 1 1 true
-
--- the conversions that a Convert may be
-abbrev pub Converts : Ctype → Ctype → Type 0
-Converts from VoidType = ⊤
-Converts (PointerTo (FunctionFrom r ps f)) (PointerTo (FunctionFrom s qs g)) = ⊤
-Converts (PointerTo VoidType) (PointerTo (FunctionFrom s qs g)) = ⊥
-Converts (PointerTo (FunctionFrom r ps f)) (PointerTo VoidType) = ⊥
-Converts (PointerTo VoidType) (PointerTo b) = ⊤
-Converts (PointerTo a) (PointerTo VoidType) = ⊤
-Converts (PointerTo (IntegerType size rank signed)) (PointerTo (IntegerType other r g)) = size ≡ other
-Converts (PointerTo BoolType) (PointerTo (IntegerType size rank signed)) = size ≡ 1
-Converts (PointerTo (IntegerType size rank signed)) (PointerTo BoolType) = size ≡ 1
-Converts (PointerTo (PointerTo a)) (PointerTo (PointerTo b)) = ⊤
-Converts (PointerTo a) BoolType = ⊤
-Converts (PointerTo a) (IntegerType size rank signed) = ⊤
-Converts (IntegerType s r g) (IntegerType t q h) = ⊤
-Converts (IntegerType s r g) BoolType = ⊤
-Converts BoolType (IntegerType t q h) = ⊤
-Converts a b = ⊥
+-- what is tested by a condition
+abbrev pub IsCondition : CoreTrees → ℕ → Type 0
+IsCondition u n = (sort_at u n ≡ ValueNode) × IsScalar (type_at u n)
 
 -- an argument past the parameters: a promoted value
 abbrev pub IsFurther : CoreTrees → ℕ → Type 0
@@ -122,13 +85,13 @@ IsUpdate Xor = ⊤
 IsUpdate Or = ⊤
 IsUpdate op = ⊥
 
--- how an operator stands over one or two values
-abbrev pub int : Ctype
-int = IntegerType 4 4 true
+-- the operators that move a pointer
+abbrev pub IsMove : Op → Type 0
+IsMove Plus = ⊤
+IsMove Minus = ⊤
+IsMove op = ⊥
 
-abbrev pub long : Ctype
-long = IntegerType 8 5 true
-
+-- how an operator stands over one value
 abbrev pub Unary : Op → Ctype → Ctype → Type 0
 Unary Not a t = IsScalar a × (t ≡ int)
 Unary Plus a t = IsPromoted a × (t ≡ a)
@@ -136,38 +99,82 @@ Unary Minus a t = IsPromoted a × (t ≡ a)
 Unary Complement a t = IsPromoted a × (t ≡ a)
 Unary op a t = ⊥
 
-abbrev pub IsComparable : Ctype → Type 0
-IsComparable t = IsPromoted t ⊎ IsPointer t
+-- a comparison: promoted values of one type, or pointers of one type, to int
+abbrev pub Compares : Ctype → Ctype → Ctype → Type 0
+Compares a b t = IsComparable a × (a ≡ b) × (t ≡ int)
 
+-- a computation over promoted values of one type
+abbrev pub Computes : Ctype → Ctype → Ctype → Type 0
+Computes a b t = IsPromoted a × (a ≡ b) × (t ≡ a)
+
+-- a shift: the type is the left value's
+abbrev pub Shifts : Ctype → Ctype → Ctype → Type 0
+Shifts a b t = IsPromoted a × IsPromoted b × (t ≡ a)
+
+-- a difference of numbers, or of pointers of one type
+abbrev pub Subtracts : Ctype → Ctype → Ctype → Type 0
+Subtracts (PointerTo a) b t = (PointerTo a ≡ b) × (t ≡ long)
+Subtracts a b t = Computes a b t
+
+-- how an operator stands over two values
 abbrev pub Binary : Op → Ctype → Ctype → Ctype → Type 0
-Binary Minus (PointerTo a) (PointerTo b) t = (a ≡ b) × (t ≡ long)
+Binary Minus a b t = Subtracts a b t
 Binary Not a b t = ⊥
 Binary Complement a b t = ⊥
-Binary ShiftLeft a b t = IsPromoted a × IsPromoted b × (t ≡ a)
-Binary ShiftRight a b t = IsPromoted a × IsPromoted b × (t ≡ a)
-Binary Less a b t = IsComparable a × (a ≡ b) × (t ≡ int)
-Binary Greater a b t = IsComparable a × (a ≡ b) × (t ≡ int)
-Binary LessEqual a b t = IsComparable a × (a ≡ b) × (t ≡ int)
-Binary GreaterEqual a b t = IsComparable a × (a ≡ b) × (t ≡ int)
-Binary Equal a b t = IsComparable a × (a ≡ b) × (t ≡ int)
-Binary NotEqual a b t = IsComparable a × (a ≡ b) × (t ≡ int)
-Binary op a b t = IsPromoted a × (a ≡ b) × (t ≡ a)
+Binary ShiftLeft a b t = Shifts a b t
+Binary ShiftRight a b t = Shifts a b t
+Binary Less a b t = Compares a b t
+Binary Greater a b t = Compares a b t
+Binary LessEqual a b t = Compares a b t
+Binary GreaterEqual a b t = Compares a b t
+Binary Equal a b t = Compares a b t
+Binary NotEqual a b t = Compares a b t
+Binary op a b t = Computes a b t
 
 abbrev pub PointsToComplete : CoreTrees → Ctype → Type 0
-PointsToComplete u (PointerTo to) = IsComplete u to
-PointsToComplete u t = ⊥
+PointsToComplete u t = PointsToObject u.types t
 
 -- from a pointer to a structure to a pointer to its first member
 abbrev pub IsFirst : CoreTrees → Ctype → Ctype → Type 0
-IsFirst u (PointerTo (StructureOf tag)) (PointerTo first) = IsMember u (StructureOf tag) 0 first
-IsFirst u a t = ⊥
-
-abbrev pub kind_at : CoreTrees → ℕ → Option NodeKind
-kind_at u n = option_map (λ node. node.kind) (slice_get u.nodes n)
+IsFirst u a t = IsFirstOf u.types a t
 
 -- the node is the initialiser of that entity
+abbrev pub InitialisesEntity : NodeKind → ℕ → Type 0
+InitialisesEntity (Initialise o paths) e = o ≡ e
+InitialisesEntity kind e = ⊥
+
+abbrev pub InitialisesIn : Option Node → ℕ → Type 0
+InitialisesIn None e = ⊥
+InitialisesIn (Some n) e = InitialisesEntity n.kind e
+
 abbrev pub Initialises : CoreTrees → ℕ → ℕ → Type 0
-Initialises u n e = (paths : List (List PathStep)) × (kind_at u n ≡ Some (Initialise e paths))
+Initialises u n e = InitialisesIn (slice_get u.nodes n) e
+
+-- a list has a number in some place
+abbrev pub Has : List ℕ → ℕ → Type 0
+Has list n = (k : ℕ) × (slice_get list k ≡ Some n)
+
+-- the node is the initialiser of one of those entities
+abbrev pub InitialisesOneOf : List ℕ → NodeKind → Type 0
+InitialisesOneOf entities (Initialise o paths) = Has entities o
+InitialisesOneOf entities kind = ⊥
+
+abbrev pub IsFirstStatement : List ℕ → Option Node → Type 0
+IsFirstStatement entities None = ⊥
+IsFirstStatement entities (Some n) = InitialisesOneOf entities n.kind
+
+abbrev pub IsExpressionNode : Option Node → Type 0
+IsExpressionNode None = ⊥
+IsExpressionNode (Some n) = n.kind ≡ Expression
+
+-- one expression alone
+abbrev pub IsOneExpression : CoreTrees → List ℕ → Type 0
+IsOneExpression u (s ∷ []) = IsExpressionNode (slice_get u.nodes s)
+IsOneExpression u first = ⊥
+
+-- the first statements of a For: the initialisers of its objects, or one expression, or none
+abbrev pub ForFirst : CoreTrees → List ℕ → List ℕ → Type 0
+ForFirst u entities first = All (λ s. IsFirstStatement entities (slice_get u.nodes s)) first ⊎ IsOneExpression u first
 
 -- a value for each path, of the type at that path
 abbrev pub InitialValues : CoreTrees → Option Ctype → List (List PathStep) → List ℕ → Type 0
@@ -175,20 +182,129 @@ InitialValues u t [] [] = ⊤
 InitialValues u t (path ∷ paths) (v ∷ values) = (sort_at u v ≡ ValueNode) × (type_at_path u.types t path ≡ Some (type_at u v)) × InitialValues u t paths values
 InitialValues u t paths values = ⊥
 
--- the first statements of a For: the initialisers of its objects, or one expression, or none
-abbrev pub ForFirst : CoreTrees → List ℕ → List ℕ → Type 0
-ForFirst u entities first =
-    All (λ s. (e : ℕ) × Contains entities e × Initialises u s e) first ⊎ ((s : ℕ) × (first ≡ s ∷ []) × (kind_at u s ≡ Some Expression))
+-- places
 
-abbrev pub IsArray : Ctype → Type 0
-IsArray (ArrayOf of length) = ⊤
-IsArray t = ⊥
+abbrev pub NamedRow : CoreTrees → ℕ → Ctype → List ℕ → Type 0
+NamedRow u e t [] = IsEntityOf u e t × (IsFunction t → ⊥)
+NamedRow u e t children = ⊥
+
+abbrev pub TextRow : List ℕ → Ctype → List ℕ → Type 0
+TextRow bytes t [] = t ≡ ArrayOf character (Some (length bytes + 1))
+TextRow bytes t children = ⊥
+
+abbrev pub LiteralRow : CoreTrees → ℕ → Ctype → List ℕ → Type 0
+LiteralRow u e t (i ∷ []) = (entity_type u (slice_get u.entities e) ≡ Some t) × Initialises u i e
+LiteralRow u e t children = ⊥
+
+abbrev pub FunctionNameRow : CoreTrees → ℕ → Ctype → List ℕ → Type 0
+FunctionNameRow u e t [] = IsEntityOf u e t × IsFunction t
+FunctionNameRow u e t children = ⊥
+
+abbrev pub DerefRow : CoreTrees → Ctype → List ℕ → Type 0
+DerefRow u t (v ∷ []) = IsValue u v (PointerTo t) × (t ≢ VoidType)
+DerefRow u t children = ⊥
+
+abbrev pub MemberRow : CoreTrees → ℕ → Ctype → List ℕ → Type 0
+MemberRow u k t (p ∷ []) = (sort_at u p ≡ PlaceNode) × IsMember u (type_at u p) k t × (LacksLength t → ⊥)
+MemberRow u k t children = ⊥
+
+-- values
+
+abbrev pub NumberRow : ℤ → Ctype → List ℕ → Type 0
+NumberRow n t [] = Holds t n
+NumberRow n t children = ⊥
+
+abbrev pub NullRow : Ctype → List ℕ → Type 0
+NullRow t [] = IsPointer t
+NullRow t children = ⊥
+
+abbrev pub FetchRow : CoreTrees → Ctype → List ℕ → Type 0
+FetchRow u t (p ∷ []) = IsPlace u p t × IsStored t
+FetchRow u t children = ⊥
+
+abbrev pub AddressRow : CoreTrees → Ctype → List ℕ → Type 0
+AddressRow u t (p ∷ []) = (sort_at u p ≡ PlaceNode) × (t ≡ PointerTo (type_at u p)) × (place_bits u (slice_get u.nodes p) ≡ None)
+AddressRow u t children = ⊥
+
+abbrev pub DecayRow : CoreTrees → Ctype → List ℕ → Type 0
+DecayRow u t (p ∷ []) = (sort_at u p ≡ PlaceNode) × (decayed (type_at u p) ≡ Some t)
+DecayRow u t children = ⊥
+
+abbrev pub PointerAddRow : CoreTrees → Ctype → List ℕ → Type 0
+PointerAddRow u t (v ∷ i ∷ []) = IsValue u v t × PointsToComplete u t × IsNumeral u i
+PointerAddRow u t children = ⊥
+
+abbrev pub ConvertRow : CoreTrees → Ctype → List ℕ → Type 0
+ConvertRow u t (v ∷ []) = (sort_at u v ≡ ValueNode) × (type_at u v ≢ t) × Converts (type_at u v) t
+ConvertRow u t children = ⊥
+
+abbrev pub UpcastRow : CoreTrees → Ctype → List ℕ → Type 0
+UpcastRow u t (v ∷ []) = (sort_at u v ≡ ValueNode) × IsFirst u (type_at u v) t
+UpcastRow u t children = ⊥
+
+abbrev pub AssignRow : CoreTrees → Ctype → List ℕ → Type 0
+AssignRow u t (p ∷ v ∷ []) = IsPlace u p t × IsValue u v t × IsStored t
+AssignRow u t children = ⊥
+
+-- an integer by an operator of assignments, or a pointer moved
+abbrev pub Updates : Op → Ctype → Type 0
+Updates op t = (IsInteger t × IsUpdate op) ⊎ (IsPointer t × IsMove op)
+
+abbrev pub UpdateRow : CoreTrees → Op → Ctype → List ℕ → Type 0
+UpdateRow u op t (p ∷ v ∷ []) = IsPlace u p t × IsNumeral u v × Updates op t
+UpdateRow u op t children = ⊥
+
+abbrev pub ChooseRow : CoreTrees → Ctype → List ℕ → Type 0
+ChooseRow u t (c ∷ a ∷ b ∷ []) = IsCondition u c × IsValue u a t × IsValue u b t
+ChooseRow u t children = ⊥
+
+abbrev pub SequenceRow : CoreTrees → Ctype → List ℕ → Type 0
+SequenceRow u t (a ∷ b ∷ []) = (sort_at u a ≡ ValueNode) × IsValue u b t
+SequenceRow u t children = ⊥
+
+abbrev pub CallRow : CoreTrees → Ctype → List ℕ → Type 0
+CallRow u t (c ∷ args) = (sort_at u c ≡ ValueNode) × Calls u (type_at u c) t args
+CallRow u t children = ⊥
+
+abbrev pub MemberOfValueRow : CoreTrees → ℕ → Ctype → List ℕ → Type 0
+MemberOfValueRow u k t (v ∷ []) = (sort_at u v ≡ ValueNode) × IsMember u (type_at u v) k t × (IsArray t → ⊥)
+MemberOfValueRow u k t children = ⊥
+
+abbrev pub IsOverTwo : CoreTrees → Op → Ctype → ℕ → ℕ → Type 0
+IsOverTwo u op t a b = (sort_at u a ≡ ValueNode) × (sort_at u b ≡ ValueNode) × Binary op (type_at u a) (type_at u b) t
+
+abbrev pub ArithRow : CoreTrees → Op → Ctype → List ℕ → Type 0
+ArithRow u op t (a ∷ []) = (sort_at u a ≡ ValueNode) × Unary op (type_at u a) t
+ArithRow u op t (a ∷ b ∷ []) = IsOverTwo u op t a b
+ArithRow u op t children = ⊥
+
+-- statements
+
+abbrev pub ExpressionRow : CoreTrees → List ℕ → Type 0
+ExpressionRow u (v ∷ []) = sort_at u v ≡ ValueNode
+ExpressionRow u children = ⊥
+
+abbrev pub BlockRow : CoreTrees → List ℕ → Type 0
+BlockRow u statements = All (λ s. IsStatement u s) statements
+
+abbrev pub IfRow : CoreTrees → List ℕ → Type 0
+IfRow u (c ∷ s ∷ []) = IsCondition u c × IsStatement u s
+IfRow u (c ∷ s ∷ o ∷ []) = IsCondition u c × IsStatement u s × IsStatement u o
+IfRow u children = ⊥
+
+abbrev pub WhileRow : CoreTrees → List ℕ → Type 0
+WhileRow u (c ∷ s ∷ []) = IsCondition u c × IsStatement u s
+WhileRow u children = ⊥
+
+abbrev pub DoWhileRow : CoreTrees → List ℕ → Type 0
+DoWhileRow u (s ∷ c ∷ []) = IsCondition u c × IsStatement u s
+DoWhileRow u children = ⊥
 
 -- the children of a For, from the last: body, what comes after a turn, condition, first statements
 abbrev pub ForCondition : CoreTrees → List ℕ → Bool → List ℕ → Type 0
 ForCondition u entities true [] = ⊥
-ForCondition u entities true (c ∷ first) = (sort_at u c ≡ ValueNode) × IsScalar (type_at u c) × ForFirst u entities first
-ForCondition u entities false first = ForFirst u entities first
+ForCondition u entities true (c ∷ first) = IsCondition u c × ForFirst u entities (reverse first)
+ForCondition u entities false first = ForFirst u entities (reverse first)
 
 abbrev pub ForAfter : CoreTrees → List ℕ → Bool → Bool → List ℕ → Type 0
 ForAfter u entities condition true [] = ⊥
@@ -199,46 +315,67 @@ abbrev pub ForParts : CoreTrees → List ℕ → Bool → Bool → List ℕ → 
 ForParts u entities condition after [] = ⊥
 ForParts u entities condition after (body ∷ rest) = IsStatement u body × ForAfter u entities condition after rest
 
+abbrev pub ForRow : CoreTrees → List ℕ → Bool → Bool → List ℕ → Type 0
+ForRow u entities condition after children = ForParts u entities condition after (reverse children)
+
+abbrev pub SwitchRow : CoreTrees → List ℕ → Type 0
+SwitchRow u (c ∷ s ∷ []) = IsNumeral u c × IsStatement u s
+SwitchRow u children = ⊥
+
+-- a case, a default or a label: one statement
+abbrev pub LabelledRow : CoreTrees → List ℕ → Type 0
+LabelledRow u (s ∷ []) = IsStatement u s
+LabelledRow u children = ⊥
+
+-- a statement without parts
+abbrev pub LoneRow : List ℕ → Type 0
+LoneRow [] = ⊤
+LoneRow children = ⊥
+
+abbrev pub ReturnRow : CoreTrees → List ℕ → Type 0
+ReturnRow u [] = ⊤
+ReturnRow u (v ∷ []) = sort_at u v ≡ ValueNode
+ReturnRow u children = ⊥
+
+abbrev pub InitialiseRow : CoreTrees → ℕ → List (List PathStep) → List ℕ → Type 0
+InitialiseRow u e paths values = InitialValues u (entity_type u (slice_get u.entities e)) paths values
+
 -- the row of each kind: node of type t over those children
 abbrev pub RowOf : CoreTrees → NodeKind → Ctype → List ℕ → Type 0
-RowOf u (Named e) t [] = IsEntityOf u e t × (IsFunction t → ⊥)
-RowOf u (Text bytes) t [] = t ≡ ArrayOf character (Some (length bytes + 1))
-RowOf u (Literal e) t (i ∷ []) = (entity_type u (slice_get u.entities e) ≡ Some t) × Initialises u i e
-RowOf u (FunctionName e) t [] = IsEntityOf u e t × IsFunction t
-RowOf u Deref t (v ∷ []) = IsValue u v (PointerTo t) × (t ≢ VoidType)
-RowOf u (Member k) t (p ∷ []) = (sort_at u p ≡ PlaceNode) × IsMember u (type_at u p) k t × (LacksLength t → ⊥)
-RowOf u (Number n) t [] = Holds t n
-RowOf u NullValue t [] = IsPointer t
-RowOf u Fetch t (p ∷ []) = IsPlace u p t × IsStored t
-RowOf u AddressOf t (p ∷ []) = (sort_at u p ≡ PlaceNode) × (t ≡ PointerTo (type_at u p)) × (place_bits u (slice_get u.nodes p) ≡ None)
-RowOf u Decay t (p ∷ []) = (sort_at u p ≡ PlaceNode) × (decayed (type_at u p) ≡ Some t)
-RowOf u (PointerAdd minus) t (v ∷ i ∷ []) = IsValue u v t × PointsToComplete u t × (sort_at u i ≡ ValueNode) × IsInteger (type_at u i)
-RowOf u Convert t (v ∷ []) = (sort_at u v ≡ ValueNode) × (type_at u v ≢ t) × Converts (type_at u v) t
-RowOf u Upcast t (v ∷ []) = (sort_at u v ≡ ValueNode) × IsFirst u (type_at u v) t
-RowOf u Assign t (p ∷ v ∷ []) = IsPlace u p t × IsValue u v t × IsStored t
-RowOf u (Update op post) t (p ∷ v ∷ []) = IsPlace u p t × (sort_at u v ≡ ValueNode) × IsInteger (type_at u v) × ((IsInteger t × IsUpdate op) ⊎ (IsPointer t × ((op ≡ Plus) ⊎ (op ≡ Minus))))
-RowOf u Choose t (c ∷ a ∷ b ∷ []) = (sort_at u c ≡ ValueNode) × IsScalar (type_at u c) × IsValue u a t × IsValue u b t
-RowOf u Sequence t (a ∷ b ∷ []) = (sort_at u a ≡ ValueNode) × IsValue u b t
-RowOf u CallNode t (c ∷ args) = (sort_at u c ≡ ValueNode) × Calls u (type_at u c) t args
-RowOf u (MemberOfValue k) t (v ∷ []) = (sort_at u v ≡ ValueNode) × IsMember u (type_at u v) k t × (IsArray t → ⊥)
-RowOf u (Arith op) t (a ∷ []) = (sort_at u a ≡ ValueNode) × Unary op (type_at u a) t
-RowOf u (Arith op) t (a ∷ b ∷ []) = (sort_at u a ≡ ValueNode) × (sort_at u b ≡ ValueNode) × Binary op (type_at u a) (type_at u b) t
-RowOf u Expression t (v ∷ []) = sort_at u v ≡ ValueNode
-RowOf u (Block entities) t statements = All (λ s. IsStatement u s) statements
-RowOf u If t (c ∷ s ∷ []) = (sort_at u c ≡ ValueNode) × IsScalar (type_at u c) × IsStatement u s
-RowOf u If t (c ∷ s ∷ o ∷ []) = (sort_at u c ≡ ValueNode) × IsScalar (type_at u c) × IsStatement u s × IsStatement u o
-RowOf u While t (c ∷ s ∷ []) = (sort_at u c ≡ ValueNode) × IsScalar (type_at u c) × IsStatement u s
-RowOf u DoWhile t (s ∷ c ∷ []) = (sort_at u c ≡ ValueNode) × IsScalar (type_at u c) × IsStatement u s
-RowOf u (For entities condition after) t children = ForParts u entities condition after (reverse children)
-RowOf u Switch t (c ∷ s ∷ []) = (sort_at u c ≡ ValueNode) × IsInteger (type_at u c) × IsStatement u s
-RowOf u (Case n) t (s ∷ []) = IsStatement u s
-RowOf u Default t (s ∷ []) = IsStatement u s
-RowOf u (Label name) t (s ∷ []) = IsStatement u s
-RowOf u (Goto name) t [] = ⊤
-RowOf u Break t [] = ⊤
-RowOf u Continue t [] = ⊤
-RowOf u Return t [] = ⊤
-RowOf u Return t (v ∷ []) = sort_at u v ≡ ValueNode
-RowOf u (Initialise e paths) t values = InitialValues u (entity_type u (slice_get u.entities e)) paths values
-RowOf u Skip t [] = ⊤
-RowOf u kind t children = ⊥
+RowOf u (Named e) t children = NamedRow u e t children
+RowOf u (Text bytes) t children = TextRow bytes t children
+RowOf u (Literal e) t children = LiteralRow u e t children
+RowOf u (FunctionName e) t children = FunctionNameRow u e t children
+RowOf u Deref t children = DerefRow u t children
+RowOf u (Member k) t children = MemberRow u k t children
+RowOf u (Number n) t children = NumberRow n t children
+RowOf u NullValue t children = NullRow t children
+RowOf u Fetch t children = FetchRow u t children
+RowOf u AddressOf t children = AddressRow u t children
+RowOf u Decay t children = DecayRow u t children
+RowOf u (PointerAdd minus) t children = PointerAddRow u t children
+RowOf u Convert t children = ConvertRow u t children
+RowOf u Upcast t children = UpcastRow u t children
+RowOf u Assign t children = AssignRow u t children
+RowOf u (Update op post) t children = UpdateRow u op t children
+RowOf u Choose t children = ChooseRow u t children
+RowOf u Sequence t children = SequenceRow u t children
+RowOf u CallNode t children = CallRow u t children
+RowOf u (MemberOfValue k) t children = MemberOfValueRow u k t children
+RowOf u (Arith op) t children = ArithRow u op t children
+RowOf u Expression t children = ExpressionRow u children
+RowOf u (Block entities) t children = BlockRow u children
+RowOf u If t children = IfRow u children
+RowOf u While t children = WhileRow u children
+RowOf u DoWhile t children = DoWhileRow u children
+RowOf u (For entities condition after) t children = ForRow u entities condition after children
+RowOf u Switch t children = SwitchRow u children
+RowOf u (Case n) t children = LabelledRow u children
+RowOf u Default t children = LabelledRow u children
+RowOf u (Label name) t children = LabelledRow u children
+RowOf u (Goto name) t children = LoneRow children
+RowOf u Break t children = LoneRow children
+RowOf u Continue t children = LoneRow children
+RowOf u Return t children = ReturnRow u children
+RowOf u (Initialise e paths) t children = InitialiseRow u e paths children
+RowOf u Skip t children = LoneRow children

@@ -1,7 +1,11 @@
 -- What a node is to the nodes above it.
-use Rattle.std.specs.Prelude.{ℕ, ◌≡◌, ◌≤◌, ◌*◌, ℤ, pos, neg_ℤ, ⊤, nat_eq, if◌then◌else◌, ◌≤ℤ◌, ◌<ℤ◌, true, false, List, Option, Some, None, IsSome, slice_get, length, ◌⊎◌}
-use Rattle.c_types.specs.Trees.{Ctype, VoidType, BoolType, IntegerType, PointerTo, ArrayOf, FunctionFrom, StructureOf, UnionOf}
-use Rattle.c_types.specs.Table.{Table, type_of, extent_in}
+use Rattle.std.specs.Prelude.{ℕ, ◌≡◌, List, Option, Some, None, slice_get}
+use Rattle.c_types.specs.Trees.{Ctype, VoidType}
+use Rattle.c_types.specs.Table.{Table, type_of}
+use Rattle.type_rules.specs.Sizes.{IsObject}
+pub use Rattle.type_rules.specs.Kinds.{IsInteger, IsPointer, IsScalar, IsAggregate, IsStored, IsPromoted, IsPassed, LacksLength}
+pub use Rattle.type_rules.specs.Conversions.{decayed}
+pub use Rattle.type_rules.specs.Numbers.{half_of, InSigned, InUnsigned, Holds}
 use Rattle.core_tree.specs.declared.node.Unit.{Unit}
 use Rattle.core_tree.specs.declared.node.Program.{Program}
 use Rattle.core_tree.specs.declared.node.Node.{Node}
@@ -76,68 +80,5 @@ IsValue u i t = (sort_at u i ≡ ValueNode) × (type_at u i ≡ t)
 abbrev pub IsStatement : CoreTrees → ℕ → Type 0
 IsStatement u i = sort_at u i ≡ StatementNode
 
--- a type of whole numbers
-abbrev pub IsInteger : Ctype → Type 0
-IsInteger BoolType = ⊤
-IsInteger (IntegerType size rank signed) = ⊤
-IsInteger t = ⊥
-
-abbrev pub IsPointer : Ctype → Type 0
-IsPointer (PointerTo to) = ⊤
-IsPointer t = ⊥
-
-abbrev pub IsScalar : Ctype → Type 0
-IsScalar t = IsInteger t ⊎ IsPointer t
-
-abbrev pub IsAggregate : Ctype → Type 0
-IsAggregate (StructureOf tag) = ⊤
-IsAggregate (UnionOf tag) = ⊤
-IsAggregate t = ⊥
-
--- a type that a fetch or an assignment may have
-abbrev pub IsStored : Ctype → Type 0
-IsStored t = IsScalar t ⊎ IsAggregate t
-
--- the pointer that an array or a function turns into
-abbrev pub decayed : Ctype → Option Ctype
-decayed (ArrayOf of length) = Some (PointerTo of)
-decayed (FunctionFrom result parameters form) = Some (PointerTo (FunctionFrom result parameters form))
-decayed t = None
-
--- an integer type that promotion leaves as it is
-abbrev pub IsPromoted : Ctype → Type 0
-IsPromoted (IntegerType size rank signed) = 4 ≤ size
-IsPromoted t = ⊥
-
--- a type of an argument past the parameters
-abbrev pub IsPassed : Ctype → Type 0
-IsPassed (IntegerType size rank signed) = 4 ≤ size
-IsPassed (PointerTo to) = ⊤
-IsPassed (StructureOf tag) = ⊤
-IsPassed (UnionOf tag) = ⊤
-IsPassed t = ⊥
-
-abbrev pub LacksLength : Ctype → Type 0
-LacksLength (ArrayOf of None) = ⊤
-LacksLength t = ⊥
-
 abbrev pub IsComplete : CoreTrees → Ctype → Type 0
-IsComplete u t = IsSome (extent_in u.types t)
-
--- half of the numbers of a size, which is 1, 2, 4 or 8
-abbrev pub half_of : ℕ → ℕ
-half_of size =
-    if nat_eq size 1 then 128 else (if nat_eq size 2 then 32768 else (if nat_eq size 4 then 2147483648 else 9223372036854775808))
-
-abbrev pub InSigned : ℕ → ℤ → Type 0
-InSigned half n = (neg_ℤ (pos half) ≤ℤ n) × (n <ℤ pos half)
-
-abbrev pub InUnsigned : ℕ → ℤ → Type 0
-InUnsigned half n = (pos 0 ≤ℤ n) × (n <ℤ pos (2 * half))
-
--- a number that a type holds
-abbrev pub Holds : Ctype → ℤ → Type 0
-Holds BoolType n = (pos 0 ≤ℤ n) × (n ≤ℤ pos 1)
-Holds (IntegerType size rank false) n = InUnsigned (half_of size) n
-Holds (IntegerType size rank true) n = InSigned (half_of size) n
-Holds t n = ⊥
+IsComplete u t = IsObject u.types t

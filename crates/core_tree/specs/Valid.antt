@@ -1,9 +1,8 @@
 -- A valid unit: each node in its row, and each node and entity where it may stand.
-use Rattle.std.specs.Prelude.{ℕ, ℤ, ◌≡◌, ◌<◌, ◌≤◌, ◌↔◌, ⊤, Bool, List, [], ◌∷◌, Option, Some, None, IsSome, slice_get, length, ◌⊎◌, All}
-use Rattle.c_types.specs.Trees.{Ctype, NoTypes, VoidType, ArrayOf, FunctionFrom, StructureOf, UnionOf}
-use Rattle.c_types.specs.Table.{Table, type_of, members_in, extent_in, size_below, nodes_within}
+use Rattle.std.specs.Prelude.{ℕ, ℤ, ◌≡◌, ◌≢◌, ◌<◌, ◌≤◌, ⊤, Bool, true, false, List, [], ◌∷◌, Option, Some, None, IfSome, slice_get, length, ◌⊎◌, All}
+use Rattle.c_types.specs.Trees.{Ctype}
+use Rattle.c_types.specs.Table.{type_of}
 use Rattle.pta_base.specs.declared.place.Place.{Place}
-use Rattle.c_types.specs.declared.term.Form.TheVariants.{Fixed}
 use Rattle.core_tree.specs.declared.node.Unit.{Unit}
 use Rattle.core_tree.specs.declared.node.Program.{Program}
 use Rattle.core_tree.specs.declared.node.Node.{Node}
@@ -13,66 +12,27 @@ use Rattle.core_tree.specs.declared.node.Storage.{Storage}
 use Rattle.core_tree.specs.declared.node.Storage.TheVariants.{Static, Automatic, FunctionBody, Parameter, Declared}
 use Rattle.core_tree.specs.declared.node.NodeKind.{NodeKind}
 use Rattle.core_tree.specs.declared.node.NodeKind.TheVariants.{Named, Text, Literal, FunctionName, Deref, Member, Number, NullValue, AddressOf, Decay, PointerAdd, Convert, Upcast, Choose, CallNode, Arith, Block, While, DoWhile, For, Switch, Case, Default, Label, Goto, Break, Continue, Return, Initialise}
-use Rattle.core_tree.specs.Typed.{CoreTrees, trees_of, trees_in, LacksLength, ValueNode, sort_at, type_at, IsInteger, IsPointer}
-use Rattle.core_tree.specs.Rows.{RowOf, IsFunction}
-
-abbrev pub node_at : CoreTrees → ℕ → Option Node
-node_at u n = slice_get u.nodes n
-
-abbrev pub entity_at : CoreTrees → ℕ → Option Entity
-entity_at u e = slice_get u.entities e
-
-abbrev pub child_in : Option Node → ℕ → Option ℕ
-child_in None k = None
-child_in (Some n) k = slice_get n.children k
-
--- child k of node n
-abbrev pub child_at : CoreTrees → ℕ → ℕ → Option ℕ
-child_at u n k = child_in (node_at u n) k
-
-abbrev pub IsChild : CoreTrees → ℕ → ℕ → Type 0
-IsChild u parent child = (k : ℕ) × (child_at u parent k ≡ Some child)
-
--- a node stands under another one, or is that one
-pub data Under (u : CoreTrees) (top : ℕ) : ℕ → Type 0 where
-  here : Under u top top
-  below : {parent child : ℕ} → Under u top parent → IsChild u parent child → Under u top child
-
--- the entity that a kind names
-abbrev pub named_by : NodeKind → Option ℕ
-named_by (Named e) = Some e
-named_by (FunctionName e) = Some e
-named_by (Literal e) = Some e
-named_by (Initialise e paths) = Some e
-named_by kind = None
-
-abbrev pub listed_by : NodeKind → List ℕ
-listed_by (Block es) = es
-listed_by (For es c a) = es
-listed_by kind = []
-
--- every type, entity and node that is named is in range, and children come first
-pub record InRange (u : CoreTrees) : Type 0 where
-  pub types : (n : ℕ) (node : Node) → node_at u n ≡ Some node → node.ty.0 < length u.types.terms
-  pub children : (n : ℕ) (node : Node) → node_at u n ≡ Some node → All (λ c. c < n) node.children
-  pub entities : (n : ℕ) (node : Node) (e : ℕ) → node_at u n ≡ Some node → named_by node.kind ≡ Some e → e < length u.entities
-  pub lists : (n : ℕ) (node : Node) → node_at u n ≡ Some node → All (λ e. e < length u.entities) (listed_by node.kind)
-  pub entity_types : (e : ℕ) (entity : Entity) → entity_at u e ≡ Some entity → entity.ty.0 < length u.types.terms
-  pub owners : (e : ℕ) (entity : Entity) (f : ℕ) → entity_at u e ≡ Some entity → entity.owner ≡ Some f → f < length u.entities
-  pub bodies : (e : ℕ) (entity : Entity) (b : ℕ) → entity_at u e ≡ Some entity → entity.body ≡ Some b → b < length u.nodes
-
--- a node is a child at most once
-abbrev pub ChildOnce : CoreTrees → Type 0
-ChildOnce u =
-    (a b i j c : ℕ) → child_at u a i ≡ Some c → child_at u b j ≡ Some c → (a ≡ b) × (i ≡ j)
+use Rattle.core_tree.specs.Typed.{CoreTrees, trees_of, trees_in, LacksLength, ValueNode, sort_of, type_at, IsInteger, IsPointer, IsAggregate}
+use Rattle.core_tree.specs.Rows.{RowOf, IsFunction, Initialises}
+use Rattle.type_rules.specs.Sizes.{HasSize, IsOpenIn, TagsHaveSizes, ResultHasSize}
+pub use Rattle.core_tree.specs.Rows.{InitialisesEntity, Has}
+pub use Rattle.core_tree.specs.Range.{node_at, entity_at, EachNode, EachEntity, SomeNode, SomeEntity, child_in, child_at, IsChild, Under, here, below, named_by, listed_by, listed_in, InRange, ChildOnce, OncePlaced, OnlyHolder, HoldsOnce, OnceHeld}
+pub use Rattle.type_rules.specs.Sizes.{with_one, HasSignature}
+pub use Rattle.type_rules.specs.Conversions.{result_of}
 
 -- each node stands in the row of its kind
+abbrev pub InRow : CoreTrees → Node → Type 0
+InRow u node = RowOf u node.kind (type_of u.types node.ty.0) node.children
+
 abbrev pub InRows : CoreTrees → Type 0
-InRows u =
-    (n : ℕ) (node : Node) → node_at u n ≡ Some node → RowOf u node.kind (type_of u.types node.ty.0) node.children
+InRows u = EachNode u (λ n node. InRow u node)
 
 abbrev pub IsFunctionEntity : CoreTrees → Entity → Type 0
 IsFunctionEntity u entity = IsFunction (type_of u.types entity.ty.0)
+
+abbrev pub IsFunctionIn : CoreTrees → Option Entity → Type 0
+IsFunctionIn u None = ⊥
+IsFunctionIn u (Some entity) = IsFunctionEntity u entity
 
 -- an automatic object or a parameter has an owner, and each owner is a function
 abbrev pub IsLocal : Storage → Type 0
@@ -80,100 +40,158 @@ IsLocal Automatic = ⊤
 IsLocal Parameter = ⊤
 IsLocal storage = ⊥
 
-pub record Owned (u : CoreTrees) : Type 0 where
-  pub functions : (e f : ℕ) (entity : Entity) → entity_at u e ≡ Some entity → entity.owner ≡ Some f → (owner : Entity) × (entity_at u f ≡ Some owner) × IsFunctionEntity u owner
-  pub locals : (e : ℕ) (entity : Entity) → entity_at u e ≡ Some entity → IsLocal entity.storage → IsSome entity.owner
+abbrev pub IsOwned : CoreTrees → Storage → Option ℕ → Type 0
+IsOwned u storage None = IsLocal storage → ⊥
+IsOwned u storage (Some f) = IsFunctionIn u (entity_at u f)
+
+abbrev pub Owned : CoreTrees → Type 0
+Owned u = EachEntity u (λ e entity. IsOwned u entity.storage entity.owner)
 
 abbrev pub IsBlock : NodeKind → Type 0
 IsBlock (Block es) = ⊤
 IsBlock kind = ⊥
 
-abbrev pub InitialisesEntity : NodeKind → ℕ → Type 0
-InitialisesEntity (Initialise o paths) e = o ≡ e
-InitialisesEntity kind e = ⊥
+abbrev pub IsBlockIn : Option Node → Type 0
+IsBlockIn None = ⊥
+IsBlockIn (Some node) = IsBlock node.kind
 
--- a function's body is a block that is no node's child, an object's body is its own Initialise, and no two entities
--- have one body
-pub record Bodied (u : CoreTrees) : Type 0 where
-  pub blocks : (e b : ℕ) (entity : Entity) (node : Node) → entity_at u e ≡ Some entity → IsFunctionEntity u entity → entity.body ≡ Some b → node_at u b ≡ Some node → IsBlock node.kind
-  pub objects : (e b : ℕ) (entity : Entity) (node : Node) → entity_at u e ≡ Some entity → (IsFunctionEntity u entity → ⊥) → entity.body ≡ Some b → node_at u b ≡ Some node → InitialisesEntity node.kind e
-  pub storage : (e : ℕ) (entity : Entity) → entity_at u e ≡ Some entity → (entity.storage ≡ FunctionBody) ↔ (IsFunctionEntity u entity × IsSome entity.body)
-  pub tops : (e b n : ℕ) (entity : Entity) → entity_at u e ≡ Some entity → IsFunctionEntity u entity → entity.body ≡ Some b → IsChild u n b → ⊥
-  pub once : (d e b : ℕ) (one other : Entity) → entity_at u d ≡ Some one → entity_at u e ≡ Some other → one.body ≡ Some b → other.body ≡ Some b → d ≡ e
+-- a function's body is a block that is no node's child
+pub record IsFunctionBody (u : CoreTrees) (entity : Entity) (b : ℕ) : Type 0 where
+  pub function : IsFunctionEntity u entity
+  pub storage : entity.storage ≡ FunctionBody
+  pub block : IsBlockIn (node_at u b)
+  pub top : EachNode u (λ n node. Has node.children b → ⊥)
+
+-- an object's body is its own Initialise
+pub record IsObjectBody (u : CoreTrees) (e : ℕ) (entity : Entity) (b : ℕ) : Type 0 where
+  pub object : IsFunctionEntity u entity → ⊥
+  pub storage : entity.storage ≢ FunctionBody
+  pub initialises : Initialises u b e
+
+-- no other entity has the body
+abbrev pub OnlyBody : CoreTrees → ℕ → ℕ → Type 0
+OnlyBody u e b = EachEntity u (λ d other. other.body ≡ Some b → d ≡ e)
+
+abbrev pub HasBody : CoreTrees → ℕ → Entity → Option ℕ → Type 0
+HasBody u e entity None = entity.storage ≢ FunctionBody
+HasBody u e entity (Some b) = (IsFunctionBody u entity b ⊎ IsObjectBody u e entity b) × OnlyBody u e b
+
+abbrev pub Bodied : CoreTrees → Type 0
+Bodied u = EachEntity u (λ e entity. HasBody u e entity entity.body)
+
+abbrev pub UnderBody : CoreTrees → Option ℕ → ℕ → Type 0
+UnderBody u None n = ⊥
+UnderBody u (Some b) n = Under u b n
+
+abbrev pub InBodyOf : CoreTrees → Option Entity → ℕ → Type 0
+InBodyOf u None n = ⊥
+InBodyOf u (Some function) n = IsFunctionEntity u function × UnderBody u function.body n
 
 -- the node stands in the body of that function
 abbrev pub InBody : CoreTrees → ℕ → ℕ → Type 0
-InBody u f n = (function : Entity) × (b : ℕ) × (entity_at u f ≡ Some function) × IsFunctionEntity u function × (function.body ≡ Some b) × Under u b n
+InBody u f n = InBodyOf u (entity_at u f) n
 
-abbrev pub InSomeBody : CoreTrees → ℕ → Type 0
-InSomeBody u n =
-    (f : ℕ) × (function : Entity) × (b : ℕ) × (entity_at u f ≡ Some function) × (function.storage ≡ FunctionBody) × (function.body ≡ Some b) × Under u b n
+-- the function has a body, in which the node stands
+abbrev pub IsAround : CoreTrees → ℕ → Entity → Type 0
+IsAround u n entity = (entity.storage ≡ FunctionBody) × UnderBody u entity.body n
 
-abbrev pub IsNameOf : NodeKind → ℕ → Type 0
-IsNameOf (Named o) e = o ≡ e
-IsNameOf (Literal o) e = o ≡ e
-IsNameOf kind e = ⊥
+pub record InSomeBody (u : CoreTrees) (n : ℕ) : Type 0 where
+  pub some : SomeEntity u (λ f entity. IsAround u n entity)
+
+-- a local stands in its owner's body
+abbrev pub InOwnersBody : CoreTrees → Option ℕ → ℕ → Type 0
+InOwnersBody u None n = ⊥
+InOwnersBody u (Some f) n = InBody u f n
+
+abbrev pub InOwnerIn : CoreTrees → Option Entity → ℕ → Type 0
+InOwnerIn u None n = ⊤
+InOwnerIn u (Some entity) n = IsLocal entity.storage → InOwnersBody u entity.owner n
 
 -- the names and literals of locals stand in their owner's body
+abbrev pub IsInOwner : CoreTrees → ℕ → NodeKind → Type 0
+IsInOwner u n (Named e) = InOwnerIn u (entity_at u e) n
+IsInOwner u n (Literal e) = InOwnerIn u (entity_at u e) n
+IsInOwner u n kind = ⊤
+
 abbrev pub InOwner : CoreTrees → Type 0
-InOwner u =
-    (n e f : ℕ) (node : Node) (entity : Entity) → node_at u n ≡ Some node → IsNameOf node.kind e → entity_at u e ≡ Some entity → IsLocal entity.storage → entity.owner ≡ Some f → InBody u f n
+InOwner u = EachNode u (λ n node. IsInOwner u n node.kind)
 
 abbrev pub IsLiteralOf : NodeKind → ℕ → Type 0
 IsLiteralOf (Literal o) e = o ≡ e
 IsLiteralOf kind e = ⊥
 
+-- an entity that lives for the whole run or with its block
+abbrev pub IsLasting : Option Entity → Type 0
+IsLasting None = ⊥
+IsLasting (Some entity) = (entity.storage ≡ Static) ⊎ (entity.storage ≡ Automatic)
+
+-- no other Literal makes the entity
+abbrev pub OnlyLiteral : CoreTrees → ℕ → ℕ → Type 0
+OnlyLiteral u n e = EachNode u (λ m other. IsLiteralOf other.kind e → m ≡ n)
+
 -- a literal's entity lives for the whole run or with its block, and one Literal alone makes it
-pub record Literals (u : CoreTrees) : Type 0 where
-  pub storage : (n e : ℕ) (node : Node) (entity : Entity) → node_at u n ≡ Some node → IsLiteralOf node.kind e → entity_at u e ≡ Some entity → (entity.storage ≡ Static) ⊎ (entity.storage ≡ Automatic)
-  pub once : (m n e : ℕ) (one other : Node) → node_at u m ≡ Some one → node_at u n ≡ Some other → IsLiteralOf one.kind e → IsLiteralOf other.kind e → m ≡ n
+abbrev pub IsLiteral : CoreTrees → ℕ → NodeKind → Type 0
+IsLiteral u n (Literal e) = IsLasting (entity_at u e) × OnlyLiteral u n e
+IsLiteral u n kind = ⊤
 
--- some Literal makes the entity
-abbrev pub IsMadeByLiteral : CoreTrees → ℕ → Type 0
-IsMadeByLiteral u e = (n : ℕ) × (node : Node) × (node_at u n ≡ Some node) × IsLiteralOf node.kind e
+abbrev pub Literals : CoreTrees → Type 0
+Literals u = EachNode u (λ n node. IsLiteral u n node.kind)
 
--- the list of a node has the entity in that place
-abbrev pub Lists : CoreTrees → ℕ → ℕ → ℕ → Type 0
-Lists u n k e = (node : Node) × (node_at u n ≡ Some node) × (slice_get (listed_by node.kind) k ≡ Some e)
+-- no Literal makes the entity
+pub record NoLiteral (u : CoreTrees) (e : ℕ) : Type 0 where
+  pub each : EachNode u (λ n node. IsLiteralOf node.kind e → ⊥)
 
 abbrev pub IsNamedOrMade : NodeKind → ℕ → Type 0
 IsNamedOrMade (Named o) e = o ≡ e
 IsNamedOrMade (Initialise o paths) e = o ≡ e
 IsNamedOrMade kind e = ⊥
 
+-- the names and initialisers of an entity stand under that node
+pub record NamesUnder (u : CoreTrees) (e at : ℕ) : Type 0 where
+  pub each : EachNode u (λ n node. IsNamedOrMade node.kind e → Under u at n)
+
+-- the node lists the entity, in its owner's body, and has the entity's names and initialiser under it
+unfoldable pub IsLister : CoreTrees → ℕ → ℕ → ℕ → Node → Type 0
+IsLister u e f at node = Has (listed_in node) e × InBody u f at × NamesUnder u e at
+
+-- some node lists the entity
+pub record HasLister (u : CoreTrees) (e f : ℕ) : Type 0 where
+  pub some : SomeNode u (λ at node. IsLister u e f at node)
+
 -- an automatic object that no literal makes is listed once, in its owner's body, and its names and its Initialise
 -- stand under that list
 pub record Listed (u : CoreTrees) (e f : ℕ) : Type 0 where
-  pub at : ℕ
-  pub place : ℕ
-  pub lists : Lists u at place e
-  pub in_owner : InBody u f at
-  pub once : (n k : ℕ) → Lists u n k e → (n ≡ at) × (k ≡ place)
-  pub names : (n : ℕ) (other : Node) → node_at u n ≡ Some other → IsNamedOrMade other.kind e → Under u at n
+  pub lister : HasLister u e f
+  pub once : OnceHeld u listed_in e
+
+abbrev pub IsListed : CoreTrees → ℕ → Entity → Type 0
+IsListed u e entity = entity.storage ≡ Automatic → NoLiteral u e → IfSome entity.owner (λ f. Listed u e f)
 
 abbrev pub AllListed : CoreTrees → Type 0
-AllListed u =
-    (e f : ℕ) (entity : Entity) → entity_at u e ≡ Some entity → entity.storage ≡ Automatic → entity.owner ≡ Some f → (IsMadeByLiteral u e → ⊥) → Listed u e f
+AllListed u = EachEntity u (λ e entity. IsListed u e entity)
 
 -- what a list holds: automatic objects of the function in whose body it stands, which no literal makes
-pub record IsListable (u : CoreTrees) (n e : ℕ) : Type 0 where
-  pub entity : Entity
-  pub stands : entity_at u e ≡ Some entity
-  pub automatic : entity.storage ≡ Automatic
-  pub plain : IsMadeByLiteral u e → ⊥
-  pub owner : ℕ
-  pub owned : entity.owner ≡ Some owner
-  pub in_owner : InBody u owner n
+abbrev pub IsListableIn : CoreTrees → ℕ → ℕ → Option Entity → Type 0
+IsListableIn u n e None = ⊥
+IsListableIn u n e (Some entity) = (entity.storage ≡ Automatic) × NoLiteral u e × InOwnersBody u entity.owner n
+
+abbrev pub IsListable : CoreTrees → ℕ → ℕ → Type 0
+IsListable u n e = IsListableIn u n e (entity_at u e)
 
 abbrev pub ListsRight : CoreTrees → Type 0
-ListsRight u = (n k e : ℕ) → Lists u n k e → IsListable u n e
+ListsRight u = EachNode u (λ n node. All (λ e. IsListable u n e) (listed_by node.kind))
 
 -- what an initialiser of a static object may hold
 abbrev pub KindIs : CoreTrees → ℕ → NodeKind → List ℕ → Type 0
 KindIs u n kind children = (node : Node) × (node_at u n ≡ Some node) × (node.kind ≡ kind) × (node.children ≡ children)
 
+abbrev pub IsStaticIn : Option Entity → Type 0
+IsStaticIn None = ⊥
+IsStaticIn (Some entity) = IsLocal entity.storage → ⊥
+
+-- no automatic object and no parameter
 abbrev pub IsStaticEntity : CoreTrees → ℕ → Type 0
-IsStaticEntity u e = (entity : Entity) × (entity_at u e ≡ Some entity) × (IsLocal entity.storage → ⊥)
+IsStaticEntity u e = IsStaticIn (entity_at u e)
 
 abbrev pub IsNumber : NodeKind → Type 0
 IsNumber (Number n) = ⊤
@@ -210,14 +228,17 @@ mutual
 abbrev pub IsFixed : CoreTrees → ℕ → Type 0
 IsFixed u n = FixedNumber u n ⊎ FixedPointer u n
 
--- each value in the initialiser of a static object is fixed
-abbrev pub FixedStatics : CoreTrees → Type 0
-FixedStatics u =
-    (n e c k : ℕ) (entity : Entity) (node : Node) → node_at u n ≡ Some node → InitialisesEntity node.kind e → entity_at u e ≡ Some entity → entity.storage ≡ Static → child_at u n k ≡ Some c → IsFixed u c
+abbrev pub LivesForTheRun : Option Entity → Type 0
+LivesForTheRun None = ⊥
+LivesForTheRun (Some entity) = entity.storage ≡ Static
 
--- a node of such a kind stands above it
-abbrev pub Within : CoreTrees → (NodeKind → Type 0) → ℕ → Type 0
-Within u P n = (top : ℕ) × (node : Node) × (node_at u top ≡ Some node) × P node.kind × Under u top n
+-- each value in the initialiser of a static object is fixed
+abbrev pub HoldsFixed : CoreTrees → NodeKind → List ℕ → Type 0
+HoldsFixed u (Initialise e paths) children = LivesForTheRun (entity_at u e) → All (λ c. IsFixed u c) children
+HoldsFixed u kind children = ⊤
+
+abbrev pub FixedStatics : CoreTrees → Type 0
+FixedStatics u = EachNode u (λ n node. HoldsFixed u node.kind node.children)
 
 abbrev pub IsLoop : NodeKind → Type 0
 IsLoop While = ⊤
@@ -229,82 +250,131 @@ abbrev pub IsSwitch : NodeKind → Type 0
 IsSwitch Switch = ⊤
 IsSwitch kind = ⊥
 
+-- a switch, or a loop
+abbrev pub Encloses : Bool → NodeKind → Type 0
+Encloses true kind = IsSwitch kind
+Encloses false kind = IsLoop kind
+
+-- a switch, or a loop, stands above the node
+pub record Within (u : CoreTrees) (switch : Bool) (n : ℕ) : Type 0 where
+  pub some : SomeNode u (λ top node. Encloses switch node.kind × Under u top n)
+
 -- where a kind of node may stand
 abbrev pub MayStand : CoreTrees → ℕ → NodeKind → Type 0
 MayStand u n CallNode = InSomeBody u n
 MayStand u n Return = InSomeBody u n
-MayStand u n Break = InSomeBody u n × (Within u IsLoop n ⊎ Within u IsSwitch n)
-MayStand u n Continue = InSomeBody u n × Within u IsLoop n
-MayStand u n (Case k) = InSomeBody u n × Within u IsSwitch n
-MayStand u n Default = InSomeBody u n × Within u IsSwitch n
+MayStand u n Break = InSomeBody u n × (Within u false n ⊎ Within u true n)
+MayStand u n Continue = InSomeBody u n × Within u false n
+MayStand u n (Case k) = InSomeBody u n × Within u true n
+MayStand u n Default = InSomeBody u n × Within u true n
 MayStand u n (Goto name) = InSomeBody u n
 MayStand u n (Label name) = InSomeBody u n
 MayStand u n kind = ⊤
 
 abbrev pub Standing : CoreTrees → Type 0
-Standing u = (n : ℕ) (node : Node) → node_at u n ≡ Some node → MayStand u n node.kind
+Standing u = EachNode u (λ n node. MayStand u n node.kind)
 
--- the label of each goto stands in its body exactly once
+abbrev pub IsLabel : List ℕ → NodeKind → Type 0
+IsLabel name (Label other) = other ≡ name
+IsLabel name kind = ⊥
+
+-- the label at that node of the body
+abbrev pub IsLabelOf : CoreTrees → ℕ → List ℕ → ℕ → NodeKind → Type 0
+IsLabelOf u body name n kind = IsLabel name kind × Under u body n
+
+-- no other node of the body is that label
+pub record OnlyLabel (u : CoreTrees) (body : ℕ) (name : List ℕ) (n : ℕ) : Type 0 where
+  pub each : EachNode u (λ m other. IsLabelOf u body name m other.kind → n ≡ m)
+
+-- the label stands in the body exactly once
 pub record LabelOnce (u : CoreTrees) (body : ℕ) (name : List ℕ) : Type 0 where
-  pub at : ℕ
-  pub node : Node
-  pub stands : node_at u at ≡ Some node
-  pub kind : node.kind ≡ Label name
-  pub in_body : Under u body at
-  pub once : (n : ℕ) (other : Node) → node_at u n ≡ Some other → other.kind ≡ Label name → Under u body n → n ≡ at
-
-abbrev pub Labelled : CoreTrees → Type 0
-Labelled u =
-    (n e b : ℕ) (name : List ℕ) (node : Node) (function : Entity) → node_at u n ≡ Some node → node.kind ≡ Goto name → entity_at u e ≡ Some function → function.storage ≡ FunctionBody → function.body ≡ Some b → Under u b n → LabelOnce u b name
+  pub some : SomeNode u (λ n node. IsLabelOf u body name n node.kind × OnlyLabel u body name n)
 
 -- a returned value has its function's result type
-abbrev pub result_of : Ctype → Ctype
-result_of (FunctionFrom r ps f) = r
-result_of t = VoidType
+abbrev pub ReturnsRight : CoreTrees → Entity → List ℕ → Type 0
+ReturnsRight u entity (v ∷ []) = type_at u v ≡ result_of (type_of u.types entity.ty.0)
+ReturnsRight u entity children = ⊤
 
-abbrev pub Returning : CoreTrees → Type 0
-Returning u =
-    (n e b v : ℕ) (function : Entity) → KindIs u n Return (v ∷ []) → entity_at u e ≡ Some function → function.storage ≡ FunctionBody → function.body ≡ Some b → Under u b n → type_at u v ≡ result_of (type_of u.types function.ty.0)
+-- what a body asks of a node that stands in it: the label of each goto, and the type of what is returned
+abbrev pub FitsBody : CoreTrees → Entity → ℕ → NodeKind → List ℕ → Type 0
+FitsBody u entity b (Goto name) children = LabelOnce u b name
+FitsBody u entity b Return children = ReturnsRight u entity children
+FitsBody u entity b kind children = ⊤
+
+-- the node fits the function, if it stands in its body
+pub record FitsFunction (u : CoreTrees) (n : ℕ) (node : Node) (entity : Entity) : Type 0 where
+  pub fits : entity.storage ≡ FunctionBody → IfSome entity.body (λ b. Under u b n → FitsBody u entity b node.kind node.children)
+
+-- each node fits the function in whose body it stands
+pub record FitsFunctions (u : CoreTrees) (n : ℕ) (node : Node) : Type 0 where
+  pub each : EachEntity u (λ e entity. FitsFunction u n node entity)
+
+abbrev pub InFunctions : CoreTrees → Type 0
+InFunctions u = EachNode u (λ n node. FitsFunctions u n node)
 
 -- a type that has a size and a number of nodes
 abbrev pub IsMeasured : CoreTrees → Ctype → Type 0
-IsMeasured u t = IsSome (size_below (extent_in u.types t)) × IsSome (nodes_within (extent_in u.types t))
-
--- an array without a length counts as one of one element
-abbrev pub with_one : Ctype → Ctype
-with_one (ArrayOf of None) = ArrayOf of (Some 1)
-with_one t = t
+IsMeasured u t = HasSize u.types t
 
 abbrev pub IsOpen : CoreTrees → Ctype → Type 0
-IsOpen u VoidType = ⊤
-IsOpen u (StructureOf tag) = members_in u.types tag ≡ None
-IsOpen u (UnionOf tag) = members_in u.types tag ≡ None
-IsOpen u t = ⊥
+IsOpen u t = IsOpenIn u.types t
 
+-- an object has a size, or is only declared; and only one of external linkage lacks a length
 pub record Sized (u : CoreTrees) (entity : Entity) : Type 0 where
   pub measured : IsMeasured u (with_one (type_of u.types entity.ty.0)) ⊎ ((entity.storage ≡ Declared) × IsOpen u (type_of u.types entity.ty.0))
   pub length : LacksLength (type_of u.types entity.ty.0) → entity.linkage ≡ External
 
-abbrev pub IsAggregateType : Ctype → Type 0
-IsAggregateType (StructureOf tag) = ⊤
-IsAggregateType (UnionOf tag) = ⊤
-IsAggregateType t = ⊥
+abbrev pub EntitySized : CoreTrees → Entity → Type 0
+EntitySized u entity = IsFunctionEntity u entity ⊎ Sized u entity
+
+abbrev pub ResultSized : CoreTrees → Entity → Type 0
+ResultSized u entity = entity.storage ≡ FunctionBody → ResultHasSize u.types (type_of u.types entity.ty.0)
+
+-- a value of structure or union type has a size
+abbrev pub ValueSized : CoreTrees → Node → Type 0
+ValueSized u node = sort_of node.kind ≡ ValueNode → IsAggregate (type_of u.types node.ty.0) → IsMeasured u (type_of u.types node.ty.0)
 
 pub record Measured (u : CoreTrees) : Type 0 where
-  pub objects : (e : ℕ) (entity : Entity) → entity_at u e ≡ Some entity → (IsFunctionEntity u entity → ⊥) → Sized u entity
-  pub tags : (id : ℕ) → id < length u.types.terms → IsAggregateType (type_of u.types id) → IsSome (extent_in u.types (type_of u.types id)) → IsMeasured u (type_of u.types id)
-  pub values : (n : ℕ) → sort_at u n ≡ ValueNode → IsAggregateType (type_at u n) → IsMeasured u (type_at u n)
-  pub results : (e : ℕ) (entity : Entity) → entity_at u e ≡ Some entity → entity.storage ≡ FunctionBody → (result_of (type_of u.types entity.ty.0) ≡ VoidType) ⊎ IsMeasured u (result_of (type_of u.types entity.ty.0))
+  pub objects : EachEntity u (λ e entity. EntitySized u entity)
+  pub tags : TagsHaveSizes u.types
+  pub values : EachNode u (λ n node. ValueSized u node)
+  pub results : EachEntity u (λ e entity. ResultSized u entity)
+
+-- a switch that stands between that switch and the case is that one
+pub record IsInnermost (u : CoreTrees) (switch case n : ℕ) (kind : NodeKind) : Type 0 where
+  pub same : IsSwitch kind → Under u switch n → Under u n case → n ≡ switch
+
+pub record Innermost (u : CoreTrees) (switch case : ℕ) : Type 0 where
+  pub each : EachNode u (λ n node. IsInnermost u switch case n node.kind)
 
 -- the case stands in that switch, and in no switch within it
 pub record IsCaseOf (u : CoreTrees) (switch case : ℕ) : Type 0 where
   pub under : Under u switch case
-  pub innermost : (n : ℕ) (node : Node) → node_at u n ≡ Some node → IsSwitch node.kind → Under u switch n → Under u n case → n ≡ switch
+  pub innermost : Innermost u switch case
+
+abbrev pub IsCase : ℤ → NodeKind → Type 0
+IsCase x (Case y) = y ≡ x
+IsCase x kind = ⊥
+
+-- no other case of the switch has the number
+pub record OnlyCase (u : CoreTrees) (s a : ℕ) (x : ℤ) : Type 0 where
+  pub each : EachNode u (λ b other. IsCase x other.kind → IsCaseOf u s b → a ≡ b)
+
+-- the case differs from the others of that switch, if it stands in it
+unfoldable pub DiffersIn : CoreTrees → ℕ → ℤ → ℕ → NodeKind → Type 0
+DiffersIn u a x s kind = IsSwitch kind → IsCaseOf u s a → OnlyCase u s a x
+
+-- the case differs from the others of its switch
+pub record DiffersInAll (u : CoreTrees) (a : ℕ) (x : ℤ) : Type 0 where
+  pub each : EachNode u (λ s node. DiffersIn u a x s node.kind)
 
 -- the cases of one switch differ
+abbrev pub CaseDiffers : CoreTrees → ℕ → NodeKind → Type 0
+CaseDiffers u a (Case x) = DiffersInAll u a x
+CaseDiffers u a kind = ⊤
+
 abbrev pub DistinctCases : CoreTrees → Type 0
-DistinctCases u =
-    (s a b : ℕ) (x : ℤ) (switch one other : Node) → node_at u s ≡ Some switch → IsSwitch switch.kind → node_at u a ≡ Some one → node_at u b ≡ Some other → one.kind ≡ Case x → other.kind ≡ Case x → IsCaseOf u s a → IsCaseOf u s b → a ≡ b
+DistinctCases u = EachNode u (λ n node. CaseDiffers u n node.kind)
 
 -- the order of places: by unit, line and column
 abbrev pub PlaceAtMost : Place → Place → Type 0
@@ -317,16 +387,23 @@ IsUseOf (FunctionName o) e = o ≡ e
 IsUseOf kind e = ⊥
 
 -- a node at that place names the entity
-abbrev pub UsedAt : CoreTrees → ℕ → Place → Type 0
-UsedAt u e p = (n : ℕ) × (node : Node) × (node_at u n ≡ Some node) × IsUseOf node.kind e × (node.place ≡ p)
+abbrev pub IsUseAt : ℕ → Place → Node → Type 0
+IsUseAt e p node = IsUseOf node.kind e × (node.place ≡ p)
+
+pub record UsedAt (u : CoreTrees) (e : ℕ) (p : Place) : Type 0 where
+  pub some : SomeNode u (λ n node. IsUseAt e p node)
+
+-- no node before that place names the entity
+pub record UsedFrom (u : CoreTrees) (e : ℕ) (p : Place) : Type 0 where
+  pub each : EachNode u (λ n node. IsUseOf node.kind e → PlaceAtMost p node.place)
 
 -- the least place of the nodes that name the entity, or none where there is none
 abbrev pub IsUsed : CoreTrees → ℕ → Option Place → Type 0
-IsUsed u e None = (p : Place) → UsedAt u e p → ⊥
-IsUsed u e (Some p) = UsedAt u e p × ((q : Place) → UsedAt u e q → PlaceAtMost p q)
+IsUsed u e None = EachNode u (λ n node. IsUseOf node.kind e → ⊥)
+IsUsed u e (Some p) = UsedAt u e p × UsedFrom u e p
 
 abbrev pub UsesRight : CoreTrees → Type 0
-UsesRight u = (e : ℕ) (entity : Entity) → entity_at u e ≡ Some entity → IsUsed u e entity.used
+UsesRight u = EachEntity u (λ e entity. IsUsed u e entity.used)
 
 -- what units and programs have in common
 pub record Valid (u : CoreTrees) : Type 0 where
@@ -341,45 +418,43 @@ pub record Valid (u : CoreTrees) : Type 0 where
   pub lists : ListsRight u
   pub fixed : FixedStatics u
   pub standing : Standing u
-  pub labelled : Labelled u
-  pub returning : Returning u
+  pub functions : InFunctions u
   pub cases : DistinctCases u
   pub uses : UsesRight u
   pub measured : Measured u
 
+-- no other tag has the key
+pub record OnlyKey (keys : List (Option (List ℕ))) (i : ℕ) (key : List ℕ) : Type 0 where
+  pub each : (j : ℕ) (other : Option (List ℕ)) → slice_get keys j ≡ Some other → other ≡ Some key → i ≡ j
+
+abbrev pub KeyedOnce : List (Option (List ℕ)) → ℕ → Option (List ℕ) → Type 0
+KeyedOnce keys i None = ⊤
+KeyedOnce keys i (Some key) = OnlyKey keys i key
+
 -- one key or none for each tag, and no key twice
 pub record Keyed (tags : ℕ) (keys : List (Option (List ℕ))) : Type 0 where
   pub each : length keys ≡ tags
-  pub once : (i j : ℕ) (key : List ℕ) → slice_get keys i ≡ Some (Some key) → slice_get keys j ≡ Some (Some key) → i ≡ j
+  pub once : (i : ℕ) (key : Option (List ℕ)) → slice_get keys i ≡ Some key → KeyedOnce keys i key
 
 pub record ValidUnit (unit : Unit) : Type 0 where
   pub trees : Valid (trees_of unit)
   pub keys : Keyed unit.types.tags unit.tags.items
 
 -- a function with a body and without parameters has its type with the list (void) in the table
-abbrev pub HasSignature : Table → Ctype → Type 0
-HasSignature table (FunctionFrom result NoTypes form) = (id : ℕ) × (id < length table.terms) × (type_of table id ≡ FunctionFrom result NoTypes Fixed)
-HasSignature table t = ⊤
-
-abbrev pub HasSignatures : CoreTrees → Type 0
-HasSignatures u = (e : ℕ) (entity : Entity) → entity_at u e ≡ Some entity → entity.storage ≡ FunctionBody → HasSignature u.types (type_of u.types entity.ty.0)
+abbrev pub IsSigned : CoreTrees → Entity → Type 0
+IsSigned u entity = entity.storage ≡ FunctionBody → HasSignature u.types (type_of u.types entity.ty.0)
 
 -- an object that has its place has a length
-abbrev pub HaveLengths : CoreTrees → Type 0
-HaveLengths u =
-    (e : ℕ) (entity : Entity) → entity_at u e ≡ Some entity → (entity.storage ≡ Static) ⊎ (entity.storage ≡ Automatic) → LacksLength (type_of u.types entity.ty.0) → ⊥
+abbrev pub HasLength : CoreTrees → Entity → Type 0
+HasLength u entity = (entity.storage ≡ Static) ⊎ (entity.storage ≡ Automatic) → LacksLength (type_of u.types entity.ty.0) → ⊥
 
--- the units of entities and places are the program's
-pub record InUnits (u : CoreTrees) (units : ℕ) : Type 0 where
-  pub entities : (e : ℕ) (entity : Entity) → entity_at u e ≡ Some entity → (entity.unit < units) × (entity.place.unit < units)
-  pub nodes : (n : ℕ) (node : Node) → node_at u n ≡ Some node → node.place.unit < units
+-- the units of an entity and of its place are the program's
+abbrev pub InUnits : ℕ → Entity → Type 0
+InUnits units entity = (entity.unit < units) × (entity.place.unit < units)
 
 pub record ValidProgram (program : Program) : Type 0 where
   pub trees : Valid (trees_in program)
-  pub signatures : HasSignatures (trees_in program)
-  pub lengths : HaveLengths (trees_in program)
-  pub units : InUnits (trees_in program) (length program.names.items)
-
--- a list has a number in some place
-abbrev pub Has : List ℕ → ℕ → Type 0
-Has list n = (k : ℕ) × (slice_get list k ≡ Some n)
+  pub signatures : EachEntity (trees_in program) (λ e entity. IsSigned (trees_in program) entity)
+  pub lengths : EachEntity (trees_in program) (λ e entity. HasLength (trees_in program) entity)
+  pub entities : EachEntity (trees_in program) (λ e entity. InUnits (length program.names.items) entity)
+  pub nodes : EachNode (trees_in program) (λ n node. node.place.unit < length program.names.items)

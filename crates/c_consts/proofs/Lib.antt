@@ -1,0 +1,10 @@
+pub mod Trees
+pub mod Spine
+pub mod Rest
+pub mod Climb
+pub mod Rows
+pub mod Finish
+pub mod Choice
+pub mod Units
+pub mod Examples
+pub mod Faults

@@ -1,0 +1,26 @@
+-- The nodes among which constants are looked for.
+use Rattle.std.specs.Prelude.{ℕ, ◌≡◌, ⊤, List, [], Some, slice_get}
+use Rattle.c_types.specs.Table.{Table, type_of}
+use Rattle.core_tree.specs.declared.node.Node.{Node}
+use Rattle.core_tree.specs.declared.node.NodeKind.{NodeKind}
+use Rattle.core_tree.specs.declared.node.NodeKind.TheVariants.{Number, Choose, Convert, Arith}
+use Rattle.core_tree.specs.Typed.{CoreTrees}
+use Rattle.core_tree.specs.Rows.{RowOf}
+use Rattle.c_consts.specs.Core.{InOrder}
+
+-- types and nodes without entities
+abbrev pub bare : Table → List Node → CoreTrees
+bare types nodes = record { types = types; nodes = nodes; entities = [] }
+
+-- the kinds of which a constant is made: their rows name no entity
+abbrev pub IsConstantKind : NodeKind → Type 0
+IsConstantKind (Number n) = ⊤
+IsConstantKind (Arith op) = ⊤
+IsConstantKind Choose = ⊤
+IsConstantKind Convert = ⊤
+IsConstantKind kind = ⊥
+
+-- nodes over nodes of smaller numbers, and each of those kinds in its row
+pub record AreRows (types : Table) (nodes : List Node) : Type 0 where
+  pub order : InOrder types nodes
+  pub rows : (n : ℕ) (node : Node) → slice_get nodes n ≡ Some node → IsConstantKind node.kind → RowOf (bare types nodes) node.kind (type_of types node.ty.0) node.children

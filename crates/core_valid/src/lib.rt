@@ -1,0 +1,13 @@
+// Whether a unit or a program is valid.
+#![tactic(auto)]
+
+mod bodies;
+mod cases;
+mod entities;
+mod fixed;
+#[cfg(test)]
+mod tests;
+mod unit;
+mod valid;
+
+pub use unit::{valid_program, valid_unit};

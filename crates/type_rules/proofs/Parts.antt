@@ -1,0 +1,28 @@
+-- A path that has left a type stays out of it.
+use Rattle.std.proofs.Common.{arith, ◌≡◌, ◌≤◌, List, [], ◌∷◌, Option, Some, None, length, get_or, refl, ap, ◌∙◌}
+use Rattle.c_types.specs.declared.term.PathStep.{PathStep}
+use Rattle.c_types.specs.Table.{Table}
+use Rattle.c_types.specs.Paths.{part_type, type_at_path}
+use Rattle.c_types.specs.Trees.{Ctype, NoTypes, FunctionFrom, trees_at}
+use Rattle.c_types.specs.declared.term.TypeId.{TypeId}
+use Rattle.c_types.specs.declared.term.Form.{Form}
+use Rattle.type_rules.specs.Sizes.{HasSignature}
+
+pub none_below : (table : Table) (rest : List PathStep) → type_at_path table None rest ≡ None
+none_below table [] = refl
+none_below table (step ∷ rest) = none_below table rest
+
+-- a path whose first step leaves the type
+pub left_path : (table : Table) (t : Ctype) (path : List PathStep) (d : PathStep) → 1 ≤ length path → part_type table t (get_or path 0 d) ≡ None → type_at_path table (Some t) path ≡ None
+left_path table t [] d h e = absurd (omega arith)
+left_path table t (step ∷ rest) d h e = ap (λ (o : Option Ctype). type_at_path table o rest) e ∙ none_below table rest
+
+-- a function with a parameter isn't one without
+pub more_types : (trees : List Ctype) (ids : List TypeId) → 1 ≤ length ids → trees_at trees ids ≡ NoTypes → ⊥
+more_types trees [] h e = absurd (omega arith)
+more_types trees (id ∷ rest) h e = cc
+
+-- so it asks for no signature
+pub listed_signature : (table : Table) (trees : List Ctype) (ids : List TypeId) (r : Ctype) (f : Form) → 1 ≤ length ids → HasSignature table (FunctionFrom r (trees_at trees ids) f)
+listed_signature table trees [] r f h = absurd (omega arith)
+listed_signature table trees (id ∷ rest) r f h = tt

@@ -1,0 +1,5 @@
+pub mod Kinds
+pub mod Conversions
+pub mod Members
+pub mod Numbers
+pub mod Sizes

@@ -1,0 +1,111 @@
+// The numbers that a type holds (C11 6.2.6.2), with two's complement.
+
+ghost use Rattle.std.specs.Prelude.{◌≡◌, ℕ, ◌<◌, ◌↔◌, IsTrue, length};
+ghost use Rattle.c_types.specs.Table.{type_of};
+ghost use Rattle.type_rules.specs.Numbers.{half_of, InSigned, InUnsigned, Holds};
+
+use c_types::table::TypeTable;
+use c_types::term::{Term, TypeId};
+
+// Half of the numbers of a size.
+fn half_of(size: u8) -> u64
+    ensures { result ≡ half_of size }
+{
+    match size {
+        1 => 128,
+        2 => 32768,
+        4 => 2147483648,
+        _ => 9223372036854775808,
+    }
+}
+
+// Whether a number is in the range of a signed type.
+fn in_signed(half: u64, n: i128) -> bool
+    ensures { IsTrue result ↔ InSigned half n }
+{
+    let half = i128::from(half);
+    -half <= n && n < half
+}
+
+// Whether a number is in the range of an unsigned type.
+fn in_unsigned(half: u64, n: i128) -> bool
+    ensures { IsTrue result ↔ InUnsigned half n }
+{
+    0 <= n && n < 2 * i128::from(half)
+}
+
+/// Whether a type holds a number. Only integer types hold any.
+pub fn holds(types: &TypeTable, id: TypeId, n: i128) -> bool
+    requires { id.0 < length types.now.terms }
+    ensures { IsTrue result ↔ Holds (type_of types.now id.0) n }
+{
+    match types.term(id) {
+        Term::Bool => 0 <= n && n <= 1,
+        Term::Integer {
+            size,
+            signed: true,
+            ..
+        } => in_signed(half_of(*size), n),
+        Term::Integer {
+            size,
+            signed: false,
+            ..
+        } => in_unsigned(half_of(*size), n),
+        _ => false,
+    }
+}
+
+#[cfg(test)]
+mod tests {
+    use super::holds;
+    use c_types::table::TypeTable;
+    use c_types::term::{OutOfMemory, Term};
+    use std::alloc::Global;
+
+    // Whether an integer of that size holds a number.
+    fn fits(alloc: Global, size: u8, signed: bool, n: i128) -> Result<bool, OutOfMemory> {
+        let mut types = TypeTable::new(alloc);
+        let id = match size {
+            1 => types.add(Term::Integer {
+                size: 1,
+                rank: 2,
+                signed,
+            })?,
+            2 => types.add(Term::Integer {
+                size: 2,
+                rank: 3,
+                signed,
+            })?,
+            4 => types.add(Term::Integer {
+                size: 4,
+                rank: 4,
+                signed,
+            })?,
+            _ => types.add(Term::Integer {
+                size: 8,
+                rank: 5,
+                signed,
+            })?,
+        };
+        Ok(holds(&types, id, n))
+    }
+
+    // The limits of C11 5.2.4.2.1 on a machine with two's complement and 64 bits.
+    #[test]
+    fn limits(rt: HostRuntime) {
+        let rows: [(u8, bool, i128, i128); 8] = [
+            (1, true, -128, -129),
+            (1, true, 127, 128),
+            (1, false, 255, 256),
+            (2, true, -32768, -32769),
+            (4, true, 2147483647, 2147483648),
+            (4, false, 4294967295, 4294967296),
+            (8, true, -9223372036854775808, -9223372036854775809),
+            (8, false, 18446744073709551615, 18446744073709551616),
+        ];
+        for (size, signed, within, past) in rows {
+            assert!(rt; fits(rt.alloc(), size, signed, within) == Ok(true));
+            assert!(rt; fits(rt.alloc(), size, signed, past) == Ok(false));
+        }
+    }
+}
