@@ -2,7 +2,9 @@
 ghost use Rattle.std.specs.Prelude.{◌≡◌, ◌+◌, ◌++◌, ◌<◌, [], ◌∷◌, Some, length, take, Contains, slice_get, OnErr, IfOk, MatchBool};
 ghost use Rattle.std.specs.List.Sorted.{IsStrictlySortedBy};
 ghost use Rattle.edge_book.specs.Edges.{AreApart, pair_order, with_pairs};
+ghost use Rattle.edge_book.specs.Leaving.{targets_of};
 
+use crate::leaving::Leaving;
 use indexmap::IndexSet;
 use pta_base::OutOfMemory;
 use std::alloc::Global;
@@ -13,18 +15,20 @@ use std::marker::Model;
 #[derive(Drop)]
 pub struct EdgeBook {
     edges: IndexSet<(u32, u32)>,
+    leaving: Leaving,
     alloc: Global,
 }
 
 impl Model for EdgeBook {
     ghost use Rattle.std.specs.Prelude.{List, ℕ};
     ghost use Rattle.edge_book.specs.Edges.{AreApart};
+    ghost use Rattle.edge_book.specs.Leaving.{IsIndexed};
 
     ghost Value = { List (ℕ × ℕ) };
 
     ghost view = { λ b. b.edges.keys };
 
-    ghost invariant = { λ b. AreApart b.edges.keys };
+    ghost invariant = { λ b. AreApart b.edges.keys × IsIndexed b.leaving.lists.items b.edges.keys };
 }
 
 /// One pair of a list.
@@ -42,6 +46,7 @@ impl EdgeBook {
     {
         EdgeBook {
             edges: IndexSet::new(alloc),
+            leaving: Leaving::new(alloc),
             alloc,
         }
     }
@@ -53,7 +58,12 @@ impl EdgeBook {
         ensures new { IfOk result (λ new. MatchBool new (Contains self.old (from, to) → ⊥) (Contains self.old (from, to))) }
         ensures err { OnErr result (self.new ≡ self.old) }
     {
-        Ok(self.edges.insert((from, to))?)
+        self.leaving.reserve(from)?;
+        if !self.edges.insert((from, to))? {
+            return Ok(false);
+        }
+        self.leaving.push_reserved(from, to);
+        Ok(true)
     }
 
     /// Adds an edge, and answers how many edges are new: 1 or 0.
@@ -77,6 +87,13 @@ impl EdgeBook {
         ensures { result ≡ slice_get self.now index }
     {
         self.edges.get_index(index).copied()
+    }
+
+    /// The rows to which edges lead from a row, each once, in order of their arrival.
+    pub fn targets(&self, from: u32) -> &[u32]
+        ensures { result.now ≡ targets_of from self.now }
+    {
+        self.leaving.of(from)
     }
 
     /// An empty list of pairs, in the book's memory.

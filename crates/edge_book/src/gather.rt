@@ -10,7 +10,7 @@ use sol_model::locations::{pair_at, pair_count};
 use sol_model::sites::{row_at, rows_at};
 
 /// One pair.
-fn put(pairs: &mut Vec<(u32, u32)>, from: u32, to: u32) -> Result<(), OutOfMemory>
+pub fn put(pairs: &mut Vec<(u32, u32)>, from: u32, to: u32) -> Result<(), OutOfMemory>
     ensures { OnOk result (Gains pairs.old.items pairs.new.items (λ a b. (a ≡ from) × (b ≡ to))) }
 {
     pairs.push((from, to))?;
@@ -18,7 +18,7 @@ fn put(pairs: &mut Vec<(u32, u32)>, from: u32, to: u32) -> Result<(), OutOfMemor
 }
 
 /// One pair, where both rows are there.
-pub(crate) fn put_between(
+pub fn put_between(
     pairs: &mut Vec<(u32, u32)>,
     from: Option<u32>,
     to: Option<u32>,
@@ -85,8 +85,9 @@ pub(crate) fn put_objects(
     Ok(())
 }
 
-/// The nodes that a copy of one whole object to another joins.
-fn put_copy(
+/// The nodes that a copy of one whole object to another joins: for each pair, the node that is copied from and the node
+/// that is copied to.
+pub fn put_copy(
     pairs: &mut Vec<(u32, u32)>,
     system: &System,
     to: u32,

@@ -4,10 +4,13 @@
 
 mod book;
 mod effects;
-mod gather;
+/// Lists of pairs of rows that grow by the edges of one kind.
+pub mod gather;
+mod leaving;
 mod members;
 
 pub use book::EdgeBook;
+pub use members::in_order;
 
 #[cfg(test)]
 mod tests;

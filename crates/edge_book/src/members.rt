@@ -13,8 +13,8 @@ use sol_model::locations::sub_of;
 use sol_model::sites::constraint_at;
 use sol_model::{Constraint, System};
 
-/// Puts pairs in order, each once.
-fn in_order(pairs: &mut Vec<(u32, u32)>)
+/// Puts pairs in order, each once. No pair comes or goes.
+pub fn in_order(pairs: &mut Vec<(u32, u32)>)
     ensures order { IsStrictlySortedBy pair_order pairs.new.items }
     ensures same { (pair : ℕ × ℕ) → (Contains pairs.new.items pair → Contains pairs.old.items pair) × (Contains pairs.old.items pair → Contains pairs.new.items pair) }
 {

@@ -5,13 +5,15 @@ use Rattle.c_lexer.specs.declared.Token.{Token}
 use Rattle.c_lexer.specs.declared.LexFault.{LexFault}
 use Rattle.c_lexer.specs.declared.LexFault.TheVariants.{BadByte, Unended, BadNumber, TooLong, OutOfMemory}
 use Rattle.c_lexer.specs.Cut.{IsFault}
-use Rattle.c_grammar.specs.Reads.{Fault, malformed, unsupported, too_deep}
+use Rattle.c_scope.specs.declared.kinds.NameFault.{NameFault}
+use Rattle.c_scope.specs.declared.kinds.NameFault.TheVariants as names
+use Rattle.c_grammar.specs.Reads.{Node, Fault, malformed, unsupported, too_deep}
 use Rattle.pointer_units.specs.declared.unit.PointerUnit.{PointerUnit}
 use Rattle.report_cli.specs.declared.fault.UnitsFault.{UnitsFault}
 use Rattle.report_cli.specs.declared.fault.UnitsFault.TheVariants.{Refused}
 use Rattle.report_cli.specs.Faults.{IsFaultOf}
 use Rattle.report_cli.specs.Answers.{NamedText, Answer, told_units}
-use Rattle.report_cli.specs.Alone.{IsReadAs, IsRefusedAlone, FirstAlone, AreReadAlone, lexical_refusal, syntax_refusal}
+use Rattle.report_cli.specs.Alone.{IsReadAs, IsRefusedAlone, FirstAlone, AreReadAlone, lexical_refusal, syntax_refusal, name_refusal}
 use Rattle.report_cli.specs.Outcome.{Denotes, IsRefusedTogether, Refuses}
 
 -- the names of told units are those that were asked for
@@ -69,8 +71,10 @@ lexical_whole unit answer OutOfMemory real is said = absurd (real refl)
 refused_alone_whole : (unit : NamedText) (answer : Answer) → IsRefusedAlone (unit.0, take 16777217 unit.1) answer → IsRefusedAlone unit answer
 unfolding IsRefusedAlone
 refused_alone_whole unit answer (inl h) = lexical_whole unit answer h.0 h.1 h.2 h.3
-refused_alone_whole unit answer (inr h) =
-    let P : List ℕ → Type 0 = λ t. IsRefusedAlone (unit.0, t) answer in subst P (whole_text unit.1 h.1.0) (inr h)
+refused_alone_whole unit answer (inr (inl h)) =
+    let P : List ℕ → Type 0 = λ t. IsRefusedAlone (unit.0, t) answer in subst P (whole_text unit.1 h.1.0) (inr (inl h))
+refused_alone_whole unit answer (inr (inr h)) =
+    let P : List ℕ → Type 0 = λ t. IsRefusedAlone (unit.0, t) answer in subst P (whole_text unit.1 h.1.0) (inr (inr h))
 
 first_alone_whole : (told : List NamedText) (answer : Answer) → FirstAlone (read_units told) answer → FirstAlone told answer
 unfolding read_units
@@ -132,6 +136,11 @@ syntax_status name list (malformed number) = inl refl
 syntax_status name list (unsupported kind number) = inr (inl refl)
 syntax_status name list (too_deep number) = inr (inr refl)
 
+name_status : (name : List ℕ) (list : List Token) (nodes : List Node) (fault : NameFault) → (fault ≡ names.OutOfMemory → ⊥) → IsStatus (name_refusal name list nodes fault).status
+name_status name list nodes (names.Undeclared node) real = inr (inl refl)
+name_status name list nodes (names.Redeclared node) real = inr (inl refl)
+name_status name list nodes names.OutOfMemory real = absurd (real refl)
+
 status_of : (answer other : Answer) → answer ≡ other → IsStatus other.status → IsStatus answer.status
 status_of answer other same h = let P : Answer → Type 0 = λ a. IsStatus a.status in subst P (sym same) h
 
@@ -139,7 +148,8 @@ alone_status : (units : List NamedText) (answer : Answer) → FirstAlone units a
 unfolding IsRefusedAlone
 alone_status [] answer h = absurd h
 alone_status (unit ∷ units) answer (inl (inl h)) = status_of answer _ h.3 (lexical_status unit h.0 h.1)
-alone_status (unit ∷ units) answer (inl (inr h)) = status_of answer _ h.4 (syntax_status unit.0 h.0 h.2)
+alone_status (unit ∷ units) answer (inl (inr (inl h))) = status_of answer _ h.4 (syntax_status unit.0 h.0 h.2)
+alone_status (unit ∷ units) answer (inl (inr (inr h))) = status_of answer _ h.7 (name_status unit.0 h.0 h.2.nodes h.4 h.5)
 alone_status (unit ∷ units) answer (inr h) = alone_status units answer h.1
 
 together_status : (units : List NamedText) (answer : Answer) → IsRefusedTogether units answer → IsStatus answer.status

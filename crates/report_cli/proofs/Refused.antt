@@ -1,5 +1,5 @@
 -- The units of words and texts, and their refusals.
-use Rattle.std.proofs.Common.{◌≡◌, ℕ, zero, suc, ◌<◌, ◌≤◌, List, [], ◌∷◌, length, get_or, drop, string_bytes, String, inl, inr, refl, sym, ◌∙◌, ap, subst, arith}
+use Rattle.std.proofs.Common.{◌≡◌, Option, Some, Ok, ℕ, zero, suc, ◌<◌, ◌≤◌, List, [], ◌∷◌, length, get_or, drop, string_bytes, String, inl, inr, refl, sym, ◌∙◌, ap, subst, arith}
 use Rattle.std.specs.Prelude.{zip}
 use Rattle.std.specs.declared.alloc.Global.{Global}
 use Rattle.c_lexer.specs.declared.Token.{Token}
@@ -7,7 +7,10 @@ use Rattle.c_lexer.specs.declared.LexFault.{LexFault}
 use Rattle.c_lexer.specs.declared.LexFault.TheVariants.{BadByte, Unended, BadNumber, TooLong}
 use Rattle.c_lexer.specs.declared.LexFault.TheVariants as lex
 use Rattle.c_lexer.specs.Cut.{IsTokens, IsFault}
-use Rattle.c_grammar.specs.Reads.{malformed, unsupported, too_deep}
+use Rattle.c_scope.specs.declared.kinds.NameFault.{NameFault}
+use Rattle.c_scope.specs.declared.kinds.NameFault.TheVariants as names
+use Rattle.c_scope.specs.Resolves.{first_of}
+use Rattle.c_grammar.specs.Reads.{State, malformed, unsupported, too_deep}
 use Rattle.c_parser.specs.declared.ParseFault.{ParseFault}
 use Rattle.c_parser.specs.declared.ParseFault.TheVariants.{Malformed, Unsupported, TooDeep, OutOfMemory}
 use Rattle.c_parser.specs.Parse.{Faults}
@@ -16,9 +19,9 @@ use Rattle.report_cli.specs.declared.fault.UnitsFault.{UnitsFault}
 use Rattle.report_cli.specs.declared.fault.UnitsFault.TheVariants.{Refused, Memory}
 use Rattle.report_cli.specs.Words.{texts_of}
 use Rattle.report_cli.specs.Answers.{NamedText, Answer}
-use Rattle.report_cli.specs.Alone.{Reading, IsReadAs, IsReadAlone, IsRefusedAlone, FirstAlone, AreReadAlone, lexical_refusal, syntax_refusal}
+use Rattle.report_cli.specs.Alone.{Reading, IsReadAs, IsReadAlone, IsRefusedAlone, FirstAlone, AreReadAlone, lexical_refusal, syntax_refusal, name_refusal}
 use Rattle.report_cli.specs.Outcome.{Refuses, not_built}
-use Rattle.report_cli.specs.Faults.{fault_of, IsFaultOf, IsFaultAlone, IsLexical, IsSyntactic}
+use Rattle.report_cli.specs.Faults.{fault_of, IsFaultOf, IsFaultAlone, IsLexical, IsSyntactic, IsNominal}
 
 fault_alone : (unit : NamedText) (answer : Answer) (fault : UnitsFault) → fault ≡ fault_of answer → answer.out ≡ [] → IsRefusedAlone unit answer → IsFaultAlone unit fault
 fault_alone unit answer fault is nothing refused =
@@ -41,10 +44,20 @@ lexically unit lex.OutOfMemory fault said is = no_memory unit fault said
 -- a fault of syntax refuses a unit
 pub syntactically : (unit : NamedText) (list : List Token) (cause : ParseFault) (fault : UnitsFault) → IsTokens unit.1 list → IsSyntactic unit.0 list cause fault → Faults (Reading unit.1 list) cause → IsFaultAlone unit fault
 unfolding IsRefusedAlone
-syntactically unit list (Malformed number) fault tokens said is = fault_alone unit (syntax_refusal unit.0 list (malformed number)) fault said refl (inr (list, tokens, malformed number, is, refl))
-syntactically unit list (Unsupported kind number) fault tokens said is = fault_alone unit (syntax_refusal unit.0 list (unsupported kind number)) fault said refl (inr (list, tokens, unsupported kind number, is, refl))
-syntactically unit list (TooDeep number) fault tokens said is = fault_alone unit (syntax_refusal unit.0 list (too_deep number)) fault said refl (inr (list, tokens, too_deep number, is, refl))
+syntactically unit list (Malformed number) fault tokens said is = fault_alone unit (syntax_refusal unit.0 list (malformed number)) fault said refl (inr (inl (list, tokens, malformed number, is, refl)))
+syntactically unit list (Unsupported kind number) fault tokens said is = fault_alone unit (syntax_refusal unit.0 list (unsupported kind number)) fault said refl (inr (inl (list, tokens, unsupported kind number, is, refl)))
+syntactically unit list (TooDeep number) fault tokens said is = fault_alone unit (syntax_refusal unit.0 list (too_deep number)) fault said refl (inr (inl (list, tokens, too_deep number, is, refl)))
 syntactically unit list OutOfMemory fault tokens said is = no_memory unit fault said
+
+-- a fault of names refuses a unit
+pub nominally : (unit : NamedText) (list : List Token) (state : State) (cause : NameFault) (fault : UnitsFault) → IsTokens unit.1 list → Reading unit.1 list (Ok state) → IsNominal unit.0 list state.nodes cause fault
+    → ((cause ≡ names.OutOfMemory → ⊥) → first_of unit.1 list state.nodes ≡ Some cause) → IsFaultAlone unit fault
+unfolding IsRefusedAlone
+nominally unit list state (names.Undeclared node) fault tokens read said is =
+    fault_alone unit (name_refusal unit.0 list state.nodes (names.Undeclared node)) fault said refl (inr (inr (list, tokens, state, read, names.Undeclared node, (λ e. cc), is (λ e. cc), refl)))
+nominally unit list state (names.Redeclared node) fault tokens read said is =
+    fault_alone unit (name_refusal unit.0 list state.nodes (names.Redeclared node)) fault said refl (inr (inr (list, tokens, state, read, names.Redeclared node, (λ e. cc), is (λ e. cc), refl)))
+nominally unit list state names.OutOfMemory fault tokens read said is = no_memory unit fault said
 
 -- a fault of the first unit is that of all
 pub alone_first : (unit : NamedText) (units : List NamedText) (fault : UnitsFault) → IsFaultAlone unit fault → ((answer : Answer) → IsRefusedAlone unit answer → Refuses units answer) → IsFaultOf units fault

@@ -4,13 +4,15 @@ use Rattle.c_lexer.specs.declared.Token.{Token}
 use Rattle.c_lexer.specs.declared.LexFault.{LexFault}
 use Rattle.c_lexer.specs.declared.LexFault.TheVariants.{BadByte, Unended, BadNumber, TooLong}
 use Rattle.c_lexer.specs.declared.LexFault.TheVariants as lex
-use Rattle.c_grammar.specs.Reads.{malformed, unsupported, too_deep}
+use Rattle.c_grammar.specs.Reads.{Node, malformed, unsupported, too_deep}
+use Rattle.c_scope.specs.declared.kinds.NameFault.{NameFault}
+use Rattle.c_scope.specs.declared.kinds.NameFault.TheVariants as names
 use Rattle.c_parser.specs.declared.ParseFault.{ParseFault}
 use Rattle.c_parser.specs.declared.ParseFault.TheVariants.{Malformed, Unsupported, TooDeep, OutOfMemory}
 use Rattle.report_cli.specs.declared.fault.UnitsFault.{UnitsFault}
 use Rattle.report_cli.specs.declared.fault.UnitsFault.TheVariants.{Refused, Memory}
 use Rattle.report_cli.specs.Answers.{NamedText, Answer}
-use Rattle.report_cli.specs.Alone.{IsRefusedAlone, lexical_refusal, syntax_refusal}
+use Rattle.report_cli.specs.Alone.{IsRefusedAlone, lexical_refusal, syntax_refusal, name_refusal}
 use Rattle.report_cli.specs.Outcome.{IsRefusedBy}
 
 -- a fault is a refusal
@@ -41,3 +43,9 @@ IsSyntactic name list (Malformed number) fault = fault ≡ fault_of (syntax_refu
 IsSyntactic name list (Unsupported kind number) fault = fault ≡ fault_of (syntax_refusal name list (unsupported kind number))
 IsSyntactic name list (TooDeep number) fault = fault ≡ fault_of (syntax_refusal name list (too_deep number))
 IsSyntactic name list OutOfMemory fault = fault ≡ Memory
+
+-- the refusal for a fault of names
+abbrev pub IsNominal : List ℕ → List Token → List Node → NameFault → UnitsFault → Type 0
+IsNominal name list nodes (names.Undeclared node) fault = fault ≡ fault_of (name_refusal name list nodes (names.Undeclared node))
+IsNominal name list nodes (names.Redeclared node) fault = fault ≡ fault_of (name_refusal name list nodes (names.Redeclared node))
+IsNominal name list nodes names.OutOfMemory fault = fault ≡ Memory

@@ -1,17 +1,20 @@
-// The tokens and the syntax of a unit alone.
+// The tokens, the syntax and the names of a unit alone.
 ghost use Rattle.std.specs.Prelude.{◌≡◌, ◌+◌, ◌≤◌, ◌∷◌, ◌++◌, length, map, zip, IfOk, IfErr, OnOk, codes};
 ghost use Rattle.pta_base.specs.Kind.{name_of};
+ghost use Rattle.c_mentions.specs.Syntax.{nodes_of};
 ghost use Rattle.c_lexer.specs.declared.LexFault.TheVariants.{OutOfMemory};
 ghost use Rattle.report_cli.specs.Words.{texts_of};
 ghost use Rattle.report_cli.specs.Answers.{refusal};
 ghost use Rattle.report_cli.specs.Alone.{lexical_refusal, syntax_refusal, malformed_at, token_place, IsReadAs, AreReadAlone};
-ghost use Rattle.report_cli.specs.Faults.{fault_of, IsFaultAlone, IsLexical, IsSyntactic};
+ghost use Rattle.report_cli.specs.Faults.{fault_of, IsFaultAlone, IsLexical, IsNominal, IsSyntactic};
 
 use crate::fault::UnitsFault;
-use crate::places::{column_of, line_of, place_text, token_place};
+use crate::places::{column_of, line_of, node_place, place_text, token_place};
+use c_grammar::SyntaxNode;
 use c_lexer::lexer::tokens;
 use c_lexer::{LexFault, Token, Tokens};
 use c_parser::ParseFault;
+use c_scope::{NameFault, resolve};
 use c_units::parse_unit;
 use pta_base::{Kind, Listing};
 use std::alloc::{AllocError, Global};
@@ -107,7 +110,30 @@ fn syntactic(
     }
 }
 
-/// The tokens of a unit whose syntax is right, or the fault that refuses it alone.
+/// The refusal for a fault of names.
+fn nominal(
+    alloc: Global,
+    name: &str,
+    list: &[Token],
+    nodes: &[SyntaxNode],
+    fault: NameFault,
+) -> Result<UnitsFault, AllocError>
+    ensures { IfOk result (IsNominal name.now list.now (nodes_of nodes.now) fault) }
+{
+    match fault {
+        NameFault::Undeclared(node) => not_accepted(
+            node_place(alloc, name, list, nodes, node)?,
+            Kind::Undeclared,
+        ),
+        NameFault::Redeclared(node) => not_accepted(
+            node_place(alloc, name, list, nodes, node)?,
+            Kind::Redeclared,
+        ),
+        NameFault::OutOfMemory => Ok(UnitsFault::Memory),
+    }
+}
+
+/// The tokens of a unit whose syntax and names are right, or the fault that refuses it alone.
 pub(crate) fn read_alone<'a>(
     alloc: Global,
     name: &str,
@@ -121,8 +147,18 @@ pub(crate) fn read_alone<'a>(
         Ok(tokens) => tokens,
         Err(fault) => return Err(lexical(alloc, name, text, fault)?),
     };
-    match parse_unit(alloc, &tokens, 0) {
+    let tree = match parse_unit(alloc, &tokens, 0) {
+        Ok(tree) => tree,
+        Err(fault) => return Err(syntactic(alloc, name, tokens.list.as_slice(), fault)?),
+    };
+    match resolve(alloc, &tokens, &tree) {
         Ok(_) => Ok(tokens),
-        Err(fault) => Err(syntactic(alloc, name, tokens.list.as_slice(), fault)?),
+        Err(fault) => Err(nominal(
+            alloc,
+            name,
+            tokens.list.as_slice(),
+            tree.nodes.as_slice(),
+            fault,
+        )?),
     }
 }

@@ -5,6 +5,8 @@ mod alone;
 mod fault;
 mod input;
 pub mod laws;
+#[cfg(test)]
+mod name_tests;
 mod output;
 mod places;
 mod reading;

@@ -2,8 +2,11 @@
 ghost use Rattle.std.specs.Prelude.{◌≡◌, ◌+◌, ◌<◌, ◌≤◌, ◌^◌, ◌++◌, ◌==◌, length, slice_index, if◌then◌else◌, IfOk};
 ghost use Rattle.c_lexer.specs.Places.{line_of, column_of};
 ghost use Rattle.report_cli.specs.Answers.{place_text};
+ghost use Rattle.c_mentions.specs.Syntax as syntax;
+ghost use Rattle.c_mentions.specs.Syntax.{nodes_of};
 ghost use Rattle.report_cli.specs.Alone.{token_place};
 
+use c_grammar::SyntaxNode;
 use c_lexer::Token;
 use itoa::Buffer;
 use std::alloc::{AllocError, Global};
@@ -87,4 +90,27 @@ pub(crate) fn token_place(
         Some(token) => place_text(alloc, name, u64::from(token.line), u64::from(token.column)),
         None => Vec::from_slice(alloc, name.as_bytes()),
     }
+}
+
+/// The number of the first token of a node.
+fn token_at(nodes: &[SyntaxNode], node: u32) -> u32
+    ensures { result ≡ syntax.token_at (nodes_of nodes.now) node }
+{
+    match nodes.get(node as usize) {
+        Some(node) => node.token,
+        None => 0,
+    }
+}
+
+/// The place of a node, by its number.
+pub(crate) fn node_place(
+    alloc: Global,
+    name: &str,
+    list: &[Token],
+    nodes: &[SyntaxNode],
+    node: u32,
+) -> Result<Vec<u8>, AllocError>
+    ensures { IfOk result (λ text. text.items ≡ token_place name.now list.now (syntax.token_at (nodes_of nodes.now) node)) }
+{
+    token_place(alloc, name, list, token_at(nodes, node))
 }

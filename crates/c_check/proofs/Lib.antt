@@ -1,0 +1,9 @@
+pub mod Growing
+pub mod Reading
+pub mod SameTypes
+pub mod Failing
+pub mod BitFields
+pub mod IntegerTypes
+pub mod Lefts
+pub mod Keeping
+pub mod Walking

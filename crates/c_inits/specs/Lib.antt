@@ -1,0 +1,5 @@
+pub mod Syntax
+pub mod Shapes
+pub mod Initial
+pub mod View
+pub mod Made

@@ -1,0 +1,5 @@
+pub mod Nodes
+pub mod Levels
+pub mod Numbering
+pub mod Chains
+pub mod Handing

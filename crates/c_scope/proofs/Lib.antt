@@ -1,0 +1,5 @@
+pub mod Together
+pub mod Steps
+pub mod Going
+pub mod AllHappen
+pub mod Growing

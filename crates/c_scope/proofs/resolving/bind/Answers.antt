@@ -1,0 +1,33 @@
+use Rattle.std.proofs.Common.{◌≡◌, ℕ, Option, Result, Ok, Err, List, length, sym, subst, ◌∙◌}
+use Rattle.std.specs.Result.{IfOk}
+use Rattle.c_scope.specs.declared.resolving.Unit.{Unit}
+use Rattle.c_grammar.specs.Reads.{Node}
+use Rattle.c_mentions.specs.Syntax.{nodes_of}
+use Rattle.c_mentions.specs.Symbols.{Numbers}
+use Rattle.c_mentions.proofs.Nodes.{length-nodes_of}
+use Rattle.c_scope.specs.Known.{Happening, known, nothing_known, first_label}
+use Rattle.c_scope.specs.Binding.{Holds, label_at}
+use Rattle.c_scope.specs.Happens.{AreHappenings}
+use Rattle.c_scope.specs.Resolves.{happenings, bindings}
+use Rattle.c_scope.proofs.AllHappen.{all_happen}
+use Rattle.c_scope.proofs.resolving.bind.Goals as goal
+
+if_ok : {T E : Type 0} (r : Result T E) (P Q : T → Type 0) → IfOk r P → ((x : T) → P x → Q x) → IfOk r Q
+if_ok (Ok x) P Q h f = f x h
+if_ok (Err e) P Q h f = tt
+
+pub returns : goal.returns
+unfolding bindings
+returns c =
+    let text = c.args.text.now in
+    let tokens = c.args.tokens.now in
+    let nodes : List Node = nodes_of c.args.nodes.now in
+    let file : c.in_ok-file.file ≡ length nodes = c.in_ok-file.ensures ∙ sym (length-nodes_of c.args.nodes.now) in
+    let unit : Unit = record { text = c.args.text; tokens = c.args.tokens; symbols = c.as_slice.result; nodes = c.args.nodes; scopes = c.as_slice-2.result; settings = c.as_slice-3.result; file = c.in_ok-file.file } in
+    let all : List Happening = happenings text tokens nodes in
+    let numbers : Numbers text tokens c.as_slice.result.now = subst (λ l. Numbers text tokens l) (sym c.as_slice.ensures.value) c.in_ok-symbols.ensures in
+    let happen : AreHappenings unit all = all_happen unit c.in_ok-settings.settings c.as_slice-2.ensures.value c.as_slice-3.ensures.value file numbers c.in_ok-settings.ensures in
+    let labels : (body symbol : ℕ) → label_at c.in_ok-labels.labels body symbol ≡ first_label 0 all body symbol = c.in_ok-labels.ensures all happen in
+    if_ok c.bind_all.result _ _ c.bind_all.ensures (λ binder h.
+    subst (λ n. Holds binder (known n (first_label 0 all) 0 nothing_known all)) file
+    (subst (λ (f : ℕ → ℕ → Option ℕ). Holds binder (known c.in_ok-file.file f 0 nothing_known all)) (λ i body symbol. labels body symbol i) (h all happen)))

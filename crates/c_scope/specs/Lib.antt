@@ -1,0 +1,5 @@
+pub mod Known
+pub mod Places
+pub mod Binding
+pub mod Happens
+pub mod Resolves

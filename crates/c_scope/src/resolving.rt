@@ -1,0 +1,150 @@
+//! Resolves the names of a unit.
+ghost use Rattle.c_scope.specs.Binding.{Holds, label_at};
+ghost use Rattle.c_scope.specs.Happens.{AreHappenings};
+ghost use Rattle.c_scope.specs.Known.{Happening, first_label, known, nothing_known};
+ghost use Rattle.c_mentions.specs.Mentions as mentions;
+ghost use Rattle.c_mentions.specs.Mentions.{symbol_at};
+ghost use Rattle.c_scope.specs.Resolves.{IsBound, IsNameFault, bindings};
+ghost use Rattle.c_mentions.specs.Syntax.{nodes_of};
+ghost use Rattle.std.specs.Prelude.{◌≡◌, ◌<◌, ◌^◌, ℕ, List, length, nat_lt, IfOk, MatchResult};
+
+use crate::binding::{Around, Binder, Labels, note_label, take};
+use crate::kinds::NameFault;
+use c_grammar::{SyntaxNode, Tree};
+use c_lexer::{Token, Tokens};
+use c_mentions::mentions::{Mention, mention_at};
+use c_mentions::settings::{Scope, Setting, place_of, settings_of};
+use c_mentions::symbols::symbols;
+use pta_base::OutOfMemory;
+use std::alloc::Global;
+use std::collections::{HashMap, HashSet};
+
+/// The names of a unit bound to their declarations, by the numbers of the nodes.
+#[derive(Drop)]
+pub struct Bound {
+    /// The uses of ordinary names and of tags, each with its declaration.
+    pub uses: Vec<(u32, u32)>,
+    /// The names of `goto` statements, each with its label.
+    pub labels: Vec<(u32, u32)>,
+}
+
+/// A unit with the symbols of its tokens and the settings of its nodes.
+#[derive(Clone, Copy)]
+pub(crate) struct Unit<'a> {
+    pub(crate) text: &'a [u8],
+    pub(crate) tokens: &'a [Token],
+    pub(crate) symbols: &'a [u32],
+    pub(crate) nodes: &'a [SyntaxNode],
+    pub(crate) scopes: &'a [Scope],
+    pub(crate) settings: &'a [Setting],
+    pub(crate) file: u32,
+}
+
+/// What a node of a unit does to names.
+fn mention_of(unit: Unit, node: u32, setting: Setting) -> Mention
+    ensures { result ≡ mentions.mention_at unit.entry.text.now unit.entry.tokens.now (symbol_at unit.entry.symbols.now) (nodes_of unit.entry.nodes.now) node (nat_lt setting.body unit.entry.file) setting.role }
+{
+    let in_body = setting.body < unit.file;
+    mention_at(
+        unit.text,
+        unit.tokens,
+        unit.symbols,
+        unit.nodes,
+        node,
+        in_body,
+        setting.role,
+    )
+}
+
+/// The first label of each symbol in the body of each function.
+fn find_labels(alloc: Global, unit: Unit) -> Result<Labels, OutOfMemory>
+    requires { length unit.settings.now < 2 ^ 32 }
+    ensures { IfOk result (λ labels. (all : List Happening) → AreHappenings unit.entry all → (body symbol : ℕ) → label_at labels body symbol ≡ first_label 0 all body symbol) }
+{
+    let mut labels = HashMap::new(alloc);
+    for (node, setting) in unit.settings.iter().enumerate() {
+        let mention = mention_of(unit, node as u32, *setting);
+        note_label(&mut labels, setting.body, node as u32, mention)?;
+    }
+    Ok(labels)
+}
+
+/// What is known of names behind all nodes.
+fn bind_all(alloc: Global, unit: Unit, labels: &Labels) -> Result<Binder, OutOfMemory>
+    requires { length unit.settings.now < 2 ^ 32 }
+    ensures { IfOk result (λ binder. (all : List Happening) → AreHappenings unit.entry all → Holds binder (known unit.entry.file (label_at labels.now) 0 nothing_known all)) }
+{
+    let mut binder = Binder {
+        names: HashMap::new(alloc),
+        tags: HashMap::new(alloc),
+        functions: HashSet::new(alloc),
+        uses: Vec::new(alloc),
+        labels: Vec::new(alloc),
+        fault: None,
+    };
+    for (node, setting) in unit.settings.iter().enumerate() {
+        let mention = mention_of(unit, node as u32, *setting);
+        let around = Around {
+            scopes: unit.scopes,
+            place: setting.scope,
+            file: unit.file,
+        };
+        take(
+            &mut binder,
+            labels,
+            around,
+            setting.body,
+            node as u32,
+            mention,
+        )?;
+    }
+    Ok(binder)
+}
+
+/// What is known of the names of a unit.
+fn bind(
+    alloc: Global,
+    text: &[u8],
+    tokens: &[Token],
+    nodes: &[SyntaxNode],
+) -> Result<Binder, OutOfMemory>
+    requires { length tokens.now < 2 ^ 32 }
+    ensures { IfOk result (λ binder. Holds binder (bindings text.now tokens.now (nodes_of nodes.now))) }
+{
+    let file = place_of(nodes.len())?;
+    let symbols = symbols(alloc, text, tokens)?;
+    let settings = settings_of(alloc, tokens, nodes)?;
+    let unit = Unit {
+        text,
+        tokens,
+        symbols: symbols.as_slice(),
+        nodes,
+        scopes: settings.scopes.as_slice(),
+        settings: settings.list.as_slice(),
+        file,
+    };
+    let labels = find_labels(alloc, unit)?;
+    bind_all(alloc, unit, &labels)
+}
+
+/// Binds each use of an ordinary name, a tag or a label of a unit to the node of the innermost declaration that is visible there
+/// (C11 6.2.1, 6.2.3), in the order of the uses. A label is visible in its whole function, any other name from its declaration on.
+/// `Undeclared` and `Redeclared` come exactly where a node is undeclared or redeclared, with the first such node.
+pub fn resolve(alloc: Global, tokens: &Tokens, tree: &Tree) -> Result<Bound, NameFault>
+    requires { length tokens.now.list.items < 2 ^ 32 }
+    ensures { MatchResult result (λ bound. IsBound tokens.now tree.now bound) (λ fault. IsNameFault tokens.now tree.now fault) }
+{
+    let binder = bind(
+        alloc,
+        tokens.text,
+        tokens.list.as_slice(),
+        tree.nodes.as_slice(),
+    )?;
+    match binder.fault {
+        None => Ok(Bound {
+            uses: binder.uses,
+            labels: binder.labels,
+        }),
+        Some(fault) => Err(fault),
+    }
+}

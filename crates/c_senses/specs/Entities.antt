@@ -1,0 +1,415 @@
+-- What declarations declare: linkage, storage, and the types that declarations of one name give together (C11 6.2.2, 6.2.4, 6.2.7,
+-- 6.7, 6.9.1, 6.9.2).
+use Rattle.std.specs.Prelude.{ℕ, zero, suc, ◌+◌, ◌-◌, ◌==◌, ℤ, Bool, true, false, ◌&&◌, ◌||◌, not, nat_lt, nat_le, List, [], ◌∷◌, ◌++◌, length, Option, Some, None, is_some, is_none, option_and_then, option_map, if◌then◌else◌}
+use Rattle.std.specs.Str.{bytes_eq}
+use Rattle.pta_base.specs.declared.kind.Kind.{Kind}
+use Rattle.pta_base.specs.declared.kind.Kind.TheVariants.{Operand, InlineDefinition, VariadicDefinition}
+use Rattle.c_types.specs.declared.term.Form.{Form}
+use Rattle.c_types.specs.declared.term.Form.TheVariants.{Fixed, Variadic, Unspecified}
+use Rattle.c_types.specs.Trees.{Ctype, Ctypes, VoidType, BoolType, IntegerType, FloatingType, VaListType, PointerTo, ArrayOf, FunctionFrom, StructureOf, UnionOf}
+use Rattle.core_tree.specs.declared.node.Linkage.{Linkage}
+use Rattle.core_tree.specs.declared.node.Linkage.TheVariants.{External, Internal, Local}
+use Rattle.core_tree.specs.declared.node.Storage.{Storage}
+use Rattle.core_tree.specs.declared.node.Storage.TheVariants.{Static, Automatic, FunctionBody, Parameter as ParameterStorage, Declared}
+use Rattle.c_grammar.specs.Terminals.{contains}
+use Rattle.c_grammar.specs.Productions.{p_external, p_rest, p_declaration, p_asm_name, p_specs, p_align, p_field, p_enumerator, p_declarator, p_either, p_suffix, p_parameter, p_type_name, p_init, p_items, p_designator, p_block, p_statement, p_cast, p_unary, p_assert, p_struct, p_members}
+use Rattle.c_grammar.specs.Words.{word_typedef, word_extern, word_static, word_inline, word_sizeof, word_alignof, word_for, sign_assign, sign_left_parenthesis}
+use Rattle.c_senses.specs.Tree.{Source, Space, Ordinary, OfTag, Declaration, is_a, is_leaf, is_name, has_sign, has_word, children_at, spelling_at, paired, first_where, last_where, all_where, any_where, child_of, parent_of, nearest_above, all_nodes}
+use Rattle.c_senses.specs.Given.{Given, Fits, Refuses, ◌>>=◌, given_if}
+use Rattle.c_senses.specs.World.{World, Meaning, Object, Function, TypeName, Tag, Value, has_size, members_of, same_type, same_form, same_length}
+use Rattle.c_senses.specs.Limits.{is_function_type, lacks_a_length}
+use Rattle.c_senses.specs.Declarators.{is_declarator, outermost_of, specs_of, declaration_around, derived, derivations, name_in, is_outermost, plain_declarator_row, base_of, is_defined_list}
+use Rattle.c_senses.specs.Tags.{tag_of, same_space, is_tag_specifier}
+use Rattle.c_senses.specs.Sense.{Sense, Nothing, IsCore, IsType, IsSpecified, IsDeclarator, IsParameter, IsValue, IsInitial, Specified, Parameter, Derivation, sense_in}
+
+-- 6.2.7: types agree at their top, and of two that agree the one with the list or the length is the type of both
+abbrev pub agree : Ctype → Ctype → Bool
+agree (FunctionFrom r ps Unspecified) (FunctionFrom q qs g) = same_type r q
+agree (FunctionFrom r ps f) (FunctionFrom q qs Unspecified) = same_type r q
+agree (ArrayOf a None) (ArrayOf b n) = same_type a b
+agree (ArrayOf a n) (ArrayOf b None) = same_type a b
+agree a b = same_type a b
+
+abbrev pub together : Ctype → Ctype → Ctype
+together (FunctionFrom r ps Fixed) (FunctionFrom q qs Unspecified) = FunctionFrom r ps Fixed
+together (FunctionFrom r ps Variadic) (FunctionFrom q qs Unspecified) = FunctionFrom r ps Variadic
+together (ArrayOf a (Some n)) (ArrayOf b None) = ArrayOf a (Some n)
+together a b = b
+
+abbrev pub all_together : Option Ctype → List Ctype → Option Ctype
+all_together so_far [] = so_far
+all_together None (t ∷ rest) = all_together (Some t) rest
+all_together (Some a) (t ∷ rest) = all_together (Some (together a t)) rest
+
+abbrev pub with_length : Option ℕ → Ctype → Ctype
+with_length (Some n) (ArrayOf of None) = ArrayOf of (Some n)
+with_length n t = t
+
+-- what stands behind a node among some nodes
+abbrev pub behind : ℕ → List ℕ → List ℕ
+behind i [] = []
+behind i (c ∷ rest) = if c == i then rest else behind i rest
+
+module _ (s : Source) (sense : ℕ → Sense) where
+  -- the declaration, or external declaration, of a name by its leaf
+  abbrev pub declaration_of : ℕ → Option ℕ
+  declaration_of leaf = option_and_then (declaration_around s) (option_and_then (parent_of s) (outermost_of s leaf))
+
+  abbrev pub is_at_file : ℕ → Bool
+  is_at_file leaf = elim (declaration_of leaf) [ None ↦ false | Some p ↦ is_a s p_external p ]
+
+  abbrev pub is_parameter : ℕ → Bool
+  is_parameter leaf = elim (declaration_of leaf) [ None ↦ false | Some p ↦ is_a s p_parameter p ]
+
+  abbrev pub is_defined : ℕ → Bool
+  is_defined leaf = elim (declaration_of leaf) [ None ↦ false | Some p ↦ is_a s p_external p && is_some (child_of s p_block p) ]
+
+  abbrev pub specified : Option ℕ → Option Specified
+  specified None = None
+  specified (Some i) = elim (sense i) [ IsSpecified x ↦ Some x | _ ↦ None ]
+
+  abbrev pub specified_of : ℕ → Option Specified
+  specified_of leaf = specified (option_and_then (specs_of s) (outermost_of s leaf))
+
+  abbrev pub has_storage : ℕ → ℕ → Bool
+  has_storage word leaf = elim (specified_of leaf) [ None ↦ false | Some x ↦ contains x.storage word ]
+
+  abbrev pub has_function_word : ℕ → ℕ → Bool
+  has_function_word word leaf = elim (specified_of leaf) [ None ↦ false | Some x ↦ contains x.functions word ]
+
+  abbrev pub is_typedef : ℕ → Bool
+  is_typedef leaf = has_storage word_typedef leaf
+
+  -- the initialiser of a declarator stands behind it, or begins the rest of its declaration
+  abbrev pub initialiser_in : List ℕ → Option ℕ
+  initialiser_in (equals ∷ init ∷ rest) = if has_sign s sign_assign equals then Some init else None
+  initialiser_in list = None
+
+  abbrev pub without_asm : List ℕ → List ℕ
+  without_asm [] = []
+  without_asm (c ∷ rest) = if is_a s p_asm_name c then rest else c ∷ rest
+
+  abbrev pub in_rest : List ℕ → Option ℕ
+  in_rest [] = None
+  in_rest (c ∷ rest) = if is_a s p_rest c then initialiser_in (children_at s c) else None
+
+  abbrev pub initialiser_of : ℕ → Option ℕ
+  initialiser_of declarator =
+      elim (parent_of s declarator) [
+        | None ↦ None
+        | Some p ↦ let list = without_asm (behind declarator (children_at s p)) in if is_a s p_rest p then initialiser_in list else in_rest list
+      ]
+
+  abbrev pub initialiser_for : ℕ → Option ℕ
+  initialiser_for leaf = option_and_then initialiser_of (outermost_of s leaf)
+
+  -- the declarator whose initialiser a node is
+  abbrev pub initialised_by : ℕ → Option ℕ
+  initialised_by init =
+      elim (parent_of s init) [
+        | None ↦ None
+        | Some p ↦
+            elim (last_where (λ c. is_a s p_declarator c && nat_lt c init) (children_at s p)) [ Some d ↦ Some d | None ↦ option_and_then (child_of s p_declarator) (parent_of s p) ]
+      ]
+
+  abbrev pub length_given_by : Option ℕ → Option ℕ
+  length_given_by None = None
+  length_given_by (Some init) = elim (sense init) [ IsInitial c n ↦ n | _ ↦ None ]
+
+  -- the type of a declared name: of a parameter the adjusted one; an initialiser gives an array its length
+  abbrev pub parameter_type : Option ℕ → Option Ctype
+  parameter_type None = None
+  parameter_type (Some p) = elim (sense p) [ IsParameter x ↦ Some x.type | _ ↦ None ]
+
+  abbrev pub derived_type : Option Specified → Option ℕ → Option Ctype
+  derived_type None d = None
+  derived_type x None = None
+  derived_type (Some x) (Some d) = elim (sense d) [ IsDeclarator name ds ↦ Some (derived ds x.type) | _ ↦ None ]
+
+  abbrev pub own_type : ℕ → Option Ctype
+  own_type leaf =
+      if is_parameter leaf then parameter_type (declaration_of leaf)
+      else option_map (with_length (length_given_by (initialiser_for leaf))) (derived_type (specified_of leaf) (outermost_of s leaf))
+
+  abbrev pub declares_function : ℕ → Bool
+  declares_function leaf = elim (own_type leaf) [ None ↦ false | Some t ↦ is_function_type t && not (is_typedef leaf) ]
+
+  -- declarations of ordinary names, by their leaves
+  abbrev pub is_ordinary : List ℕ → Declaration → Bool
+  is_ordinary name d = same_space d.space Ordinary && bytes_eq d.name name
+
+  abbrev pub keep : (Declaration → Bool) → List Declaration → List Declaration
+  keep test [] = []
+  keep test (d ∷ rest) = if test d then d ∷ keep test rest else keep test rest
+
+  abbrev pub some_such : (Declaration → Bool) → List Declaration → Bool
+  some_such test [] = false
+  some_such test (d ∷ rest) = test d || some_such test rest
+
+  abbrev pub is_seen : ℕ → Declaration → Bool
+  is_seen i d = nat_le d.from i && nat_le i d.until
+
+  -- the declarations of a name that are seen at a node, and of these those with linkage that none without linkage hides
+  abbrev pub seen_at : List ℕ → ℕ → List Declaration
+  seen_at name i = keep (λ d. is_ordinary name d && is_seen i d) s.declared
+
+  abbrev pub is_hidden : List Declaration → Declaration → Bool
+  is_hidden seen d = some_such (λ e. not e.linked && nat_lt d.from e.from) seen
+
+  abbrev pub linked_at : List ℕ → ℕ → List Declaration
+  linked_at name i = let seen = seen_at name i in keep (λ d. d.linked && not (is_hidden seen d)) seen
+
+  -- 6.2.2p4: a prior declaration with linkage is seen
+  abbrev pub is_at_file_with : ℕ → List ℕ → ℕ → Declaration → Bool
+  is_at_file_with word name before d = is_ordinary name d && (nat_lt d.node before && (d.linked && (is_at_file d.node && has_storage word d.node)))
+
+  abbrev pub has_internal_before : List ℕ → ℕ → Bool
+  has_internal_before name leaf = some_such (is_at_file_with word_static name leaf) s.declared
+
+  abbrev pub follows_linked : List ℕ → ℕ → Bool
+  follows_linked name leaf = is_at_file leaf || (elim (linked_at name leaf) [ [] ↦ false | d ∷ rest ↦ true ])
+
+  -- 6.2.2: the linkage of a name by its leaf, where it is known whether it declares a function
+  abbrev pub is_linked : Bool → ℕ → Bool
+  is_linked function leaf = not (is_typedef leaf || is_parameter leaf) && (is_at_file leaf || (has_storage word_extern leaf || function))
+
+  abbrev pub is_without_storage : ℕ → Bool
+  is_without_storage leaf = elim (specified_of leaf) [ None ↦ true | Some x ↦ elim x.storage [ [] ↦ true | word ∷ rest ↦ false ] ]
+
+  abbrev pub takes_over : Bool → ℕ → Bool
+  takes_over function leaf = has_storage word_extern leaf || (function && is_without_storage leaf)
+
+  abbrev pub is_internal : Bool → ℕ → Bool
+  is_internal function leaf =
+      (is_at_file leaf && (not (is_typedef leaf) && has_storage word_static leaf))
+      || (is_linked function leaf && (takes_over function leaf && (follows_linked (spelling_at s leaf) leaf && has_internal_before (spelling_at s leaf) leaf)))
+
+  abbrev pub linkage_as : Bool → ℕ → Linkage
+  linkage_as function leaf = if is_internal function leaf then Internal else (if is_linked function leaf then External else Local)
+
+  abbrev pub linkage_of : ℕ → Linkage
+  linkage_of leaf = linkage_as (declares_function leaf) leaf
+
+  -- the declarations of one internal object or function share one entity, known by the first of them; any other declaration has its
+  -- own
+  abbrev pub first_at_file : List ℕ → ℕ → List Declaration → ℕ
+  first_at_file name leaf [] = leaf
+  first_at_file name leaf (d ∷ rest) = if is_ordinary name d && (d.linked && is_at_file d.node) then d.node else first_at_file name leaf rest
+
+  abbrev pub entity_of : ℕ → ℕ
+  entity_of leaf = elim (linkage_of leaf) [ Internal ↦ first_at_file (spelling_at s leaf) leaf s.declared | _ ↦ leaf ]
+
+  -- 6.2.4: an object's or a function's storage
+  abbrev pub is_static_object : ℕ → Bool
+  is_static_object leaf = is_at_file leaf || (has_storage word_static leaf || has_storage word_extern leaf)
+
+  abbrev pub storage_as : Bool → ℕ → Storage
+  storage_as function leaf =
+      if is_parameter leaf then ParameterStorage
+      else if function then (if is_defined leaf then FunctionBody else Declared)
+      else if has_storage word_extern leaf && is_none (initialiser_for leaf) then Declared
+      else if is_static_object leaf then Static
+      else Automatic
+
+  abbrev pub storage_of : ℕ → Storage
+  storage_of leaf = storage_as (declares_function leaf) leaf
+
+  abbrev pub is_automatic_storage : Storage → Bool
+  is_automatic_storage Automatic = true
+  is_automatic_storage ParameterStorage = true
+  is_automatic_storage storage = false
+
+  -- the types that some declarations gave
+  abbrev pub types_of : List Declaration → List Ctype
+  types_of [] = []
+  types_of (d ∷ rest) = elim (own_type d.node) [ None ↦ types_of rest | Some t ↦ t ∷ types_of rest ]
+
+  -- what a use of a name means, by the leaf that its pair names
+  abbrev pub type_at_use : ℕ → ℕ → Option Ctype
+  type_at_use i leaf = elim (linkage_of leaf) [ Local ↦ own_type leaf | _ ↦ all_together None (types_of (linked_at (spelling_at s leaf) i)) ]
+
+  abbrev pub object_or_function : ℕ → Ctype → Meaning
+  object_or_function entity t = if is_function_type t then Function entity t else Object entity t
+
+  abbrev pub declared_meaning : ℕ → ℕ → Option Meaning
+  declared_meaning i leaf = if is_typedef leaf then option_map TypeName (own_type leaf) else option_map (object_or_function (entity_of leaf)) (type_at_use i leaf)
+
+  abbrev pub enumerated : ℕ → Option Meaning
+  enumerated i = elim (sense i) [ IsValue n ↦ Some (Value n) | _ ↦ None ]
+
+  abbrev pub meaning_of : ℕ → ℕ → Option Meaning
+  meaning_of i leaf =
+      elim (parent_of s leaf) [ None ↦ None | Some p ↦ if is_a s p_enumerator p then enumerated p else declared_meaning i leaf ]
+
+  abbrev pub meaning_at : ℕ → Option Meaning
+  meaning_at i = option_and_then (meaning_of i) (paired s.uses i)
+
+  -- the function in whose definition a node stands, by the leaf of its name
+  abbrev pub declared_name : ℕ → Option ℕ
+  declared_name p = option_and_then (λ d. elim (sense d) [ IsDeclarator name ds ↦ name | _ ↦ None ]) (child_of s p_declarator p)
+
+  abbrev pub function_around : ℕ → Option ℕ
+  function_around i = option_and_then declared_name (nearest_above s (λ p. is_a s p_external p && is_some (child_of s p_block p)) i)
+
+  -- a node in the initialiser of an object that has its place for the whole run, and in no operand that isn't evaluated
+  abbrev pub is_operand_word : ℕ → Bool
+  is_operand_word i = is_a s p_unary i && any_where (λ c. has_word s word_sizeof c || has_word s word_alignof c) (children_at s i)
+
+  abbrev pub is_object_initialiser : ℕ → Bool
+  is_object_initialiser i = is_a s p_init i && elim (parent_of s i) [ None ↦ false | Some p ↦ is_a s p_rest p ]
+
+  abbrev pub is_boundary : ℕ → Bool
+  is_boundary i =
+      is_operand_word i || (is_a s p_suffix i || (is_a s p_align i || (is_a s p_enumerator i || (is_a s p_field i || (is_a s p_designator i || (is_a s p_statement i || (is_a s p_assert i || is_object_initialiser i)))))))
+
+  abbrev pub initialises_static : ℕ → Bool
+  initialises_static i =
+      elim (option_and_then (λ d. elim (sense d) [ IsDeclarator name ds ↦ name | _ ↦ None ]) (initialised_by i)) [ None ↦ false | Some leaf ↦ is_static_object leaf ]
+
+  abbrev pub is_in_static : ℕ → Bool
+  is_in_static i = elim (nearest_above s is_boundary i) [ None ↦ false | Some b ↦ is_object_initialiser b && initialises_static b ]
+
+-- the row of a declarator that declares a name: what its declaration may say of it, at the name
+abbrev pub refusal_at : Source → ℕ → Option ℕ → ℕ
+refusal_at s at None = at
+refusal_at s at (Some leaf) = leaf
+
+module _ (w : World) (s : Source) (sense : ℕ → Sense) where
+  -- words that don't go with what is declared
+  abbrev pub is_in_for : ℕ → Bool
+  is_in_for leaf = elim (option_and_then (parent_of s) (declaration_of s sense leaf)) [ None ↦ false | Some p ↦ is_a s p_statement p ]
+
+  abbrev pub has_function_words : ℕ → Bool
+  has_function_words leaf = elim (specified_of s sense leaf) [ None ↦ false | Some x ↦ elim x.functions [ [] ↦ false | word ∷ rest ↦ true ] ]
+
+  abbrev pub only_extern : ℕ → Bool
+  only_extern leaf = is_without_storage s sense leaf || has_storage s sense word_extern leaf
+
+  abbrev pub words_go : Bool → Bool → ℕ → Bool
+  words_go initialised function leaf =
+      let typedefs = is_typedef s sense leaf in
+      let file = is_at_file s sense leaf in
+      not (has_function_words leaf && (typedefs || not function))
+      && (not (initialised && (typedefs || (function || (not file && has_storage s sense word_extern leaf))))
+      && (not (function && (not typedefs && (not file && not (only_extern leaf))))
+      && (not (typedefs && is_defined s sense leaf)
+      && not (is_in_for leaf && (typedefs || (function || (has_storage s sense word_static leaf || has_storage s sense word_extern leaf)))))))
+
+  -- 6.7p3: a typedef again is of the same type
+  abbrev pub earlier_in_scope : List Declaration → ℕ → List Declaration
+  earlier_in_scope [] leaf = []
+  earlier_in_scope (d ∷ rest) leaf =
+      if d.node == leaf then keep s sense (λ e. is_ordinary s sense d.name e && ((e.scope == d.scope) && nat_lt e.node leaf)) s.declared else earlier_in_scope rest leaf
+
+  abbrev pub all_same : Ctype → List Declaration → Bool
+  all_same t [] = true
+  all_same t (d ∷ rest) = elim (own_type s sense d.node) [ None ↦ false | Some other ↦ same_type other t ] && all_same t rest
+
+  abbrev pub is_same_again : Ctype → ℕ → Bool
+  is_same_again t leaf = not (is_typedef s sense leaf) || all_same t (earlier_in_scope s.declared leaf)
+
+  -- one name has one linkage in a scope
+  abbrev pub same_internal : Bool → List Declaration → Bool
+  same_internal internal [] = true
+  same_internal internal (d ∷ rest) =
+      (if d.linked then (if is_internal s sense (declares_function s sense d.node) d.node then internal else not internal) else true) && same_internal internal rest
+
+  abbrev pub has_one_linkage : Bool → ℕ → Bool
+  has_one_linkage function leaf = not (is_linked s sense function leaf) || same_internal (is_internal s sense function leaf) (earlier_in_scope s.declared leaf)
+
+  -- a declaration of an internal name agrees with those before, and defines it only once
+  abbrev pub agrees_with : Ctype → Option Ctype → Bool
+  agrees_with t None = true
+  agrees_with t (Some before) = agree before t
+
+  abbrev pub internal_before : ℕ → List Declaration
+  internal_before leaf =
+      keep s sense (λ d. is_ordinary s sense (spelling_at s leaf) d && (nat_lt d.node leaf && (d.linked && is_internal s sense (declares_function s sense d.node) d.node))) s.declared
+
+  abbrev pub defines : ℕ → Bool
+  defines leaf = is_defined s sense leaf || is_some (initialiser_for s sense leaf)
+
+  abbrev pub one_definition : Bool → ℕ → Bool
+  one_definition again leaf = not (again && some_such s sense (λ d. defines d.node) (internal_before leaf))
+
+  abbrev pub internal_fits : Bool → Bool → Ctype → ℕ → Bool
+  internal_fits function defined t leaf =
+      not (is_internal s sense function leaf)
+      || (agrees_with t (all_together None (types_of s sense (internal_before leaf))) && one_definition defined leaf)
+
+  -- the type of an object is complete at the unit's end: it has a size, or will have one, or the object is only declared
+  abbrev pub is_completed_somewhere : ℕ → Bool
+  is_completed_somewhere tag = any_where (λ i. is_a s p_struct i && (is_some (child_of s p_members i) && (tag_of s i == tag))) (all_nodes s)
+
+  abbrev pub will_have_size : Ctype → Bool
+  will_have_size (StructureOf tag) = is_completed_somewhere tag
+  will_have_size (UnionOf tag) = is_completed_somewhere tag
+  will_have_size t = false
+
+  abbrev pub may_stay_open : Ctype → Bool
+  may_stay_open VoidType = true
+  may_stay_open (StructureOf tag) = true
+  may_stay_open (UnionOf tag) = true
+  may_stay_open t = false
+
+  abbrev pub element_has_size : Ctype → Bool
+  element_has_size (ArrayOf of None) = has_size w of
+  element_has_size t = false
+
+  abbrev pub is_object_complete : Bool → Bool → Ctype → ℕ → Bool
+  is_object_complete initialised function t leaf =
+      has_size w t
+      || ((element_has_size t && (initialised || is_linked s sense function leaf))
+      || (will_have_size t || (may_stay_open t && (has_storage s sense word_extern leaf && not initialised))))
+
+  abbrev pub is_name_complete : Bool → Bool → Ctype → ℕ → Bool
+  is_name_complete initialised function t leaf = is_typedef s sense leaf || (function || is_object_complete initialised function t leaf)
+
+  -- 6.9.1: a function definition
+  abbrev pub result_of : Ctype → Ctype
+  result_of (FunctionFrom r ps f) = r
+  result_of t = t
+
+  abbrev pub is_variadic : Ctype → Bool
+  is_variadic (FunctionFrom r ps Variadic) = true
+  is_variadic t = false
+
+  abbrev pub is_void_type : Ctype → Bool
+  is_void_type VoidType = true
+  is_void_type t = false
+
+  abbrev pub definition_row : Ctype → ℕ → Given Sense → Given Sense
+  definition_row t leaf g =
+      if is_defined s sense leaf then
+      given_if (is_void_type (result_of t) || has_size w (result_of t)) Operand leaf
+      (given_if (not (has_function_word s sense word_inline leaf && not (has_storage s sense word_static leaf))) InlineDefinition leaf
+      (given_if (not (is_variadic t)) VariadicDefinition leaf g))
+      else g
+
+  -- the declarator of a declaration, at its name, for its type without what an initialiser adds
+  abbrev pub named_row : ℕ → ℕ → Ctype → Given Sense → Given Sense
+  named_row at leaf t g =
+      let function = is_function_type t && not (is_typedef s sense leaf) in
+      let initialised = is_some (initialiser_of s sense at) in
+      given_if (words_go initialised function leaf) Operand leaf
+      (given_if (is_same_again t leaf) Operand leaf
+      (given_if (has_one_linkage function leaf) Operand leaf
+      (given_if (internal_fits function (initialised || is_defined s sense leaf) t leaf) Operand leaf
+      (given_if (is_name_complete initialised function t leaf) Operand leaf (definition_row t leaf g)))))
+
+  -- the name of a parameter of a definition has a complete type
+  abbrev pub is_parameter_complete : Ctype → Bool
+  is_parameter_complete t = has_size w t || will_have_size t
+
+  abbrev pub defined_parameter : ℕ → Bool
+  defined_parameter at = elim (option_and_then (parent_of s) (parent_of s at)) [ None ↦ false | Some suffix ↦ is_defined_list w s sense suffix ]
+
+  abbrev pub parameter_named : ℕ → ℕ → Ctype → Given Sense → Given Sense
+  parameter_named at leaf t g = given_if (not (defined_parameter at) || is_parameter_complete t) Operand leaf g
+
+  abbrev pub by_place : ℕ → ℕ → Ctype → Ctype → Given Sense → Given Sense
+  by_place at leaf t adjusted g =
+      elim (parent_of s at) [
+        | None ↦ g
+        | Some p ↦ if is_a s p_field p then g else (if is_a s p_parameter p then parameter_named at leaf adjusted g else named_row at leaf t g)
+      ]

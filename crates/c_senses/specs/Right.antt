@@ -1,0 +1,281 @@
+-- What it is that a unit is what its syntax tree says, up to the numbers of entities, tags and nodes.
+use Rattle.std.specs.Prelude.{⊤, ℕ, zero, suc, ◌+◌, ◌==◌, ◌≡◌, ◌<◌, Bool, true, false, ◌&&◌, ◌||◌, not, List, [], ◌∷◌, ◌++◌, length, Option, Some, None, slice_get, is_some, option_and_then, option_map, ◌⊎◌, Contains, if◌then◌else◌}
+use Rattle.pta_base.specs.declared.place.Place.{Place}
+use Rattle.c_types.specs.Trees.{Ctype, Ctypes, NoTypes, MoreTypes, VoidType, BoolType, IntegerType, FloatingType, VaListType, PointerTo, ArrayOf, FunctionFrom, StructureOf, UnionOf}
+use Rattle.c_types.specs.Table.{Table, type_of, members_in}
+use Rattle.c_types.specs.declared.term.MemberTerm.{MemberTerm}
+use Rattle.core_tree.specs.declared.node.NodeKind.{NodeKind}
+use Rattle.core_tree.specs.declared.node.NodeKind.TheVariants.{Named, Literal, FunctionName, Block, For, Initialise}
+use Rattle.core_tree.specs.declared.node.Node.{Node}
+use Rattle.core_tree.specs.declared.node.Entity.{Entity}
+use Rattle.core_tree.specs.declared.node.Linkage.{Linkage}
+use Rattle.core_tree.specs.declared.node.Linkage.TheVariants.{External, Internal, Local}
+use Rattle.core_tree.specs.declared.node.Storage.{Storage}
+use Rattle.core_tree.specs.declared.node.Storage.TheVariants.{Static, Automatic, FunctionBody, Parameter as ParameterStorage, Declared as DeclaredStorage}
+use Rattle.core_tree.specs.declared.node.Unit.{Unit}
+use Rattle.core_tree.specs.Typed.{trees_of}
+use Rattle.core_tree.specs.Valid.{ValidUnit, IsChild, entity_at}
+use Rattle.c_grammar.specs.Productions.{p_external, p_rest, p_declaration, p_struct, p_members, p_enum, p_declarator, p_either, p_parameter, p_block, p_init}
+use Rattle.c_grammar.specs.Words.{word_extern}
+use Rattle.c_consts.specs.Core.{Core, Cores, Of, NoCores, MoreCores, kind_of, ctype_of, cores_under, core_in}
+use Rattle.c_inits.specs.Made.{Part, TagParts}
+use Rattle.c_senses.specs.Tree.{Source, Declaration, is_a, is_name, place_at, spelling_at, children_at, all_where, any_where, child_of, parent_of, all_nodes}
+use Rattle.c_senses.specs.World.{same_length}
+use Rattle.c_senses.specs.Declarators.{is_outermost, outermost_of, is_defined_list}
+use Rattle.c_senses.specs.Tags.{tag_of, is_tag_specifier, completed_from, members_under}
+use Rattle.c_senses.specs.Limits.{is_function_type, lacks_a_length}
+use Rattle.c_senses.specs.Entities.{own_type, all_together, types_of, keep, is_ordinary, is_internal, declares_function, is_typedef, is_at_file, is_parameter, is_defined, linkage_of, entity_of, storage_of, function_around, initialiser_for, has_storage, declaration_of, with_length}
+use Rattle.c_senses.specs.Keys.{key_of}
+use Rattle.c_senses.specs.Rows.{AreSenses, world_at}
+use Rattle.c_senses.specs.Sense.{Sense, Nothing, IsCore, IsDeclarator, IsInitial, sense_in}
+
+-- the number of each entity and of each tag, by the syntax nodes by which they are known
+pub record Numbering : Type 0 where
+  pub entity : ℕ → Option ℕ
+  pub tag : ℕ → Option ℕ
+
+-- one type, but for the numbers of tags
+abbrev mutual
+  pub SameType : Numbering → Ctype → Ctype → Type 0
+  SameType n (StructureOf a) (StructureOf b) = n.tag a ≡ Some b
+  SameType n (UnionOf a) (UnionOf b) = n.tag a ≡ Some b
+  SameType n (PointerTo a) (PointerTo b) = SameType n a b
+  SameType n (ArrayOf a k) (ArrayOf b l) = (k ≡ l) × SameType n a b
+  SameType n (FunctionFrom r ps f) (FunctionFrom q qs g) = (f ≡ g) × SameType n r q × SameTypes n ps qs
+  SameType n (IntegerType size rank signed) b = b ≡ IntegerType size rank signed
+  SameType n VoidType b = b ≡ VoidType
+  SameType n BoolType b = b ≡ BoolType
+  SameType n FloatingType b = b ≡ FloatingType
+  SameType n VaListType b = b ≡ VaListType
+  SameType n a b = ⊥
+
+  pub SameTypes : Numbering → Ctypes → Ctypes → Type 0
+  SameTypes n NoTypes NoTypes = ⊤
+  SameTypes n (MoreTypes a as') (MoreTypes b bs) = SameType n a b × SameTypes n as' bs
+  SameTypes n a b = ⊥
+
+-- the entities of a list, in order
+abbrev pub SameEntities : Numbering → List ℕ → List ℕ → Type 0
+SameEntities n [] [] = ⊤
+SameEntities n (d ∷ ds) (e ∷ es) = (n.entity d ≡ Some e) × SameEntities n ds es
+SameEntities n ds es = ⊥
+
+-- one kind, but for the numbers of entities
+abbrev pub SameKind : Numbering → NodeKind → NodeKind → Type 0
+SameKind n (Named d) (Named e) = n.entity d ≡ Some e
+SameKind n (FunctionName d) (FunctionName e) = n.entity d ≡ Some e
+SameKind n (Literal d) (Literal e) = n.entity d ≡ Some e
+SameKind n (Initialise d paths) (Initialise e others) = (n.entity d ≡ Some e) × (paths ≡ others)
+SameKind n (Block ds) (Block es) = SameEntities n ds es
+SameKind n (For ds c a) (For es d b) = SameEntities n ds es × (c ≡ d) × (a ≡ b)
+SameKind n a b = a ≡ b
+
+-- the node of that number, and what is under it, are that tree up to numbering
+abbrev mutual
+  pub StandsBy : Numbering → Unit → ℕ → Core → Type 0
+  StandsBy m u i (Of kind place type under) =
+      (node : Node) × (slice_get u.nodes.items i ≡ Some node) × SameKind m kind node.kind × (node.place ≡ place) × SameType m type (type_of u.types node.ty.0) × AllStandBy m u node.children under
+
+  pub AllStandBy : Numbering → Unit → List ℕ → Cores → Type 0
+  AllStandBy m u is NoCores = is ≡ []
+  AllStandBy m u is (MoreCores c rest) = (i : ℕ) × (more : List ℕ) × (is ≡ i ∷ more) × StandsBy m u i c × AllStandBy m u more rest
+
+-- what is declared
+pub record Declared : Type 0 where
+  pub name : List ℕ
+  pub place : Place
+  pub type : Ctype
+  pub linkage : Linkage
+  pub storage : Storage
+  pub owner : Option ℕ
+  pub body : Option Core
+
+module _ (s : Source) (senses : List Sense) where
+  abbrev pub sense_of : ℕ → Sense
+  sense_of i = sense_in senses i
+
+  -- the leaves that declare objects and functions: those of declarations, and the parameters of definitions
+  abbrev pub is_declaring : ℕ → Bool
+  is_declaring i =
+      is_name s i
+      && (elim (outermost_of s i) [ None ↦ false | Some d ↦ elim (sense_of d) [ IsDeclarator name ds ↦ same_length name (Some i) | _ ↦ false ] ])
+
+  abbrev pub is_defined_parameter : ℕ → Bool
+  is_defined_parameter i =
+      elim (option_and_then (parent_of s) (declaration_of s sense_of i)) [ None ↦ false | Some suffix ↦ is_defined_list (world_at s senses suffix) s sense_of suffix ]
+
+  abbrev pub stands_in_declaration : ℕ → Bool
+  stands_in_declaration i =
+      elim (declaration_of s sense_of i) [ None ↦ false | Some p ↦ is_a s p_external p || (is_a s p_declaration p || (is_a s p_parameter p && is_defined_parameter i)) ]
+
+  abbrev pub declares_entity : ℕ → Bool
+  declares_entity i = is_declaring i && (stands_in_declaration i && (not (is_typedef s sense_of i) && (entity_of s sense_of i == i)))
+
+  -- all declarations of an internal name, in order
+  abbrev pub of_internal : ℕ → List Declaration
+  of_internal i = keep s sense_of (λ d. is_ordinary s sense_of (spelling_at s i) d && (d.linked && is_internal s sense_of (declares_function s sense_of d.node) d.node)) s.declared
+
+  -- an internal object that has a length in no declaration gets one element
+  abbrev pub with_one : Ctype → Ctype
+  with_one t = if lacks_a_length t then with_length (Some 1) t else t
+
+  abbrev pub internal_type : ℕ → Option Ctype
+  internal_type i = option_map with_one (all_together None (types_of s sense_of (of_internal i)))
+
+  abbrev pub entity_type : ℕ → Option Ctype
+  entity_type i = elim (linkage_of s sense_of i) [ Internal ↦ internal_type i | _ ↦ own_type s sense_of i ]
+
+  -- an internal name has its place at its definition, else at its first tentative definition, else at its first declaration
+  abbrev pub is_definition_at : Declaration → Bool
+  is_definition_at d = is_defined s sense_of d.node || is_some (initialiser_for s sense_of d.node)
+
+  abbrev pub first_of : ℕ → List Declaration → ℕ
+  first_of i [] = i
+  first_of i (d ∷ rest) = d.node
+
+  abbrev pub is_tentative : Declaration → Bool
+  is_tentative d = not (declares_function s sense_of d.node || has_storage s sense_of word_extern d.node)
+
+  abbrev pub representative : ℕ → ℕ
+  representative i =
+      elim (linkage_of s sense_of i) [
+        | Internal ↦ first_of (first_of i (keep s sense_of is_tentative (of_internal i))) (keep s sense_of is_definition_at (of_internal i))
+        | _ ↦ i
+      ]
+
+  abbrev pub storage_at : ℕ → Storage
+  storage_at i = elim (linkage_of s sense_of i) [ Internal ↦ (elim (storage_of s sense_of (representative i)) [ DeclaredStorage ↦ if declares_function s sense_of i then DeclaredStorage else Static | other ↦ other ]) | _ ↦ storage_of s sense_of i ]
+
+  abbrev pub owner_at : ℕ → Option ℕ
+  owner_at i = elim (linkage_of s sense_of i) [ Local ↦ option_map (entity_of s sense_of) (function_around s sense_of i) | _ ↦ None ]
+
+  -- a function's body is its block, an object's is its Initialise
+  abbrev pub core_of_sense : Sense → Option Core
+  core_of_sense (IsCore c) = Some c
+  core_of_sense (IsInitial c n) = Some c
+  core_of_sense x = None
+
+  abbrev pub block_for : ℕ → Option ℕ
+  block_for i = option_and_then (child_of s p_block) (declaration_of s sense_of i)
+
+  abbrev pub body_at : ℕ → Option Core
+  body_at i =
+      if is_defined s sense_of i then option_and_then (λ b. core_of_sense (sense_of b)) (block_for i)
+      else option_and_then (λ init. core_of_sense (sense_of init)) (initialiser_for s sense_of i)
+
+  abbrev pub declared_as : ℕ → Ctype → Declared
+  declared_as i t = record {
+    name = spelling_at s i;
+    place = place_at s (representative i);
+    type = t;
+    linkage = linkage_of s sense_of i;
+    storage = storage_at i;
+    owner = owner_at i;
+    body = body_at (representative i);
+  }
+
+  -- what a leaf of a name declares
+  abbrev pub declared_name : ℕ → Option Declared
+  declared_name i = if declares_entity i then option_map (declared_as i) (entity_type i) else None
+
+  -- a compound literal has an object where its node stands in a body
+  abbrev pub IsPart : Core → Core → Type 0
+  IsPart part c = (k : ℕ) × (core_in (cores_under c) k ≡ Some part)
+
+  pub data Within : Core → Core → Type 0 where
+    Itself : {c : Core} → Within c c
+    Below : {c d part : Core} → IsPart part c → Within d part → Within d c
+
+  abbrev pub literal_storage : ℕ → Storage
+  literal_storage i = if is_some (function_around s sense_of i) then Automatic else Static
+
+  abbrev pub literal_as : ℕ → Core → Declared
+  literal_as i c = record {
+    name = [];
+    place = place_at s i;
+    type = ctype_of c;
+    linkage = Local;
+    storage = literal_storage i;
+    owner = option_map (entity_of s sense_of) (function_around s sense_of i);
+    body = core_in (cores_under c) 0;
+  }
+
+  abbrev pub IsLiteralOf : ℕ → Core → Type 0
+  IsLiteralOf i c = (kind_of c ≡ Literal i) × ((d : ℕ) × (what : Declared) × (body : Core) × (declared_name d ≡ Some what) × (what.body ≡ Some body) × Within c body)
+
+  -- what is declared at a leaf: by a name, or as a compound literal at its parenthesis
+  abbrev pub IsDeclaredAt : ℕ → Declared → Type 0
+  IsDeclaredAt i what = (declared_name i ≡ Some what) ⊎ ((c : Core) × IsLiteralOf i c × (what ≡ literal_as i c))
+
+abbrev pub SameOwner : Numbering → Option ℕ → Option ℕ → Type 0
+SameOwner n None None = ⊤
+SameOwner n (Some d) (Some e) = n.entity d ≡ Some e
+SameOwner n a b = ⊥
+
+abbrev pub SameBody : Numbering → Unit → Option Core → Option ℕ → Type 0
+SameBody n u None None = ⊤
+SameBody n u (Some c) (Some b) = StandsBy n u b c
+SameBody n u a b = ⊥
+
+-- an entity is what is declared
+pub record IsEntityOf (n : Numbering) (u : Unit) (unit : ℕ) (what : Declared) (e : Entity) : Type 0 where
+  pub name : e.name ≡ what.name
+  pub unit_is : e.unit ≡ unit
+  pub place : e.place ≡ what.place
+  pub type : SameType n what.type (type_of u.types e.ty.0)
+  pub linkage : e.linkage ≡ what.linkage
+  pub storage : e.storage ≡ what.storage
+  pub owner : SameOwner n what.owner e.owner
+  pub body : SameBody n u what.body e.body
+
+-- the members of a tag, in order: names, widths and types
+abbrev pub SameMembers : Numbering → Table → List Part → List MemberTerm → Type 0
+SameMembers n table [] [] = ⊤
+SameMembers n table (p ∷ ps) (m ∷ ms) = (m.name ≡ p.name) × (m.bits ≡ p.bits) × SameType n p.type (type_of table m.ty.0) × SameMembers n table ps ms
+SameMembers n table ps ms = ⊥
+
+abbrev pub SameList : Numbering → Table → Option (List Part) → Option (List MemberTerm) → Type 0
+SameList n table None None = ⊤
+SameList n table (Some ps) (Some ms) = SameMembers n table ps ms
+SameList n table a b = ⊥
+
+-- a tag is known by its first declaration; one of a structure or union has a number
+abbrev pub is_tag : Source → ℕ → Bool
+is_tag s d = any_where (λ i. is_a s p_struct i && (tag_of s i == d)) (all_nodes s)
+
+-- the first specifier of a tag, whose place decides its key; a key that an earlier tag has is none
+abbrev pub specifiers_of : Source → ℕ → List ℕ
+specifiers_of s d = all_where (λ i. is_a s p_struct i && (tag_of s i == d)) (all_nodes s)
+
+abbrev pub key_of_tag : Source → (ℕ → Sense) → ℕ → Option (List ℕ)
+key_of_tag s sense d = elim (specifiers_of s d) [ [] ↦ None | i ∷ rest ↦ key_of s sense i ]
+
+pub record KeysRight (n : Numbering) (s : Source) (sense : ℕ → Sense) (keys : List (Option (List ℕ))) : Type 0 where
+  pub none : (d t : ℕ) → n.tag d ≡ Some t → key_of_tag s sense d ≡ None → slice_get keys t ≡ Some None
+  pub first : (d t : ℕ) (key : List ℕ) → n.tag d ≡ Some t → key_of_tag s sense d ≡ Some key → ((c : ℕ) → c < d → is_tag s c ≡ true → key_of_tag s sense c ≡ Some key → ⊥) → slice_get keys t ≡ Some (Some key)
+  pub again : (c d t : ℕ) (key : List ℕ) → n.tag d ≡ Some t → key_of_tag s sense d ≡ Some key → c < d → is_tag s c ≡ true → key_of_tag s sense c ≡ Some key → slice_get keys t ≡ Some None
+
+-- a node is a body or a child
+abbrev pub IsBody : Unit → ℕ → Type 0
+IsBody u b = (e : ℕ) × (entity : Entity) × (entity_at (trees_of u) e ≡ Some entity) × (entity.body ≡ Some b)
+
+-- The unit is what the rows give for the tree, and has nothing else.
+pub record Right (s : Source) (name : List ℕ) (u : Unit) : Type 0 where
+  pub valid : ValidUnit u
+  pub named : u.name ≡ name
+  pub senses : List Sense
+  pub are_senses : AreSenses s senses
+  pub whole : length senses ≡ length s.nodes
+  pub numbering : Numbering
+  -- entities: each thing that is declared has one, and there are no others
+  pub entity_once : (c d e : ℕ) → numbering.entity c ≡ Some e → numbering.entity d ≡ Some e → c ≡ d
+  pub each_declared : (d : ℕ) (what : Declared) → IsDeclaredAt s senses d what → (e : ℕ) × (entity : Entity) × (numbering.entity d ≡ Some e) × (entity_at (trees_of u) e ≡ Some entity) × IsEntityOf numbering u s.unit what entity
+  pub no_other_entity : (e : ℕ) → e < length u.entities.items → (d : ℕ) × (what : Declared) × IsDeclaredAt s senses d what × (numbering.entity d ≡ Some e)
+  -- tags: each one has a number, with its members and its key, and there are no others
+  pub tag_once : (c d t : ℕ) → numbering.tag c ≡ Some t → numbering.tag d ≡ Some t → c ≡ d
+  pub each_tag : (d : ℕ) → is_tag s d ≡ true → (t : ℕ) × (numbering.tag d ≡ Some t) × (t < u.types.tags)
+  pub no_other_tag : (t : ℕ) → t < u.types.tags → (d : ℕ) × (is_tag s d ≡ true) × (numbering.tag d ≡ Some t)
+  pub members : (d t : ℕ) → numbering.tag d ≡ Some t → SameList numbering u.types (members_under (completed_from s senses (sense_in senses) 0) d) (members_in u.types t)
+  pub keys : KeysRight numbering s (sense_in senses) u.tags.items
+  -- nodes: each one is a body or stands under one
+  pub no_other_node : (i : ℕ) → i < length u.nodes.items → IsBody u i ⊎ ((p : ℕ) × IsChild (trees_of u) p i)

@@ -1,0 +1,2 @@
+//! What each node of a syntax tree stands for: definitions alone.
+#![tactic(auto)]

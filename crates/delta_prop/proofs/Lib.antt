@@ -1,0 +1,4 @@
+pub mod Carries
+pub mod Readings
+pub mod Going
+pub mod Sounding

@@ -1,0 +1,10 @@
+use Rattle.sol_model.specs.Systems.{width_of}
+use Rattle.set_rows.specs.Calls.{system_of, view, IsOf}
+use Rattle.delta_prop.proofs.Carries.{Carried}
+use Rattle.delta_prop.proofs.along.carry.Given as goal
+
+abbrev pub invariant-loop-k : goal.invariant-loop-k
+invariant-loop-k l = record {
+  own : IsOf l.table l.seat;
+  carried : Carried (width_of (system_of l.table)) l.to l.k l.done l.now (view l.initial.seat) (view l.seat) l.any;
+}

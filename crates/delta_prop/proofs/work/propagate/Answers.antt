@@ -1,0 +1,85 @@
+use Rattle.std.proofs.Common.{◌≡◌, ◌+◌, ◌*◌, ◌<◌, ◌∷◌, ◌++◌, [], ℕ, List, length, get_or, slice_get, Contains, Some, refl, sym, ap, ◌∙◌, ◌≤◌, subst, arith, Vec, Global}
+use Rattle.std.proofs.lemmas.Option.{slice_get-get_or}
+use Rattle.sol_model.specs.Systems.{width_of}
+use Rattle.sol_model.proofs.Members.{Contains-at}
+use Rattle.edge_book.specs.Leaving.{targets_of}
+use Rattle.edge_book.proofs.Targets.{listed_target}
+use Rattle.set_rows.specs.declared.view.View.{View}
+use Rattle.set_rows.specs.Views.{known}
+use Rattle.set_rows.specs.Calls.{system_of, view, IsOf}
+use Rattle.set_rows.proofs.Adding.{known_more}
+use Rattle.delta_prop.specs.Deltas.{IsSeenOf, gained}
+use Rattle.delta_prop.proofs.Carries.{edge_more}
+use Rattle.delta_prop.proofs.Going.{Going, going_idle, going_carried, going_done}
+use Rattle.delta_prop.proofs.work.propagate.Goals as goal
+use Rattle.delta_prop.proofs.work.propagate.Goals.{then-carry, else-carry}
+
+-- the target of a number, where the list is the row's
+target_at : (row i : ℕ) (book : List (ℕ × ℕ)) (items : List ℕ) → items ≡ targets_of row book → i < length items → slice_get (targets_of row book) i ≡ Some (get_or items i 0)
+target_at row i book items e lt = sym (ap (λ (xs : List ℕ). slice_get xs i) e) ∙ slice_get-get_or items i 0 lt
+
+has_edge : (row i : ℕ) (book : List (ℕ × ℕ)) (items : List ℕ) → items ≡ targets_of row book → i < length items → Contains book (row, get_or items i 0)
+has_edge row i book items e lt = listed_target row (get_or items i 0) book (Contains-at (targets_of row book) i (get_or items i 0) (target_at row i book items e lt))
+
+pub carry-requires-clause-rows : goal.carry-requires-clause-rows
+carry-requires-clause-rows c =
+    let items = c.targets-to-items.result.now in
+    c.requires.book.rows c.args.row (get_or items c.loop-to.to-index 0) (has_edge c.args.row c.loop-to.to-index c.args.book.now items c.targets-to-items.ensures c.loop-to-test.true)
+
+pub carry-requires-clause-edge : goal.carry-requires-clause-edge
+carry-requires-clause-edge c =
+    let items = c.targets-to-items.result.now in
+    let v = view c.args.seat.now in
+    let u = view c.loop-to.seat in
+    edge_more (system_of c.args.table.now) (known v) (known u) c.args.row (get_or items c.loop-to.to-index 0) (known_more v u c.loop-to.invariant.going.more)
+    (c.requires.book.edges c.args.row (get_or items c.loop-to.to-index 0) (has_edge c.args.row c.loop-to.to-index c.args.book.now items c.targets-to-items.ensures c.loop-to-test.true))
+
+pub carry-requires-clause-was : goal.carry-requires-clause-was
+carry-requires-clause-was c = λ k lt b h.
+    let items = c.targets-to-items.result.now in
+    let to : ℕ = get_or items c.loop-to.to-index 0 in
+    c.loop-to.invariant.going.more.seen (to * width_of (system_of c.args.table.now) + k) b
+    (c.requires.targets to (has_edge c.args.row c.loop-to.to-index c.args.book.now items c.targets-to-items.ensures c.loop-to-test.true) k lt b h)
+
+pub loop-to-preserved : goal.loop-to-preserved
+loop-to-preserved c =
+    let t = c.args.table.now in
+    let W : ℕ = width_of (system_of t) in
+    let row : ℕ = c.args.row in
+    let i : ℕ = c.loop-to.to-index in
+    let book = c.args.book.now in
+    let items = c.targets-to-items.result.now in
+    let to : ℕ = get_or items i 0 in
+    let done = c.args.done.now in
+    let now = c.in_ok-now.now.items in
+    let v = view c.args.seat.now in
+    let u = view c.loop-to.seat in
+    let w = view c.carry.new.seat in
+    let inv = c.loop-to.invariant in
+    let at = target_at row i book items c.targets-to-items.ensures c.loop-to-test.true in
+    let carried : IsSeenOf W w.seen to now = subst (λ (xs : List ℕ). IsSeenOf W w.seen to xs) c.as_slice.ensures.value c.carry.ensures.carried in
+    let P : List ℕ → Type 0 = λ grown. record { own : IsOf t c.carry.new.seat; sized : length now ≡ W; going : Going W row (i + 1) (targets_of row book) done now grown v w } in
+    elim c.if-carry.branch [
+      | then-carry x ↦
+          subst P (sym (ap (λ (g : Vec ℕ Global). g.items) x.grown-is ∙ x.push_reserved.ensures.items ∙ ap (λ (xs : List ℕ). xs ++ to ∷ []) c.in_ok-reserve.ensures.items)) record {
+            own = c.carry.ensures.own;
+            sized = inv.sized;
+            going = going_carried W row i to (targets_of row book) done now c.loop-to.grown.items v u w inv.going at c.carry.ensures.view c.carry.ensures.sound carried c.carry.ensures.others
+                (subst (λ (xs : List ℕ). w.ors ≤ u.ors + gained W done xs) c.as_slice.ensures.value c.carry.ensures.ors)
+                (subst (λ (xs : List ℕ). 0 < gained W done xs) c.as_slice.ensures.value (c.carry.ensures.some x.if-carry.true));
+          }
+      | else-carry x ↦
+          subst P (sym (ap (λ (g : Vec ℕ Global). g.items) x.grown-is ∙ c.in_ok-reserve.ensures.items)) record {
+            own = c.carry.ensures.own;
+            sized = inv.sized;
+            going = subst (λ (y : View). Going W row (i + 1) (targets_of row book) done now c.loop-to.grown.items v y) (sym (c.carry.ensures.same x.if-carry.false))
+                (going_idle W row i to (targets_of row book) done now c.loop-to.grown.items v u inv.going at
+                (subst (λ (y : View). IsSeenOf W y.seen to now) (c.carry.ensures.same x.if-carry.false) carried));
+          }
+    ]
+
+pub returns-clause-turn : goal.returns-clause-turn
+returns-clause-turn c =
+    let g = c.loop-to.invariant in
+    going_done (width_of (system_of c.args.table.now)) c.args.row c.loop-to.to-index c.args.book.now c.args.done.now record { row = c.args.row; done = c.in_ok-now.now; grown = c.loop-to.grown } (view c.args.seat.now) (view c.loop-to.seat) refl g.sized
+    (let e = ap (λ (xs : List ℕ). length xs) c.targets-to-items.ensures in let n = c.loop-to-test.false in let m = c.loop-to.auto.to-index-end in omega arith) g.going

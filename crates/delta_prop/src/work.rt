@@ -1,0 +1,54 @@
+//! A row's turn.
+ghost use Rattle.std.specs.Prelude.{◌≡◌, length, IfOk};
+ghost use Rattle.sol_model.specs.Systems.{IsValid, IsRow, width_of};
+ghost use Rattle.set_rows.specs.Views.{OnlyAdded, known};
+ghost use Rattle.set_rows.specs.Calls.{system_of, view, IsOf};
+ghost use Rattle.delta_prop.specs.Deltas.{AllDemanded, IsSeenOf, IsSound};
+ghost use Rattle.delta_prop.specs.Turns.{IsTurn, TargetsSeen};
+
+use crate::along::carry;
+use crate::read::read_row;
+use crate::turn::Turn;
+use edge_book::EdgeBook;
+use pta_base::OutOfMemory;
+use set_rows::{RowSeat, RowTable};
+use std::alloc::Global;
+
+/// Reads a row, and adds what is in it and not in `done` to each target of the row's edges. Some rule must demand each
+/// edge of the book from what the seat has seen. The seat must have seen the words of `done` in the row, and in each
+/// target of its edges. The number of steps that add is at most the number of members that are done now and weren't
+/// before, times the number of the row's edges. After want of memory the seat has only seen and added more.
+pub fn propagate(
+    alloc: Global,
+    table: &RowTable,
+    seat: &mut RowSeat,
+    row: u32,
+    done: &[u64],
+    book: &EdgeBook,
+) -> Result<Turn, OutOfMemory>
+    requires own { IsOf table.now seat.old }
+    requires valid { IsValid (system_of table.now) }
+    requires row { IsRow (system_of table.now) row }
+    requires sized { length done.now ≡ width_of (system_of table.now) }
+    requires book { AllDemanded (system_of table.now) (known (view seat.old)) book.now }
+    requires done { IsSeenOf (width_of (system_of table.now)) (view seat.old).seen row done.now }
+    requires targets { TargetsSeen (width_of (system_of table.now)) (view seat.old).seen row book.now done.now }
+    ensures own { IsOf table.now seat.new }
+    ensures view { OnlyAdded (view seat.old) (view seat.new) }
+    ensures sound { IsSound (view seat.old) → IsSound (view seat.new) }
+    ensures turn { IfOk result (IsTurn (width_of (system_of table.now)) book.now row done.now (view seat.old) (view seat.new)) }
+{
+    let now = read_row(alloc, table, seat, row, done.len())?;
+    let mut grown = Vec::new(alloc);
+    for to in book.targets(row) {
+        grown.reserve(1)?;
+        if carry(table, seat, row, *to, done, now.as_slice()) {
+            grown.push_reserved(*to);
+        }
+    }
+    Ok(Turn {
+        row,
+        done: now,
+        grown,
+    })
+}

@@ -1,0 +1,135 @@
+//! What the rules demand once a row has new members.
+ghost use Rattle.std.specs.Prelude.{◌≡◌, ℕ, ◌⊎◌, ◌↔◌, ◌<◌, OnOk, All, Some, Contains, length, slice_get};
+ghost use Rattle.sol_model.specs.declared.system.Constraint.{Constraint};
+ghost use Rattle.sol_model.specs.Families.{Family, Has, members};
+ghost use Rattle.sol_model.specs.Rules.{DemandsEdge, DemandsFact};
+ghost use Rattle.sol_model.specs.Solutions.{IsEdge};
+ghost use Rattle.sol_model.specs.Systems.{IsValid, Fits, IsRow, IsLocation, width_of};
+ghost use Rattle.new_members.specs.News.{Extends, IsIn, IsFact, IsGrown, IsReader, Renews};
+
+use crate::calls::renew_call;
+use crate::forms::{renew_contents, renew_field, renew_load, renew_store};
+use crate::lists::new_members;
+use crate::words::{row_of, take_row};
+use edge_book::EdgeBook;
+use pta_base::OutOfMemory;
+use sol_model::sites::constraint_at;
+use sol_model::{Constraint, Rows, System};
+use std::alloc::Global;
+
+/// What one constraint that reads a row demands for new members of the row.
+fn renew_constraint(
+    alloc: Global,
+    book: &mut EdgeBook,
+    facts: &mut Vec<(u32, u32)>,
+    system: &System,
+    rows: &Rows,
+    number: u32,
+    row: u32,
+    new: &[u32],
+) -> Result<(), OutOfMemory>
+    requires valid { IsValid system.now }
+    requires fits { Fits system.now rows.now }
+    requires number { number < length system.now.constraints }
+    requires reader { IsReader system.now row number }
+    requires new { All (IsLocation system.now) new.now }
+    requires members { (location : ℕ) → Contains new.now location → Has (members rows.now) row location }
+    ensures kept { OnOk result (Extends book.old book.new) }
+    ensures book { (F : Family) (constraint : Constraint) → IsGrown F (members rows.now) row new.now → slice_get system.now.constraints number ≡ Some constraint → OnOk result (Renews book.old book.new (DemandsEdge system.now F constraint) (DemandsEdge system.now (members rows.now) constraint)) }
+    ensures facts { (F : Family) (constraint : Constraint) → IsGrown F (members rows.now) row new.now → slice_get system.now.constraints number ≡ Some constraint → OnOk result (Renews facts.old.items facts.new.items (DemandsFact system.now F constraint) (DemandsFact system.now (members rows.now) constraint)) }
+{
+    match constraint_at(system, number as usize) {
+        Constraint::Address {
+            row: _,
+            location: _,
+        } => {}
+        Constraint::Copy { from: _, to: _ } => {}
+        Constraint::Load {
+            pointer: _,
+            to: _,
+            ty: _,
+            sub: _,
+        } => renew_load(book, system, number, new)?,
+        Constraint::Store {
+            pointer: _,
+            from: _,
+            ty: _,
+            sub: _,
+        } => renew_store(book, system, number, new)?,
+        Constraint::Field {
+            from: _,
+            to,
+            ty,
+            member,
+        } => renew_field(facts, system, to, ty, member, new)?,
+        Constraint::Contents { to, from } => renew_contents(
+            alloc, book, system, rows, to, from, row, new,
+        )?,
+        Constraint::Call { call } => renew_call(alloc, book, facts, system, rows, call, row, new)?,
+    }
+    Ok(())
+}
+
+/// What all constraints that read a row demand for new members of the row.
+fn renew_readers(
+    alloc: Global,
+    book: &mut EdgeBook,
+    facts: &mut Vec<(u32, u32)>,
+    system: &System,
+    readers: &EdgeBook,
+    rows: &Rows,
+    row: u32,
+    new: &[u32],
+) -> Result<(), OutOfMemory>
+    requires valid { IsValid system.now }
+    requires fits { Fits system.now rows.now }
+    requires readers { (at number : ℕ) → (Contains readers.now (at, number) ↔ IsReader system.now at number) }
+    requires new { All (IsLocation system.now) new.now }
+    requires members { (location : ℕ) → Contains new.now location → Has (members rows.now) row location }
+    ensures kept { OnOk result (Extends book.old book.new) }
+    ensures book { (F : Family) → IsGrown F (members rows.now) row new.now → OnOk result (Renews book.old book.new (IsEdge system.now F) (IsEdge system.now (members rows.now))) }
+    ensures facts { (F : Family) → IsGrown F (members rows.now) row new.now → OnOk result (Renews facts.old.items facts.new.items (IsFact system.now F) (IsFact system.now (members rows.now))) }
+{
+    for number in readers.targets(row) {
+        renew_constraint(alloc, book, facts, system, rows, *number, row, new)?;
+    }
+    Ok(())
+}
+
+/// Adds the members that words have to a row, and adds the edges that rules demand of the rows now and hadn't before to
+/// a book, and such facts to a list. `readers` has the constraints that read each row.
+pub fn renew(
+    alloc: Global,
+    book: &mut EdgeBook,
+    facts: &mut Vec<(u32, u32)>,
+    system: &System,
+    readers: &EdgeBook,
+    rows: &mut Rows,
+    row: u32,
+    words: &[u64],
+) -> Result<(), OutOfMemory>
+    requires valid { IsValid system.now }
+    requires fits { Fits system.now rows.old }
+    requires readers { (at number : ℕ) → (Contains readers.now (at, number) ↔ IsReader system.now at number) }
+    requires row { IsRow system.now row }
+    requires sized { length words.now ≡ width_of system.now }
+    requires known { (location : ℕ) → IsIn words.now location → IsLocation system.now location }
+    ensures fits { OnOk result (Fits system.now rows.new) }
+    ensures has { OnOk result ((other location : ℕ) → (Has (members rows.new) other location ↔ (Has (members rows.old) other location ⊎ ((other ≡ row) × IsIn words.now location)))) }
+    ensures kept { OnOk result (Extends book.old book.new) }
+    ensures book { OnOk result (Renews book.old book.new (IsEdge system.now (members rows.old)) (IsEdge system.now (members rows.new))) }
+    ensures facts { OnOk result (Renews facts.old.items facts.new.items (IsFact system.now (members rows.old)) (IsFact system.now (members rows.new))) }
+{
+    let new = new_members(alloc, words, row_of(rows, row))?;
+    take_row(system, rows, row, words);
+    renew_readers(
+        alloc,
+        book,
+        facts,
+        system,
+        readers,
+        rows,
+        row,
+        new.as_slice(),
+    )
+}

@@ -1,0 +1,143 @@
+-- The shares of many workers together.
+use Rattle.std.proofs.Common.{◌≡◌, ◌⊎◌, ℕ, zero, suc, ◌+◌, ◌*◌, ◌/◌, ◌%◌, ◌<◌, List, [], ◌∷◌, ◌++◌, length, map, option_map, slice_get, Some, All, Result, Ok, Err, IfOk, Contains, refl, sym, ap, ◌∙◌, subst, inl, inr, arith, append_assoc, length-append, mul_comm}
+use Rattle.std.proofs.lemmas.List.{append-nil}
+use Rattle.std.proofs.lemmas.Option.{same_Some, none-some, slice_get-map}
+use Rattle.std.proofs.lemmas.List.Elements.{Contains-append_cases, Contains-append_left, Contains-append_right}
+use Rattle.std.proofs.lemmas.Nat.{mod_below}
+use Rattle.sol_model.proofs.Members.{Contains-at, at_Contains, Contains-map, All-at}
+use Rattle.new_members.proofs.Answering.{element}
+use Rattle.sol_model.specs.declared.system.System.{System}
+use Rattle.sol_model.specs.declared.rows.Rows.{Rows}
+use Rattle.sol_model.specs.Systems.{IsRow, width_of}
+use Rattle.new_members.specs.News.{words_at}
+use Rattle.work_rounds.proofs.Serving.{turns_served}
+use Rattle.set_rows.specs.declared.view.View.{View}
+use Rattle.set_rows.specs.Views.{half_kept, half_given, met}
+use Rattle.set_rows.proofs.Samples.{met_first, met_second}
+use Rattle.delta_prop.specs.declared.turn.Turn.{Turn}
+use Rattle.work_rounds.specs.Rounds.{IsPiece, HasServed}
+use Rattle.work_rounds.specs.Turns.{all_of, row_of, AreTurns, IsShare, HasShares}
+use Rattle.work_rounds.proofs.Parts.{met_has}
+
+at_append : {X : Type 0} (xs ys : List X) (k : ℕ) (x : X) → slice_get (xs ++ ys) k ≡ Some x → ((k < length xs) × (slice_get xs k ≡ Some x)) ⊎ ((j : ℕ) × (k ≡ length xs + j) × (slice_get ys j ≡ Some x))
+at_append [] ys k x e = inr (k, omega arith, e)
+at_append (y ∷ xs) ys zero x e = inl (omega arith, e)
+at_append (y ∷ xs) ys (suc k) x e = elim (at_append xs ys k x e) [ inl h ↦ inl ((let l = h.0 in omega arith), h.1) | inr h ↦ inr (h.0, (let l = h.1 in omega arith), h.2) ]
+
+all_append : (xs ys : List (List Turn)) → all_of (xs ++ ys) ≡ all_of xs ++ all_of ys
+all_append [] ys = refl
+all_append (x ∷ xs) ys = ap (λ (ts : List Turn). x ++ ts) (all_append xs ys) ∙ sym (append_assoc x (all_of xs) (all_of ys))
+
+module _ (S : System) (book : List (ℕ × ℕ)) (v : View) where
+  piece_left : (a b : View) (turn : Turn) → IsPiece S book (half_kept v) a turn → IsPiece S book v (met a b) turn
+  piece_left a b turn p = record { row = p.row; sized = p.sized; read = p.read; done = λ l h. met_first a b turn.row l (p.done l h); targets = λ to l e h. met_first a b to l (p.targets to l e h); within = p.within }
+
+  piece_right : (a b : View) (turn : Turn) → b.system ≡ a.system → IsPiece S book (half_given v) b turn → IsPiece S book v (met a b) turn
+  piece_right a b turn e p = record { row = p.row; sized = p.sized; read = p.read; done = λ l h. met_second a b turn.row l e (p.done l h); targets = λ to l edge h. met_second a b to l e (p.targets to l edge h); within = p.within }
+
+  served_together : (a b : View) (ts us : List Turn) → b.system ≡ a.system → HasServed S book (half_kept v) a ts → HasServed S book (half_given v) b us → HasServed S book v (met a b) (ts ++ us)
+  served_together a b ts us e left right = record {
+    pieces = λ turn c. elim (Contains-append_cases ts us turn c) [
+      | inl l ↦ piece_left a b turn (left.pieces turn l)
+      | inr r ↦ piece_right a b turn e (right.pieces turn r)
+    ];
+    others = λ row location has. elim (met_has a b row location e has) [
+      | inl l ↦ elim (left.others row location l) [ inl old ↦ inl old | inr new ↦ inr (new.0, Contains-append_left ts us new.0 new.1, new.2) ]
+      | inr r ↦ elim (right.others row location r) [ inl old ↦ inl old | inr new ↦ inr (new.0, Contains-append_right ts us new.0 new.1, new.2) ]
+    ];
+  }
+
+  module _ (done : Rows) (todo : List ℕ) (workers : ℕ) where
+    share_left : (worker : ℕ) (a b : View) (ts : List Turn) → IsShare S book done todo workers worker (half_kept v) a ts → IsShare S book done todo workers worker v (met a b) ts
+    share_left worker a b ts s = record { from = s.from; to = s.to; begun = s.begun; turns_are = s.turns_are; ended = λ row l h. met_first a b row l (s.ended row l h); rows = s.rows }
+
+    share_right : (worker : ℕ) (a b : View) (ts : List Turn) → b.system ≡ a.system → IsShare S book done todo workers worker (half_given v) b ts → IsShare S book done todo workers worker v (met a b) ts
+    share_right worker a b ts e s = record { from = s.from; to = s.to; begun = s.begun; turns_are = s.turns_are; ended = λ row l h. met_second a b row l e (s.ended row l h); rows = s.rows }
+
+    pub shares_together : (first middle last : ℕ) (a b : View) (ts us all : List Turn) → b.system ≡ a.system → all ≡ ts ++ us
+        → HasShares S book done todo workers first middle (half_kept v) a ts → HasShares S book done todo workers middle last (half_given v) b us → HasShares S book done todo workers first last v (met a b) all
+    shares_together first middle last a b ts us all e is left right = record {
+      shares = left.shares ++ right.shares;
+      all = is ∙ ap (λ (xs : List Turn). xs ++ us) left.all ∙ ap (λ (xs : List Turn). all_of left.shares ++ xs) right.all ∙ sym (all_append left.shares right.shares);
+      count = (let l = left.count in let r = right.count in let n = length-append left.shares right.shares in omega arith);
+      each = λ k share at. elim (at_append left.shares right.shares k share at) [
+        | inl h ↦ share_left (first + k) a b share (left.each k share h.1)
+        | inr h ↦ (let there = share_right (middle + h.0) a b share e (right.each h.0 share h.2) in
+            let same : middle + h.0 ≡ first + k = (let l = left.count in let n = h.1 in omega arith) in
+            subst (λ (n : ℕ). IsShare S book done todo workers n v (met a b) share) same there)
+      ];
+      served = subst (HasServed S book v (met a b)) (sym is) (served_together a b ts us e left.served right.served);
+    }
+
+-- one worker's turns
+pub one_share : (S : System) (book : List (ℕ × ℕ)) (done : Rows) (todo : List ℕ) (workers first last : ℕ) (v w : View) (ts : List Turn) → first + 1 ≡ last
+    → IsShare S book done todo workers first v w ts → HasServed S book v w ts → HasShares S book done todo workers first last v w ts
+one_share S book done todo workers first last v w ts e share served = record {
+  shares = ts ∷ [];
+  all = sym (append-nil ts);
+  count = (omega arith);
+  each = λ k other at. elim (at_append (ts ∷ []) [] k other at) [
+    | inl h ↦ (let zero_is : k ≡ 0 = (let l = h.0 in omega arith) in
+        let here : slice_get (ts ∷ []) 0 ≡ Some other = ap (slice_get (ts ∷ [])) (sym zero_is) ∙ h.1 in
+        let same : ts ≡ other = same_Some ts other here in
+        let at_k : first ≡ first + k = omega arith in
+        subst (λ (n : ℕ). IsShare S book done todo workers n v w other) at_k (subst (IsShare S book done todo workers first v w) same share))
+    | inr h ↦ absurd (none-some other h.2)
+  ];
+  served = served;
+}
+
+-- a round: the seat gives one half away, which comes back
+pub shares_round : (S : System) (book : List (ℕ × ℕ)) (done : Rows) (todo : List ℕ) (workers first last : ℕ) (v b : View) (ts : List Turn) → b.system ≡ v.system
+    → HasShares S book done todo workers first last (half_given v) b ts → HasShares S book done todo workers first last v (met (half_kept v) b) ts
+shares_round S book done todo workers first last v b ts e right = record {
+  shares = right.shares;
+  all = right.all;
+  count = right.count;
+  each = λ k share at. share_back (first + k) share (right.each k share at);
+  served = record {
+    pieces = λ turn c. (let p = right.served.pieces turn c in record { row = p.row; sized = p.sized; read = p.read; done = λ l h. met_second (half_kept v) b turn.row l e (p.done l h); targets = λ to l edge h. met_second (half_kept v) b to l e (p.targets to l edge h); within = p.within });
+    others = λ row location has. elim (met_has (half_kept v) b row location e has) [
+      | inl l ↦ inl l
+      | inr r ↦ right.served.others row location r
+    ];
+  };
+}
+  where
+    share_back : (worker : ℕ) (share : List Turn) → IsShare S book done todo workers worker (half_given v) b share → IsShare S book done todo workers worker v (met (half_kept v) b) share
+    share_back worker share s = record { from = s.from; to = s.to; begun = s.begun; turns_are = s.turns_are; ended = λ row l h. met_second (half_kept v) b row l e (s.ended row l h); rows = s.rows }
+
+in_all : (shares : List (List Turn)) (k : ℕ) (share : List Turn) (turn : Turn) → slice_get shares k ≡ Some share → Contains share turn → Contains (all_of shares) turn
+in_all [] k share turn at c = absurd (none-some share at)
+in_all (first ∷ rest) zero share turn at c = Contains-append_left first (all_of rest) turn (subst (λ (ts : List Turn). Contains ts turn) (sym (same_Some first share at)) c)
+in_all (first ∷ rest) (suc k) share turn at c = Contains-append_right first (all_of rest) turn (in_all rest k share turn at c)
+
+-- each row of the round has had a turn
+pub each_row : (S : System) (book : List (ℕ × ℕ)) (done : Rows) (todo : List ℕ) (workers : ℕ) (v w : View) (turns : List Turn) → HasShares S book done todo workers 0 workers v w turns → 0 < workers
+    → (row : ℕ) → Contains todo row → (turn : Turn) × Contains turns turn × (turn.row ≡ row)
+each_row S book done todo workers v w turns h some row c =
+    let n = at_Contains todo row c in
+    let worker : ℕ = n.0 % workers in
+    let i : ℕ = n.0 / workers in
+    let less : worker < workers = mod_below n.0 workers some in
+    let whole : worker + i * workers ≡ n.0 = (let d = mul_comm i workers in omega arith) in
+    let long : worker < length h.shares = (let e = h.count in omega arith) in
+    let share = element h.shares worker long in
+    let s = h.each worker share.0 share.1 in
+    let start : 0 + worker + i * workers ≡ n.0 = (let d = whole in omega arith) in
+    let at : slice_get (map row_of share.0) i ≡ Some row = s.rows i ∙ ap (slice_get todo) start ∙ n.2 in
+    let t = Contains-map row_of share.0 row (Contains-at (map row_of share.0) i row at) in
+    (t.0, subst (λ (ts : List Turn). Contains ts t.0) (sym h.all) (in_all h.shares worker share.0 t.0 share.1 t.1), sym t.2)
+
+pub both_ok : {A E : Type 0} (r : Result A E) (P Q : A → Type 0) → IfOk r P → IfOk r Q → IfOk r (λ x. P x × Q x)
+both_ok (Ok x) P Q p q = (p, q)
+both_ok (Err e) P Q p q = tt
+
+-- the turns of one worker alone
+pub alone : (S : System) (book : List (ℕ × ℕ)) (done : Rows) (todo : List ℕ) (workers first last : ℕ) (v w : View) (ts : List Turn) → v.system ≡ S → first + 1 ≡ last → All (IsRow S) todo
+    → AreTurns (width_of S) book (words_at done) v ts w → ((i : ℕ) → slice_get (map row_of ts) i ≡ slice_get todo (first + i * workers)) → HasShares S book done todo workers first last v w ts
+alone S book done todo workers first last v w ts own e all turns rows =
+    one_share S book done todo workers first last v w ts e
+    record { from = v; to = w; begun = refl; turns_are = turns; ended = λ row location h. h; rows = rows }
+    (turns_served S book (words_at done) ts v w own (λ turn c. let at = at_Contains ts turn c in
+    All-at (IsRow S) todo (first + at.0 * workers) turn.row all (sym (rows at.0) ∙ slice_get-map row_of ts at.0 ∙ ap (option_map row_of) at.2)) turns)

@@ -1,0 +1,5 @@
+use Rattle.work_rounds.proofs.Blocks.{OfNumbers}
+use Rattle.work_rounds.proofs.dealing.dealt.Given as goal
+
+abbrev pub invariant-loop-at : goal.invariant-loop-at
+invariant-loop-at l = OfNumbers l.out.items l.todo l.block l.workers l.at

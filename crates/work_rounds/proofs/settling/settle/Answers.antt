@@ -1,0 +1,153 @@
+use Rattle.std.proofs.Common.{◌≡◌, ◌⊎◌, ◌↔◌, ℕ, List, [], Contains, sym, ◌∙◌, subst}
+use Rattle.sol_model.specs.declared.system.System.{System}
+use Rattle.sol_model.specs.Systems.{IsRow, IsLocation, Fits}
+use Rattle.set_rows.specs.Views.{known}
+use Rattle.set_rows.specs.Calls.{view}
+use Rattle.set_rows.proofs.Adding.{known_more}
+use Rattle.delta_prop.specs.declared.turn.Turn.{Turn}
+use Rattle.delta_prop.specs.Deltas.{AllDemanded}
+use Rattle.new_members.specs.News.{IsFact}
+use Rattle.work_rounds.specs.Rounds.{IsTakenIn, IsNoted}
+use Rattle.work_rounds.proofs.Ending.{turns_of, after_inside, facts_demanded, facts_known, more_demanded, first_carried, settled_again}
+use Rattle.work_rounds.proofs.settling.settle.Goals as goal
+
+pub take_in-requires-clause-turns : goal.take_in-requires-clause-turns
+take_in-requires-clause-turns c =
+    let S = c.args.system.now in
+    let round = c.requires.worked.2 in
+    let v = c.requires.worked.0 in
+    let todo = c.requires.worked.1 in
+    let w = view c.args.seat.now in
+    let own : w.system ≡ S = c.requires.own.1 ∙ c.requires.system in
+    let book = c.args.book.now in
+    let done = c.args.done.now in
+    let turns = c.args.turns.now in
+    turns_of S v w book [] [] done done todo turns c.requires.valid own round
+
+pub add_facts-requires-clause-known : goal.add_facts-requires-clause-known
+add_facts-requires-clause-known c row location h =
+    let S = c.args.system.now in
+    let round = c.requires.worked.2 in
+    let v = c.requires.worked.0 in
+    let todo = c.requires.worked.1 in
+    let w = view c.args.seat.now in
+    let own : w.system ≡ S = c.requires.own.1 ∙ c.requires.system in
+    let book = c.args.book.now in
+    let done = c.args.done.now in
+    let turns = c.args.turns.now in
+    let more = c.take_in.new.book in
+    let after = c.take_in.new.done in
+    let news = c.take_in.new.facts.items in
+    let taken : IsTakenIn S turns done after book more [] news = subst (λ (xs : List (ℕ × ℕ)). IsTakenIn S turns done after book more xs news) c.new-facts.ensures.items c.in_ok-take_in.ensures.taken in
+    let there : Contains news (row, location) = (c.in_order.ensures.same (row, location)).0 (subst (λ (xs : List (ℕ × ℕ)). Contains xs (row, location)) c.as_slice.ensures.value h) in
+    subst (λ (T : System). IsRow T row × IsLocation T location) (sym c.requires.system) (facts_known S v w book more news done after todo turns c.requires.valid own round taken row location there)
+
+pub add_facts-requires-clause-demanded : goal.add_facts-requires-clause-demanded
+add_facts-requires-clause-demanded c row location h =
+    let S = c.args.system.now in
+    let round = c.requires.worked.2 in
+    let v = c.requires.worked.0 in
+    let todo = c.requires.worked.1 in
+    let w = view c.args.seat.now in
+    let own : w.system ≡ S = c.requires.own.1 ∙ c.requires.system in
+    let book = c.args.book.now in
+    let done = c.args.done.now in
+    let turns = c.args.turns.now in
+    let more = c.take_in.new.book in
+    let after = c.take_in.new.done in
+    let news = c.take_in.new.facts.items in
+    let taken : IsTakenIn S turns done after book more [] news = subst (λ (xs : List (ℕ × ℕ)). IsTakenIn S turns done after book more xs news) c.new-facts.ensures.items c.in_ok-take_in.ensures.taken in
+    let there : Contains news (row, location) = (c.in_order.ensures.same (row, location)).0 (subst (λ (xs : List (ℕ × ℕ)). Contains xs (row, location)) c.as_slice.ensures.value h) in
+    subst (λ (T : System). IsFact T (known w) row location) (sym c.requires.system) (facts_demanded S v w book more news done after todo turns c.requires.valid own round taken w (λ r l k. k) row location there)
+
+pub carry_new-requires-clause-fits : goal.carry_new-requires-clause-fits
+carry_new-requires-clause-fits c = subst (λ (T : System). Fits T c.take_in.new.done) (sym c.requires.system) c.in_ok-take_in.ensures.taken.fits
+
+pub carry_new-requires-clause-inside : goal.carry_new-requires-clause-inside
+carry_new-requires-clause-inside c row location h =
+    let S = c.args.system.now in
+    let round = c.requires.worked.2 in
+    let v = c.requires.worked.0 in
+    let todo = c.requires.worked.1 in
+    let w = view c.args.seat.now in
+    let own : w.system ≡ S = c.requires.own.1 ∙ c.requires.system in
+    let book = c.args.book.now in
+    let done = c.args.done.now in
+    let turns = c.args.turns.now in
+    let more = c.take_in.new.book in
+    let after = c.take_in.new.done in
+    let news = c.take_in.new.facts.items in
+    let taken : IsTakenIn S turns done after book more [] news = subst (λ (xs : List (ℕ × ℕ)). IsTakenIn S turns done after book more xs news) c.new-facts.ensures.items c.in_ok-take_in.ensures.taken in
+    known_more w (view c.add_facts.new.seat) c.in_ok-add_facts.ensures.view row location (after_inside S v w book more news done after todo turns c.requires.valid own round taken row location h)
+
+pub carry_new-requires-clause-demanded : goal.carry_new-requires-clause-demanded
+carry_new-requires-clause-demanded c =
+    let S = c.args.system.now in
+    let round = c.requires.worked.2 in
+    let v = c.requires.worked.0 in
+    let todo = c.requires.worked.1 in
+    let w = view c.args.seat.now in
+    let own : w.system ≡ S = c.requires.own.1 ∙ c.requires.system in
+    let book = c.args.book.now in
+    let done = c.args.done.now in
+    let turns = c.args.turns.now in
+    let more = c.take_in.new.book in
+    let after = c.take_in.new.done in
+    let news = c.take_in.new.facts.items in
+    let taken : IsTakenIn S turns done after book more [] news = subst (λ (xs : List (ℕ × ℕ)). IsTakenIn S turns done after book more xs news) c.new-facts.ensures.items c.in_ok-take_in.ensures.taken in
+    let x = view c.add_facts.new.seat in
+    subst (λ (T : System). AllDemanded T (known x) more) (sym c.requires.system) (more_demanded S v w book more news done after todo turns c.requires.valid own round taken x (known_more w x c.in_ok-add_facts.ensures.view))
+
+pub carry_new-requires-clause-carried : goal.carry_new-requires-clause-carried
+carry_new-requires-clause-carried c =
+    let S = c.args.system.now in
+    let round = c.requires.worked.2 in
+    let v = c.requires.worked.0 in
+    let todo = c.requires.worked.1 in
+    let w = view c.args.seat.now in
+    let own : w.system ≡ S = c.requires.own.1 ∙ c.requires.system in
+    let book = c.args.book.now in
+    let done = c.args.done.now in
+    let turns = c.args.turns.now in
+    let more = c.take_in.new.book in
+    let after = c.take_in.new.done in
+    let news = c.take_in.new.facts.items in
+    let taken : IsTakenIn S turns done after book more [] news = subst (λ (xs : List (ℕ × ℕ)). IsTakenIn S turns done after book more xs news) c.new-facts.ensures.items c.in_ok-take_in.ensures.taken in
+    let x = view c.add_facts.new.seat in
+    first_carried S v w book more news done after todo turns c.requires.valid own round taken x c.len-first.result c.len-first.ensures.len c.in_ok-take_in.ensures.kept (known_more w x c.in_ok-add_facts.ensures.view)
+
+pub returns-in_err-carry_new-clause-sound : goal.returns-in_err-carry_new-clause-sound
+returns-in_err-carry_new-clause-sound c s = c.in_err-carry_new.ensures.sound (c.in_ok-add_facts.ensures.sound s)
+
+pub returns-clause-sound : goal.returns-clause-sound
+returns-clause-sound c s = c.in_ok-carry_new.ensures.sound (c.in_ok-add_facts.ensures.sound s)
+
+pub returns-clause-settled : goal.returns-clause-settled
+returns-clause-settled c =
+    let S = c.args.system.now in
+    let round = c.requires.worked.2 in
+    let v = c.requires.worked.0 in
+    let todo = c.requires.worked.1 in
+    let w = view c.args.seat.now in
+    let own : w.system ≡ S = c.requires.own.1 ∙ c.requires.system in
+    let book = c.args.book.now in
+    let done = c.args.done.now in
+    let turns = c.args.turns.now in
+    let more = c.take_in.new.book in
+    let after = c.take_in.new.done in
+    let news = c.take_in.new.facts.items in
+    let taken : IsTakenIn S turns done after book more [] news = subst (λ (xs : List (ℕ × ℕ)). IsTakenIn S turns done after book more xs news) c.new-facts.ensures.items c.in_ok-take_in.ensures.taken in
+    let x = view c.add_facts.new.seat in
+    let y = view c.carry_new.new.seat in
+    let ordered = c.in_order.new.pairs.items in
+    let noted = c.note_grown.new.todo.items in
+    let listed = c.add_facts.new.todo.items in
+    let final = c.carry_new.new.todo.items in
+    settled_again S v w book more news done after todo turns c.requires.valid own round taken x y ordered noted listed final (known_more w x c.in_ok-add_facts.ensures.view) (known_more x y c.in_ok-carry_new.ensures.view)
+    (c.in_ok-carry_new.ensures.sound (c.in_ok-add_facts.ensures.sound (round.worked.sound round.before.sound)))
+    (λ row location h. (c.in_order.ensures.same (row, location)).1 h)
+    (subst (λ (xs : List ℕ). (row : ℕ) → (Contains noted row ↔ (Contains xs row ⊎ ((turn : Turn) × Contains turns turn × Contains turn.grown.items row)))) c.new-todo.ensures.items c.in_ok-note_grown.ensures)
+    (λ row location h. c.in_ok-add_facts.ensures.has row location (subst (λ (xs : List (ℕ × ℕ)). Contains xs (row, location)) (sym c.as_slice.ensures.value) h))
+    (subst (λ (T : System). IsNoted T w x noted listed) c.requires.system c.in_ok-add_facts.ensures.todo)
+    c.in_ok-carry_new.ensures.carried
+    (subst (λ (T : System). IsNoted T x y listed final) c.requires.system c.in_ok-carry_new.ensures.todo)

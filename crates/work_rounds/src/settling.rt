@@ -1,0 +1,209 @@
+//! What the caller does between two rounds.
+ghost use Rattle.std.specs.Prelude.{◌≡◌, ℕ, ◌⊎◌, ◌↔◌, ◌≤◌, ◌<◌, ◌++◌, OnOk, IfOk, List, [], replicate, take, Contains, length};
+ghost use Rattle.sol_model.specs.Families.{Has, IsInside, members};
+ghost use Rattle.sol_model.specs.declared.rows.Rows.{Rows};
+ghost use Rattle.delta_prop.specs.declared.turn.Turn.{Turn};
+ghost use Rattle.set_rows.specs.declared.view.View.{View};
+ghost use Rattle.sol_model.specs.Systems.{IsValid, IsRow, IsLocation, Fits, width_of};
+ghost use Rattle.set_rows.specs.Views.{OnlyAdded, known};
+ghost use Rattle.set_rows.specs.Calls.{system_of, view, IsOf};
+ghost use Rattle.delta_prop.specs.Deltas.{AllDemanded, IsSound};
+ghost use Rattle.new_members.specs.News.{Extends, IsFact, IsReader};
+ghost use Rattle.work_rounds.specs.Rounds.{IsCarried, IsNoted, IsSettled, IsTakenIn, IsTurnOf, IsWorked};
+
+use delta_prop::{Turn, carry};
+use edge_book::{EdgeBook, in_order};
+use new_members::{renew, row_of, start};
+use pta_base::OutOfMemory;
+use set_rows::{RowSeat, RowTable};
+use sol_model::{Rows, System};
+use std::alloc::Global;
+
+/// What turns have done: it is done now of their rows, and the edges and facts that rules demand for new members are
+/// taken in.
+fn take_in(
+    alloc: Global,
+    system: &System,
+    readers: &EdgeBook,
+    done: &mut Rows,
+    book: &mut EdgeBook,
+    facts: &mut Vec<(u32, u32)>,
+    turns: &[Turn],
+) -> Result<(), OutOfMemory>
+    requires valid { IsValid system.now }
+    requires fits { Fits system.now done.old }
+    requires readers { (row number : ℕ) → (Contains readers.now (row, number) ↔ IsReader system.now row number) }
+    requires turns { (turn : Turn) → Contains turns.now turn → IsTurnOf system.now turn }
+    ensures kept { OnOk result (Extends book.old book.new) }
+    ensures taken { OnOk result (IsTakenIn system.now turns.now done.old done.new book.old book.new facts.old.items facts.new.items) }
+{
+    for turn in turns {
+        renew(
+            alloc,
+            book,
+            facts,
+            system,
+            readers,
+            done,
+            turn.row,
+            turn.done.as_slice(),
+        )?;
+    }
+    Ok(())
+}
+
+/// Adds rows to a list.
+fn note(todo: &mut Vec<u32>, rows: &[u32]) -> Result<(), OutOfMemory>
+    ensures { OnOk result (todo.new.items ≡ todo.old.items ++ rows.now) }
+{
+    todo.extend_from_slice(rows)?;
+    Ok(())
+}
+
+/// Notes the rows that turns have found grown.
+fn note_grown(todo: &mut Vec<u32>, turns: &[Turn]) -> Result<(), OutOfMemory>
+    ensures { OnOk result ((row : ℕ) → (Contains todo.new.items row ↔ (Contains todo.old.items row ⊎ ((turn : Turn) × Contains turns.now turn × Contains turn.grown.items row)))) }
+{
+    for turn in turns {
+        note(todo, turn.grown.as_slice())?;
+    }
+    Ok(())
+}
+
+/// Adds a fact that a rule demands to its row.
+fn add_fact(table: &RowTable, seat: &mut RowSeat, width: usize, row: u32, location: u32)
+    requires own { IsOf table.now seat.old }
+    requires valid { IsValid (system_of table.now) }
+    requires width { width ≡ width_of (system_of table.now) }
+    requires known { IsRow (system_of table.now) row × IsLocation (system_of table.now) location }
+    requires demanded { IsFact (system_of table.now) (known (view seat.old)) row location }
+    ensures own { IsOf table.now seat.new }
+    ensures view { OnlyAdded (view seat.old) (view seat.new) }
+    ensures sound { IsSound (view seat.old) → IsSound (view seat.new) }
+    ensures has { Has (known (view seat.new)) row location }
+    ensures others { (r l : ℕ) → Has (known (view seat.new)) r l → Has (known (view seat.old)) r l ⊎ (r ≡ row) }
+{
+    let word = row as usize * width + location as usize / 64;
+    table.add(seat, word, 1 << (location % 64));
+}
+
+/// Adds facts that rules demand to their rows, and notes these as grown.
+fn add_facts(
+    table: &RowTable,
+    seat: &mut RowSeat,
+    width: usize,
+    facts: &[(u32, u32)],
+    todo: &mut Vec<u32>,
+) -> Result<(), OutOfMemory>
+    requires own { IsOf table.now seat.old }
+    requires valid { IsValid (system_of table.now) }
+    requires width { width ≡ width_of (system_of table.now) }
+    requires known { (row location : ℕ) → Contains facts.now (row, location) → IsRow (system_of table.now) row × IsLocation (system_of table.now) location }
+    requires demanded { (row location : ℕ) → Contains facts.now (row, location) → IsFact (system_of table.now) (known (view seat.old)) row location }
+    ensures own { IsOf table.now seat.new }
+    ensures view { OnlyAdded (view seat.old) (view seat.new) }
+    ensures sound { IsSound (view seat.old) → IsSound (view seat.new) }
+    ensures has { OnOk result ((row location : ℕ) → Contains facts.now (row, location) → Has (known (view seat.new)) row location) }
+    ensures todo { OnOk result (IsNoted (system_of table.now) (view seat.old) (view seat.new) todo.old.items todo.new.items) }
+{
+    for (row, location) in facts {
+        todo.push(*row)?;
+        add_fact(table, seat, width, *row, *location);
+    }
+    Ok(())
+}
+
+/// Carries all that is done of its source along each edge of a book from a number on, and notes the targets as grown.
+fn carry_new(
+    table: &RowTable,
+    seat: &mut RowSeat,
+    done: &Rows,
+    book: &EdgeBook,
+    first: usize,
+    nothing: &[u64],
+    todo: &mut Vec<u32>,
+) -> Result<(), OutOfMemory>
+    requires own { IsOf table.now seat.old }
+    requires valid { IsValid (system_of table.now) }
+    requires fits { Fits (system_of table.now) done.now }
+    requires inside { IsInside (members done.now) (known (view seat.old)) }
+    requires demanded { AllDemanded (system_of table.now) (known (view seat.old)) book.now }
+    requires carried { IsCarried (take first book.now) (members done.now) (known (view seat.old)) }
+    requires nothing { nothing.now ≡ replicate (width_of (system_of table.now)) 0 }
+    ensures own { IsOf table.now seat.new }
+    ensures view { OnlyAdded (view seat.old) (view seat.new) }
+    ensures sound { IsSound (view seat.old) → IsSound (view seat.new) }
+    ensures carried { OnOk result (IsCarried book.now (members done.now) (known (view seat.new))) }
+    ensures todo { OnOk result (IsNoted (system_of table.now) (view seat.old) (view seat.new) todo.old.items todo.new.items) }
+{
+    for i in first..book.len() {
+        if let Some((from, to)) = book.get(i) {
+            todo.reserve(1)?;
+            if carry(table, seat, from, to, nothing, row_of(done, from)) {
+                todo.push_reserved(to);
+            }
+        }
+    }
+    Ok(())
+}
+
+/// Takes in what a round's turns have done, and gives the rows that have grown since they were read.
+pub(crate) fn settle(
+    alloc: Global,
+    system: &System,
+    table: &RowTable,
+    seat: &mut RowSeat,
+    readers: &EdgeBook,
+    done: &mut Rows,
+    book: &mut EdgeBook,
+    turns: &[Turn],
+    nothing: &[u64],
+) -> Result<Vec<u32>, OutOfMemory>
+    requires own { IsOf table.now seat.old }
+    requires valid { IsValid system.now }
+    requires system { system_of table.now ≡ system.now }
+    requires readers { (row number : ℕ) → (Contains readers.now (row, number) ↔ IsReader system.now row number) }
+    requires nothing { nothing.now ≡ replicate (width_of system.now) 0 }
+    requires worked { (before : View) × (todo : List ℕ) × IsWorked system.now before (view seat.old) book.old done.old todo turns.now }
+    ensures own { IsOf table.now seat.new }
+    ensures view { OnlyAdded (view seat.old) (view seat.new) }
+    ensures sound { IsSound (view seat.old) → IsSound (view seat.new) }
+    ensures settled { IfOk result (λ todo. IsSettled system.now (view seat.new) book.new done.new todo.items) }
+{
+    let first = book.len();
+    let mut facts = Vec::new(alloc);
+    take_in(alloc, system, readers, done, book, &mut facts, turns)?;
+    in_order(&mut facts);
+    let mut todo = Vec::new(alloc);
+    note_grown(&mut todo, turns)?;
+    add_facts(table, seat, nothing.len(), facts.as_slice(), &mut todo)?;
+    carry_new(table, seat, done, book, first, nothing, &mut todo)?;
+    Ok(todo)
+}
+
+/// What rules demand of empty rows: the edges of the book, and facts that are added to their rows. It gives these rows.
+pub(crate) fn begin(
+    alloc: Global,
+    system: &System,
+    table: &RowTable,
+    seat: &mut RowSeat,
+    width: usize,
+    book: &mut EdgeBook,
+) -> Result<Vec<u32>, OutOfMemory>
+    requires own { IsOf table.now seat.old }
+    requires valid { IsValid system.now }
+    requires system { system_of table.now ≡ system.now }
+    requires width { width ≡ width_of system.now }
+    requires fresh { (row location : ℕ) → Has (known (view seat.old)) row location → ⊥ }
+    requires book { book.old ≡ [] }
+    ensures own { IsOf table.now seat.new }
+    ensures view { OnlyAdded (view seat.old) (view seat.new) }
+    ensures sound { IsSound (view seat.old) → IsSound (view seat.new) }
+    ensures settled { (done : Rows) → Fits system.now done → ((row location : ℕ) → Has (members done) row location → ⊥) → IfOk result (λ todo. IsSettled system.now (view seat.new) book.new done todo.items) }
+{
+    let mut facts = start(alloc, system, book)?;
+    in_order(&mut facts);
+    let mut todo = Vec::new(alloc);
+    add_facts(table, seat, width, facts.as_slice(), &mut todo)?;
+    Ok(todo)
+}
