@@ -7,3 +7,4 @@ pub mod IntegerTypes
 pub mod Lefts
 pub mod Keeping
 pub mod Walking
+pub mod Scenes

@@ -2,7 +2,7 @@
 #![tactic(auto, using(crate::proofs::IntegerTypes::integers))]
 
 ghost use Rattle.std.specs.Prelude.{◌≡◌, ◌<◌, ◌≤◌, length, IfOk, IfSome, List, ℕ};
-ghost use Rattle.c_check.specs.Around.{Fitting, IsKnown};
+ghost use Rattle.c_check.specs.Around.{Fitting, IsKnown, scene_of};
 ghost use Rattle.c_check.specs.Built.{Scene};
 ghost use Rattle.c_check.specs.Standing.{IsReady, Builds};
 ghost use Rattle.c_check.specs.Answers.{source_in};
@@ -17,8 +17,8 @@ use c_lexer::Tokens;
 use core_tree::node::Unit;
 use std::alloc::Global;
 
-/// What the last node of an expression stands for. Its nodes are those from a start up to an end.
-pub fn check_nodes(
+// What the last node of an expression stands for, in each scene that fits the unit.
+fn walk_nodes(
     alloc: Global,
     unit: &mut Unit,
     tokens: &Tokens,
@@ -64,4 +64,31 @@ pub fn check_nodes(
         at += 1;
     }
     Ok(result_of(results.as_slice(), start, end - 1))
+}
+
+/// Turns the syntax nodes of an expression into core nodes of a unit (C11 6.5): what the last of them stands for, or None
+/// where it has no core node of its own. The nodes are those from a start up to an end, in the order in which productions
+/// end; `uses` pairs each use of a name with its declaration, and `known` says what a declaration declares. `BadOperand` and
+/// `Unsupported` hold the first node in order that its row refuses; a row that isn't built is `Unsupported` with `NotBuilt`.
+/// All that stood in the unit goes on standing.
+pub fn check_nodes(
+    alloc: Global,
+    unit: &mut Unit,
+    tokens: &Tokens,
+    tree: &Tree,
+    uses: &[(u32, u32)],
+    known: &Known,
+    start: u32,
+    end: u32,
+) -> Result<Option<u32>, CheckFault>
+    requires ready { IsReady unit.old }
+    requires known { IsKnown unit.old known.now.list.items }
+    requires some { start < end }
+    requires parsed { end ≤ length tree.now.nodes.items }
+    ensures ready { IsReady unit.new }
+    ensures builds { Builds unit.old unit.new }
+    ensures within { IfOk result (λ r. IfSome r (λ k. k < length unit.new.nodes.items)) }
+    ensures answer { Answered (scene_of unit.old known.now.owner known.now.list.items uses.now) (source_in tokens.now tree.now uses.now) start end unit.new result }
+{
+    walk_nodes(alloc, unit, tokens, tree, uses, known, start, end)
 }

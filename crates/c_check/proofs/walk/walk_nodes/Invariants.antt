@@ -3,7 +3,7 @@ use Rattle.c_check.specs.Standing.{IsReady, Builds}
 use Rattle.c_check.specs.Built.{Scene, AreBuilt}
 use Rattle.c_check.specs.Around.{Fitting}
 use Rattle.c_check.specs.Answers.{source_in, senses_at}
-use Rattle.c_check.proofs.walk.check_nodes.Given as goal
+use Rattle.c_check.proofs.walk.walk_nodes.Given as goal
 
 -- the rows fit up to where it stands
 abbrev pub invariant-loop-at : goal.invariant-loop-at
