@@ -12,6 +12,8 @@ mod reads;
 mod rows;
 mod sorts;
 mod syntax;
+#[cfg(test)]
+mod tests;
 mod trees;
 mod values;
 mod walk;
