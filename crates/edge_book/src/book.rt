@@ -51,11 +51,12 @@ impl EdgeBook {
         }
     }
 
-    /// Adds an edge at the end if the book doesn't have it, and answers whether it is new. After want of memory the
-    /// book is as it was.
+    /// Adds an edge at the end if the book doesn't have it, and answers whether it is new. No edge stands twice. After
+    /// want of memory the book is as it was.
     pub fn add(&mut self, from: u32, to: u32) -> Result<bool, OutOfMemory>
         ensures added { IfOk result (λ new. MatchBool new (self.new ≡ self.old ++ (from, to) ∷ []) (self.new ≡ self.old)) }
         ensures new { IfOk result (λ new. MatchBool new (Contains self.old (from, to) → ⊥) (Contains self.old (from, to))) }
+        ensures once { AreApart self.new }
         ensures err { OnErr result (self.new ≡ self.old) }
     {
         self.leaving.reserve(from)?;

@@ -1,6 +1,6 @@
 //! What the rules demand of empty rows.
 ghost use Rattle.std.specs.Prelude.{◌≡◌, ℕ, ◌↔◌, OnOk, IfOk, Contains};
-ghost use Rattle.edge_book.specs.Edges.{Gains};
+ghost use Rattle.edge_book.specs.Edges.{AreApart, Gains};
 ghost use Rattle.sol_model.specs.Systems.{IsValid};
 ghost use Rattle.sol_model.specs.declared.system.Constraint.{Constraint};
 
@@ -19,6 +19,7 @@ fn start_constraint(
 ) -> Result<(), OutOfMemory>
     ensures book { OnOk result (Gains book.old book.new (λ a b. constraint ≡ Constraint.Copy a b)) }
     ensures facts { OnOk result (Gains facts.old.items facts.new.items (λ a b. constraint ≡ Constraint.Address a b)) }
+    ensures once { AreApart book.old → AreApart book.new }
 {
     match constraint {
         Constraint::Copy { from, to } => {
@@ -31,7 +32,7 @@ fn start_constraint(
 }
 
 /// Adds the edges that rules demand of empty rows to a book, and gives the facts that they demand: the edges of the
-/// Copy constraints, and the facts of the Address constraints.
+/// Copy constraints, and the facts of the Address constraints. No edge stands twice in the book then, where none did.
 pub fn start(
     alloc: Global,
     system: &System,
@@ -40,6 +41,7 @@ pub fn start(
     requires { IsValid system.now }
     ensures book { OnOk result (Gains book.old book.new (λ a b. Contains system.now.constraints (Constraint.Copy a b))) }
     ensures facts { IfOk result (λ facts. (row location : ℕ) → (Contains facts.items (row, location) ↔ Contains system.now.constraints (Constraint.Address row location))) }
+    ensures once { AreApart book.old → AreApart book.new }
 {
     let mut facts = Vec::new(alloc);
     for i in 0..system.constraints.len() {

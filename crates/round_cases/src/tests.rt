@@ -676,3 +676,205 @@ fn allocating(rt: HostRuntime) -> Result<(), OutOfMemory> {
     )?;
     expect(&rt, alloc, &case, &[0, 8, 64, 0, 64, 0, 1, 0, 0, 0, 0, 64])
 }
+
+// typedef void F(void); F *t[2]={f}; void f(void){t[1]=g;} and main calls t[i]().
+// Locations 0 t, 1 f, 2 g, 3 main. Row 4 is what is called, row 5 &g.
+#[test]
+fn targets_that_calls_add(rt: HostRuntime) -> Result<(), OutOfMemory> {
+    let alloc = rt.alloc();
+    let part = FunctionPart {
+        location: 1,
+        signature: 1,
+        parameters: &[],
+        results: &[],
+        effects: &[],
+    };
+    let case = system(
+        alloc,
+        6,
+        &[object(POINTER), code(0), code(1), code(2)],
+        &[
+            address(0, 1),
+            address(5, 2),
+            copy(5, 0),
+            copy(0, 4),
+            called(0),
+        ],
+        &[
+            part,
+            FunctionPart {
+                location: 2,
+                ..part
+            },
+            FunctionPart {
+                location: 3,
+                signature: 2,
+                ..part
+            },
+        ],
+        &[CallPart {
+            caller: 2,
+            callee: 4,
+            signature: 1,
+            arguments: &[],
+            results: &[],
+            fresh: &[],
+        }],
+    )?;
+    expect(&rt, alloc, &case, &[6, 0, 0, 0, 6, 4])
+}
+
+/// The least sets of the rows of `linked_list`.
+const LIST_SETS: &[u64] = &[
+    8, 192, 8, 0, 8, 192, 0, 0, 512, 128, 0, 0, 0, 0, 32768, 0, 4096, 8, 16, 32, 1024, 64, 128,
+    8192, 16384, 0,
+];
+
+// struct node {struct node *next; const char *word;}; static struct node *head; void push(const char *w) {struct node *n =
+// malloc(sizeof *n); n->next = head; n->word = w; head = n;} and main calls push("one"), push(argv[0]) and
+// __ctype_b_loc(). Locations 0 head, 1 w, 2 n, 3 to 5 what malloc gives, 6 the text, 7 what arguments lead to, 8 argv,
+// 9 its elements, 10 push, 11 main, 12 malloc, 13 __ctype_b_loc, 14 and 15 the tables behind it.
+// Row 25 is a row that no constraint fills.
+#[test]
+fn linked_list(rt: HostRuntime) -> Result<(), OutOfMemory> {
+    let alloc = rt.alloc();
+    let case = system(
+        alloc,
+        26,
+        &[
+            object(POINTER),
+            object(POINTER),
+            object(POINTER),
+            object(PAIR),
+            object(POINTER),
+            object(POINTER),
+            object(INTEGER),
+            object(INTEGER),
+            object(POINTER),
+            object(POINTER),
+            code(0),
+            code(1),
+            code(2),
+            code(3),
+            object(POINTER),
+            object(INTEGER),
+        ],
+        &[
+            called(0),
+            copy(17, 2),
+            field(2, 18, 0),
+            store(18, 0),
+            field(2, 19, 1),
+            store(19, 1),
+            copy(2, 0),
+            called(1),
+            load(8, 22),
+            called(2),
+            called(3),
+            address(8, 9),
+            address(9, 7),
+            address(14, 15),
+            address(16, 12),
+            address(20, 10),
+            address(21, 6),
+            address(23, 13),
+        ],
+        &[
+            FunctionPart {
+                location: 10,
+                signature: 1,
+                parameters: &[&[1]],
+                results: &[],
+                effects: &[],
+            },
+            FunctionPart {
+                location: 11,
+                signature: 2,
+                parameters: &[&[25]],
+                results: &[],
+                effects: &[],
+            },
+            FunctionPart {
+                location: 12,
+                signature: 3,
+                parameters: &[&[25]],
+                results: &[],
+                effects: &[Effect::GivesNew],
+            },
+            FunctionPart {
+                location: 13,
+                signature: 4,
+                parameters: &[&[25]],
+                results: &[],
+                effects: &[Effect::GivesObject(0)],
+            },
+        ],
+        &[
+            CallPart {
+                caller: 0,
+                callee: 16,
+                signature: 3,
+                arguments: &[&[25]],
+                results: &[17],
+                fresh: &[(2, 3)],
+            },
+            CallPart {
+                caller: 1,
+                callee: 20,
+                signature: 1,
+                arguments: &[&[21]],
+                results: &[],
+                fresh: &[],
+            },
+            CallPart {
+                caller: 1,
+                callee: 20,
+                signature: 1,
+                arguments: &[&[22]],
+                results: &[],
+                fresh: &[],
+            },
+            CallPart {
+                caller: 1,
+                callee: 23,
+                signature: 4,
+                arguments: &[&[25]],
+                results: &[24],
+                fresh: &[(3, 14)],
+            },
+        ],
+    )?;
+    expect(&rt, alloc, &case, LIST_SETS)?;
+    assert!(rt; is_valid(&case));
+    let gate = Both {
+        first: AtomicU64::new(0),
+        second: AtomicU64::new(0),
+        late: AtomicU64::new(0),
+    };
+    let rows = solved(&rt, alloc, &case, 2, &gate)?;
+    assert_eq!(rt; gate.late.load(Ordering::SeqCst), 0);
+    assert!(rt; rows.words.as_slice() == LIST_SETS);
+    Ok(())
+}
+
+// Row 2 gets an address and goes to 297 rows, which are then one round's rows, and each of them goes to row 0.
+#[test]
+fn wide_round(rt: HostRuntime) -> Result<(), OutOfMemory> {
+    let alloc = rt.alloc();
+    let mut constraints = vec![in alloc; address(2, 0)]?;
+    let mut sets = vec![in alloc; 1u64, 0, 1]?;
+    for row in 3u32..300 {
+        constraints.push(copy(2, row))?;
+        constraints.push(copy(row, 0))?;
+        sets.push(1)?;
+    }
+    let case = system(
+        alloc,
+        300,
+        &[object(POINTER), object(POINTER), object(POINTER)],
+        constraints.as_slice(),
+        &[],
+        &[],
+    )?;
+    expect(&rt, alloc, &case, sets.as_slice())
+}

@@ -97,12 +97,11 @@ module _ (S : System) (v w : View) (book more news : List (ℕ × ℕ)) (done af
           | inr new ↦ inside b location ((round.served.pieces new.0 new.1).targets b location (subst (λ (r : ℕ). Contains book (r, b)) (sym new.2) edge) new.3)
         ]
 
-    pub settled_again : (x y : View) (ordered : List (ℕ × ℕ)) (noted listed final : List ℕ) → IsInside (known w) (known x) → IsInside (known x) (known y) → IsSound y
-        → ((row location : ℕ) → Contains news (row, location) → Contains ordered (row, location))
+    pub settled_again : (x y : View) (noted listed final : List ℕ) → IsInside (known w) (known x) → IsInside (known x) (known y) → IsSound y
         → ((row : ℕ) → (Contains noted row ↔ (Contains {X = ℕ} [] row ⊎ ((turn : Turn) × Contains turns turn × Contains turn.grown.items row))))
-        → ((row location : ℕ) → Contains ordered (row, location) → Has (known x) row location) → IsNoted S w x noted listed
+        → ((row location : ℕ) → Contains news (row, location) → Has (known x) row location) → IsNoted S w x noted listed
         → IsCarried more (members after) (known y) → IsNoted S x y listed final → IsSettled S y more after final
-    settled_again x y ordered noted listed final to_x to_y sound order note added first_noted carried last_noted = record {
+    settled_again x y noted listed final to_x to_y sound note added first_noted carried last_noted = record {
       ready = record {
         demanded = more_demanded y (λ r l h. to_y r l (to_x r l h));
         fits = taken.fits;
@@ -116,7 +115,7 @@ module _ (S : System) (v w : View) (book more news : List (ℕ × ℕ)) (done af
         ];
         facts = λ r l f. elim (taken.facts.whole r l f) [
           | inl old ↦ to_y r l (to_x r l (worked_known v w round.worked r l (round.before.treated.facts r l old)))
-          | inr new ↦ to_y r l (added r l (order r l new))
+          | inr new ↦ to_y r l (added r l new)
         ];
       };
       sound = sound;

@@ -1,6 +1,15 @@
+pub mod Asking
+pub mod Blocks
+pub mod Costs
+pub mod Counts
+pub mod Ending
+pub mod Gifts
+pub mod Growing
+pub mod Once
 pub mod Parts
+pub mod Rings
 pub mod Serving
 pub mod Sharing
-pub mod Ending
 pub mod Steps
-pub mod Blocks
+pub mod Sums
+pub mod Working

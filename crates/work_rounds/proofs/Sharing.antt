@@ -1,5 +1,5 @@
 -- The shares of many workers together.
-use Rattle.std.proofs.Common.{◌≡◌, ◌⊎◌, ℕ, zero, suc, ◌+◌, ◌*◌, ◌/◌, ◌%◌, ◌<◌, List, [], ◌∷◌, ◌++◌, length, map, option_map, slice_get, Some, All, Result, Ok, Err, IfOk, Contains, refl, sym, ap, ◌∙◌, subst, inl, inr, arith, append_assoc, length-append, mul_comm}
+use Rattle.std.proofs.Common.{◌≡◌, ◌⊎◌, ℕ, zero, suc, ◌+◌, ◌*◌, ◌/◌, ◌%◌, ◌<◌, ◌≤◌, List, [], ◌∷◌, ◌++◌, length, map, option_map, slice_get, Some, All, Result, Ok, Err, IfOk, Contains, refl, sym, ap, ◌∙◌, subst, inl, inr, arith, append_assoc, length-append, mul_comm}
 use Rattle.std.proofs.lemmas.List.{append-nil}
 use Rattle.std.proofs.lemmas.Option.{same_Some, none-some, slice_get-map}
 use Rattle.std.proofs.lemmas.List.Elements.{Contains-append_cases, Contains-append_left, Contains-append_right}
@@ -17,7 +17,26 @@ use Rattle.set_rows.proofs.Samples.{met_first, met_second}
 use Rattle.delta_prop.specs.declared.turn.Turn.{Turn}
 use Rattle.work_rounds.specs.Rounds.{IsPiece, HasServed}
 use Rattle.work_rounds.specs.Turns.{all_of, row_of, AreTurns, IsShare, HasShares}
+use Rattle.work_rounds.specs.Work.{spent, AreDistinct}
+use Rattle.delta_prop.specs.Deltas.{gained}
+use Rattle.edge_book.specs.Leaving.{targets_of}
+use Rattle.std.proofs.lemmas.List.Sums.{sum_by-append, sum_by-cons}
+use Rattle.work_rounds.proofs.Once.{shares_apart}
+use Rattle.work_rounds.proofs.Sums.{IsApart}
 use Rattle.work_rounds.proofs.Parts.{met_has}
+
+spent_append : (width : ℕ) (book : List (ℕ × ℕ)) (done : ℕ → List ℕ) (ts us : List Turn) → spent width book done (ts ++ us) ≡ spent width book done ts + spent width book done us
+spent_append width book done ts us = sum_by-append (λ (turn : Turn). gained width (done turn.row) turn.done.items * length (targets_of turn.row book)) ts us
+
+turns_paid : (width : ℕ) (book : List (ℕ × ℕ)) (done : ℕ → List ℕ) (ts : List Turn) (v w : View) → AreTurns width book done v ts w → w.ors ≤ v.ors + spent width book done ts
+turns_paid width book done [] v w h = let e : w.ors ≡ v.ors = ap (λ (x : View). x.ors) h in omega arith
+turns_paid width book done (turn ∷ ts) v w h =
+    let u : View = h.0 in
+    let first : u.ors ≤ v.ors + gained width (done turn.row) turn.done.items * length (targets_of turn.row book) = h.1.ors in
+    let rest : w.ors ≤ u.ors + spent width book done ts = turns_paid width book done ts u w h.3 in
+    let whole : spent width book done (turn ∷ ts) ≡ gained width (done turn.row) turn.done.items * length (targets_of turn.row book) + spent width book done ts =
+    sum_by-cons (λ (t : Turn). gained width (done t.row) t.done.items * length (targets_of t.row book)) turn ts in
+    omega arith
 
 at_append : {X : Type 0} (xs ys : List X) (k : ℕ) (x : X) → slice_get (xs ++ ys) k ≡ Some x → ((k < length xs) × (slice_get xs k ≡ Some x)) ⊎ ((j : ℕ) × (k ≡ length xs + j) × (slice_get ys j ≡ Some x))
 at_append [] ys k x e = inr (k, omega arith, e)
@@ -67,12 +86,15 @@ module _ (S : System) (book : List (ℕ × ℕ)) (v : View) where
             subst (λ (n : ℕ). IsShare S book done todo workers n v (met a b) share) same there)
       ];
       served = subst (HasServed S book v (met a b)) (sym is) (served_together a b ts us e left.served right.served);
+      ors = subst (λ (xs : List Turn). (met a b).ors ≤ v.ors + spent (width_of S) book (words_at done) xs) (sym is)
+          (let l = left.ors in let r = right.ors in let s = spent_append (width_of S) book (words_at done) ts us in
+          let goal : a.ors + b.ors ≤ v.ors + spent (width_of S) book (words_at done) (ts ++ us) = omega arith in goal);
     }
 
 -- one worker's turns
 pub one_share : (S : System) (book : List (ℕ × ℕ)) (done : Rows) (todo : List ℕ) (workers first last : ℕ) (v w : View) (ts : List Turn) → first + 1 ≡ last
-    → IsShare S book done todo workers first v w ts → HasServed S book v w ts → HasShares S book done todo workers first last v w ts
-one_share S book done todo workers first last v w ts e share served = record {
+    → IsShare S book done todo workers first v w ts → HasServed S book v w ts → w.ors ≤ v.ors + spent (width_of S) book (words_at done) ts → HasShares S book done todo workers first last v w ts
+one_share S book done todo workers first last v w ts e share served paid = record {
   shares = ts ∷ [];
   all = sym (append-nil ts);
   count = (omega arith);
@@ -85,6 +107,7 @@ one_share S book done todo workers first last v w ts e share served = record {
     | inr h ↦ absurd (none-some other h.2)
   ];
   served = served;
+  ors = paid;
 }
 
 -- a round: the seat gives one half away, which comes back
@@ -102,6 +125,7 @@ shares_round S book done todo workers first last v b ts e right = record {
       | inr r ↦ right.served.others row location r
     ];
   };
+  ors = (let r = right.ors in let goal : v.ors + b.ors ≤ v.ors + spent (width_of S) book (words_at done) ts = omega arith in goal);
 }
   where
     share_back : (worker : ℕ) (share : List Turn) → IsShare S book done todo workers worker (half_given v) b share → IsShare S book done todo workers worker v (met (half_kept v) b) share
@@ -129,6 +153,11 @@ each_row S book done todo workers v w turns h some row c =
     let t = Contains-map row_of share.0 row (Contains-at (map row_of share.0) i row at) in
     (t.0, subst (λ (ts : List Turn). Contains ts t.0) (sym h.all) (in_all h.shares worker share.0 t.0 share.1 t.1), sym t.2)
 
+-- no row of the round has had two turns
+pub rows_apart : (S : System) (book : List (ℕ × ℕ)) (done : Rows) (todo : List ℕ) (workers : ℕ) (v w : View) (turns : List Turn) → AreDistinct todo → HasShares S book done todo workers 0 workers v w turns → IsApart (map row_of turns)
+rows_apart S book done todo workers v w turns once h = subst (λ (ts : List Turn). IsApart (map row_of ts)) (sym h.all)
+    (shares_apart todo workers 0 h.shares once (λ k share at i. (h.each k share at).rows i) (let e = h.count in omega arith))
+
 pub both_ok : {A E : Type 0} (r : Result A E) (P Q : A → Type 0) → IfOk r P → IfOk r Q → IfOk r (λ x. P x × Q x)
 both_ok (Ok x) P Q p q = (p, q)
 both_ok (Err e) P Q p q = tt
@@ -141,3 +170,4 @@ alone S book done todo workers first last v w ts own e all turns rows =
     record { from = v; to = w; begun = refl; turns_are = turns; ended = λ row location h. h; rows = rows }
     (turns_served S book (words_at done) ts v w own (λ turn c. let at = at_Contains ts turn c in
     All-at (IsRow S) todo (first + at.0 * workers) turn.row all (sym (rows at.0) ∙ slice_get-map row_of ts at.0 ∙ ap (option_map row_of) at.2)) turns)
+    (turns_paid (width_of S) book (words_at done) ts v w turns)

@@ -1,2 +1,5 @@
+pub mod Gift
+pub mod Ring
 pub mod Rounds
 pub mod Turns
+pub mod Work

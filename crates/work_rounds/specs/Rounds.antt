@@ -1,5 +1,5 @@
 -- What holds before and after a round.
-use Rattle.std.specs.Prelude.{◌≡◌, ◌⊎◌, ◌↔◌, ℕ, ◌+◌, ◌<◌, ◌≤◌, true, List, length, slice_index, Contains}
+use Rattle.std.specs.Prelude.{◌≡◌, ◌⊎◌, ◌↔◌, ℕ, ◌+◌, ◌<◌, ◌≤◌, true, List, length, map, slice_index, Contains}
 use Rattle.sol_model.specs.declared.system.System.{System}
 use Rattle.sol_model.specs.declared.rows.Rows.{Rows}
 use Rattle.sol_model.specs.Families.{Family, Has, IsInside, members}
@@ -11,6 +11,7 @@ use Rattle.set_rows.specs.Views.{known, SamePart}
 use Rattle.delta_prop.specs.declared.turn.Turn.{Turn}
 use Rattle.delta_prop.specs.Deltas.{AllDemanded, IsSound}
 use Rattle.new_members.specs.News.{IsIn, IsFact, Renews}
+use Rattle.work_rounds.specs.Work.{AreDistinct}
 
 -- what one row has in a family was seen in the other row of each edge
 abbrev pub IsCarried : List (ℕ × ℕ) → Family → Family → Type 0
@@ -96,9 +97,10 @@ pub record IsNoted (S : System) (v w : View) (todo more : List ℕ) : Type 0 whe
   pub rows : (row : ℕ) → Contains more row → Contains todo row ⊎ IsRow S row
   pub rest : (row location : ℕ) → Has (known w) row location → Has (known v) row location ⊎ Contains more row
 
--- a round has been worked, each of whose rows has had a turn
+-- a round has been worked, each of whose rows has had a turn, and none of them two
 pub record IsWorked (S : System) (v w : View) (book : List (ℕ × ℕ)) (done : Rows) (todo : List ℕ) (turns : List Turn) : Type 0 where
   pub before : IsSettled S v book done todo
   pub worked : HasWorked v w
   pub served : HasServed S book v w turns
   pub each : (row : ℕ) → Contains todo row → (turn : Turn) × Contains turns turn × (turn.row ≡ row)
+  pub once : AreDistinct (map (λ turn. turn.row) turns)

@@ -1,5 +1,5 @@
 -- The turns of a round, one after another, and how they are shared out.
-use Rattle.std.specs.Prelude.{◌≡◌, ℕ, ◌+◌, ◌*◌, List, [], ◌∷◌, ◌++◌, length, map, slice_get, Some, Ok, Result, Vec}
+use Rattle.std.specs.Prelude.{◌≡◌, ℕ, ◌+◌, ◌*◌, ◌≤◌, List, [], ◌∷◌, ◌++◌, length, map, slice_get, Some, Ok, Result, Vec}
 use Rattle.std.specs.declared.alloc.Global.{Global}
 use Rattle.pta_base.specs.declared.memory.OutOfMemory.{OutOfMemory}
 use Rattle.sol_model.specs.declared.system.System.{System}
@@ -12,6 +12,7 @@ use Rattle.delta_prop.specs.declared.turn.Turn.{Turn}
 use Rattle.delta_prop.specs.Turns.{IsTurn}
 use Rattle.new_members.specs.News.{words_at}
 use Rattle.work_rounds.specs.Rounds.{HasServed}
+use Rattle.work_rounds.specs.Work.{spent}
 
 abbrev pub row_of : Turn → ℕ
 row_of turn = turn.row
@@ -36,13 +37,15 @@ abbrev pub all_of : List (List Turn) → List Turn
 all_of [] = []
 all_of (turns ∷ more) = turns ++ all_of more
 
--- the turns of the workers from `first` up to `last`, each with its share
+-- the turns of the workers from `first` up to `last`, each with its share; they have paid no more than what is new in
+-- their rows, for each edge
 pub record HasShares (S : System) (book : List (ℕ × ℕ)) (done : Rows) (todo : List ℕ) (workers first last : ℕ) (v w : View) (turns : List Turn) : Type 0 where
   pub shares : List (List Turn)
   pub all : turns ≡ all_of shares
   pub count : length shares + first ≡ last
   pub each : (k : ℕ) (share : List Turn) → slice_get shares k ≡ Some share → IsShare S book done todo workers (first + k) v w share
   pub served : HasServed S book v w turns
+  pub ors : w.ors ≤ v.ors + spent (width_of S) book (words_at done) turns
 
 -- both were given, and this is the one after the other
 abbrev pub AreJoined : Result (Vec Turn Global) OutOfMemory → Result (Vec Turn Global) OutOfMemory → Vec Turn Global → Type 0

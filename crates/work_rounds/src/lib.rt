@@ -5,6 +5,7 @@
 
 mod dealing;
 mod joining;
+pub mod laws;
 mod pieces;
 mod round;
 mod settling;

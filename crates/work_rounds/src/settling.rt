@@ -1,5 +1,5 @@
 //! What the caller does between two rounds.
-ghost use Rattle.std.specs.Prelude.{◌≡◌, ℕ, ◌⊎◌, ◌↔◌, ◌≤◌, ◌<◌, ◌++◌, OnOk, IfOk, List, [], replicate, take, Contains, length};
+ghost use Rattle.std.specs.Prelude.{◌≡◌, ℕ, ◌+◌, ◌⊎◌, ◌↔◌, ◌≤◌, ◌<◌, ◌++◌, OnOk, IfOk, List, [], replicate, take, Contains, length};
 ghost use Rattle.sol_model.specs.Families.{Has, IsInside, members};
 ghost use Rattle.sol_model.specs.declared.rows.Rows.{Rows};
 ghost use Rattle.delta_prop.specs.declared.turn.Turn.{Turn};
@@ -8,11 +8,13 @@ ghost use Rattle.sol_model.specs.Systems.{IsValid, IsRow, IsLocation, Fits, widt
 ghost use Rattle.set_rows.specs.Views.{OnlyAdded, known};
 ghost use Rattle.set_rows.specs.Calls.{system_of, view, IsOf};
 ghost use Rattle.delta_prop.specs.Deltas.{AllDemanded, IsSound};
-ghost use Rattle.new_members.specs.News.{Extends, IsFact, IsReader};
+ghost use Rattle.edge_book.specs.Edges.{AreApart, Gains};
+ghost use Rattle.new_members.specs.News.{Extends, IsFact, IsReader, words_at};
 ghost use Rattle.work_rounds.specs.Rounds.{IsCarried, IsNoted, IsSettled, IsTakenIn, IsTurnOf, IsWorked};
+ghost use Rattle.work_rounds.specs.Work.{IsBooked, edge_work, paid_for, spent};
 
 use delta_prop::{Turn, carry};
-use edge_book::{EdgeBook, in_order};
+use edge_book::EdgeBook;
 use new_members::{renew, row_of, start};
 use pta_base::OutOfMemory;
 use set_rows::{RowSeat, RowTable};
@@ -81,34 +83,74 @@ fn add_fact(table: &RowTable, seat: &mut RowSeat, width: usize, row: u32, locati
     ensures view { OnlyAdded (view seat.old) (view seat.new) }
     ensures sound { IsSound (view seat.old) → IsSound (view seat.new) }
     ensures has { Has (known (view seat.new)) row location }
+    ensures ors { (view seat.new).ors ≡ (view seat.old).ors + 1 }
     ensures others { (r l : ℕ) → Has (known (view seat.new)) r l → Has (known (view seat.old)) r l ⊎ (r ≡ row) }
 {
     let word = row as usize * width + location as usize / 64;
     table.add(seat, word, 1 << (location % 64));
 }
 
-/// Adds facts that rules demand to their rows, and notes these as grown.
-fn add_facts(
+/// Adds a fact that a rule demands to its row, and notes this as grown, where the fact is not yet in the book of facts
+/// that were added.
+fn add_once(
     table: &RowTable,
     seat: &mut RowSeat,
     width: usize,
-    facts: &[(u32, u32)],
+    facts: &mut EdgeBook,
+    row: u32,
+    location: u32,
     todo: &mut Vec<u32>,
 ) -> Result<(), OutOfMemory>
     requires own { IsOf table.now seat.old }
     requires valid { IsValid (system_of table.now) }
     requires width { width ≡ width_of (system_of table.now) }
-    requires known { (row location : ℕ) → Contains facts.now (row, location) → IsRow (system_of table.now) row × IsLocation (system_of table.now) location }
-    requires demanded { (row location : ℕ) → Contains facts.now (row, location) → IsFact (system_of table.now) (known (view seat.old)) row location }
+    requires known { IsRow (system_of table.now) row × IsLocation (system_of table.now) location }
+    requires demanded { IsFact (system_of table.now) (known (view seat.old)) row location }
+    requires had { Contains facts.old (row, location) → Has (known (view seat.old)) row location }
     ensures own { IsOf table.now seat.new }
     ensures view { OnlyAdded (view seat.old) (view seat.new) }
     ensures sound { IsSound (view seat.old) → IsSound (view seat.new) }
-    ensures has { OnOk result ((row location : ℕ) → Contains facts.now (row, location) → Has (known (view seat.new)) row location) }
+    ensures has { OnOk result (Has (known (view seat.new)) row location) }
+    ensures facts { OnOk result (Gains facts.old facts.new (λ r l. (r ≡ row) × (l ≡ location))) }
+    ensures once { AreApart facts.new }
     ensures todo { OnOk result (IsNoted (system_of table.now) (view seat.old) (view seat.new) todo.old.items todo.new.items) }
+    ensures ors { OnOk result ((view seat.new).ors + length facts.old ≤ (view seat.old).ors + length facts.new) }
 {
-    for (row, location) in facts {
-        todo.push(*row)?;
-        add_fact(table, seat, width, *row, *location);
+    if !facts.add(row, location)? {
+        return Ok(());
+    }
+    todo.push(row)?;
+    add_fact(table, seat, width, row, location);
+    Ok(())
+}
+
+/// Adds facts that rules demand to their rows, each that was not added before, and notes these rows as grown. It takes
+/// no more steps than the book of facts has grown.
+fn add_facts(
+    table: &RowTable,
+    seat: &mut RowSeat,
+    width: usize,
+    facts: &mut EdgeBook,
+    demanded: &[(u32, u32)],
+    todo: &mut Vec<u32>,
+) -> Result<(), OutOfMemory>
+    requires own { IsOf table.now seat.old }
+    requires valid { IsValid (system_of table.now) }
+    requires width { width ≡ width_of (system_of table.now) }
+    requires known { (row location : ℕ) → Contains demanded.now (row, location) → IsRow (system_of table.now) row × IsLocation (system_of table.now) location }
+    requires demanded { (row location : ℕ) → Contains demanded.now (row, location) → IsFact (system_of table.now) (known (view seat.old)) row location }
+    requires had { (row location : ℕ) → Contains facts.old (row, location) → Has (known (view seat.old)) row location }
+    ensures own { IsOf table.now seat.new }
+    ensures view { OnlyAdded (view seat.old) (view seat.new) }
+    ensures sound { IsSound (view seat.old) → IsSound (view seat.new) }
+    ensures has { OnOk result ((row location : ℕ) → Contains demanded.now (row, location) → Has (known (view seat.new)) row location) }
+    ensures facts { OnOk result (Gains facts.old facts.new (λ row location. Contains demanded.now (row, location))) }
+    ensures once { AreApart facts.old → AreApart facts.new }
+    ensures todo { OnOk result (IsNoted (system_of table.now) (view seat.old) (view seat.new) todo.old.items todo.new.items) }
+    ensures ors { OnOk result ((view seat.new).ors + length facts.old ≤ (view seat.old).ors + length facts.new) }
+{
+    for (row, location) in demanded {
+        add_once(table, seat, width, facts, *row, *location, todo)?;
     }
     Ok(())
 }
@@ -134,6 +176,8 @@ fn carry_new(
     ensures view { OnlyAdded (view seat.old) (view seat.new) }
     ensures sound { IsSound (view seat.old) → IsSound (view seat.new) }
     ensures carried { OnOk result (IsCarried book.now (members done.now) (known (view seat.new))) }
+    ensures once { AreApart book.now }
+    ensures ors { OnOk result ((view seat.new).ors + edge_work (system_of table.now) (members done.now) (take first book.now) ≤ (view seat.old).ors + edge_work (system_of table.now) (members done.now) book.now) }
     ensures todo { OnOk result (IsNoted (system_of table.now) (view seat.old) (view seat.new) todo.old.items todo.new.items) }
 {
     for i in first..book.len() {
@@ -147,7 +191,8 @@ fn carry_new(
     Ok(())
 }
 
-/// Takes in what a round's turns have done, and gives the rows that have grown since they were read.
+/// Takes in what a round's turns have done, and gives the rows that have grown since they were read. The steps that the
+/// turns and this call take are paid for by what is done of the edges' sources, and by facts that are new.
 pub(crate) fn settle(
     alloc: Global,
     system: &System,
@@ -156,6 +201,7 @@ pub(crate) fn settle(
     readers: &EdgeBook,
     done: &mut Rows,
     book: &mut EdgeBook,
+    facts: &mut EdgeBook,
     turns: &[Turn],
     nothing: &[u64],
 ) -> Result<Vec<u32>, OutOfMemory>
@@ -165,18 +211,21 @@ pub(crate) fn settle(
     requires readers { (row number : ℕ) → (Contains readers.now (row, number) ↔ IsReader system.now row number) }
     requires nothing { nothing.now ≡ replicate (width_of system.now) 0 }
     requires worked { (before : View) × (todo : List ℕ) × IsWorked system.now before (view seat.old) book.old done.old todo turns.now }
+    requires booked { IsBooked system.now done.old book.old facts.old }
     ensures own { IsOf table.now seat.new }
     ensures view { OnlyAdded (view seat.old) (view seat.new) }
     ensures sound { IsSound (view seat.old) → IsSound (view seat.new) }
     ensures settled { IfOk result (λ todo. IsSettled system.now (view seat.new) book.new done.new todo.items) }
+    ensures booked { OnOk result (IsBooked system.now done.new book.new facts.new) }
+    ensures paid { OnOk result ((view seat.new).ors + (spent (width_of system.now) book.old (words_at done.old) turns.now + paid_for system.now done.old book.old facts.old) ≤ (view seat.old).ors + paid_for system.now done.new book.new facts.new) }
 {
     let first = book.len();
-    let mut facts = Vec::new(alloc);
-    take_in(alloc, system, readers, done, book, &mut facts, turns)?;
-    in_order(&mut facts);
+    let mut demanded = Vec::new(alloc);
+    take_in(alloc, system, readers, done, book, &mut demanded, turns)?;
     let mut todo = Vec::new(alloc);
     note_grown(&mut todo, turns)?;
-    add_facts(table, seat, nothing.len(), facts.as_slice(), &mut todo)?;
+    let width = nothing.len();
+    add_facts(table, seat, width, facts, demanded.as_slice(), &mut todo)?;
     carry_new(table, seat, done, book, first, nothing, &mut todo)?;
     Ok(todo)
 }
@@ -189,6 +238,7 @@ pub(crate) fn begin(
     seat: &mut RowSeat,
     width: usize,
     book: &mut EdgeBook,
+    facts: &mut EdgeBook,
 ) -> Result<Vec<u32>, OutOfMemory>
     requires own { IsOf table.now seat.old }
     requires valid { IsValid system.now }
@@ -196,14 +246,16 @@ pub(crate) fn begin(
     requires width { width ≡ width_of system.now }
     requires fresh { (row location : ℕ) → Has (known (view seat.old)) row location → ⊥ }
     requires book { book.old ≡ [] }
+    requires facts { facts.old ≡ [] }
     ensures own { IsOf table.now seat.new }
     ensures view { OnlyAdded (view seat.old) (view seat.new) }
     ensures sound { IsSound (view seat.old) → IsSound (view seat.new) }
     ensures settled { (done : Rows) → Fits system.now done → ((row location : ℕ) → Has (members done) row location → ⊥) → IfOk result (λ todo. IsSettled system.now (view seat.new) book.new done todo.items) }
+    ensures booked { (done : Rows) → OnOk result (IsBooked system.now done book.new facts.new) }
+    ensures paid { OnOk result ((view seat.new).ors ≤ (view seat.old).ors + length facts.new) }
 {
-    let mut facts = start(alloc, system, book)?;
-    in_order(&mut facts);
+    let demanded = start(alloc, system, book)?;
     let mut todo = Vec::new(alloc);
-    add_facts(table, seat, width, facts.as_slice(), &mut todo)?;
+    add_facts(table, seat, width, facts, demanded.as_slice(), &mut todo)?;
     Ok(todo)
 }

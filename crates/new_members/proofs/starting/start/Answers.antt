@@ -16,6 +16,7 @@ pub loop-i-init : goal.loop-i-init
 loop-i-init c = record {
   book = through_none c.args.system.now.constraints IsCopy c.args.book.now;
   facts = subst (λ (xs : List (ℕ × ℕ)). Gains [] xs (Through c.args.system.now.constraints IsAddress 0)) (sym c.new-facts.ensures.items) (through_none c.args.system.now.constraints IsAddress []);
+  once = λ h. h;
 }
 
 pub loop-i-preserved : goal.loop-i-preserved
@@ -23,6 +24,7 @@ loop-i-preserved c =
     let cs = c.args.system.now.constraints in record {
       book = through_next cs IsCopy c.args.book.now c.loop-i.book c.start_constraint.new.book c.loop-i.i c.constraint_at.result c.loop-i.invariant.book c.constraint_at.ensures.value c.in_ok-start_constraint.ensures.book;
       facts = through_next cs IsAddress [] c.loop-i.facts.items c.start_constraint.new.facts.items c.loop-i.i c.constraint_at.result c.loop-i.invariant.facts c.constraint_at.ensures.value c.in_ok-start_constraint.ensures.facts;
+      once = λ h. c.start_constraint.ensures.once (c.loop-i.invariant.once h);
     }
 
 pub returns-clause-book : goal.returns-clause-book

@@ -1,4 +1,4 @@
-use Rattle.std.proofs.Common.{◌≡◌, ℕ, ◌+◌, ◌*◌, ◌<◌, ◌^◌, List, [], ◌∷◌, ◌++◌, length, get_or, take, slice_get, Some, Contains, Vec, Global, sym, ap, ◌∙◌, subst, subst₂, inl, inr, arith, get_or-take, min}
+use Rattle.std.proofs.Common.{◌≡◌, ℕ, ◌+◌, ◌*◌, ◌<◌, ◌≤◌, ◌^◌, List, [], ◌∷◌, ◌++◌, length, get_or, take, take_all, slice_get, Some, Contains, Vec, Global, sym, ap, ◌∙◌, subst, subst₂, inl, inr, arith, get_or-take, min}
 use Rattle.std.proofs.lemmas.Bool.{cases_eq}
 use Rattle.std.proofs.lemmas.List.{length-take}
 use Rattle.std.proofs.lemmas.Option.{slice_get-get_or, slice_get_within, get_or_from_slice_get, same_Some, none-some}
@@ -13,7 +13,10 @@ use Rattle.set_rows.specs.declared.seat.RowSeat.{RowSeat}
 use Rattle.set_rows.specs.Views.{OnlyAdded, known}
 use Rattle.set_rows.specs.Calls.{system_of, view, IsOf}
 use Rattle.set_rows.proofs.Adding.{added_twice, known_more, nothing_added}
-use Rattle.delta_prop.specs.Deltas.{IsSeenOf, IsSound}
+use Rattle.delta_prop.specs.Deltas.{IsSeenOf, IsSound, gained}
+use Rattle.work_rounds.specs.Work.{edge_work}
+use Rattle.work_rounds.proofs.Growing.{edge_pays}
+use Rattle.work_rounds.proofs.Working.{edge_paid}
 use Rattle.delta_prop.proofs.Carries.{edge_more}
 use Rattle.work_rounds.specs.Rounds.{IsNoted}
 use Rattle.work_rounds.proofs.Serving.{seen_at, in_seen}
@@ -28,6 +31,7 @@ loop-i-init c = record {
   sound = λ s. s;
   carried = λ k a b location lt at h. c.requires.carried a b location (early c.args.book.now c.args.first k (a, b) lt at) h;
   noted = noted_same (system_of c.args.table.now) (view c.args.seat.now) c.args.todo.now.items;
+  ors = omega arith;
 }
   where
     early : (book : List (ℕ × ℕ)) (first k : ℕ) (pair : ℕ × ℕ) → k < first → slice_get book k ≡ Some pair → Contains (take first book) pair
@@ -96,6 +100,7 @@ loop-i-preserved c =
       sound : IsSound v → IsSound (view s);
       carried : (k a b location : ℕ) → k < i + 1 → slice_get book k ≡ Some (a, b) → Has F a location → Has (known (view s)) b location;
       noted : IsNoted S v (view s) start todo;
+      ors : (view s).ors + edge_work S F (take c.args.first book) ≤ v.ors + edge_work S F (take (i + 1) book);
     } in
     elim c.match-get.branch [
       | in-Some+in_ok-reserve+then-carry x ↦
@@ -111,6 +116,8 @@ loop-i-preserved c =
                 (λ location h. in_seen S w to location x.row_of.result.now x.carry.ensures.own.1 (x.row_of.ensures.sized ∙ c.requires.fits.width) x.carry.ensures.carried ((x.row_of.ensures.has location).0 h)) inv.carried;
             noted = noted_then S v u w start so_far (so_far ++ to ∷ []) inv.noted
                 (noted_one S u w so_far to (c.requires.demanded.rows from to (Contains-at book i (from, to) at)).1 (carried_others S u w to inv.own.1 x.carry.ensures.own.1 x.carry.ensures.others));
+            ors = edge_paid S F book c.args.first i from to v.ors u.ors w.ors (gained (width_of S) c.args.nothing.now x.row_of.result.now) at inv.ors x.carry.ensures.ors
+                (edge_pays S c.args.done.now from c.args.nothing.now x.row_of.result.now c.requires.fits (λ location. (x.row_of.ensures.has location).1));
           }
       | in-Some+in_ok-reserve+else-carry x ↦
           let from : ℕ = x.in-Some.from in
@@ -125,6 +132,8 @@ loop-i-preserved c =
             carried = carried_more book F u w i from to at x.carry.ensures.view
                 (λ location h. in_seen S w to location x.row_of.result.now x.carry.ensures.own.1 (x.row_of.ensures.sized ∙ c.requires.fits.width) x.carry.ensures.carried ((x.row_of.ensures.has location).0 h)) inv.carried;
             noted = subst (λ (y : View). IsNoted S v y start so_far) (sym same) inv.noted;
+            ors = edge_paid S F book c.args.first i from to v.ors u.ors w.ors (gained (width_of S) c.args.nothing.now x.row_of.result.now) at inv.ors x.carry.ensures.ors
+                (edge_pays S c.args.done.now from c.args.nothing.now x.row_of.result.now c.requires.fits (λ location. (x.row_of.ensures.has location).1));
           }
       | in_default x ↦ absurd (let e = slice_get-get_or book i (0, 0) (let l = c.loop-i-test.true in let n = c.len-i-end.ensures.len in omega arith) in none-some (get_or book i (0, 0)) (sym (sym c.get.ensures ∙ x.in_default.is) ∙ e))
     ]
@@ -133,3 +142,11 @@ pub returns-clause-carried : goal.returns-clause-carried
 returns-clause-carried c a b location edge h =
     let at = at_Contains c.args.book.now (a, b) edge in
     c.loop-i.invariant.carried at.0 a b location (let l = at.1 in let n = c.loop-i-test.false in let m = c.len-i-end.ensures.len in omega arith) at.2 h
+
+pub returns-clause-ors : goal.returns-clause-ors
+returns-clause-ors c =
+    let S = system_of c.args.table.now in
+    let F = members c.args.done.now in
+    let book = c.args.book.now in
+    subst (λ (xs : List (ℕ × ℕ)). (view c.loop-i.seat).ors + edge_work S F (take c.args.first book) ≤ (view c.args.seat.now).ors + edge_work S F xs)
+    (take_all c.loop-i.i book (let n = c.loop-i-test.false in let m = c.len-i-end.ensures.len in omega arith)) c.loop-i.invariant.ors

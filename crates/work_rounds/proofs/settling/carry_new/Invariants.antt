@@ -1,9 +1,10 @@
-use Rattle.std.proofs.Common.{◌≡◌, ℕ, ◌<◌, Some, slice_get}
+use Rattle.std.proofs.Common.{◌≡◌, ℕ, ◌+◌, ◌<◌, ◌≤◌, take, Some, slice_get}
 use Rattle.sol_model.specs.Families.{Has, members}
 use Rattle.set_rows.specs.Views.{OnlyAdded, known}
 use Rattle.set_rows.specs.Calls.{system_of, view, IsOf}
 use Rattle.delta_prop.specs.Deltas.{IsSound}
 use Rattle.work_rounds.specs.Rounds.{IsNoted}
+use Rattle.work_rounds.specs.Work.{edge_work}
 use Rattle.work_rounds.proofs.settling.carry_new.Given as goal
 
 abbrev pub invariant-loop-i : goal.invariant-loop-i
@@ -13,4 +14,5 @@ invariant-loop-i l = record {
   sound : IsSound (view l.initial.seat) → IsSound (view l.seat);
   carried : (k a b location : ℕ) → k < l.i → slice_get l.book k ≡ Some (a, b) → Has (members l.done) a location → Has (known (view l.seat)) b location;
   noted : IsNoted (system_of l.table) (view l.initial.seat) (view l.seat) l.initial.todo.items l.todo.items;
+  ors : (view l.seat).ors + edge_work (system_of l.table) (members l.done) (take l.first l.book) ≤ (view l.initial.seat).ors + edge_work (system_of l.table) (members l.done) (take l.i l.book);
 }

@@ -1,14 +1,19 @@
-use Rattle.std.proofs.Common.{◌≡◌, ◌⊎◌, ◌↔◌, ℕ, List, [], Contains, sym, ◌∙◌, subst}
+use Rattle.std.proofs.Common.{◌≡◌, ◌⊎◌, ◌↔◌, ℕ, ◌+◌, ◌≤◌, List, [], take, map, Contains, sym, ◌∙◌, subst, inl, inr, arith}
+use Rattle.sol_model.specs.Families.{members}
 use Rattle.sol_model.specs.declared.system.System.{System}
-use Rattle.sol_model.specs.Systems.{IsRow, IsLocation, Fits}
+use Rattle.sol_model.specs.Systems.{IsRow, IsLocation, Fits, width_of}
 use Rattle.set_rows.specs.Views.{known}
 use Rattle.set_rows.specs.Calls.{view}
 use Rattle.set_rows.proofs.Adding.{known_more}
 use Rattle.delta_prop.specs.declared.turn.Turn.{Turn}
 use Rattle.delta_prop.specs.Deltas.{AllDemanded}
-use Rattle.new_members.specs.News.{IsFact}
+use Rattle.new_members.specs.News.{IsFact, words_at}
 use Rattle.work_rounds.specs.Rounds.{IsTakenIn, IsNoted}
-use Rattle.work_rounds.proofs.Ending.{turns_of, after_inside, facts_demanded, facts_known, more_demanded, first_carried, settled_again}
+use Rattle.work_rounds.proofs.Ending.{turns_of, after_inside, facts_demanded, facts_known, more_demanded, first_carried, settled_again, fact_more, worked_known}
+use Rattle.work_rounds.specs.Turns.{row_of}
+use Rattle.work_rounds.specs.Work.{edge_work, spent}
+use Rattle.work_rounds.proofs.Sums.{apart_list}
+use Rattle.work_rounds.proofs.Working.{old_edges, round_paid, turns_pay}
 use Rattle.work_rounds.proofs.settling.settle.Goals as goal
 
 pub take_in-requires-clause-turns : goal.take_in-requires-clause-turns
@@ -38,8 +43,8 @@ add_facts-requires-clause-known c row location h =
     let more = c.take_in.new.book in
     let after = c.take_in.new.done in
     let news = c.take_in.new.facts.items in
-    let taken : IsTakenIn S turns done after book more [] news = subst (λ (xs : List (ℕ × ℕ)). IsTakenIn S turns done after book more xs news) c.new-facts.ensures.items c.in_ok-take_in.ensures.taken in
-    let there : Contains news (row, location) = (c.in_order.ensures.same (row, location)).0 (subst (λ (xs : List (ℕ × ℕ)). Contains xs (row, location)) c.as_slice.ensures.value h) in
+    let taken : IsTakenIn S turns done after book more [] news = subst (λ (xs : List (ℕ × ℕ)). IsTakenIn S turns done after book more xs news) c.new-demanded.ensures.items c.in_ok-take_in.ensures.taken in
+    let there : Contains news (row, location) = subst (λ (xs : List (ℕ × ℕ)). Contains xs (row, location)) c.as_slice.ensures.value h in
     subst (λ (T : System). IsRow T row × IsLocation T location) (sym c.requires.system) (facts_known S v w book more news done after todo turns c.requires.valid own round taken row location there)
 
 pub add_facts-requires-clause-demanded : goal.add_facts-requires-clause-demanded
@@ -56,8 +61,8 @@ add_facts-requires-clause-demanded c row location h =
     let more = c.take_in.new.book in
     let after = c.take_in.new.done in
     let news = c.take_in.new.facts.items in
-    let taken : IsTakenIn S turns done after book more [] news = subst (λ (xs : List (ℕ × ℕ)). IsTakenIn S turns done after book more xs news) c.new-facts.ensures.items c.in_ok-take_in.ensures.taken in
-    let there : Contains news (row, location) = (c.in_order.ensures.same (row, location)).0 (subst (λ (xs : List (ℕ × ℕ)). Contains xs (row, location)) c.as_slice.ensures.value h) in
+    let taken : IsTakenIn S turns done after book more [] news = subst (λ (xs : List (ℕ × ℕ)). IsTakenIn S turns done after book more xs news) c.new-demanded.ensures.items c.in_ok-take_in.ensures.taken in
+    let there : Contains news (row, location) = subst (λ (xs : List (ℕ × ℕ)). Contains xs (row, location)) c.as_slice.ensures.value h in
     subst (λ (T : System). IsFact T (known w) row location) (sym c.requires.system) (facts_demanded S v w book more news done after todo turns c.requires.valid own round taken w (λ r l k. k) row location there)
 
 pub carry_new-requires-clause-fits : goal.carry_new-requires-clause-fits
@@ -77,7 +82,7 @@ carry_new-requires-clause-inside c row location h =
     let more = c.take_in.new.book in
     let after = c.take_in.new.done in
     let news = c.take_in.new.facts.items in
-    let taken : IsTakenIn S turns done after book more [] news = subst (λ (xs : List (ℕ × ℕ)). IsTakenIn S turns done after book more xs news) c.new-facts.ensures.items c.in_ok-take_in.ensures.taken in
+    let taken : IsTakenIn S turns done after book more [] news = subst (λ (xs : List (ℕ × ℕ)). IsTakenIn S turns done after book more xs news) c.new-demanded.ensures.items c.in_ok-take_in.ensures.taken in
     known_more w (view c.add_facts.new.seat) c.in_ok-add_facts.ensures.view row location (after_inside S v w book more news done after todo turns c.requires.valid own round taken row location h)
 
 pub carry_new-requires-clause-demanded : goal.carry_new-requires-clause-demanded
@@ -94,7 +99,7 @@ carry_new-requires-clause-demanded c =
     let more = c.take_in.new.book in
     let after = c.take_in.new.done in
     let news = c.take_in.new.facts.items in
-    let taken : IsTakenIn S turns done after book more [] news = subst (λ (xs : List (ℕ × ℕ)). IsTakenIn S turns done after book more xs news) c.new-facts.ensures.items c.in_ok-take_in.ensures.taken in
+    let taken : IsTakenIn S turns done after book more [] news = subst (λ (xs : List (ℕ × ℕ)). IsTakenIn S turns done after book more xs news) c.new-demanded.ensures.items c.in_ok-take_in.ensures.taken in
     let x = view c.add_facts.new.seat in
     subst (λ (T : System). AllDemanded T (known x) more) (sym c.requires.system) (more_demanded S v w book more news done after todo turns c.requires.valid own round taken x (known_more w x c.in_ok-add_facts.ensures.view))
 
@@ -112,7 +117,7 @@ carry_new-requires-clause-carried c =
     let more = c.take_in.new.book in
     let after = c.take_in.new.done in
     let news = c.take_in.new.facts.items in
-    let taken : IsTakenIn S turns done after book more [] news = subst (λ (xs : List (ℕ × ℕ)). IsTakenIn S turns done after book more xs news) c.new-facts.ensures.items c.in_ok-take_in.ensures.taken in
+    let taken : IsTakenIn S turns done after book more [] news = subst (λ (xs : List (ℕ × ℕ)). IsTakenIn S turns done after book more xs news) c.new-demanded.ensures.items c.in_ok-take_in.ensures.taken in
     let x = view c.add_facts.new.seat in
     first_carried S v w book more news done after todo turns c.requires.valid own round taken x c.len-first.result c.len-first.ensures.len c.in_ok-take_in.ensures.kept (known_more w x c.in_ok-add_facts.ensures.view)
 
@@ -136,18 +141,60 @@ returns-clause-settled c =
     let more = c.take_in.new.book in
     let after = c.take_in.new.done in
     let news = c.take_in.new.facts.items in
-    let taken : IsTakenIn S turns done after book more [] news = subst (λ (xs : List (ℕ × ℕ)). IsTakenIn S turns done after book more xs news) c.new-facts.ensures.items c.in_ok-take_in.ensures.taken in
+    let taken : IsTakenIn S turns done after book more [] news = subst (λ (xs : List (ℕ × ℕ)). IsTakenIn S turns done after book more xs news) c.new-demanded.ensures.items c.in_ok-take_in.ensures.taken in
     let x = view c.add_facts.new.seat in
     let y = view c.carry_new.new.seat in
-    let ordered = c.in_order.new.pairs.items in
     let noted = c.note_grown.new.todo.items in
     let listed = c.add_facts.new.todo.items in
     let final = c.carry_new.new.todo.items in
-    settled_again S v w book more news done after todo turns c.requires.valid own round taken x y ordered noted listed final (known_more w x c.in_ok-add_facts.ensures.view) (known_more x y c.in_ok-carry_new.ensures.view)
+    settled_again S v w book more news done after todo turns c.requires.valid own round taken x y noted listed final (known_more w x c.in_ok-add_facts.ensures.view) (known_more x y c.in_ok-carry_new.ensures.view)
     (c.in_ok-carry_new.ensures.sound (c.in_ok-add_facts.ensures.sound (round.worked.sound round.before.sound)))
-    (λ row location h. (c.in_order.ensures.same (row, location)).1 h)
     (subst (λ (xs : List ℕ). (row : ℕ) → (Contains noted row ↔ (Contains xs row ⊎ ((turn : Turn) × Contains turns turn × Contains turn.grown.items row)))) c.new-todo.ensures.items c.in_ok-note_grown.ensures)
     (λ row location h. c.in_ok-add_facts.ensures.has row location (subst (λ (xs : List (ℕ × ℕ)). Contains xs (row, location)) (sym c.as_slice.ensures.value) h))
     (subst (λ (T : System). IsNoted T w x noted listed) c.requires.system c.in_ok-add_facts.ensures.todo)
     c.in_ok-carry_new.ensures.carried
     (subst (λ (T : System). IsNoted T x y listed final) c.requires.system c.in_ok-carry_new.ensures.todo)
+
+pub add_facts-requires-clause-had : goal.add_facts-requires-clause-had
+add_facts-requires-clause-had c row location h =
+    let round = c.requires.worked.2 in
+    worked_known c.requires.worked.0 (view c.args.seat.now) round.worked row location (round.before.treated.facts row location (c.requires.booked.demanded row location h))
+
+pub returns-clause-booked : goal.returns-clause-booked
+returns-clause-booked c =
+    let S = c.args.system.now in
+    let done = c.args.done.now in
+    let after = c.take_in.new.done in
+    let news = c.take_in.new.facts.items in
+    let taken : IsTakenIn S c.args.turns.now done after c.args.book.now c.take_in.new.book [] news = subst (λ (xs : List (ℕ × ℕ)). IsTakenIn S c.args.turns.now done after c.args.book.now c.take_in.new.book xs news) c.new-demanded.ensures.items c.in_ok-take_in.ensures.taken in
+    record {
+      edges = c.carry_new.ensures.once;
+      facts_once = c.add_facts.ensures.once c.requires.booked.facts_once;
+      demanded = λ row location h. elim ((c.in_ok-add_facts.ensures.facts row location).0 h) [
+        | inl old ↦ fact_more S (members done) (members after) row location (λ r l d. (taken.has r l).1 (inl d)) (c.requires.booked.demanded row location old)
+        | inr new ↦ elim (taken.facts.sound row location (subst (λ (xs : List (ℕ × ℕ)). Contains xs (row, location)) c.as_slice.ensures.value new)) [
+          | inl none ↦ absurd (let l = none.1 in omega arith)
+          | inr f ↦ f
+        ]
+      ];
+    }
+
+pub returns-clause-paid : goal.returns-clause-paid
+returns-clause-paid c =
+    let S = c.args.system.now in
+    let round = c.requires.worked.2 in
+    let book = c.args.book.now in
+    let done = c.args.done.now in
+    let turns = c.args.turns.now in
+    let more = c.take_in.new.book in
+    let after = c.take_in.new.done in
+    let news = c.take_in.new.facts.items in
+    let taken : IsTakenIn S turns done after book more [] news = subst (λ (xs : List (ℕ × ℕ)). IsTakenIn S turns done after book more xs news) c.new-demanded.ensures.items c.in_ok-take_in.ensures.taken in
+    let w = view c.args.seat.now in
+    let x = view c.add_facts.new.seat in
+    let y = view c.carry_new.new.seat in
+    round_paid S w x y done after book more c.args.facts.now c.add_facts.new.facts (spent (width_of S) book (words_at done) turns)
+    (turns_pay S done after book more [] news turns round.before.ready.fits taken (apart_list (map row_of turns) round.once))
+    c.in_ok-add_facts.ensures.ors
+    (subst (λ (xs : List (ℕ × ℕ)). y.ors + edge_work S (members after) xs ≤ x.ors + edge_work S (members after) more) (old_edges book more c.len-first.result c.len-first.ensures.len c.in_ok-take_in.ensures.kept)
+    (subst (λ (T : System). y.ors + edge_work T (members after) (take c.len-first.result more) ≤ x.ors + edge_work T (members after) more) c.requires.system c.in_ok-carry_new.ensures.ors))

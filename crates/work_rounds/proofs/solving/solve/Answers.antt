@@ -1,4 +1,4 @@
-use Rattle.std.proofs.Common.{◌≡◌, ℕ, ◌*◌, List, [], ◌∷◌, length, replicate, Contains, sym, ap, ◌∙◌, subst, arith, eqb-true, refl}
+use Rattle.std.proofs.Common.{◌≡◌, ℕ, ◌+◌, ◌*◌, ◌≤◌, List, [], ◌∷◌, length, replicate, Contains, sym, ap, ◌∙◌, subst, arith, eqb-true, refl}
 use Rattle.sol_model.specs.declared.system.System.{System}
 use Rattle.sol_model.specs.Solutions.{IsClosed, IsLeast}
 use Rattle.sol_model.specs.Systems.{Fits, width_of}
@@ -8,6 +8,8 @@ use Rattle.set_rows.specs.Calls.{view}
 use Rattle.work_rounds.specs.Rounds.{HasClosed, HasWorked, IsSettled}
 use Rattle.work_rounds.proofs.Parts.{worked_alone, worked_again, worked_and_closed, on_err}
 use Rattle.work_rounds.proofs.Ending.{settled_same, closed_when_done, least_when_done, closing, has_closed}
+use Rattle.work_rounds.specs.Work.{AreDistinct, IsWork}
+use Rattle.work_rounds.proofs.Working.{work_done}
 use Rattle.work_rounds.proofs.solving.solve.Goals as goal
 
 empty : (xs : List ℕ) → length xs ≡ 0 → xs ≡ []
@@ -29,6 +31,8 @@ loop-round-init g c =
       own = c.in_ok-todo.ensures.own;
       worked = worked_alone v u c.in_ok-todo.ensures.view c.in_ok-todo.ensures.sound;
       settled = c.in_ok-todo.ensures.settled done fits none;
+      booked = c.in_ok-todo.ensures.booked done;
+      paid = (let p = c.in_ok-todo.ensures.paid in omega arith);
     }
 
 pub shut-requires-clause-closed : goal.shut-requires-clause-closed
@@ -71,9 +75,9 @@ work_round-requires-clause-settled g c κs within =
     let rows = c.in_ok-rows.rows.items in
     subst (IsSettled S u book done) (sym c.as_slice-in-loop-round-2.ensures.value)
     (settled_same S u book done once rows
-    (λ row h. subst (λ (xs : List ℕ). Contains xs row) c.as_slice.ensures.value ((c.in_ok-rows.ensures row).0 h))
-    (λ row h. (c.in_ok-rows.ensures row).1 (subst (λ (xs : List ℕ). Contains xs row) (sym c.as_slice.ensures.value) h))
-    (settled_same S u book done c.loop-round.todo.items once (λ row. (c.each_once.ensures row).0) (λ row. (c.each_once.ensures row).1) c.loop-round.invariant.settled))
+    (λ row h. subst (λ (xs : List ℕ). Contains xs row) c.as_slice.ensures.value ((c.in_ok-rows.ensures.rows row).0 h))
+    (λ row h. (c.in_ok-rows.ensures.rows row).1 (subst (λ (xs : List ℕ). Contains xs row) (sym c.as_slice.ensures.value) h))
+    (settled_same S u book done c.loop-round.todo.items once (λ row. (c.each_once.ensures.rows row).0) (λ row. (c.each_once.ensures.rows row).1) c.loop-round.invariant.settled))
 
 pub returns-in_err-todo-2-clause-err : goal.returns-in_err-todo-2-clause-err
 returns-in_err-todo-2-clause-err g c =
@@ -87,4 +91,25 @@ loop-round-preserved g c =
       own = c.work_round.ensures.own;
       worked = worked_again v (view c.loop-round.seat) (view c.work_round.new.seat) c.loop-round.invariant.worked c.work_round.ensures.worked;
       settled = c.in_ok-todo-2.ensures.settled;
+      booked = c.in_ok-todo-2.ensures.booked;
+      paid = (let a = c.loop-round.invariant.paid in let b = c.in_ok-todo-2.ensures.paid in omega arith);
     }
+
+pub returns-then-is_empty-clause-bound : goal.returns-then-is_empty-clause-bound
+returns-then-is_empty-clause-bound g c =
+    let S = c.args.system.now in
+    let v = view c.args.seat.now in
+    let u = view c.loop-round.seat in
+    let x = view c.shut.new.seat in
+    let y = view c.is_shut.new.seat in
+    let end : y ≡ reading (shutting u) 1 = closing u x y c.is_shut.result c.shut.ensures.view c.is_shut.ensures.view (c.is_shut.ensures.known (ap (λ (z : View). z.knows) c.shut.ensures.view)) in
+    let done_all : c.loop-round.todo.items ≡ [] = empty c.loop-round.todo.items (let z : c.loop-round.todo.len ≡ 0 = eqb-true c.loop-round.todo.len 0 (sym c.is_empty.ensures ∙ c.if-is_empty.true) in let k = c.loop-round.todo.ok in let n : length c.loop-round.todo.items ≡ 0 = omega arith in n) in
+    let work = work_done S u c.loop-round.book c.loop-round.facts c.loop-round.done v.ors (c.loop-round.invariant.own.1 ∙ c.requires.system) c.requires.valid
+    (subst (IsSettled S u c.loop-round.book c.loop-round.done) done_all c.loop-round.invariant.settled) c.loop-round.invariant.booked c.loop-round.invariant.paid in
+    subst (λ (z : View). (n : ℕ) × IsWork S (known z) n × (z.ors ≤ v.ors + n + 1)) (sym end) (work.0, work.1, (let l = work.2 in omega arith))
+
+pub work_round-requires-clause-once : goal.work_round-requires-clause-once
+work_round-requires-clause-once g c κs within = subst AreDistinct (sym c.as_slice-in-loop-round-2.ensures.value) (c.in_ok-rows.ensures.once (subst AreDistinct (sym c.as_slice.ensures.value) c.each_once.ensures.once))
+
+pub returns-in_err-rows-clause-err : goal.returns-in_err-rows-clause-err
+returns-in_err-rows-clause-err g c = on_err c.from_residual-in_err-rows.result (HasWorked (view c.args.seat.now) (view c.loop-round.seat)) c.loop-round.invariant.worked

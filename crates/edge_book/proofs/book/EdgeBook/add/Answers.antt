@@ -16,3 +16,6 @@ invariant_of-self-2 c = (
       c.self.invariant.1 c.reserve.ensures.same c.push_reserved.ensures
       (keys_pushed c.self.inside.edges.keys c.insert.new.self.keys (c.args.from, c.args.to) c.in_ok-insert.field-0 c.in_ok-insert.ensures.added c.if-not-branch.false c.in_ok-insert.ensures.keys),
 )
+
+pub returns-clause-once : goal.returns-clause-once
+returns-clause-once c = apart c.insert.new.self.keys c.insert.ensures.unique
