@@ -11,18 +11,18 @@ use Rattle.c_senses.specs.Sense.{Sense, Nothing, IsCore}
 use Rattle.c_senses.specs.Conversions.{OperandSort, operand_of, value_of}
 use Rattle.c_senses.specs.Objects.{index_row, address_row}
 use Rattle.c_senses.specs.Expressions.{operator_core, value_core}
-use Rattle.c_check.specs.Standing.{core_at, Builds, Made}
-use Rattle.c_check.specs.declared.fault.CheckFault.{CheckFault}
-use Rattle.c_check.proofs.Failing.{made_same, fails}
+use Rattle.core_nodes.specs.Standing.{core_at, Builds, Made}
+use Rattle.core_nodes.specs.declared.fault.CheckFault.{CheckFault}
+use Rattle.core_nodes.proofs.Failing.{made_same, fails}
 use Rattle.pta_base.specs.declared.kind.Kind.TheVariants.{Operand, NotBuilt}
 use Rattle.c_senses.specs.Tree.{Source, sign_at, place_at, kind_at, is_leaf, left_of}
 use Rattle.c_senses.specs.Operators.{Between, operator}
 use Rattle.c_senses.specs.Sense.{core_of, last_of}
 use Rattle.c_senses.specs.World as world
 use Rattle.c_lexer.specs.declared.TokenKind.{TokenKind}
-use Rattle.c_grammar.specs.Words.{sign_increment, sign_decrement}
-use Rattle.c_senses.specs.Expressions.{is_operator, prefixed_core, counted_before, indexed_core, step, chained, is_single, binary_row, as_sense}
-use Rattle.c_check.specs.Built.{Scene, by_meaning, indexed_at, built_primary, built_primary_of, built_prefixed, built_unary, built_unary_of, built_post, built_post_of, built_row, built_between, joined_values, linked}
+use Rattle.c_senses.specs.Expressions.{prefixed, step, chained, is_single, binary_row, as_sense}
+use Rattle.c_check.specs.Built.{Scene, by_meaning, built_primary, built_primary_of, built_unary, built_unary_of, built_cast, built_cast_of, built_post, built_post_of, built_row, joined_values, linked}
+use Rattle.c_operators.specs.Between.{built_between}
 use Rattle.c_check.specs.Answers.{sense_at, senses_at}
 use Rattle.std.specs.Prelude.{option_and_then, ◌==◌}
 use Rattle.c_check.specs.declared.known.Meaning.{Meaning}
@@ -161,16 +161,11 @@ name_same w p q at m n b d ep em eb =
     ap (λ (x : Place). by_meaning w x at m b) ep
     ∙ (ap (λ (x : Option world.Meaning). by_meaning w q at x b) em ∙ ap (by_meaning w q at n) eb)
 
-pub post_same : (w : World) (p q : Place) (at : ℕ) (x y : Sense) (a b : Sense) → p ≡ q → x ≡ y → a ≡ b → indexed_core w p at x a ≡ indexed_core w q at y b
-post_same w p q at x y a b ep ex ea =
-    ap (λ (z : Place). indexed_core w z at x a) ep
-    ∙ (ap (λ (z : Sense). indexed_core w q at z a) ex ∙ ap (indexed_core w q at y) ea)
-
--- an index over the first of what stands behind a first number
-pub post_row : (scene : Scene) (s : Source) (sense : ℕ → Sense) (at first : ℕ) (xs : List ℕ) → 1 < length xs → as_sense (indexed_core scene.world (place_at s first) at (sense (left_of s first)) (sense (get_or xs 1 0))) ≡ indexed_at scene s sense at first (drop 1 xs)
-post_row scene s sense at first [] h = absurd (omega arith)
-post_row scene s sense at first (x ∷ []) h = absurd (omega arith)
-post_row scene s sense at first (x ∷ y ∷ rest) h = refl
+-- what stands behind the first of two or more
+pub two_of : (xs : List ℕ) → 1 < length xs → drop 1 xs ≡ get_or xs 1 0 ∷ drop 2 xs
+two_of [] h = absurd (omega arith)
+two_of (x ∷ []) h = absurd (omega arith)
+two_of (x ∷ y ∷ rest) h = refl
 
 pub not_zero : (n : ℕ) → false ≡ (n == 0) → n ≡ 0 → ⊥
 not_zero zero h e = cc
@@ -180,24 +175,6 @@ module _ (scene : Scene) (s : Source) (sense : ℕ → Sense) where
   pub primary_row : (at : ℕ) (xs : List ℕ) (kind : TokenKind) → 0 < length xs → kind ≡ kind_at s (get_or xs 0 0) → built_primary_of scene s sense at (get_or xs 0 0) (drop 1 xs) kind ≡ built_primary scene s sense at xs
   primary_row at [] kind h e = absurd (omega arith)
   primary_row at (x ∷ rest) kind h e = ap (built_primary_of scene s sense at x rest) e
-
-  operator_is : (place : Place) (at : ℕ) (x : Core) (sign : ℕ) → is_operator sign ≡ true → prefixed_core scene.world s sense place at x sign ≡ operator_core scene.world place at x sign
-  operator_is place at x sign h = ap (λ (b : Bool). cond b (operator_core scene.world place at x sign) (cond (sign == sign_increment) (counted_before scene.world s sense place at x false) (cond (sign == sign_decrement) (counted_before scene.world s sense place at x true) (Refuses Operand at)))) h
-
-  pub prefixed_row : (place : Place) (at sign : ℕ) (xs : List ℕ) (x : Core) → 1 < length xs → is_operator sign ≡ true → sense (get_or xs 1 0) ≡ IsCore x → as_sense (operator_core scene.world place at x sign) ≡ built_prefixed scene s sense place at sign (drop 1 xs)
-  prefixed_row place at sign [] x h e es = absurd (omega arith)
-  prefixed_row place at sign (f ∷ []) x h e es = absurd (omega arith)
-  prefixed_row place at sign (f ∷ y ∷ rest) x h e es =
-      sym (ap (λ (b : Bool). cond b (as_sense (core_of at (sense y) >>= (λ c. prefixed_core scene.world s sense place at c sign))) (Refuses NotBuilt at)) e
-      ∙ (ap (λ (z : Sense). as_sense (core_of at z >>= (λ c. prefixed_core scene.world s sense place at c sign))) es
-      ∙ ap as_sense (operator_is place at x sign e)))
-
-  pub prefixed_none : (place : Place) (at sign : ℕ) (xs : List ℕ) → 1 < length xs → is_operator sign ≡ true → sense (get_or xs 1 0) ≡ Nothing → built_prefixed scene s sense place at sign (drop 1 xs) ≡ Refuses Operand at
-  prefixed_none place at sign [] h e es = absurd (omega arith)
-  prefixed_none place at sign (f ∷ []) h e es = absurd (omega arith)
-  prefixed_none place at sign (f ∷ y ∷ rest) h e es =
-      ap (λ (b : Bool). cond b (as_sense (core_of at (sense y) >>= (λ c. prefixed_core scene.world s sense place at c sign))) (Refuses NotBuilt at)) e
-      ∙ ap (λ (z : Sense). as_sense (core_of at z >>= (λ c. prefixed_core scene.world s sense place at c sign))) es
 
 pub last_is : (x : ℕ) (xs : List ℕ) → last_of x xs ≡ get_or (x ∷ xs) (length xs) 0
 last_is x [] = refl
@@ -211,24 +188,26 @@ module _ (scene : Scene) (s : Source) (sense : ℕ → Sense) where
       ap (λ (b : Bool). built_unary_of scene s sense at x rest b (sign_at s x)) (sym e)
       ∙ (ap (λ (j : ℕ). Fits (sense j)) (last_is x rest) ∙ ap (λ (j : ℕ). Fits (sense (get_or (x ∷ rest) j 0))) same)
 
+  pub cast_row : (at : ℕ) (xs : List ℕ) (leafy : Bool) → 0 < length xs → leafy ≡ is_leaf s (get_or xs 0 0) → built_cast scene s sense at xs ≡ built_cast_of scene s sense at (get_or xs 0 0) leafy
+  cast_row at [] leafy h e = absurd (omega arith)
+  cast_row at (x ∷ rest) leafy h e = ap (built_cast_of scene s sense at x) (sym e)
+
   pub unary_none : (at : ℕ) (xs : List ℕ) → 0 < length xs → true ≡ is_leaf s (get_or xs 0 0) → None ≡ sign_at s (get_or xs 0 0) → built_unary scene s sense at xs ≡ Refuses NotBuilt at
   unary_none at [] h e es = absurd (omega arith)
   unary_none at (x ∷ rest) h e es =
       ap (λ (b : Bool). built_unary_of scene s sense at x rest b (sign_at s x)) (sym e) ∙ ap (built_unary_of scene s sense at x rest true) (sym es)
 
-  pub unary_sign : (at : ℕ) (xs : List ℕ) (sign : ℕ) (place : Place) → 0 < length xs → true ≡ is_leaf s (get_or xs 0 0) → Some sign ≡ sign_at s (get_or xs 0 0) → place ≡ place_at s (get_or xs 0 0) → built_prefixed scene s sense place at sign (drop 1 xs) ≡ built_unary scene s sense at xs
+  pub unary_sign : (at : ℕ) (xs : List ℕ) (sign : ℕ) (place : Place) → 0 < length xs → true ≡ is_leaf s (get_or xs 0 0) → Some sign ≡ sign_at s (get_or xs 0 0) → place ≡ place_at s (get_or xs 0 0) → prefixed scene.world s sense place at sign (drop 1 xs) ≡ built_unary scene s sense at xs
   unary_sign at [] sign place h e es ep = absurd (omega arith)
   unary_sign at (x ∷ rest) sign place h e es ep =
-      ap (λ (p : Place). built_prefixed scene s sense p at sign rest) ep
+      ap (λ (p : Place). prefixed scene.world s sense p at sign rest) ep
       ∙ (ap (built_unary_of scene s sense at x rest true) es ∙ ap (λ (b : Bool). built_unary_of scene s sense at x rest b (sign_at s x)) e)
 
-  pub behind_none : (at : ℕ) (xs : List ℕ) → 0 < length xs → None ≡ sign_at s (get_or xs 0 0) → built_post scene s sense at xs ≡ Refuses Operand at
-  behind_none at [] h e = absurd (omega arith)
-  behind_none at (x ∷ rest) h e = ap (built_post_of scene s sense (place_at s x) at (sense (left_of s x)) rest) (sym e)
-
-  pub behind_sign : (at : ℕ) (xs : List ℕ) (sign : ℕ) → 0 < length xs → Some sign ≡ sign_at s (get_or xs 0 0) → cond (sign == 0) (indexed_at scene s sense at (get_or xs 0 0) (drop 1 xs)) (Refuses NotBuilt at) ≡ built_post scene s sense at xs
-  behind_sign at [] sign h e = absurd (omega arith)
-  behind_sign at (x ∷ rest) sign h e = ap (built_post_of scene s sense (place_at s x) at (sense (left_of s x)) rest) e
+  pub behind_sign : (at : ℕ) (xs : List ℕ) (sign : Option ℕ) (place : Place) (left : Sense) → 0 < length xs → sign ≡ sign_at s (get_or xs 0 0) → place ≡ place_at s (get_or xs 0 0) → left ≡ sense (left_of s (get_or xs 0 0)) → built_post_of scene s sense place at left (drop 1 xs) sign ≡ built_post scene s sense at xs
+  behind_sign at [] sign place left h es ep el = absurd (omega arith)
+  behind_sign at (x ∷ rest) sign place left h es ep el =
+      ap (λ (p : Place). built_post_of scene s sense p at left rest sign) ep
+      ∙ (ap (λ (y : Sense). built_post_of scene s sense (place_at s x) at y rest sign) el ∙ ap (built_post_of scene s sense (place_at s x) at (sense (left_of s x)) rest) es)
 
   chain_go : (at : ℕ) (xs : List ℕ) (k : ℕ) → k < 10 → binary_row scene.world s sense (built_between scene.world) at xs ≡ built_row scene s sense (34 + k) at xs
   chain_go at xs zero h = refl

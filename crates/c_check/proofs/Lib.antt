@@ -1,10 +1,7 @@
-pub mod Growing
-pub mod Reading
-pub mod SameTypes
-pub mod Failing
-pub mod BitFields
-pub mod IntegerTypes
 pub mod Lefts
 pub mod Keeping
 pub mod Walking
 pub mod Scenes
+pub mod Parts
+pub mod Bytes
+pub mod Expressing

@@ -15,15 +15,15 @@ use Rattle.c_senses.specs.Tree.{Source, paired}
 use Rattle.c_senses.specs.Sense.{Sense, Nothing}
 use Rattle.c_check.specs.declared.known.Meaning.{Meaning}
 use Rattle.c_check.specs.declared.known.Meaning.TheVariants.{Entity as EntityMeant, TypeName, Tag, Value}
-use Rattle.c_check.specs.Standing.{Builds}
+use Rattle.core_nodes.specs.Standing.{Builds}
 use Rattle.c_check.specs.Built.{Scene, built_row, sense_from, AreBuilt}
 use Rattle.c_check.specs.Around.{IsMeant, IsKnown, Fitting, meant, meaning_seen, entity_meaning, object_or_function, is_open, is_open_entity, is_open_type, is_local, may_name_entity}
-use Rattle.c_check.proofs.Growing.{knows_on}
+use Rattle.core_nodes.proofs.Growing.{knows_on}
 use Rattle.c_check.proofs.Keeping.{use_meant, senses_kept}
 use Rattle.std.proofs.Common.{Err}
 use Rattle.std.proofs.lemmas.List.{map-append, length-append}
-use Rattle.c_check.specs.declared.fault.CheckFault.{CheckFault}
-use Rattle.c_check.specs.declared.fault.CheckFault.TheVariants.{BadOperand, Unsupported, OutOfMemory}
+use Rattle.core_nodes.specs.declared.fault.CheckFault.{CheckFault}
+use Rattle.core_nodes.specs.declared.fault.CheckFault.TheVariants.{BadOperand, Unsupported, OutOfMemory}
 use Rattle.c_check.specs.Answers.{Rowed, sense_at, senses_at}
 use Rattle.c_check.specs.Runs.{Answered}
 

@@ -1,19 +1,20 @@
 -- What a call answers of a syntax node.
-use Rattle.std.specs.Prelude.{ℕ, ◌≡◌, List, [], map, ⊤, Option, Some, None, Result, Ok, Err}
+use Rattle.std.specs.Prelude.{ℕ, ◌≡◌, List, map, ⊤, Option, Some, None, Result, Ok, Err}
 use Rattle.pta_base.specs.declared.kind.Kind.TheVariants.{Operand}
 use Rattle.c_lexer.specs.declared.Tokens.{Tokens}
 use Rattle.c_grammar.specs.declared.trees.Tree.{Tree}
 use Rattle.core_tree.specs.declared.node.Unit.{Unit}
 use Rattle.c_senses.specs.Tree.{Source}
+use Rattle.c_senses.specs.Names.{source_with}
 use Rattle.c_senses.specs.Given.{Given, Fits, Refuses}
 use Rattle.c_senses.specs.Sense.{Sense, Nothing, IsCore}
-use Rattle.c_check.specs.declared.fault.CheckFault.{CheckFault}
-use Rattle.c_check.specs.declared.fault.CheckFault.TheVariants.{BadOperand, Unsupported, OutOfMemory}
-use Rattle.c_check.specs.Standing.{core_at}
+use Rattle.core_nodes.specs.declared.fault.CheckFault.{CheckFault}
+use Rattle.core_nodes.specs.declared.fault.CheckFault.TheVariants.{BadOperand, Unsupported, OutOfMemory}
+use Rattle.core_nodes.specs.Standing.{core_at}
 
 -- the text, the tokens and the tree of a unit, as the rows see them
 abbrev pub source_in : Tokens → Tree → List (ℕ × ℕ) → Source
-source_in tokens tree uses = record { unit = tree.unit; text = tokens.text.now; tokens = tokens.list.items; nodes = tree.nodes.items; uses = uses; declared = [] }
+source_in tokens tree uses = source_with tokens tree uses
 
 -- the sense of a syntax node by the core node that was made for it, if one was
 abbrev pub sense_at : Unit → Option ℕ → Sense

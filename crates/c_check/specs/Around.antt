@@ -3,20 +3,20 @@ use Rattle.std.specs.Prelude.{ℕ, ◌≡◌, ◌<◌, ◌==◌, Bool, true, fal
 use Rattle.c_types.specs.declared.term.Form.TheVariants.{Unspecified}
 use Rattle.c_types.specs.Trees.{Ctype, FunctionFrom, ArrayOf}
 use Rattle.c_types.specs.Table.{Table, type_of, members_in, look_in}
-use Rattle.c_types.specs.Table.{TagMembers}
 use Rattle.core_tree.specs.declared.node.Entity.{Entity}
 use Rattle.core_tree.specs.declared.node.Linkage.{Linkage}
 use Rattle.core_tree.specs.declared.node.Linkage.TheVariants.{Local}
 use Rattle.core_tree.specs.declared.node.Storage.{Storage}
 use Rattle.core_tree.specs.declared.node.Storage.TheVariants.{Automatic, Parameter}
 use Rattle.core_tree.specs.declared.node.Unit.{Unit}
-use Rattle.c_inits.specs.Made.{TagParts, looked_up, laid_out}
+use Rattle.c_inits.specs.Made.{looked_up, laid_out}
+use Rattle.c_inits.specs.Tables.{tag_parts}
 use Rattle.c_senses.specs.Tree.{paired}
 use Rattle.c_senses.specs.World.{World, same_length}
 use Rattle.c_senses.specs.World as world
 use Rattle.c_check.specs.declared.known.Meaning.{Meaning}
 use Rattle.c_check.specs.declared.known.Meaning.TheVariants.{Entity as EntityMeant, TypeName, Tag, Value}
-use Rattle.c_check.specs.Standing.{part_of, parts_in, Knows}
+use Rattle.core_nodes.specs.Standing.{parts_in, Knows}
 use Rattle.c_check.specs.Built.{Scene}
 
 -- what the first entry of a declaration says
@@ -73,9 +73,6 @@ may_name_entity owner (Some entity) = if is_automatic entity.storage then same_l
 
 abbrev pub may_name_in : Unit → Option ℕ → ℕ → Bool
 may_name_in u owner e = may_name_entity owner (slice_get u.entities.items e)
-
-abbrev pub tag_parts : Table → TagMembers → TagParts
-tag_parts table c = record { tag = c.tag; members = map (part_of table) c.members }
 
 -- what is around an expression of that unit
 abbrev pub world_of : Unit → Option ℕ → List (ℕ × Meaning) → List (ℕ × ℕ) → World

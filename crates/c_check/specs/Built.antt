@@ -1,49 +1,25 @@
--- The rows of expressions that are built: names, & * [], the operators + - ~ ! before an operand, arithmetic, shifts, comparison and
--- logic. Any other row says that it isn't built.
+-- The rows of expressions that are built: names, constants and strings; & * [] . -> ++ --, the operators + - ~ ! before an operand,
+-- arithmetic, shifts, comparison, logic and the comma. Any other row says that it isn't built.
 use Rattle.std.specs.Prelude.{ℕ, ◌+◌, ◌-◌, ◌==◌, ◌≡◌, Bool, true, false, ◌&&◌, ◌||◌, nat_lt, nat_le, List, [], ◌∷◌, take, Option, Some, None, slice_get, get_or, if◌then◌else◌}
 use Rattle.pta_base.specs.declared.kind.Kind.TheVariants.{Operand, NotBuilt}
 use Rattle.pta_base.specs.declared.place.Place.{Place}
 use Rattle.c_lexer.specs.declared.TokenKind.{TokenKind}
 use Rattle.c_lexer.specs.declared.TokenKind.TheVariants.{Identifier, Keyword, Punctuator, Integer, Floating, Character, Text, End}
-use Rattle.core_tree.specs.declared.node.Op.{Op}
-use Rattle.c_types.specs.Trees.{Ctype}
 use Rattle.c_grammar.specs.declared.trees.SyntaxNode.{SyntaxNode}
 use Rattle.c_grammar.specs.Reads.{leaf}
 use Rattle.c_grammar.specs.Productions.{p_expression, p_assignment, p_conditional, p_logical_or, p_multiplicative, p_cast, p_unary, p_post, p_primary}
-use Rattle.c_grammar.specs.Words.{sign_left_bracket}
+use Rattle.c_grammar.specs.Words.{sign_left_bracket, sign_dot, sign_arrow, sign_increment, sign_decrement}
 use Rattle.c_consts.specs.Core.{Core}
-use Rattle.c_senses.specs.Tree.{Source, is_leaf, place_at, kind_at, sign_at, left_of}
+use Rattle.c_senses.specs.Tree.{Source, is_leaf, place_at, spelling_at, kind_at, sign_at, left_of}
 use Rattle.c_senses.specs.Given.{Given, Fits, Refuses, ◌>>=◌}
-use Rattle.c_senses.specs.World.{World, Meaning, same_type}
-use Rattle.c_senses.specs.Conversions.{OperandSort, Whole, Address, operand_of, value_of}
-use Rattle.c_senses.specs.Operators.{Between, Numeric, Shifting, Adding, Subtracting, Ordering, Equating, BothTrue, EitherTrue, Following, NoOperator, numeric_row, shift_row, plus_row, minus_row, order_row, both_row, either_row, comparison, compared}
-use Rattle.c_consts.specs.Core.{ctype_of}
-use Rattle.c_senses.specs.Sense.{Sense, Nothing, core_of, last_of}
+use Rattle.c_senses.specs.World.{World, Meaning}
+use Rattle.c_senses.specs.Conversions.{value_of}
+use Rattle.c_senses.specs.Operators.{Between}
+use Rattle.c_operators.specs.Between.{built_between}
+use Rattle.c_check.specs.Literals.{built_integer, character_core, built_text}
+use Rattle.c_senses.specs.Sense.{Sense, Nothing, core_of, fits, last_of}
 use Rattle.c_senses.specs.Objects.{name_row}
-use Rattle.c_senses.specs.Expressions.{as_sense, is_operator, indexed, prefixed, step, binary_row, passed}
-
--- equality of pointers of types that differ, and of a pointer and a null constant, isn't built
-abbrev pub pointers_equated : Op → Place → ℕ → Core → Core → Ctype → Ctype → Given Core
-pointers_equated op place at a b x y = if same_type x y then Fits (compared op place a b) else Refuses NotBuilt at
-
-abbrev pub built_equality : World → Op → Place → ℕ → Core → Core → OperandSort → OperandSort → Given Core
-built_equality w op place at a b Whole Whole = Fits (comparison w op place a b)
-built_equality w op place at a b Whole (Address y) = Refuses NotBuilt at
-built_equality w op place at a b (Address x) Whole = Refuses NotBuilt at
-built_equality w op place at a b (Address x) (Address y) = pointers_equated op place at a b x y
-built_equality w op place at a b x y = Refuses Operand at
-
-abbrev pub built_between : World → Between → Place → ℕ → Core → Core → Given Core
-built_between w (Numeric op) place at a b = numeric_row w op place at a b (operand_of (ctype_of a)) (operand_of (ctype_of b))
-built_between w (Shifting op) place at a b = shift_row w op place at a b (operand_of (ctype_of a)) (operand_of (ctype_of b))
-built_between w Adding place at a b = plus_row w place at a b (operand_of (ctype_of a)) (operand_of (ctype_of b))
-built_between w Subtracting place at a b = minus_row w place at a b (operand_of (ctype_of a)) (operand_of (ctype_of b))
-built_between w (Ordering op) place at a b = order_row w op place at a b (operand_of (ctype_of a)) (operand_of (ctype_of b))
-built_between w (Equating op) place at a b = built_equality w op place at a b (operand_of (ctype_of a)) (operand_of (ctype_of b))
-built_between w BothTrue place at a b = both_row place at a b
-built_between w EitherTrue place at a b = either_row place at a b
-built_between w Following place at a b = Refuses NotBuilt at
-built_between w NoOperator place at a b = Refuses Operand at
+use Rattle.c_senses.specs.Expressions.{as_sense, indexed, dotted, pointed, counted_after, prefixed, step, binary_row, passed, string_bytes}
 
 -- two operands of an operator, by their values
 abbrev pub joined_values : World → Between → Place → ℕ → Core → Core → Given Core
@@ -67,10 +43,10 @@ by_meaning w place at (Some m) false = name_row w place at (Some m)
 module _ (scene : Scene) (s : Source) (sense : ℕ → Sense) where
   abbrev pub built_primary_of : ℕ → ℕ → List ℕ → TokenKind → Given Sense
   built_primary_of at first rest Identifier = as_sense (by_meaning scene.world (place_at s first) at (scene.world.meaning first) (scene.unfinished first))
-  built_primary_of at first rest Integer = Refuses NotBuilt at
+  built_primary_of at first rest Integer = as_sense (built_integer at (place_at s first) (spelling_at s first))
   built_primary_of at first rest (Punctuator p) = passed sense at rest
-  built_primary_of at first rest Character = Refuses NotBuilt at
-  built_primary_of at first rest Text = Refuses NotBuilt at
+  built_primary_of at first rest Character = fits (character_core (place_at s first) (spelling_at s first))
+  built_primary_of at first rest Text = as_sense (built_text at (place_at s first) (string_bytes scene.world s sense (first ∷ rest)))
   built_primary_of at first rest (Keyword k) = Refuses Operand at
   built_primary_of at first rest Floating = Refuses Operand at
   built_primary_of at first rest End = Refuses Operand at
@@ -79,25 +55,26 @@ module _ (scene : Scene) (s : Source) (sense : ℕ → Sense) where
   built_primary at [] = Refuses Operand at
   built_primary at (first ∷ rest) = built_primary_of at first rest (kind_at s first)
 
-  abbrev pub indexed_at : ℕ → ℕ → List ℕ → Given Sense
-  indexed_at at first rest = indexed scene.world s sense (place_at s first) at (sense (left_of s first)) rest
-
+  -- a call isn't built
   abbrev pub built_post_of : Place → ℕ → Sense → List ℕ → Option ℕ → Given Sense
   built_post_of place at left rest None = Refuses Operand at
-  built_post_of place at left rest (Some sign) = if sign == sign_left_bracket then indexed scene.world s sense place at left rest else Refuses NotBuilt at
+  built_post_of place at left rest (Some sign) =
+      if sign == sign_left_bracket then indexed scene.world s sense place at left rest
+      else if sign == sign_dot then dotted scene.world s sense place at left rest
+      else if sign == sign_arrow then pointed scene.world s sense place at left rest
+      else if sign == sign_increment then counted_after scene.world s sense place at left false
+      else if sign == sign_decrement then counted_after scene.world s sense place at left true
+      else Refuses NotBuilt at
 
   abbrev pub built_post : ℕ → List ℕ → Given Sense
   built_post at [] = Refuses Operand at
   built_post at (first ∷ rest) = built_post_of (place_at s first) at (sense (left_of s first)) rest (sign_at s first)
 
-  -- an operator before its operand
-  abbrev pub built_prefixed : Place → ℕ → ℕ → List ℕ → Given Sense
-  built_prefixed place at sign rest = if is_operator sign then prefixed scene.world s sense place at sign rest else Refuses NotBuilt at
-
+  -- sizeof and _Alignof aren't built
   abbrev pub built_unary_of : ℕ → ℕ → List ℕ → Bool → Option ℕ → Given Sense
   built_unary_of at first rest false sign = Fits (sense (last_of first rest))
   built_unary_of at first rest true None = Refuses NotBuilt at
-  built_unary_of at first rest true (Some sign) = built_prefixed (place_at s first) at sign rest
+  built_unary_of at first rest true (Some sign) = prefixed scene.world s sense (place_at s first) at sign rest
 
   abbrev pub built_unary : ℕ → List ℕ → Given Sense
   built_unary at [] = Refuses Operand at
@@ -108,11 +85,21 @@ module _ (scene : Scene) (s : Source) (sense : ℕ → Sense) where
   only_part at (c ∷ []) = Fits (sense c)
   only_part at children = Refuses NotBuilt at
 
+  -- a cast isn't built
+  abbrev pub built_cast_of : ℕ → ℕ → Bool → Given Sense
+  built_cast_of at first false = Fits (sense first)
+  built_cast_of at first true = Refuses NotBuilt at
+
+  abbrev pub built_cast : ℕ → List ℕ → Given Sense
+  built_cast at [] = Refuses Operand at
+  built_cast at (first ∷ rest) = built_cast_of at first (is_leaf s first)
+
+  -- 6.5.5 to 6.5.14
   abbrev pub is_chain : ℕ → Bool
   is_chain production = nat_le p_logical_or production && nat_le production p_multiplicative
 
   abbrev pub is_single_part : ℕ → Bool
-  is_single_part production = (production == p_expression) || ((production == p_assignment) || ((production == p_conditional) || (production == p_cast)))
+  is_single_part production = (production == p_assignment) || (production == p_conditional)
 
   abbrev pub built_row : ℕ → ℕ → List ℕ → Given Sense
   built_row production at children =
@@ -120,6 +107,8 @@ module _ (scene : Scene) (s : Source) (sense : ℕ → Sense) where
       else if production == p_primary then built_primary at children
       else if production == p_unary then built_unary at children
       else if production == p_post then built_post at children
+      else if production == p_cast then built_cast at children
+      else if production == p_expression then binary_row scene.world s sense (built_between scene.world) at children
       else if is_chain production then binary_row scene.world s sense (built_between scene.world) at children
       else if is_single_part production then only_part at children
       else Refuses NotBuilt at

@@ -1,6 +1,10 @@
-pub mod Standing
-pub mod Sorts
+pub mod Literals
 pub mod Built
 pub mod Around
 pub mod Answers
 pub mod Runs
+pub mod Whole
+pub mod Begins
+pub mod Expressed
+pub mod Postfix
+pub mod Pieces

@@ -7,8 +7,8 @@ use Rattle.core_tree.specs.declared.node.Unit.{Unit}
 use Rattle.c_senses.specs.Tree.{Source}
 use Rattle.c_senses.specs.Given.{Refuses}
 use Rattle.c_senses.specs.Sense.{Sense}
-use Rattle.c_check.specs.declared.fault.CheckFault.{CheckFault}
-use Rattle.c_check.specs.declared.fault.CheckFault.TheVariants.{BadOperand, Unsupported, OutOfMemory}
+use Rattle.core_nodes.specs.declared.fault.CheckFault.{CheckFault}
+use Rattle.core_nodes.specs.declared.fault.CheckFault.TheVariants.{BadOperand, Unsupported, OutOfMemory}
 use Rattle.c_check.specs.Built.{Scene, built_row, sense_from, AreBuilt}
 use Rattle.c_check.specs.Answers.{sense_at}
 

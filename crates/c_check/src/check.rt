@@ -1,7 +1,7 @@
 // From syntax nodes to core nodes, in the order of the tree's list.
-#![tactic(auto, using(crate::proofs::IntegerTypes::integers))]
+#![tactic(auto, using(core_nodes::proofs::IntegerTypes::integers))]
 
-ghost use Rattle.std.specs.Prelude.{◌≡◌, ◌<◌, length, drop, get_or, ◌-◌, IfOk, IfSome, All, List, ℕ};
+ghost use Rattle.std.specs.Prelude.{◌≡◌, ◌<◌, ◌∷◌, length, drop, get_or, ◌-◌, IfOk, IfSome, All, List, ℕ};
 ghost use Rattle.core_tree.specs.declared.node.Unit.{Unit as UnitSpec};
 ghost use Rattle.c_senses.specs.Tree.{place_at, Source};
 ghost use Rattle.c_senses.specs.Sense.{Sense};
@@ -10,21 +10,26 @@ ghost use Rattle.c_senses.specs.Expressions as expressions;
 ghost use Rattle.c_check.specs.Around.{Fitting, IsKnown};
 ghost use Rattle.c_check.specs.Built as spec;
 ghost use Rattle.c_check.specs.Built.{Scene, by_meaning, sense_from};
-ghost use Rattle.c_check.specs.Standing.{IsReady, Builds, Made, Knows};
+ghost use Rattle.c_senses.specs.World.{World};
+ghost use Rattle.core_nodes.specs.Standing.{core_at, IsReady, Builds, Made, Knows};
 ghost use Rattle.c_check.specs.Answers.{sense_at, senses_at, source_in, Rowed};
 
-use crate::CheckFault;
 use crate::known::{Known, meaning_of};
+use crate::literals::{character, integer, string};
 use crate::names::meant_name;
-use crate::rows::{binary, indexed, operator_row, result_of, sensed};
-use crate::syntax::{is_leaf, kind_of, left_of, place_of, sign_of};
+use crate::postfix::{behind, counted};
+use crate::rows::{binary, operator_row, result_of, sensed};
+use crate::syntax::{is_leaf, kind_of, place_of, sign_of};
 use c_grammar::Tree;
 use c_lexer::{TokenKind, Tokens};
+use core_nodes::CheckFault;
 use core_tree::node::Unit;
 use pta_base::{Kind, Place};
 use std::alloc::Global;
 
-const SIGN_LEFT_BRACKET: u8 = 0;
+const SIGN_INCREMENT: u8 = 8;
+
+const SIGN_DECREMENT: u8 = 9;
 
 const SIGN_AMPERSAND: u8 = 10;
 
@@ -106,39 +111,6 @@ fn enclosed(
     Ok(result_of(results, start, children[1]))
 }
 
-// An index behind what stands to its left.
-fn post(
-    alloc: Global,
-    unit: &mut Unit,
-    tokens: &Tokens,
-    tree: &Tree,
-    results: &[Option<u32>],
-    start: u32,
-    at: u32,
-    first: u32,
-    children: &[u32],
-) -> Result<Option<u32>, CheckFault>
-    requires ready { IsReady unit.old }
-    requires results { All (λ r. IfSome r (λ k. k < length unit.old.nodes.items)) results.now }
-    requires some { 0 < length children.now }
-    ensures ready { IsReady unit.new }
-    ensures builds { Builds unit.old unit.new }
-    ensures within { IfOk result (λ r. IfSome r (λ k. k < length unit.new.nodes.items)) }
-    ensures row { (scene : Scene) (uses : List (ℕ × ℕ)) →
-        Knows scene.world unit.old →
-        Rowed unit.new result
-        (spec.indexed_at scene (source_in tokens.now tree.now uses) (sense_from start (senses_at unit.old results.now))
-        at first (drop 1 children.now)) }
-{
-    if children.len() < 2 {
-        return Err(CheckFault::BadOperand(at));
-    }
-    let place = place_of(tokens, tree, first);
-    let left = result_of(results, start, left_of(tokens, tree, first));
-    let right = result_of(results, start, children[1]);
-    sensed(indexed(alloc, unit, place, at, left, right))
-}
-
 // A primary by the kind of its first token.
 fn primary_of(
     alloc: Global,
@@ -157,7 +129,7 @@ fn primary_of(
     requires ready { IsReady unit.old }
     requires results { All (λ r. IfSome r (λ k. k < length unit.old.nodes.items)) results.now }
     requires known { IsKnown unit.old known.now.list.items }
-    requires some { 0 < length children.now }
+    requires first { children.now ≡ first ∷ drop 1 children.now }
     ensures ready { IsReady unit.new }
     ensures builds { Builds unit.old unit.new }
     ensures within { IfOk result (λ r. IfSome r (λ k. k < length unit.new.nodes.items)) }
@@ -170,9 +142,9 @@ fn primary_of(
     match kind {
         TokenKind::Identifier => sensed(name(alloc, unit, tokens, tree, uses, known, at, first)),
         TokenKind::Punctuator(_) => enclosed(results, start, at, children),
-        TokenKind::Integer => Err(CheckFault::Unsupported(Kind::NotBuilt, at)),
-        TokenKind::Character => Err(CheckFault::Unsupported(Kind::NotBuilt, at)),
-        TokenKind::Text => Err(CheckFault::Unsupported(Kind::NotBuilt, at)),
+        TokenKind::Integer => sensed(integer(alloc, unit, tokens, tree, at, first)),
+        TokenKind::Character => sensed(character(alloc, unit, tokens, tree, first)),
+        TokenKind::Text => sensed(string(alloc, unit, tokens, tree, at, first, children)),
         TokenKind::Keyword(_) => Err(CheckFault::BadOperand(at)),
         TokenKind::Floating => Err(CheckFault::BadOperand(at)),
         TokenKind::End => Err(CheckFault::BadOperand(at)),
@@ -244,7 +216,37 @@ fn is_operator(sign: u8) -> bool
         || sign == SIGN_EXCLAMATION
 }
 
-// An operator before its operand, if it is built.
+// What an operator makes of its operand.
+fn prefixed_node(
+    alloc: Global,
+    unit: &mut Unit,
+    place: Place,
+    at: u32,
+    operand: u32,
+    sign: u8,
+) -> Result<u32, CheckFault>
+    requires ready { IsReady unit.old }
+    requires operand { operand < length unit.old.nodes.items }
+    ensures ready { IsReady unit.new }
+    ensures builds { Builds unit.old unit.new }
+    ensures within { IfOk result (λ i. i < length unit.new.nodes.items) }
+    ensures made { (w : World) (s : Source) (sense : ℕ → Sense) →
+        Knows w unit.old →
+        Made unit.new result (expressions.prefixed_core w s sense place at (core_at unit.old operand) sign) }
+{
+    if is_operator(sign) {
+        return operator_row(alloc, unit, place, at, operand, sign);
+    }
+    if sign == SIGN_INCREMENT {
+        return counted(alloc, unit, place, at, Some(operand), false, false);
+    }
+    if sign == SIGN_DECREMENT {
+        return counted(alloc, unit, place, at, Some(operand), true, false);
+    }
+    Err(CheckFault::BadOperand(at))
+}
+
+// An operator before its operand.
 fn prefixed(
     alloc: Global,
     unit: &mut Unit,
@@ -264,17 +266,13 @@ fn prefixed(
     ensures row { (scene : Scene) (s : Source) →
         Knows scene.world unit.old →
         Rowed unit.new result
-        (spec.built_prefixed scene s (sense_from start (senses_at unit.old results.now)) place at sign
-        (drop 1 children.now)) }
+        (expressions.prefixed scene.world s (sense_from start (senses_at unit.old results.now)) place at sign (drop 1 children.now)) }
 {
-    if !is_operator(sign) {
-        return Err(CheckFault::Unsupported(Kind::NotBuilt, at));
-    }
     if children.len() < 2 {
         return Err(CheckFault::BadOperand(at));
     }
     match result_of(results, start, children[1]) {
-        Some(operand) => sensed(operator_row(alloc, unit, place, at, operand, sign)),
+        Some(operand) => sensed(prefixed_node(alloc, unit, place, at, operand, sign)),
         None => Err(CheckFault::BadOperand(at)),
     }
 }
@@ -315,10 +313,8 @@ fn unary(
     }
 }
 
-// What stands behind an operand: an index, if it is built.
-fn behind(
-    alloc: Global,
-    unit: &mut Unit,
+// What has no cast before it.
+fn uncast(
     tokens: &Tokens,
     tree: &Tree,
     results: &[Option<u32>],
@@ -326,33 +322,18 @@ fn behind(
     at: u32,
     children: &[u32],
 ) -> Result<Option<u32>, CheckFault>
-    requires ready { IsReady unit.old }
-    requires results { All (λ r. IfSome r (λ k. k < length unit.old.nodes.items)) results.now }
-    ensures ready { IsReady unit.new }
-    ensures builds { Builds unit.old unit.new }
-    ensures within { IfOk result (λ r. IfSome r (λ k. k < length unit.new.nodes.items)) }
-    ensures row { (scene : Scene) (uses : List (ℕ × ℕ)) →
-        Knows scene.world unit.old →
-        Rowed unit.new result
-        (spec.built_post scene (source_in tokens.now tree.now uses) (sense_from start (senses_at unit.old results.now))
-        at children.now) }
+    ensures row { (u : UnitSpec) (scene : Scene) (uses : List (ℕ × ℕ)) →
+        Rowed u result (spec.built_cast scene (source_in tokens.now tree.now uses) (sense_from start (senses_at u results.now)) at children.now) }
+    ensures within { (n : ℕ) →
+        All (λ r. IfSome r (λ k. k < n)) results.now → IfOk result (λ r. IfSome r (λ k. k < n)) }
 {
     if children.len() < 1 {
         return Err(CheckFault::BadOperand(at));
     }
-    let first = children[0];
-    match sign_of(tokens, tree, first) {
-        Some(sign) => {
-            if sign == SIGN_LEFT_BRACKET {
-                post(
-                    alloc, unit, tokens, tree, results, start, at, first, children,
-                )
-            } else {
-                Err(CheckFault::Unsupported(Kind::NotBuilt, at))
-            }
-        }
-        None => Err(CheckFault::BadOperand(at)),
+    if is_leaf(tokens, tree, children[0]) {
+        return Err(CheckFault::Unsupported(Kind::NotBuilt, at));
     }
+    Ok(result_of(results, start, children[0]))
 }
 
 // What a syntax node stands for, by its production.
@@ -395,19 +376,19 @@ pub fn row(
     if production == P_POST {
         return behind(alloc, unit, tokens, tree, results, start, at, children);
     }
-    if P_LOGICAL_OR <= production && production <= P_MULTIPLICATIVE {
-        return binary(alloc, unit, tokens, tree, results, start, at, children);
+    if production == P_CAST {
+        return uncast(tokens, tree, results, start, at, children);
     }
     if production == P_EXPRESSION {
-        return only_part(results, start, at, children);
+        return binary(alloc, unit, tokens, tree, results, start, at, children);
+    }
+    if P_LOGICAL_OR <= production && production <= P_MULTIPLICATIVE {
+        return binary(alloc, unit, tokens, tree, results, start, at, children);
     }
     if production == P_ASSIGNMENT {
         return only_part(results, start, at, children);
     }
     if production == P_CONDITIONAL {
-        return only_part(results, start, at, children);
-    }
-    if production == P_CAST {
         return only_part(results, start, at, children);
     }
     Err(CheckFault::Unsupported(Kind::NotBuilt, at))

@@ -2,23 +2,19 @@
 #![tactic(auto)]
 
 mod check;
-mod fault;
-mod integers;
+mod expression;
 mod known;
+pub mod laws;
+mod literals;
 mod names;
-mod objects;
-mod operators;
-mod reads;
+mod postfix;
 mod rows;
-mod sorts;
 mod syntax;
 #[cfg(test)]
 mod tests;
-mod trees;
-mod values;
 mod walk;
-mod widths;
 
-pub use fault::CheckFault;
+pub use core_nodes::CheckFault;
+pub use expression::check_expression;
 pub use known::{Known, Meaning};
 pub use walk::check_nodes;

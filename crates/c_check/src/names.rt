@@ -1,5 +1,5 @@
 // Names by what they mean (C11 6.5.1).
-#![tactic(auto, using(crate::proofs::IntegerTypes::integers))]
+#![tactic(auto, using(core_nodes::proofs::IntegerTypes::integers))]
 
 ghost use Rattle.std.specs.Prelude.{◌≡◌, ◌<◌, length, slice_get, IfOk, Some, None, All, List, ℕ, Bool, Option};
 ghost use Rattle.core_tree.specs.declared.node.Entity.{Entity};
@@ -13,12 +13,12 @@ ghost use Rattle.c_senses.specs.World.{World};
 ghost use Rattle.c_senses.specs.Objects.{name_row};
 ghost use Rattle.c_check.specs.Around.{object_or_function, meaning_seen, is_open, is_open_entity, is_automatic as automatic_spec, may_name_in, IsMeant};
 ghost use Rattle.c_check.specs.Built.{by_meaning};
-ghost use Rattle.c_check.specs.Standing.{core_at, IsReady, Builds, Made};
+ghost use Rattle.core_nodes.specs.Standing.{core_at, IsReady, Builds, Made};
 
-use crate::CheckFault;
 use crate::known::{Known, Meaning, meaning_of};
-use crate::trees::{int_type, push_leaf};
 use c_types::term::{Form, Term, TypeId};
+use core_nodes::CheckFault;
+use core_nodes::trees::{int_type, push_leaf};
 use core_tree::node::{Linkage, NodeKind, Storage, Unit};
 use pta_base::{Kind, Place};
 use std::alloc::Global;

@@ -1,5 +1,5 @@
 // One row for each production, over what the nodes before stand for.
-#![tactic(auto, using(crate::proofs::IntegerTypes::integers))]
+#![tactic(auto, using(core_nodes::proofs::IntegerTypes::integers))]
 
 ghost use Rattle.std.specs.Prelude.{◌≡◌, ◌<◌, if◌then◌else◌, drop, length, IfOk, IfSome, All, List, ℕ, Bool};
 ghost use Rattle.core_tree.specs.declared.node.Unit.{Unit as UnitSpec};
@@ -9,18 +9,19 @@ ghost use Rattle.c_senses.specs.World.{World};
 ghost use Rattle.c_senses.specs.Sense.{Sense, value_in};
 ghost use Rattle.c_senses.specs.Expressions.{indexed_core, operator_core, value_core, as_sense};
 ghost use Rattle.c_senses.specs.Expressions.{chained as chained_spec, binary_row};
-ghost use Rattle.c_check.specs.Built.{sense_from, built_between, joined_values as joined_spec, linked as linked_spec};
-ghost use Rattle.c_check.specs.Sorts.{operator_seen};
-ghost use Rattle.c_check.specs.Standing.{core_at, IsReady, Builds, Made, Knows};
+ghost use Rattle.c_operators.specs.Between.{built_between};
+ghost use Rattle.c_check.specs.Built.{sense_from, joined_values as joined_spec, linked as linked_spec};
+ghost use Rattle.c_operators.specs.Seen.{operator_seen};
+ghost use Rattle.core_nodes.specs.Standing.{core_at, IsReady, Builds, Made, Knows};
 ghost use Rattle.c_check.specs.Answers.{sense_at, senses_at, source_in, Rowed};
 
-use crate::CheckFault;
-use crate::objects::{address_row, index_row, indirection_row, not_row, promoted_row};
-use crate::operators::{Operator, between, operator_of, sort_of_node};
 use crate::syntax::{place_of, sign_of};
-use crate::values::value;
 use c_grammar::Tree;
 use c_lexer::Tokens;
+use c_operators::objects::{address_row, index_row, indirection_row, not_row, promoted_row};
+use c_operators::operators::{Operator, between, operator_of, sort_of_node};
+use core_nodes::CheckFault;
+use core_nodes::values::value;
 use core_tree::node::{Op, Unit};
 use pta_base::Place;
 use std::alloc::Global;
@@ -50,7 +51,7 @@ pub fn result_of(results: &[Option<u32>], start: u32, node: u32) -> Option<u32>
 }
 
 // The value of what a syntax node stands for.
-fn value_of(
+pub fn value_of(
     alloc: Global,
     unit: &mut Unit,
     at: u32,

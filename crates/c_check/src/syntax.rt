@@ -4,6 +4,7 @@ ghost use Rattle.c_senses.specs.Tree as spec;
 ghost use Rattle.c_check.specs.Answers.{source_in};
 
 use c_grammar::Tree;
+use c_grammar::terminals::spelled;
 use c_lexer::{Token, TokenKind, Tokens};
 use pta_base::Place;
 
@@ -73,6 +74,16 @@ pub fn is_leaf(tokens: &Tokens, tree: &Tree, node: u32) -> bool
     match tree.nodes.get(node as usize) {
         Some(there) => there.production == LEAF,
         None => true,
+    }
+}
+
+// How a node's first token is spelled.
+pub fn spelling_of<'a>(tokens: &Tokens<'a>, tree: &Tree, node: u32) -> &'a [u8]
+    ensures { (uses : List (ℕ × ℕ)) → result.now ≡ spec.spelling_at (source_in tokens.now tree.now uses) node }
+{
+    match token_of(tokens, tree, node) {
+        Some(token) => spelled(tokens.text, token),
+        None => &[],
     }
 }
 

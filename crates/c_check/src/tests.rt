@@ -1,13 +1,16 @@
-// Expressions of two objects of type int, over syntax trees that are made by hand.
+// Expressions over syntax trees that are made by hand.
 
 ghost use Rattle.std.specs.Prelude.{◌≡◌, ◌<◌, ◌+◌, [], IfOk, length};
 ghost use Rattle.c_check.specs.Around.{IsKnown};
-ghost use Rattle.c_check.specs.Standing.{IsReady};
+ghost use Rattle.core_nodes.specs.Standing.{IsReady};
 
-use crate::{CheckFault, Known, Meaning, check_nodes};
-use c_grammar::productions::{ADDITIVE, PRIMARY};
+use crate::{CheckFault, Known, Meaning, check_expression};
+use c_grammar::productions::{
+    ADDITIVE, CAST, EQUALITY, LOGICAL_AND, POST, PRIMARY, RELATIONAL, UNARY,
+};
 use c_grammar::{SyntaxNode, Tree};
 use c_lexer::lexer::tokens;
+use c_scope::Bound;
 use c_types::table::TypeTable;
 use c_types::term::{Term, TypeId};
 use core_tree::node::{Entity, Linkage, NodeKind, Op, Storage, Unit};
@@ -30,12 +33,21 @@ fn place_at(column: u32) -> Place {
     }
 }
 
-// The unit that has one type and neither nodes nor entities, with the type.
-fn bare_unit(alloc: Global) -> Result<(Unit, TypeId), Fail>
+// The types of the objects.
+#[derive(Clone, Copy)]
+struct ObjectTypes {
+    int: TypeId,
+    pointer: TypeId,
+    void_pointer: TypeId,
+}
+
+// The unit that has these types and neither nodes nor entities.
+fn bare_unit(alloc: Global) -> Result<(Unit, ObjectTypes), Fail>
     ensures ready { IfOk result (λ made. IsReady made.0) }
     ensures known { IfOk result (λ made. IsKnown made.0 []) }
     ensures none { IfOk result (λ made. length made.0.entities.items ≡ 0) }
-    ensures ty { IfOk result (λ made. made.1.0 < length made.0.types.terms) }
+    ensures types { IfOk result (λ made. (made.1.int.0 < length made.0.types.terms)
+        × (made.1.pointer.0 < length made.0.types.terms) × (made.1.void_pointer.0 < length made.0.types.terms)) }
 {
     let name = Text::copy_of(alloc, "sum.c")?;
     let mut types = TypeTable::new(alloc);
@@ -44,6 +56,9 @@ fn bare_unit(alloc: Global) -> Result<(Unit, TypeId), Fail>
         rank: 4,
         signed: true,
     })?;
+    let pointer = types.add(Term::Pointer(int))?;
+    let void = types.add(Term::Void)?;
+    let void_pointer = types.add(Term::Pointer(void))?;
     let unit = Unit {
         name,
         types,
@@ -51,7 +66,14 @@ fn bare_unit(alloc: Global) -> Result<(Unit, TypeId), Fail>
         nodes: Vec::new(alloc),
         entities: Vec::new(alloc),
     };
-    Ok((unit, int))
+    Ok((
+        unit,
+        ObjectTypes {
+            int,
+            pointer,
+            void_pointer,
+        },
+    ))
 }
 
 // One entity more.
@@ -86,26 +108,31 @@ fn object(alloc: Global, name: &str, ty: TypeId) -> Result<Entity, Fail>
     })
 }
 
-// The unit of the objects a and b of type int.
-fn unit_of_two(alloc: Global) -> Result<Unit, Fail>
+// The unit of the objects a and b of type int, p of type int * and v of type void *.
+fn unit_of_four(alloc: Global) -> Result<Unit, Fail>
     ensures ready { IfOk result (λ unit. IsReady unit) }
     ensures known { IfOk result (λ unit. IsKnown unit []) }
-    ensures count { IfOk result (λ unit. length unit.entities.items ≡ 2) }
+    ensures count { IfOk result (λ unit. length unit.entities.items ≡ 4) }
 {
-    let (bare, int) = bare_unit(alloc)?;
-    let a = object(alloc, "a", int)?;
-    let one = add_entity(bare, a)?;
-    let b = object(alloc, "b", int)?;
-    add_entity(one, b)
+    let (bare, types) = bare_unit(alloc)?;
+    let one = add_entity(bare, object(alloc, "a", types.int)?)?;
+    let two = add_entity(one, object(alloc, "b", types.int)?)?;
+    let three = add_entity(two, object(alloc, "p", types.pointer)?)?;
+    add_entity(three, object(alloc, "v", types.void_pointer)?)
 }
 
-// The objects of a unit, which the syntax nodes 100 and 101 declare.
+// The objects of a unit, which the syntax nodes 100 to 103 declare.
 fn known_objects(alloc: Global, unit: &Unit) -> Result<Known, Fail>
     requires known { IsKnown unit.now [] }
-    requires count { length unit.now.entities.items ≡ 2 }
+    requires count { length unit.now.entities.items ≡ 4 }
     ensures { IfOk result (λ known. IsKnown unit.now known.list.items) }
 {
-    let entries = [(100, Meaning::Entity(0)), (101, Meaning::Entity(1))];
+    let entries = [
+        (100, Meaning::Entity(0)),
+        (101, Meaning::Entity(1)),
+        (102, Meaning::Entity(2)),
+        (103, Meaning::Entity(3)),
+    ];
     Ok(Known {
         owner: None,
         list: entries.to_vec(alloc)?,
@@ -132,93 +159,311 @@ fn tree_of(alloc: Global, rows: &[Row<'_>]) -> Result<Tree, Fail> {
     })
 }
 
-// What the last node of an expression stands for.
-fn answer(
-    alloc: Global,
-    unit: &mut Unit,
-    text: &[u8],
-    rows: &[Row<'_>],
-    uses: &[(u32, u32)],
-    known: &Known,
-) -> Result<Result<Option<u32>, CheckFault>, Fail>
-    requires ready { IsReady unit.old }
-    requires known { IsKnown unit.old known.now.list.items }
-{
-    let found = tokens(alloc, text)?;
-    let tree = tree_of(alloc, rows)?;
-    let end = tree.nodes.len();
-    if end == 0 || end > u32::MAX as usize {
+// An expression: its text, its syntax nodes in order, and the declarations of its names.
+#[derive(Clone, Copy)]
+struct Case<'a> {
+    text: &'a [u8],
+    rows: &'a [Row<'a>],
+    uses: &'a [(u32, u32)],
+}
+
+// The unit with the core nodes of a case, and what is answered.
+fn answer(alloc: Global, case: &Case<'_>) -> Result<(Unit, Result<u32, CheckFault>), Fail> {
+    let mut unit = unit_of_four(alloc)?;
+    let mut known = known_objects(alloc, &unit)?;
+    let found = tokens(alloc, case.text)?;
+    let tree = tree_of(alloc, case.rows)?;
+    let bound = Bound {
+        uses: Vec::from_slice(alloc, case.uses)?,
+        labels: Vec::new(alloc),
+    };
+    let count = tree.nodes.len();
+    if count == 0 || count > u32::MAX as usize {
         return Err(Fail::new("no tree"));
     }
-    Ok(check_nodes(alloc, unit, &found, &tree, uses, known, 0, end as u32))
+    let node = (count - 1) as u32;
+    let result = check_expression(alloc, &found, &tree, &bound, node, &mut known, &mut unit);
+    Ok((unit, result))
 }
 
-// Whether a node is the name of an entity at a column.
-fn names(unit: &Unit, node: u32, entity: u32, column: u32) -> bool {
-    match unit.nodes.get(node as usize) {
-        Some(named) => match named.kind {
-            NodeKind::Named(e) => e == entity && named.place == place_at(column),
-            _ => false,
-        },
-        None => false,
+// What a core node is: a letter for its kind, its column, and its children.
+type Shape<'a> = (u8, u32, &'a [u32]);
+
+// A letter for a kind of core node.
+fn letter_of(kind: &NodeKind) -> u8 {
+    match kind {
+        NodeKind::Named(e) => b'a' + (*e).min(25) as u8,
+        NodeKind::Number(n) => b'0' + (*n).clamp(0, 9) as u8,
+        NodeKind::Fetch => b'F',
+        NodeKind::NullValue => b'N',
+        NodeKind::Convert => b'C',
+        NodeKind::AddressOf => b'&',
+        NodeKind::Deref => b'*',
+        NodeKind::PointerAdd { minus: false } => b'P',
+        NodeKind::Update {
+            op: Op::Plus,
+            post: true,
+        } => b'U',
+        NodeKind::Choose => b'?',
+        NodeKind::Sequence => b',',
+        NodeKind::Arith(Op::Plus) => b'+',
+        NodeKind::Arith(Op::Equal) => b'=',
+        _ => b'.',
     }
 }
 
-// Whether a node is the value of an entity that is named at a column.
-fn fetches(unit: &Unit, node: u32, entity: u32, column: u32) -> bool {
-    match unit.nodes.get(node as usize) {
-        Some(value) => match (&value.kind, value.children.as_slice()) {
-            (NodeKind::Fetch, [place]) => names(unit, *place, entity, column),
-            _ => false,
-        },
-        None => false,
+// Whether the nodes of a unit are these, in order.
+fn has_shapes(unit: &Unit, shapes: &[Shape<'_>]) -> bool {
+    if unit.nodes.len() != shapes.len() {
+        return false;
+    }
+    for (node, shape) in unit.nodes.iter().zip(shapes) {
+        if letter_of(&node.kind) != shape.0
+            || node.place != place_at(shape.1)
+            || node.children.as_slice() != shape.2
+        {
+            return false;
+        }
+    }
+    true
+}
+
+// Whether a case gives these core nodes, the last of which is the answer.
+fn gives(alloc: Global, case: &Case<'_>, shapes: &[Shape<'_>]) -> Result<bool, Fail> {
+    let (unit, result) = answer(alloc, case)?;
+    match result {
+        Ok(node) => Ok(node as usize + 1 == shapes.len() && has_shapes(&unit, shapes)),
+        Err(_) => Ok(false),
     }
 }
 
-// Whether a node is the sum of a and b, the plus of which stands at column 2.
-fn is_sum(unit: &Unit, node: u32) -> bool {
-    match unit.nodes.get(node as usize) {
-        Some(sum) => match (&sum.kind, sum.children.as_slice()) {
-            (NodeKind::Arith(Op::Plus), [a, b]) => {
-                sum.place == place_at(2) && fetches(unit, *a, 0, 1) && fetches(unit, *b, 1, 3)
-            }
-            _ => false,
-        },
-        None => false,
+// What refuses a case.
+fn refusal(alloc: Global, case: &Case<'_>) -> Result<Option<CheckFault>, Fail> {
+    let (_unit, result) = answer(alloc, case)?;
+    match result {
+        Ok(_) => Ok(None),
+        Err(fault) => Ok(Some(fault)),
     }
+}
+
+// The declarations of the names that two leaves are.
+fn two_names(first: u32, one: u32, second: u32, other: u32) -> [(u32, u32); 2] {
+    [(first, 100 + one.min(9)), (second, 100 + other.min(9))]
+}
+
+// An operator between two primary expressions.
+fn between(production: u32) -> [Row<'static>; 6] {
+    [
+        (LEAF, 0, &[]),
+        (PRIMARY, 0, &[0]),
+        (LEAF, 1, &[]),
+        (LEAF, 2, &[]),
+        (PRIMARY, 2, &[3]),
+        (production, 0, &[1, 2, 4]),
+    ]
 }
 
 // The operands of a sum are read (C11 6.3.2.1p2, 6.5.6).
 #[test]
 fn sum_of_objects(rt: HostRuntime) -> Result<(), Fail> {
     let alloc = rt.alloc();
-    let mut unit = unit_of_two(alloc)?;
-    let known = known_objects(alloc, &unit)?;
-    let rows: [Row<'_>; 6] = [
+    let case = Case {
+        text: b"a+b",
+        rows: &between(ADDITIVE),
+        uses: &two_names(0, 0, 3, 1),
+    };
+    let shapes: [Shape<'_>; 5] = [
+        (b'a', 1, &[]),
+        (b'b', 3, &[]),
+        (b'F', 1, &[0]),
+        (b'F', 3, &[1]),
+        (b'+', 2, &[2, 3]),
+    ];
+    assert!(rt; gives(alloc, &case, &shapes)?);
+    Ok(())
+}
+
+// A null constant beside a pointer becomes a null value, and its number is no node (C11 6.5.9p5, 6.3.2.3p3).
+#[test]
+fn pointer_and_null(rt: HostRuntime) -> Result<(), Fail> {
+    let alloc = rt.alloc();
+    let case = Case {
+        text: b"p==0",
+        rows: &between(EQUALITY),
+        uses: &[(0, 102)],
+    };
+    let shapes: [Shape<'_>; 4] = [
+        (b'c', 1, &[]),
+        (b'F', 1, &[0]),
+        (b'N', 4, &[]),
+        (b'=', 2, &[1, 2]),
+    ];
+    assert!(rt; gives(alloc, &case, &shapes)?);
+    Ok(())
+}
+
+// Beside a pointer to void the other one is converted (C11 6.5.9p5).
+#[test]
+fn pointer_and_void_pointer(rt: HostRuntime) -> Result<(), Fail> {
+    let alloc = rt.alloc();
+    let case = Case {
+        text: b"p==v",
+        rows: &between(EQUALITY),
+        uses: &two_names(0, 2, 3, 3),
+    };
+    let shapes: [Shape<'_>; 6] = [
+        (b'c', 1, &[]),
+        (b'd', 4, &[]),
+        (b'F', 1, &[0]),
+        (b'F', 4, &[1]),
+        (b'C', 1, &[2]),
+        (b'=', 2, &[4, 3]),
+    ];
+    assert!(rt; gives(alloc, &case, &shapes)?);
+    Ok(())
+}
+
+// An integer may stand before the brackets; the pointer comes first (C11 6.5.2.1p2).
+#[test]
+fn index_before_pointer(rt: HostRuntime) -> Result<(), Fail> {
+    let alloc = rt.alloc();
+    let rows: [Row<'_>; 8] = [
         (LEAF, 0, &[]),
         (PRIMARY, 0, &[0]),
         (LEAF, 1, &[]),
         (LEAF, 2, &[]),
         (PRIMARY, 2, &[3]),
-        (ADDITIVE, 0, &[1, 2, 4]),
+        (LEAF, 3, &[]),
+        (POST, 1, &[2, 4, 5]),
+        (UNARY, 0, &[1, 6]),
     ];
-    let uses = [(0, 100), (3, 101)];
-    match answer(alloc, &mut unit, b"a+b", &rows, &uses, &known)? {
-        Ok(Some(node)) => assert!(rt; is_sum(&unit, node)),
-        Ok(None) => panic!(rt; "no node"),
-        Err(fault) => panic!(rt; "{fault:?}"),
-    }
+    let case = Case {
+        text: b"a[p]",
+        rows: &rows,
+        uses: &two_names(0, 0, 3, 2),
+    };
+    let shapes: [Shape<'_>; 6] = [
+        (b'a', 1, &[]),
+        (b'c', 3, &[]),
+        (b'F', 1, &[0]),
+        (b'F', 3, &[1]),
+        (b'P', 2, &[3, 2]),
+        (b'*', 2, &[4]),
+    ];
+    assert!(rt; gives(alloc, &case, &shapes)?);
     Ok(())
 }
 
-// An integer constant isn't built, and the node of its primary expression is named.
+// A place is counted up by the number 1 (C11 6.5.2.4).
+#[test]
+fn counted_behind(rt: HostRuntime) -> Result<(), Fail> {
+    let alloc = rt.alloc();
+    let rows: [Row<'_>; 5] = [
+        (LEAF, 0, &[]),
+        (PRIMARY, 0, &[0]),
+        (LEAF, 1, &[]),
+        (POST, 1, &[2]),
+        (UNARY, 0, &[1, 3]),
+    ];
+    let case = Case {
+        text: b"p++",
+        rows: &rows,
+        uses: &[(0, 102)],
+    };
+    let shapes: [Shape<'_>; 3] = [(b'c', 1, &[]), (b'1', 2, &[]), (b'U', 2, &[0, 1])];
+    assert!(rt; gives(alloc, &case, &shapes)?);
+    Ok(())
+}
+
+// The right operand of && stands in a branch alone (C11 6.5.13p4).
+#[test]
+fn both_in_order(rt: HostRuntime) -> Result<(), Fail> {
+    let alloc = rt.alloc();
+    let case = Case {
+        text: b"a&&b",
+        rows: &between(LOGICAL_AND),
+        uses: &two_names(0, 0, 3, 1),
+    };
+    let shapes: [Shape<'_>; 9] = [
+        (b'a', 1, &[]),
+        (b'b', 4, &[]),
+        (b'F', 1, &[0]),
+        (b'F', 4, &[1]),
+        (b'1', 2, &[]),
+        (b'0', 2, &[]),
+        (b'?', 2, &[3, 4, 5]),
+        (b'0', 2, &[]),
+        (b'?', 2, &[2, 6, 7]),
+    ];
+    assert!(rt; gives(alloc, &case, &shapes)?);
+    Ok(())
+}
+
+// Octal digits (C11 6.4.4.1).
 #[test]
 fn constant(rt: HostRuntime) -> Result<(), Fail> {
     let alloc = rt.alloc();
-    let mut unit = unit_of_two(alloc)?;
-    let known = known_objects(alloc, &unit)?;
     let rows: [Row<'_>; 2] = [(LEAF, 0, &[]), (PRIMARY, 0, &[0])];
-    let found = answer(alloc, &mut unit, b"1", &rows, &[], &known)?;
-    assert_eq!(rt; found, Err(CheckFault::Unsupported(Kind::NotBuilt, 1)));
+    let case = Case {
+        text: b"07",
+        rows: &rows,
+        uses: &[],
+    };
+    let shapes: [Shape<'_>; 1] = [(b'7', 1, &[])];
+    assert!(rt; gives(alloc, &case, &shapes)?);
+    Ok(())
+}
+
+// Operands of types that don't fit: the node of the operator is named.
+#[test]
+fn bad_operands(rt: HostRuntime) -> Result<(), Fail> {
+    let alloc = rt.alloc();
+    let less = Case {
+        text: b"p<v",
+        rows: &between(RELATIONAL),
+        uses: &two_names(0, 2, 3, 3),
+    };
+    assert_eq!(rt; refusal(alloc, &less)?, Some(CheckFault::BadOperand(5)));
+    let equal = Case {
+        text: b"p==1",
+        rows: &between(EQUALITY),
+        uses: &[(0, 102)],
+    };
+    assert_eq!(rt; refusal(alloc, &equal)?, Some(CheckFault::BadOperand(5)));
+    let rows: [Row<'_>; 4] = [
+        (LEAF, 0, &[]),
+        (LEAF, 1, &[]),
+        (PRIMARY, 1, &[1]),
+        (UNARY, 0, &[0, 2]),
+    ];
+    let number = Case {
+        text: b"*a",
+        rows: &rows,
+        uses: &[(1, 100)],
+    };
+    assert_eq!(rt; refusal(alloc, &number)?, Some(CheckFault::BadOperand(3)));
+    let constant = Case {
+        text: b"&1",
+        rows: &rows,
+        uses: &[],
+    };
+    assert_eq!(rt; refusal(alloc, &constant)?, Some(CheckFault::BadOperand(3)));
+    Ok(())
+}
+
+// A cast isn't built, and its node is named.
+#[test]
+fn cast(rt: HostRuntime) -> Result<(), Fail> {
+    let alloc = rt.alloc();
+    let rows: [Row<'_>; 2] = [(LEAF, 0, &[]), (CAST, 0, &[0])];
+    let case = Case {
+        text: b"(",
+        rows: &rows,
+        uses: &[],
+    };
+    assert_eq!(rt;
+        refusal(alloc, &case)?,
+        Some(CheckFault::Unsupported(Kind::NotBuilt, 1))
+    );
     Ok(())
 }

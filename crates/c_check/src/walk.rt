@@ -1,19 +1,19 @@
 // The nodes of an expression, one after another.
-#![tactic(auto, using(crate::proofs::IntegerTypes::integers))]
+#![tactic(auto, using(core_nodes::proofs::IntegerTypes::integers))]
 
 ghost use Rattle.std.specs.Prelude.{◌≡◌, ◌<◌, ◌≤◌, length, IfOk, IfSome, List, ℕ};
 ghost use Rattle.c_check.specs.Around.{Fitting, IsKnown, scene_of};
 ghost use Rattle.c_check.specs.Built.{Scene};
-ghost use Rattle.c_check.specs.Standing.{IsReady, Builds};
+ghost use Rattle.core_nodes.specs.Standing.{IsReady, Builds};
 ghost use Rattle.c_check.specs.Answers.{source_in};
 ghost use Rattle.c_check.specs.Runs.{Answered};
 
-use crate::CheckFault;
 use crate::check::row;
 use crate::known::Known;
 use crate::rows::result_of;
 use c_grammar::Tree;
 use c_lexer::Tokens;
+use core_nodes::CheckFault;
 use core_tree::node::Unit;
 use std::alloc::Global;
 

@@ -3,3 +3,12 @@ pub mod Shapes
 pub mod Initial
 pub mod View
 pub mod Made
+pub mod Parts
+pub mod Laws
+pub mod Examples
+pub mod Tables
+pub mod Cursor
+pub mod Items
+pub mod Designated
+pub mod Places
+pub mod Filling

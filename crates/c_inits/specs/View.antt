@@ -1,6 +1,6 @@
 -- The initialiser that a syntax tree's nodes are.
 use Rattle.std.specs.Prelude.{ℕ, suc, cond, eqb, Bool, List, [], ◌∷◌, ◌++◌, Option, Some, None, get_or}
-use Rattle.c_types.specs.Trees.{Ctype, VoidType}
+use Rattle.c_types.specs.Trees.{Ctype}
 use Rattle.c_grammar.specs.declared.trees.SyntaxNode.{SyntaxNode}
 use Rattle.c_grammar.specs.Productions.{p_init, p_items, p_item, p_designator}
 use Rattle.c_inits.specs.Syntax.{Designator, AtIndex, AtName, Init, Items, Value, Braces, NoItems, Item}

@@ -5,7 +5,7 @@ use pta_base::OutOfMemory;
 
 /// What a declaration is to further ones of its name in its scope (C11 6.2.2, 6.7p3).
 #[derive(Clone, Copy, Debug, PartialEq, Eq)]
-pub(crate) enum Kind {
+pub enum Kind {
     /// It has linkage.
     Linked,
     /// It is a typedef name.

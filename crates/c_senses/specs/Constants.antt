@@ -1,15 +1,15 @@
 -- Expressions that must be integer constants (C11 6.6).
-use Rattle.std.specs.Prelude.{ℕ, ◌==◌, ℤ, Bool, true, false, ◌&&◌, Option, Some, None, List, [], ◌∷◌, if◌then◌else◌}
+use Rattle.std.specs.Prelude.{ℕ, ◌==◌, ℤ, Bool, true, false, ◌&&◌, Some, None, List}
 use Rattle.pta_base.specs.declared.kind.Kind.{Kind}
-use Rattle.pta_base.specs.declared.kind.Kind.TheVariants.{Operand, Constant, ConstantRange, DivideByZero}
+use Rattle.pta_base.specs.declared.kind.Kind.TheVariants.{Constant, ConstantRange, DivideByZero}
 use Rattle.pta_base.specs.declared.place.Place.{Place}
-use Rattle.c_consts.specs.Core.{Core, place_of, ctype_of, part_at}
+use Rattle.c_consts.specs.Core.{Core, place_of, part_at}
 use Rattle.c_consts.specs.Operators.{Wrong, NoForm, OutOfRange, ZeroDivisor}
 use Rattle.c_consts.specs.Answer.{Found, Value, Fails, answer}
 use Rattle.c_senses.specs.Tree.{Source, is_leaf, place_at, first_where, all_nodes}
-use Rattle.c_senses.specs.Given.{Given, Fits, Refuses, ◌>>=◌, given_if}
+use Rattle.c_senses.specs.Given.{Given, Fits, Refuses, ◌>>=◌}
 use Rattle.c_senses.specs.World.{World}
-use Rattle.c_senses.specs.Conversions.{OperandSort, Whole, operand_of}
+use Rattle.c_senses.specs.Conversions.{OperandSort, Whole}
 use Rattle.c_senses.specs.Sense.{Sense, value_in}
 
 abbrev pub kind_of_wrong : Wrong → Kind

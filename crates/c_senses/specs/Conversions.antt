@@ -1,17 +1,15 @@
 -- Values of places, promotions, usual conversions, and the table of conversions (C11 6.3).
-use Rattle.std.specs.Prelude.{ℕ, zero, suc, ◌==◌, ℤ, pos, Bool, true, false, ◌&&◌, ◌||◌, not, nat_lt, List, [], ◌∷◌, Option, Some, None, slice_get, is_some, if◌then◌else◌}
+use Rattle.std.specs.Prelude.{ℕ, zero, suc, ◌==◌, Bool, true, false, ◌&&◌, ◌||◌, not, nat_lt, List, Option, Some, None, slice_get, is_some, if◌then◌else◌}
 use Rattle.pta_base.specs.declared.kind.Kind.{Kind}
 use Rattle.pta_base.specs.declared.kind.Kind.TheVariants.{Operand, NumberToPointer, StructureCast, IntegerSizeCast, CharacterCast, Floating, Builtin}
-use Rattle.pta_base.specs.declared.place.Place.{Place}
 use Rattle.c_types.specs.Trees.{Ctype, VoidType, BoolType, IntegerType, FloatingType, VaListType, PointerTo, ArrayOf, FunctionFrom, StructureOf, UnionOf}
-use Rattle.core_tree.specs.declared.node.NodeKind.{NodeKind}
 use Rattle.core_tree.specs.declared.node.NodeKind.TheVariants.{NullValue, Fetch, Decay, Convert, Member, MemberOfValue, Upcast}
 use Rattle.core_tree.specs.Typed.{Sort, NoNode, PlaceNode, ValueNode, StatementNode, decayed}
 use Rattle.core_tree.specs.Rows.{int}
-use Rattle.c_consts.specs.Core.{Core, Cores, Of, NoCores, MoreCores, kind_of, place_of, ctype_of, core_sort, leaf, over}
+use Rattle.c_consts.specs.Core.{Core, Of, NoCores, MoreCores, place_of, ctype_of, core_sort, leaf, over}
 use Rattle.c_inits.specs.Made.{Part}
-use Rattle.c_senses.specs.Given.{Given, Fits, Refuses, ◌>>=◌, given_if, given_some}
-use Rattle.c_senses.specs.World.{World, has_size, members_of, same_type}
+use Rattle.c_senses.specs.Given.{Given, Fits, Refuses, given_if}
+use Rattle.c_senses.specs.World.{World, members_of, same_type}
 use Rattle.c_senses.specs.Nulls.{is_null}
 
 -- the sorts of types that operators tell apart: whole numbers, pointers, structures and unions, and others

@@ -1,21 +1,20 @@
 -- Declarators: what they make of a type (C11 6.7.6, 6.7.7).
-use Rattle.std.specs.Prelude.{ℕ, zero, suc, ◌+◌, ◌-◌, ◌==◌, ℤ, pos, negsuc, Bool, true, false, ◌&&◌, ◌||◌, not, nat_lt, List, [], ◌∷◌, ◌++◌, length, reverse, Option, Some, None, is_some, is_none, option_and_then, if◌then◌else◌}
+use Rattle.std.specs.Prelude.{ℕ, ◌==◌, ℤ, pos, Bool, true, false, ◌&&◌, ◌||◌, not, nat_lt, List, [], ◌∷◌, ◌++◌, length, reverse, Option, Some, None, is_some, is_none, option_and_then, if◌then◌else◌}
 use Rattle.pta_base.specs.declared.kind.Kind.TheVariants.{Operand, Vla}
-use Rattle.c_types.specs.declared.term.Form.{Form}
 use Rattle.c_types.specs.declared.term.Form.TheVariants.{Fixed, Variadic, Unspecified}
 use Rattle.c_types.specs.Trees.{Ctype, Ctypes, NoTypes, MoreTypes, VoidType, PointerTo, ArrayOf, FunctionFrom}
-use Rattle.c_grammar.specs.Productions.{p_external, p_rest, p_declaration, p_specs, p_qualifier, p_member, p_field, p_declarator, p_abstract, p_either, p_suffix, p_parameter, p_type_name, p_block, p_assignment}
+use Rattle.c_grammar.specs.Productions.{p_external, p_rest, p_specs, p_qualifier, p_field, p_declarator, p_abstract, p_either, p_suffix, p_parameter, p_block, p_assignment}
 use Rattle.c_grammar.specs.Words.{word_static, sign_star, sign_left_bracket, sign_ellipsis}
 use Rattle.c_consts.specs.Core.{Core, ctype_of}
-use Rattle.c_consts.specs.Operators.{Wrong, NoForm, OutOfRange, ZeroDivisor}
+use Rattle.c_consts.specs.Operators.{NoForm, OutOfRange, ZeroDivisor}
 use Rattle.c_consts.specs.Answer.{Found, Value, Fails, answer}
-use Rattle.c_senses.specs.Tree.{Source, is_a, is_leaf, is_name, has_sign, has_word, production_at, children_at, first_where, last_where, all_where, any_where, child_of, parent_of, nearest_above}
-use Rattle.c_senses.specs.Given.{Given, Fits, Refuses, ◌>>=◌, given_if, given_some}
+use Rattle.c_senses.specs.Tree.{Source, is_a, is_name, has_sign, has_word, children_at, first_where, all_where, any_where, child_of, parent_of, nearest_above}
+use Rattle.c_senses.specs.Given.{Given, Fits, Refuses, ◌>>=◌, given_if}
 use Rattle.c_senses.specs.World.{World, has_size}
 use Rattle.c_senses.specs.Conversions.{operand_of}
-use Rattle.c_senses.specs.Constants.{constant_in, valued, is_whole}
+use Rattle.c_senses.specs.Constants.{valued, is_whole}
 use Rattle.c_senses.specs.Limits.{is_function_type, is_array_type, ends_flexible, within_limits}
-use Rattle.c_senses.specs.Sense.{Sense, Nothing, IsCore, IsType, IsSpecified, IsDeclarator, IsDerivation, IsParameter, Parameter, Derivation, Pointing, Elements, Returning, value_in}
+use Rattle.c_senses.specs.Sense.{Sense, Nothing, IsType, IsSpecified, IsDeclarator, IsDerivation, IsParameter, Parameter, Derivation, Pointing, Elements, Returning, value_in}
 
 -- a declarator of any of its three forms
 abbrev pub is_declarator : Source → ℕ → Bool

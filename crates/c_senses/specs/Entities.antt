@@ -1,26 +1,25 @@
 -- What declarations declare: linkage, storage, and the types that declarations of one name give together (C11 6.2.2, 6.2.4, 6.2.7,
 -- 6.7, 6.9.1, 6.9.2).
-use Rattle.std.specs.Prelude.{ℕ, zero, suc, ◌+◌, ◌-◌, ◌==◌, ℤ, Bool, true, false, ◌&&◌, ◌||◌, not, nat_lt, nat_le, List, [], ◌∷◌, ◌++◌, length, Option, Some, None, is_some, is_none, option_and_then, option_map, if◌then◌else◌}
-use Rattle.std.specs.Str.{bytes_eq}
-use Rattle.pta_base.specs.declared.kind.Kind.{Kind}
+use Rattle.std.specs.Prelude.{ℕ, ◌==◌, Bool, true, false, ◌&&◌, ◌||◌, not, nat_lt, List, [], ◌∷◌, Option, Some, None, is_some, is_none, option_and_then, option_map, if◌then◌else◌}
 use Rattle.pta_base.specs.declared.kind.Kind.TheVariants.{Operand, InlineDefinition, VariadicDefinition}
-use Rattle.c_types.specs.declared.term.Form.{Form}
 use Rattle.c_types.specs.declared.term.Form.TheVariants.{Fixed, Variadic, Unspecified}
-use Rattle.c_types.specs.Trees.{Ctype, Ctypes, VoidType, BoolType, IntegerType, FloatingType, VaListType, PointerTo, ArrayOf, FunctionFrom, StructureOf, UnionOf}
+use Rattle.c_types.specs.Trees.{Ctype, VoidType, ArrayOf, FunctionFrom, StructureOf, UnionOf}
 use Rattle.core_tree.specs.declared.node.Linkage.{Linkage}
 use Rattle.core_tree.specs.declared.node.Linkage.TheVariants.{External, Internal, Local}
 use Rattle.core_tree.specs.declared.node.Storage.{Storage}
 use Rattle.core_tree.specs.declared.node.Storage.TheVariants.{Static, Automatic, FunctionBody, Parameter as ParameterStorage, Declared}
 use Rattle.c_grammar.specs.Terminals.{contains}
-use Rattle.c_grammar.specs.Productions.{p_external, p_rest, p_declaration, p_asm_name, p_specs, p_align, p_field, p_enumerator, p_declarator, p_either, p_suffix, p_parameter, p_type_name, p_init, p_items, p_designator, p_block, p_statement, p_cast, p_unary, p_assert, p_struct, p_members}
-use Rattle.c_grammar.specs.Words.{word_typedef, word_extern, word_static, word_inline, word_sizeof, word_alignof, word_for, sign_assign, sign_left_parenthesis}
-use Rattle.c_senses.specs.Tree.{Source, Space, Ordinary, OfTag, Declaration, is_a, is_leaf, is_name, has_sign, has_word, children_at, spelling_at, paired, first_where, last_where, all_where, any_where, child_of, parent_of, nearest_above, all_nodes}
-use Rattle.c_senses.specs.Given.{Given, Fits, Refuses, ◌>>=◌, given_if}
-use Rattle.c_senses.specs.World.{World, Meaning, Object, Function, TypeName, Tag, Value, has_size, members_of, same_type, same_form, same_length}
-use Rattle.c_senses.specs.Limits.{is_function_type, lacks_a_length}
-use Rattle.c_senses.specs.Declarators.{is_declarator, outermost_of, specs_of, declaration_around, derived, derivations, name_in, is_outermost, plain_declarator_row, base_of, is_defined_list}
-use Rattle.c_senses.specs.Tags.{tag_of, same_space, is_tag_specifier}
-use Rattle.c_senses.specs.Sense.{Sense, Nothing, IsCore, IsType, IsSpecified, IsDeclarator, IsParameter, IsValue, IsInitial, Specified, Parameter, Derivation, sense_in}
+use Rattle.c_grammar.specs.Productions.{p_external, p_rest, p_asm_name, p_align, p_field, p_enumerator, p_declarator, p_suffix, p_parameter, p_init, p_designator, p_block, p_statement, p_unary, p_assert, p_struct, p_members}
+use Rattle.c_grammar.specs.Words.{word_extern, word_static, word_inline, word_sizeof, word_alignof, sign_assign}
+use Rattle.c_senses.specs.Tree.{Source, is_a, has_sign, has_word, children_at, paired, last_where, any_where, child_of, parent_of, nearest_above, all_nodes}
+use Rattle.c_scope.specs.Known.{Declared as Declaration}
+use Rattle.c_senses.specs.Names.{has_linkage, names_type, made_before, linked_before, before_in_scope, typing_declarations, ordinary_at}
+use Rattle.c_senses.specs.Given.{Given, given_if}
+use Rattle.c_senses.specs.World.{World, Meaning, Object, Function, TypeName, Value, has_size, same_type}
+use Rattle.c_senses.specs.Limits.{is_function_type}
+use Rattle.c_senses.specs.Declarators.{outermost_of, specs_of, declaration_around, derived, is_defined_list}
+use Rattle.c_senses.specs.Tags.{tag_of}
+use Rattle.c_senses.specs.Sense.{Sense, IsSpecified, IsDeclarator, IsParameter, IsValue, IsInitial, Specified}
 
 -- 6.2.7: types agree at their top, and of two that agree the one with the list or the length is the type of both
 abbrev pub agree : Ctype → Ctype → Bool
@@ -77,8 +76,15 @@ module _ (s : Source) (sense : ℕ → Sense) where
   abbrev pub has_function_word : ℕ → ℕ → Bool
   has_function_word word leaf = elim (specified_of leaf) [ None ↦ false | Some x ↦ contains x.functions word ]
 
+  -- what name resolution says of a declared name: whether it is a typedef name, has linkage, or declares a function
   abbrev pub is_typedef : ℕ → Bool
-  is_typedef leaf = has_storage word_typedef leaf
+  is_typedef leaf = elim (ordinary_at s leaf) [ None ↦ false | Some d ↦ names_type d ]
+
+  abbrev pub is_linked : ℕ → Bool
+  is_linked leaf = elim (ordinary_at s leaf) [ None ↦ false | Some d ↦ has_linkage d ]
+
+  abbrev pub declares_function : ℕ → Bool
+  declares_function leaf = elim (ordinary_at s leaf) [ None ↦ false | Some d ↦ d.is_function && not (names_type d) ]
 
   -- the initialiser of a declarator stands behind it, or begins the rest of its declaration
   abbrev pub initialiser_in : List ℕ → Option ℕ
@@ -131,13 +137,7 @@ module _ (s : Source) (sense : ℕ → Sense) where
       if is_parameter leaf then parameter_type (declaration_of leaf)
       else option_map (with_length (length_given_by (initialiser_for leaf))) (derived_type (specified_of leaf) (outermost_of s leaf))
 
-  abbrev pub declares_function : ℕ → Bool
-  declares_function leaf = elim (own_type leaf) [ None ↦ false | Some t ↦ is_function_type t && not (is_typedef leaf) ]
-
-  -- declarations of ordinary names, by their leaves
-  abbrev pub is_ordinary : List ℕ → Declaration → Bool
-  is_ordinary name d = same_space d.space Ordinary && bytes_eq d.name name
-
+  -- some of a list of declarations
   abbrev pub keep : (Declaration → Bool) → List Declaration → List Declaration
   keep test [] = []
   keep test (d ∷ rest) = if test d then d ∷ keep test rest else keep test rest
@@ -146,73 +146,53 @@ module _ (s : Source) (sense : ℕ → Sense) where
   some_such test [] = false
   some_such test (d ∷ rest) = test d || some_such test rest
 
-  abbrev pub is_seen : ℕ → Declaration → Bool
-  is_seen i d = nat_le d.from i && nat_le i d.until
-
-  -- the declarations of a name that are seen at a node, and of these those with linkage that none without linkage hides
-  abbrev pub seen_at : List ℕ → ℕ → List Declaration
-  seen_at name i = keep (λ d. is_ordinary name d && is_seen i d) s.declared
-
-  abbrev pub is_hidden : List Declaration → Declaration → Bool
-  is_hidden seen d = some_such (λ e. not e.linked && nat_lt d.from e.from) seen
-
-  abbrev pub linked_at : List ℕ → ℕ → List Declaration
-  linked_at name i = let seen = seen_at name i in keep (λ d. d.linked && not (is_hidden seen d)) seen
-
-  -- 6.2.2p4: a prior declaration with linkage is seen
-  abbrev pub is_at_file_with : ℕ → List ℕ → ℕ → Declaration → Bool
-  is_at_file_with word name before d = is_ordinary name d && (nat_lt d.node before && (d.linked && (is_at_file d.node && has_storage word d.node)))
-
-  abbrev pub has_internal_before : List ℕ → ℕ → Bool
-  has_internal_before name leaf = some_such (is_at_file_with word_static name leaf) s.declared
-
-  abbrev pub follows_linked : List ℕ → ℕ → Bool
-  follows_linked name leaf = is_at_file leaf || (elim (linked_at name leaf) [ [] ↦ false | d ∷ rest ↦ true ])
-
-  -- 6.2.2: the linkage of a name by its leaf, where it is known whether it declares a function
-  abbrev pub is_linked : Bool → ℕ → Bool
-  is_linked function leaf = not (is_typedef leaf || is_parameter leaf) && (is_at_file leaf || (has_storage word_extern leaf || function))
-
+  -- 6.2.2p3, p4: an identifier has internal linkage where it is declared `static` at file scope, and where it is declared `extern`, or as a
+  -- function without a storage word, and a declaration that is seen there has
   abbrev pub is_without_storage : ℕ → Bool
   is_without_storage leaf = elim (specified_of leaf) [ None ↦ true | Some x ↦ elim x.storage [ [] ↦ true | word ∷ rest ↦ false ] ]
 
-  abbrev pub takes_over : Bool → ℕ → Bool
-  takes_over function leaf = has_storage word_extern leaf || (function && is_without_storage leaf)
+  abbrev pub takes_over : ℕ → Bool
+  takes_over leaf = has_storage word_extern leaf || (declares_function leaf && is_without_storage leaf)
 
-  abbrev pub is_internal : Bool → ℕ → Bool
-  is_internal function leaf =
-      (is_at_file leaf && (not (is_typedef leaf) && has_storage word_static leaf))
-      || (is_linked function leaf && (takes_over function leaf && (follows_linked (spelling_at s leaf) leaf && has_internal_before (spelling_at s leaf) leaf)))
+  abbrev pub is_static_at_file : ℕ → Bool
+  is_static_at_file leaf = is_at_file leaf && has_storage word_static leaf
 
-  abbrev pub linkage_as : Bool → ℕ → Linkage
-  linkage_as function leaf = if is_internal function leaf then Internal else (if is_linked function leaf then External else Local)
+  abbrev pub is_internal : ℕ → Bool
+  is_internal leaf =
+      is_linked leaf
+      && (is_static_at_file leaf || (takes_over leaf && some_such (λ d. is_static_at_file d.node) (linked_before s (ordinary_at s leaf))))
 
   abbrev pub linkage_of : ℕ → Linkage
-  linkage_of leaf = linkage_as (declares_function leaf) leaf
+  linkage_of leaf = if is_internal leaf then Internal else (if is_linked leaf then External else Local)
+
+  -- the declarations among some that give a name internal linkage
+  abbrev pub is_internal_of : ℕ → Declaration → Bool
+  is_internal_of symbol d = (d.symbol == symbol) && is_internal d.node
+
+  abbrev pub internal_among : List Declaration → Option Declaration → List Declaration
+  internal_among ds None = []
+  internal_among ds (Some d) = keep (is_internal_of d.symbol) ds
 
   -- the declarations of one internal object or function share one entity, known by the first of them; any other declaration has its
   -- own
-  abbrev pub first_at_file : List ℕ → ℕ → List Declaration → ℕ
-  first_at_file name leaf [] = leaf
-  first_at_file name leaf (d ∷ rest) = if is_ordinary name d && (d.linked && is_at_file d.node) then d.node else first_at_file name leaf rest
+  abbrev pub first_of : ℕ → List Declaration → ℕ
+  first_of leaf [] = leaf
+  first_of leaf (d ∷ rest) = d.node
 
   abbrev pub entity_of : ℕ → ℕ
-  entity_of leaf = elim (linkage_of leaf) [ Internal ↦ first_at_file (spelling_at s leaf) leaf s.declared | _ ↦ leaf ]
+  entity_of leaf = if is_internal leaf then first_of leaf (internal_among s.declared.ordinary (ordinary_at s leaf)) else leaf
 
   -- 6.2.4: an object's or a function's storage
   abbrev pub is_static_object : ℕ → Bool
   is_static_object leaf = is_at_file leaf || (has_storage word_static leaf || has_storage word_extern leaf)
 
-  abbrev pub storage_as : Bool → ℕ → Storage
-  storage_as function leaf =
+  abbrev pub storage_of : ℕ → Storage
+  storage_of leaf =
       if is_parameter leaf then ParameterStorage
-      else if function then (if is_defined leaf then FunctionBody else Declared)
+      else if declares_function leaf then (if is_defined leaf then FunctionBody else Declared)
       else if has_storage word_extern leaf && is_none (initialiser_for leaf) then Declared
       else if is_static_object leaf then Static
       else Automatic
-
-  abbrev pub storage_of : ℕ → Storage
-  storage_of leaf = storage_as (declares_function leaf) leaf
 
   abbrev pub is_automatic_storage : Storage → Bool
   is_automatic_storage Automatic = true
@@ -224,25 +204,27 @@ module _ (s : Source) (sense : ℕ → Sense) where
   types_of [] = []
   types_of (d ∷ rest) = elim (own_type d.node) [ None ↦ types_of rest | Some t ↦ t ∷ types_of rest ]
 
-  -- what a use of a name means, by the leaf that its pair names
-  abbrev pub type_at_use : ℕ → ℕ → Option Ctype
-  type_at_use i leaf = elim (linkage_of leaf) [ Local ↦ own_type leaf | _ ↦ all_together None (types_of (linked_at (spelling_at s leaf) i)) ]
+  -- the type of a declared name behind its declaration: of one with linkage the type that the declarations of it that are seen there give
+  -- together
+  abbrev pub type_behind : ℕ → Option Ctype
+  type_behind leaf = all_together None (types_of (typing_declarations s (ordinary_at s leaf)))
 
+  -- what a use of a name means, by the leaf that declares it: an external name has the entity of that declaration, the latest one that is
+  -- seen
   abbrev pub object_or_function : ℕ → Ctype → Meaning
   object_or_function entity t = if is_function_type t then Function entity t else Object entity t
 
-  abbrev pub declared_meaning : ℕ → ℕ → Option Meaning
-  declared_meaning i leaf = if is_typedef leaf then option_map TypeName (own_type leaf) else option_map (object_or_function (entity_of leaf)) (type_at_use i leaf)
+  abbrev pub declared_meaning : ℕ → Option Meaning
+  declared_meaning leaf = if is_typedef leaf then option_map TypeName (own_type leaf) else option_map (object_or_function (entity_of leaf)) (type_behind leaf)
 
   abbrev pub enumerated : ℕ → Option Meaning
   enumerated i = elim (sense i) [ IsValue n ↦ Some (Value n) | _ ↦ None ]
 
-  abbrev pub meaning_of : ℕ → ℕ → Option Meaning
-  meaning_of i leaf =
-      elim (parent_of s leaf) [ None ↦ None | Some p ↦ if is_a s p_enumerator p then enumerated p else declared_meaning i leaf ]
+  abbrev pub meaning_of : ℕ → Option Meaning
+  meaning_of leaf = elim (parent_of s leaf) [ None ↦ None | Some p ↦ if is_a s p_enumerator p then enumerated p else declared_meaning leaf ]
 
   abbrev pub meaning_at : ℕ → Option Meaning
-  meaning_at i = option_and_then (meaning_of i) (paired s.uses i)
+  meaning_at i = option_and_then meaning_of (paired s.uses i)
 
   -- the function in whose definition a node stands, by the leaf of its name
   abbrev pub declared_name : ℕ → Option ℕ
@@ -285,37 +267,32 @@ module _ (w : World) (s : Source) (sense : ℕ → Sense) where
   abbrev pub only_extern : ℕ → Bool
   only_extern leaf = is_without_storage s sense leaf || has_storage s sense word_extern leaf
 
-  abbrev pub words_go : Bool → Bool → ℕ → Bool
-  words_go initialised function leaf =
+  abbrev pub words_go : Bool → ℕ → Bool
+  words_go initialised leaf =
       let typedefs = is_typedef s sense leaf in
+      let function = declares_function s sense leaf in
       let file = is_at_file s sense leaf in
       not (has_function_words leaf && (typedefs || not function))
       && (not (initialised && (typedefs || (function || (not file && has_storage s sense word_extern leaf))))
-      && (not (function && (not typedefs && (not file && not (only_extern leaf))))
+      && (not (function && (not file && not (only_extern leaf)))
       && (not (typedefs && is_defined s sense leaf)
       && not (is_in_for leaf && (typedefs || (function || (has_storage s sense word_static leaf || has_storage s sense word_extern leaf)))))))
 
-  -- 6.7p3: a typedef again is of the same type
-  abbrev pub earlier_in_scope : List Declaration → ℕ → List Declaration
-  earlier_in_scope [] leaf = []
-  earlier_in_scope (d ∷ rest) leaf =
-      if d.node == leaf then keep s sense (λ e. is_ordinary s sense d.name e && ((e.scope == d.scope) && nat_lt e.node leaf)) s.declared else earlier_in_scope rest leaf
-
+  -- 6.7p3: a typedef again in one scope is of the same type
   abbrev pub all_same : Ctype → List Declaration → Bool
   all_same t [] = true
   all_same t (d ∷ rest) = elim (own_type s sense d.node) [ None ↦ false | Some other ↦ same_type other t ] && all_same t rest
 
   abbrev pub is_same_again : Ctype → ℕ → Bool
-  is_same_again t leaf = not (is_typedef s sense leaf) || all_same t (earlier_in_scope s.declared leaf)
+  is_same_again t leaf = not (is_typedef s sense leaf) || all_same t (before_in_scope s (ordinary_at s leaf))
 
-  -- one name has one linkage in a scope
+  -- 6.2.2p7: one name has one linkage in a scope
   abbrev pub same_internal : Bool → List Declaration → Bool
   same_internal internal [] = true
-  same_internal internal (d ∷ rest) =
-      (if d.linked then (if is_internal s sense (declares_function s sense d.node) d.node then internal else not internal) else true) && same_internal internal rest
+  same_internal internal (d ∷ rest) = (if is_internal s sense d.node then internal else not internal) && same_internal internal rest
 
-  abbrev pub has_one_linkage : Bool → ℕ → Bool
-  has_one_linkage function leaf = not (is_linked s sense function leaf) || same_internal (is_internal s sense function leaf) (earlier_in_scope s.declared leaf)
+  abbrev pub has_one_linkage : ℕ → Bool
+  has_one_linkage leaf = not (is_linked s sense leaf) || same_internal (is_internal s sense leaf) (before_in_scope s (ordinary_at s leaf))
 
   -- a declaration of an internal name agrees with those before, and defines it only once
   abbrev pub agrees_with : Ctype → Option Ctype → Bool
@@ -323,8 +300,7 @@ module _ (w : World) (s : Source) (sense : ℕ → Sense) where
   agrees_with t (Some before) = agree before t
 
   abbrev pub internal_before : ℕ → List Declaration
-  internal_before leaf =
-      keep s sense (λ d. is_ordinary s sense (spelling_at s leaf) d && (nat_lt d.node leaf && (d.linked && is_internal s sense (declares_function s sense d.node) d.node))) s.declared
+  internal_before leaf = internal_among s sense (made_before leaf s.declared.ordinary) (ordinary_at s leaf)
 
   abbrev pub defines : ℕ → Bool
   defines leaf = is_defined s sense leaf || is_some (initialiser_for s sense leaf)
@@ -332,10 +308,9 @@ module _ (w : World) (s : Source) (sense : ℕ → Sense) where
   abbrev pub one_definition : Bool → ℕ → Bool
   one_definition again leaf = not (again && some_such s sense (λ d. defines d.node) (internal_before leaf))
 
-  abbrev pub internal_fits : Bool → Bool → Ctype → ℕ → Bool
-  internal_fits function defined t leaf =
-      not (is_internal s sense function leaf)
-      || (agrees_with t (all_together None (types_of s sense (internal_before leaf))) && one_definition defined leaf)
+  abbrev pub internal_fits : Bool → Ctype → ℕ → Bool
+  internal_fits defined t leaf =
+      not (is_internal s sense leaf) || (agrees_with t (all_together None (types_of s sense (internal_before leaf))) && one_definition defined leaf)
 
   -- the type of an object is complete at the unit's end: it has a size, or will have one, or the object is only declared
   abbrev pub is_completed_somewhere : ℕ → Bool
@@ -356,14 +331,14 @@ module _ (w : World) (s : Source) (sense : ℕ → Sense) where
   element_has_size (ArrayOf of None) = has_size w of
   element_has_size t = false
 
-  abbrev pub is_object_complete : Bool → Bool → Ctype → ℕ → Bool
-  is_object_complete initialised function t leaf =
+  abbrev pub is_object_complete : Bool → Ctype → ℕ → Bool
+  is_object_complete initialised t leaf =
       has_size w t
-      || ((element_has_size t && (initialised || is_linked s sense function leaf))
+      || ((element_has_size t && (initialised || is_linked s sense leaf))
       || (will_have_size t || (may_stay_open t && (has_storage s sense word_extern leaf && not initialised))))
 
-  abbrev pub is_name_complete : Bool → Bool → Ctype → ℕ → Bool
-  is_name_complete initialised function t leaf = is_typedef s sense leaf || (function || is_object_complete initialised function t leaf)
+  abbrev pub is_name_complete : Bool → Ctype → ℕ → Bool
+  is_name_complete initialised t leaf = is_typedef s sense leaf || (declares_function s sense leaf || is_object_complete initialised t leaf)
 
   -- 6.9.1: a function definition
   abbrev pub result_of : Ctype → Ctype
@@ -389,13 +364,12 @@ module _ (w : World) (s : Source) (sense : ℕ → Sense) where
   -- the declarator of a declaration, at its name, for its type without what an initialiser adds
   abbrev pub named_row : ℕ → ℕ → Ctype → Given Sense → Given Sense
   named_row at leaf t g =
-      let function = is_function_type t && not (is_typedef s sense leaf) in
       let initialised = is_some (initialiser_of s sense at) in
-      given_if (words_go initialised function leaf) Operand leaf
+      given_if (words_go initialised leaf) Operand leaf
       (given_if (is_same_again t leaf) Operand leaf
-      (given_if (has_one_linkage function leaf) Operand leaf
-      (given_if (internal_fits function (initialised || is_defined s sense leaf) t leaf) Operand leaf
-      (given_if (is_name_complete initialised function t leaf) Operand leaf (definition_row t leaf g)))))
+      (given_if (has_one_linkage leaf) Operand leaf
+      (given_if (internal_fits (initialised || is_defined s sense leaf) t leaf) Operand leaf
+      (given_if (is_name_complete initialised t leaf) Operand leaf (definition_row t leaf g)))))
 
   -- the name of a parameter of a definition has a complete type
   abbrev pub is_parameter_complete : Ctype → Bool

@@ -1,5 +1,5 @@
 -- One row for each production of expressions, over what the nodes before stand for (C11 6.5).
-use Rattle.std.specs.Prelude.{ℕ, zero, suc, ◌-◌, ◌==◌, pos, Bool, true, false, ◌&&◌, ◌||◌, not, List, [], ◌∷◌, ◌++◌, Option, Some, None, if◌then◌else◌}
+use Rattle.std.specs.Prelude.{ℕ, ◌==◌, pos, Bool, true, false, ◌||◌, not, List, [], ◌∷◌, Option, Some, None, if◌then◌else◌}
 use Rattle.std.specs.List.{flat_map}
 use Rattle.pta_base.specs.declared.kind.Kind.TheVariants.{Operand}
 use Rattle.pta_base.specs.declared.place.Place.{Place}
@@ -8,17 +8,17 @@ use Rattle.c_lexer.specs.declared.TokenKind.TheVariants.{Identifier, Keyword, Pu
 use Rattle.core_tree.specs.declared.node.Op.TheVariants.{Plus, Minus, Complement}
 use Rattle.core_tree.specs.declared.node.NodeKind.TheVariants.{Number}
 use Rattle.core_tree.specs.Rows.{int}
-use Rattle.c_grammar.specs.Productions.{p_type_name, p_items, p_expression, p_assignment, p_conditional, p_logical_or, p_logical_and, p_inclusive_or, p_exclusive_or, p_and, p_equality, p_relational, p_shift, p_additive, p_multiplicative, p_cast, p_unary, p_post, p_primary}
+use Rattle.c_grammar.specs.Productions.{p_type_name, p_expression, p_assignment, p_conditional, p_logical_or, p_logical_and, p_inclusive_or, p_exclusive_or, p_and, p_equality, p_relational, p_shift, p_additive, p_multiplicative, p_cast, p_unary, p_post, p_primary}
 use Rattle.c_grammar.specs.Words.{word_sizeof, word_alignof, sign_left_bracket, sign_left_parenthesis, sign_dot, sign_arrow, sign_increment, sign_decrement, sign_ampersand, sign_star, sign_plus, sign_minus, sign_tilde, sign_exclamation, sign_assign}
 use Rattle.c_consts.specs.Core.{Core, ctype_of, core_sort, leaf}
-use Rattle.c_senses.specs.Tree.{Source, is_a, is_leaf, place_at, spelling_at, kind_at, sign_at, last_where, all_where, left_of, is_number}
-use Rattle.c_senses.specs.Given.{Given, Fits, Refuses, ◌>>=◌, given_if, given_some}
+use Rattle.c_senses.specs.Tree.{Source, is_a, is_leaf, place_at, spelling_at, kind_at, sign_at, last_where, all_where, left_of}
+use Rattle.c_senses.specs.Given.{Given, Fits, Refuses, ◌>>=◌, given_some}
 use Rattle.c_senses.specs.World.{World}
 use Rattle.c_senses.specs.Literals.{value_of_integer, type_of_integer, value_of_character, bytes_of_string}
 use Rattle.c_senses.specs.Conversions.{operand_of, value_of}
 use Rattle.c_senses.specs.Operators.{Between, between, operator, number_core, promoted_row, not_row, choice_row}
 use Rattle.c_senses.specs.Objects.{text_core, name_row, address_row, indirection_row, index_row, member_row, arrow_row, assign_row, assigned_op, update_row, call_row, cast_row, size_row, align_row, sized_expression}
-use Rattle.c_senses.specs.Sense.{Sense, Nothing, IsCore, IsType, core_of, value_in, type_of_sense, fits, last_of}
+use Rattle.c_senses.specs.Sense.{Sense, core_of, value_in, type_of_sense, fits, last_of}
 
 abbrev pub as_sense : Given Core → Given Sense
 as_sense g = g >>= fits

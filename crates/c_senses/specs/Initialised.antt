@@ -1,33 +1,32 @@
 -- Initialised objects and compound literals (C11 6.5.2.5, 6.7.9).
-use Rattle.std.specs.Prelude.{ℕ, zero, suc, ◌-◌, ◌==◌, ℤ, pos, negsuc, Bool, true, false, ◌&&◌, ◌||◌, not, nat_lt, List, [], ◌∷◌, ◌++◌, Option, Some, None, is_some, is_none, slice_get, slice_index, option_and_then, if◌then◌else◌}
+use Rattle.std.specs.Prelude.{ℕ, pos, Bool, true, false, ◌&&◌, ◌||◌, not, List, [], ◌∷◌, Option, Some, None, is_some, slice_index, if◌then◌else◌}
 use Rattle.pta_base.specs.declared.kind.Kind.TheVariants.{Operand, Initialiser}
 use Rattle.pta_base.specs.declared.place.Place.{Place}
 use Rattle.c_types.specs.declared.term.PathStep.{PathStep}
 use Rattle.c_types.specs.declared.term.PathStep.TheVariants.{Index, Member as MemberStep}
-use Rattle.c_types.specs.Trees.{Ctype, VoidType, BoolType, IntegerType, FloatingType, VaListType, PointerTo, ArrayOf, FunctionFrom, StructureOf, UnionOf}
+use Rattle.c_types.specs.Trees.{Ctype, VoidType, BoolType, IntegerType, PointerTo, ArrayOf}
 use Rattle.core_tree.specs.declared.node.NodeKind.{NodeKind}
 use Rattle.core_tree.specs.declared.node.NodeKind.TheVariants.{Named, Text, Literal, FunctionName, Deref, Member, Number, NullValue, AddressOf, Decay, PointerAdd, Convert, Upcast, Choose, Arith, Initialise}
-use Rattle.c_grammar.specs.Productions.{p_rest, p_type_name, p_init, p_items, p_designator, p_assignment, p_block, p_conditional, p_cast, p_unary, p_external}
+use Rattle.c_grammar.specs.Productions.{p_rest, p_type_name, p_assignment, p_block, p_conditional, p_cast, p_unary}
 use Rattle.c_grammar.specs.Words.{sign_left_parenthesis, sign_left_brace, sign_left_bracket}
 use Rattle.c_consts.specs.Core.{Core, Cores, Of, NoCores, MoreCores, kind_of, place_of, ctype_of, leaf, over}
 use Rattle.c_consts.specs.Wrapped.{converted}
-use Rattle.c_inits.specs.Made.{Part, shape_for}
+use Rattle.c_inits.specs.Made.{shape_for}
 use Rattle.c_inits.specs.Shapes.{Shape, Path}
 use Rattle.c_inits.specs.Syntax.{Init, Items, Braces}
 use Rattle.c_inits.specs.View as view
 use Rattle.c_inits.specs.Initial.{Outcome, Places, NoPlace, Action, Placed, initial, lasting, length_given}
-use Rattle.c_senses.specs.Tree.{Source, is_a, is_leaf, is_name, has_sign, place_at, spelling_at, children_at, first_where, last_where, child_of, parent_of, nearest_above}
+use Rattle.c_senses.specs.Tree.{Source, is_a, is_name, has_sign, place_at, spelling_at, children_at, first_where, child_of, parent_of, nearest_above}
 use Rattle.c_senses.specs.Given.{Given, Fits, Refuses, ◌>>=◌, given_if, given_some}
-use Rattle.c_senses.specs.World.{World, extent, members_of}
+use Rattle.c_senses.specs.World.{World, members_of}
 use Rattle.c_senses.specs.Literals.{char_value}
-use Rattle.c_senses.specs.Conversions.{conversion}
+use Rattle.c_senses.specs.Conversions.{conversion, typed}
 use Rattle.c_senses.specs.Objects.{part_at}
 use Rattle.c_senses.specs.Constants.{constant_in}
 use Rattle.c_senses.specs.Limits.{within_limits, lacks_a_length}
 use Rattle.c_senses.specs.Places.{own_place}
-use Rattle.c_senses.specs.Declarators.{outermost_of, is_declarator, derived}
 use Rattle.c_senses.specs.Entities.{with_length, initialised_by, derived_type, specified_of, entity_of, is_static_object, is_in_static, is_automatic_storage, storage_of}
-use Rattle.c_senses.specs.Sense.{Sense, Nothing, IsCore, IsType, IsDeclarator, IsInitial, IsValue, value_in}
+use Rattle.c_senses.specs.Sense.{Sense, Nothing, IsCore, IsType, IsDeclarator, IsInitial, IsValue, value_in, fits}
 
 -- a number, a place or a pointer that is fixed before the program runs: what a static object's initialiser may hold
 abbrev pub is_integer_type : Ctype → Bool
@@ -263,11 +262,11 @@ module _ (w : World) (s : Source) (sense : ℕ → Sense) where
   abbrev pub literal_core : ℕ → Ctype → Made → Core
   literal_core p t made = over (Literal (opening p)) (place_at s (opening p)) (with_length made.length t) made.initial
 
-  abbrev pub literal_of : ℕ → ℕ → Ctype → Given Sense
+  abbrev pub literal_of : ℕ → ℕ → Ctype → Given Core
   literal_of at p t =
       outcome_of (brace p) (shape_for w.fillable most_elements t) (braced (brace p) (view.items_at seen s.nodes at)) >>= (λ outcome.
       made_of (not (is_in_body at)) (opening p) (place_at s (brace p)) t outcome >>= (λ made.
-      given_if (within_limits w (with_length made.length t) && not (is_in_body at && is_in_static s sense at)) Operand (opening p) (Fits (IsCore (literal_core p t made)))))
+      given_if (within_limits w (with_length made.length t) && not (is_in_body at && is_in_static s sense at)) Operand (opening p) (Fits (literal_core p t made))))
 
   abbrev pub literal_type : ℕ → Sense → Given Ctype
   literal_type at (IsType t) = Fits t
@@ -275,7 +274,7 @@ module _ (w : World) (s : Source) (sense : ℕ → Sense) where
 
   abbrev pub literal_in : ℕ → ℕ → Option ℕ → Given Sense
   literal_in at p None = Refuses Operand at
-  literal_in at p (Some t) = literal_type at (sense t) >>= literal_of at p
+  literal_in at p (Some t) = literal_type at (sense t) >>= (λ type. typed (opening p) type (literal_of at p type)) >>= fits
 
   abbrev pub items_row : ℕ → Given Sense
   items_row at =

@@ -1,9 +1,9 @@
 -- The keys by which units share structures and unions.
-use Rattle.std.specs.Prelude.{ℕ, zero, suc, ◌+◌, ◌==◌, Bool, true, false, ◌&&◌, ◌||◌, not, nat_lt, List, [], ◌∷◌, ◌++◌, length, codes, decimal, Option, Some, None, is_some, is_none, option_and_then, option_map, if◌then◌else◌}
+use Rattle.std.specs.Prelude.{ℕ, zero, suc, ◌+◌, ◌==◌, Bool, false, ◌&&◌, ◌||◌, nat_lt, List, [], ◌∷◌, ◌++◌, length, codes, decimal, Option, Some, None, is_some, is_none, option_and_then, option_map, if◌then◌else◌}
 use Rattle.std.specs.Str.{bytes_eq}
-use Rattle.c_grammar.specs.Productions.{p_external, p_rest, p_specs, p_struct, p_members, p_member, p_declarator, p_suffix, p_type_name, p_block}
-use Rattle.c_senses.specs.Tree.{Source, is_a, spelling_at, children_at, first_where, all_where, any_where, child_of, parent_of, nearest_above, numbers_from, all_nodes}
-use Rattle.c_senses.specs.Tags.{tag_leaf, tag_of, is_union}
+use Rattle.c_grammar.specs.Productions.{p_external, p_rest, p_specs, p_struct, p_member, p_declarator, p_suffix, p_block}
+use Rattle.c_senses.specs.Tree.{Source, is_a, spelling_at, children_at, any_where, parent_of, nearest_above, numbers_from}
+use Rattle.c_senses.specs.Tags.{tag_leaf, is_union}
 use Rattle.c_senses.specs.Sense.{Sense, IsDeclarator, IsMembers}
 
 -- the first word of a key

@@ -1,4 +1,5 @@
 pub mod Tree
+pub mod Names
 pub mod Given
 pub mod World
 pub mod Nulls

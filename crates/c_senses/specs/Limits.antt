@@ -1,6 +1,6 @@
 -- Limits of types: how large a type may be, and where a flexible array may end a structure.
-use Rattle.std.specs.Prelude.{ℕ, zero, suc, ◌-◌, ◌^◌, Bool, true, false, ◌&&◌, ◌||◌, not, nat_lt, List, [], ◌∷◌, length, Option, Some, None, slice_get, is_some}
-use Rattle.c_types.specs.Trees.{Ctype, Ctypes, NoTypes, MoreTypes, VoidType, BoolType, IntegerType, FloatingType, VaListType, PointerTo, ArrayOf, FunctionFrom, StructureOf, UnionOf}
+use Rattle.std.specs.Prelude.{ℕ, zero, suc, Bool, true, false, ◌&&◌, ◌||◌, List, [], ◌∷◌, length, Option, Some, None, is_some}
+use Rattle.c_types.specs.Trees.{Ctype, Ctypes, NoTypes, MoreTypes, PointerTo, ArrayOf, FunctionFrom, StructureOf, UnionOf}
 use Rattle.c_types.specs.Layout.{Extent}
 use Rattle.c_types.specs.Table.{size_below, nodes_within}
 use Rattle.c_inits.specs.Made.{Part}

@@ -1,5 +1,5 @@
 -- Null constants (C11 6.3.2.3p3).
-use Rattle.std.specs.Prelude.{ℤ, pos, Bool, true, false, ◌||◌}
+use Rattle.std.specs.Prelude.{pos, Bool, true, false, ◌||◌}
 use Rattle.std.specs.Ordering.{int_eq}
 use Rattle.core_tree.specs.declared.node.NodeKind.{NodeKind}
 use Rattle.core_tree.specs.declared.node.NodeKind.TheVariants.{NullValue}

@@ -1,25 +1,25 @@
 -- Names, objects and their parts, assignments, calls and casts (C11 6.5.1 to 6.5.4, 6.5.16).
-use Rattle.std.specs.Prelude.{ℕ, zero, suc, ◌+◌, ◌==◌, ℤ, pos, Bool, true, false, ◌&&◌, ◌||◌, not, List, [], ◌∷◌, ◌++◌, length, Option, Some, None, slice_get, is_some, is_none, if◌then◌else◌}
+use Rattle.std.specs.Prelude.{ℕ, zero, suc, ◌+◌, ◌==◌, pos, Bool, true, false, ◌&&◌, not, List, [], ◌∷◌, length, Option, Some, None, slice_get, is_some, is_none, if◌then◌else◌}
 use Rattle.pta_base.specs.declared.kind.Kind.TheVariants.{Operand, ArrayOfValue, FlexibleMember}
 use Rattle.pta_base.specs.declared.place.Place.{Place}
 use Rattle.c_types.specs.declared.term.Form.{Form}
 use Rattle.c_types.specs.declared.term.Form.TheVariants.{Fixed, Variadic, Unspecified}
-use Rattle.c_types.specs.Trees.{Ctype, Ctypes, NoTypes, MoreTypes, VoidType, BoolType, IntegerType, FloatingType, VaListType, PointerTo, ArrayOf, FunctionFrom, StructureOf, UnionOf}
+use Rattle.c_types.specs.Trees.{Ctype, Ctypes, NoTypes, MoreTypes, VoidType, PointerTo, ArrayOf, FunctionFrom}
 use Rattle.c_types.specs.Layout.{Extent}
 use Rattle.c_types.specs.Table.{size_below}
 use Rattle.core_tree.specs.declared.node.Op.{Op}
 use Rattle.core_tree.specs.declared.node.Op.TheVariants.{Multiply, Divide, Remainder, Plus, Minus, ShiftLeft, ShiftRight, And, Xor, Or}
-use Rattle.core_tree.specs.declared.node.NodeKind.TheVariants.{Named, Text, FunctionName, Deref, Member, Number, AddressOf, Assign, Update, CallNode, MemberOfValue, Convert}
-use Rattle.core_tree.specs.Typed.{Sort, PlaceNode, ValueNode}
+use Rattle.core_tree.specs.declared.node.NodeKind.TheVariants.{Named, Text, FunctionName, Deref, Member, Number, AddressOf, Assign, Update, CallNode, MemberOfValue}
+use Rattle.core_tree.specs.Typed.{Sort, PlaceNode}
 use Rattle.core_tree.specs.Rows.{int, character}
-use Rattle.c_grammar.specs.Words.{sign_assign, sign_multiply_assign, sign_divide_assign, sign_remainder_assign, sign_add_assign, sign_subtract_assign, sign_shift_left_assign, sign_shift_right_assign, sign_and_assign, sign_xor_assign, sign_or_assign}
-use Rattle.c_consts.specs.Core.{Core, Cores, Of, NoCores, MoreCores, place_of, ctype_of, core_sort, leaf, over, over_two}
+use Rattle.c_grammar.specs.Words.{sign_multiply_assign, sign_divide_assign, sign_remainder_assign, sign_add_assign, sign_subtract_assign, sign_shift_left_assign, sign_shift_right_assign, sign_and_assign, sign_xor_assign, sign_or_assign}
+use Rattle.c_consts.specs.Core.{Core, Cores, Of, NoCores, MoreCores, ctype_of, core_sort, leaf, over, over_two}
 use Rattle.c_inits.specs.Made.{Part}
 use Rattle.c_senses.specs.Given.{Given, Fits, Refuses, ◌>>=◌, given_if, given_some}
-use Rattle.c_senses.specs.World.{World, Meaning, Object, Function, TypeName, Tag, Value, extent, has_size, members_of, same_type, way_to}
+use Rattle.c_senses.specs.World.{World, Meaning, Object, Function, TypeName, Tag, Value, extent, has_size, members_of, way_to}
 use Rattle.c_senses.specs.Literals.{unsigned_long}
-use Rattle.c_senses.specs.Conversions.{OperandSort, Whole, Address, Aggregate, Other, operand_of, value_of, promotion, conversion, place_width, typed}
-use Rattle.c_senses.specs.Operators.{moved, number_core}
+use Rattle.c_senses.specs.Conversions.{OperandSort, Whole, Address, Aggregate, Other, operand_of, value_of, promotion, conversion, place_width, width_in, typed}
+use Rattle.c_senses.specs.Operators.{moved}
 
 -- a string literal, or a function's own name: an array of its bytes and a closing zero
 abbrev pub text_core : Place → List ℕ → Core
@@ -186,21 +186,18 @@ is_returned w t = has_size w t
 
 abbrev pub call_of : World → Place → ℕ → Core → Ctype → Ctypes → Form → List Core → Given Core
 call_of w place at c r ps form args =
-    typed at r (given_if (takes_so_many form (count_of ps) (length args)) Operand at
-    (arguments w at ps args >>= (λ cores. given_if (is_returned w r) Operand at (Fits (Of CallNode place r (MoreCores c cores))))))
+    given_if (takes_so_many form (count_of ps) (length args)) Operand at
+    (arguments w at ps args >>= (λ cores. given_if (is_returned w r) Operand at (Fits (Of CallNode place r (MoreCores c cores)))))
 
--- a call stands in a function's body, or where it isn't evaluated
+-- a call stands in a function's body, or where it isn't evaluated; what its own type decides comes before that
 abbrev pub callee_row : World → Place → ℕ → Core → List Core → Ctype → Given Core
-callee_row w place at c args (PointerTo (FunctionFrom r ps form)) = given_if w.may_call Operand at (call_of w place at c r ps form args)
+callee_row w place at c args (PointerTo (FunctionFrom r ps form)) = typed at r (given_if w.may_call Operand at (call_of w place at c r ps form args))
 callee_row w place at c args t = Refuses Operand at
 
 abbrev pub call_row : World → Place → ℕ → Core → List Core → Given Core
 call_row w place at f args = value_of w at f >>= (λ c. callee_row w place at c args (ctype_of c))
 
 -- 6.5.4: a cast. Nothing is cast to an array or a function, and a structure or union to its own type alone.
-abbrev pub cast_core : Place → Core → Core
-cast_core place c = c
-
 abbrev pub cast_row : World → ℕ → Core → Ctype → Given Core
 cast_row w at x t = typed at t (value_of w at x >>= (λ v. conversion w true at v t))
 
@@ -218,5 +215,11 @@ align_in (Some e) = Some e.align
 abbrev pub align_row : World → Place → ℕ → Ctype → Given Core
 align_row w place at t = given_some (align_in (extent w t)) Operand at >>= (λ n. Fits (size_number place n))
 
+-- the width of a bit-field that an expression names, as a member of a place or of a value
+abbrev pub named_width : World → Core → Option ℕ
+named_width w (Of (Member k) place type (MoreCores p NoCores)) = width_in (members_of w (ctype_of p)) k
+named_width w (Of (MemberOfValue k) place type (MoreCores v NoCores)) = width_in (members_of w (ctype_of v)) k
+named_width w c = None
+
 abbrev pub sized_expression : World → Place → ℕ → Core → Given Core
-sized_expression w place at c = given_if (is_none (place_width w c)) Operand at (size_row w place at (ctype_of c))
+sized_expression w place at c = given_if (is_none (named_width w c)) Operand at (size_row w place at (ctype_of c))

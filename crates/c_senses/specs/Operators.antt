@@ -1,19 +1,18 @@
 -- Operators on values (C11 6.5.3.3, 6.5.5 to 6.5.15).
-use Rattle.std.specs.Prelude.{ℕ, ◌==◌, pos, Bool, true, false, ◌&&◌, ◌||◌, not, List, [], ◌∷◌, Option, Some, None, if◌then◌else◌}
+use Rattle.std.specs.Prelude.{ℕ, ◌==◌, pos, Bool, true, false, ◌&&◌, not, if◌then◌else◌}
 use Rattle.pta_base.specs.declared.kind.Kind.TheVariants.{Operand}
 use Rattle.pta_base.specs.declared.place.Place.{Place}
-use Rattle.c_types.specs.Trees.{Ctype, VoidType, BoolType, IntegerType, FloatingType, VaListType, PointerTo, ArrayOf, FunctionFrom, StructureOf, UnionOf}
+use Rattle.c_types.specs.Trees.{Ctype, VoidType}
 use Rattle.core_tree.specs.declared.node.Op.{Op}
-use Rattle.core_tree.specs.declared.node.Op.TheVariants.{Multiply, Divide, Remainder, Plus, Minus, ShiftLeft, ShiftRight, Less, Greater, LessEqual, GreaterEqual, Equal, NotEqual, And, Xor, Or, Complement, Not}
+use Rattle.core_tree.specs.declared.node.Op.TheVariants.{Multiply, Divide, Remainder, Plus, Minus, ShiftLeft, ShiftRight, Less, Greater, LessEqual, GreaterEqual, Equal, NotEqual, And, Xor, Or, Not}
 use Rattle.core_tree.specs.declared.node.NodeKind.TheVariants.{Number, PointerAdd, Choose, Sequence, Arith}
 use Rattle.core_tree.specs.Rows.{int, long}
-use Rattle.c_grammar.specs.Productions.{p_expression, p_logical_or, p_logical_and, p_inclusive_or, p_exclusive_or, p_and, p_equality, p_relational, p_shift, p_additive, p_multiplicative}
 use Rattle.c_grammar.specs.Words.{sign_star, sign_slash, sign_percent, sign_plus, sign_minus, sign_shift_left, sign_shift_right, sign_less, sign_greater, sign_less_equal, sign_greater_equal, sign_equal, sign_not_equal, sign_ampersand, sign_caret, sign_bar, sign_both, sign_either_or, sign_comma}
 use Rattle.c_consts.specs.Core.{Core, ctype_of, leaf, over, over_two, over_three}
 use Rattle.c_senses.specs.Given.{Given, Fits, Refuses, ◌>>=◌, given_if}
 use Rattle.c_senses.specs.World.{World, has_size, same_type}
 use Rattle.c_senses.specs.Nulls.{is_null}
-use Rattle.c_senses.specs.Conversions.{OperandSort, Whole, Address, Aggregate, Other, operand_of, is_scalar, promotion, common, made, converted, null_value, target_of, is_function_target}
+use Rattle.c_senses.specs.Conversions.{OperandSort, Whole, Address, operand_of, is_scalar, promotion, common, made, converted, null_value, target_of, is_function_target}
 
 -- 6.5.5 and on: both operands are promoted and converted to their common type
 abbrev pub common_of : World → Core → Core → Ctype

@@ -1,9 +1,9 @@
 -- The own token of a syntax node, at whose place it is refused.
-use Rattle.std.specs.Prelude.{ℕ, zero, suc, ◌==◌, Bool, true, false, ◌&&◌, ◌||◌, not, List, [], ◌∷◌, length, Option, Some, None, if◌then◌else◌}
+use Rattle.std.specs.Prelude.{ℕ, zero, suc, Bool, ◌||◌, List, [], ◌∷◌, Option, Some, None, if◌then◌else◌}
 use Rattle.pta_base.specs.declared.place.Place.{Place}
-use Rattle.c_grammar.specs.Productions.{p_field, p_enum, p_enumerator, p_declarator, p_abstract, p_either, p_parameter, p_init, p_statement, p_expression, p_assignment, p_conditional, p_logical_or, p_logical_and, p_inclusive_or, p_exclusive_or, p_and, p_equality, p_relational, p_shift, p_additive, p_multiplicative, p_cast, p_unary, p_primary}
-use Rattle.c_grammar.specs.Words.{sign_left_brace, sign_colon, sign_left_parenthesis, sign_semicolon}
-use Rattle.c_senses.specs.Tree.{Source, is_a, is_leaf, is_name, has_sign, place_at, children_at, first_where, last_where, any_where}
+use Rattle.c_grammar.specs.Productions.{p_field, p_declarator, p_abstract, p_either, p_parameter, p_init, p_statement, p_expression, p_assignment, p_conditional, p_logical_or, p_logical_and, p_inclusive_or, p_exclusive_or, p_and, p_equality, p_relational, p_shift, p_additive, p_multiplicative, p_cast, p_unary, p_post, p_primary}
+use Rattle.c_grammar.specs.Words.{sign_colon, sign_left_parenthesis}
+use Rattle.c_senses.specs.Tree.{Source, is_a, is_leaf, is_name, has_sign, place_at, children_at, first_where, last_where}
 use Rattle.c_senses.specs.Sense.{last_of}
 
 -- where a node's own token is: its first one; a leaf among its children; or that of a part
@@ -50,10 +50,13 @@ module _ (s : Source) where
   own_of_primary (c ∷ []) = First
   own_of_primary (c ∷ e ∷ rest) = if has_sign s sign_left_parenthesis c then OfPart e else First
 
-  -- what begins with a token has that one; what begins with a part, the last part
+  -- what follows a compound literal; else what begins with a token has that one; what begins with a part, the last part
   abbrev pub own_of_parts : List ℕ → Own
   own_of_parts [] = First
   own_of_parts (c ∷ rest) = if is_leaf s c then First else OfPart (last_of c rest)
+
+  abbrev pub own_of_cast : List ℕ → Own
+  own_of_cast children = elim (last_where (is_a s p_post) children) [ Some p ↦ OfPart p | None ↦ own_of_parts children ]
 
   -- a statement: its word; an expression with its semicolon, the expression
   abbrev pub own_of_statement : List ℕ → Own
@@ -72,7 +75,8 @@ module _ (s : Source) where
       else if is_a s p_field i then own_of_field children
       else if is_operators i then own_of_operators children
       else if is_a s p_primary i then own_of_primary children
-      else if is_a s p_cast i || (is_a s p_unary i || is_a s p_init i) then own_of_parts children
+      else if is_a s p_cast i then own_of_cast children
+      else if is_a s p_unary i || is_a s p_init i then own_of_parts children
       else if is_a s p_statement i then own_of_statement children
       else First
 

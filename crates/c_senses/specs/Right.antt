@@ -1,5 +1,5 @@
 -- What it is that a unit is what its syntax tree says, up to the numbers of entities, tags and nodes.
-use Rattle.std.specs.Prelude.{⊤, ℕ, zero, suc, ◌+◌, ◌==◌, ◌≡◌, ◌<◌, Bool, true, false, ◌&&◌, ◌||◌, not, List, [], ◌∷◌, ◌++◌, length, Option, Some, None, slice_get, is_some, option_and_then, option_map, ◌⊎◌, Contains, if◌then◌else◌}
+use Rattle.std.specs.Prelude.{⊤, ℕ, ◌==◌, ◌≡◌, ◌<◌, Bool, true, false, ◌&&◌, ◌||◌, not, List, [], ◌∷◌, length, Option, Some, None, slice_get, is_some, option_and_then, option_map, ◌⊎◌, if◌then◌else◌}
 use Rattle.pta_base.specs.declared.place.Place.{Place}
 use Rattle.c_types.specs.Trees.{Ctype, Ctypes, NoTypes, MoreTypes, VoidType, BoolType, IntegerType, FloatingType, VaListType, PointerTo, ArrayOf, FunctionFrom, StructureOf, UnionOf}
 use Rattle.c_types.specs.Table.{Table, type_of, members_in}
@@ -9,25 +9,27 @@ use Rattle.core_tree.specs.declared.node.NodeKind.TheVariants.{Named, Literal, F
 use Rattle.core_tree.specs.declared.node.Node.{Node}
 use Rattle.core_tree.specs.declared.node.Entity.{Entity}
 use Rattle.core_tree.specs.declared.node.Linkage.{Linkage}
-use Rattle.core_tree.specs.declared.node.Linkage.TheVariants.{External, Internal, Local}
+use Rattle.core_tree.specs.declared.node.Linkage.TheVariants.{Internal, Local}
 use Rattle.core_tree.specs.declared.node.Storage.{Storage}
-use Rattle.core_tree.specs.declared.node.Storage.TheVariants.{Static, Automatic, FunctionBody, Parameter as ParameterStorage, Declared as DeclaredStorage}
+use Rattle.core_tree.specs.declared.node.Storage.TheVariants.{Static, Automatic, Declared as DeclaredStorage}
 use Rattle.core_tree.specs.declared.node.Unit.{Unit}
 use Rattle.core_tree.specs.Typed.{trees_of}
 use Rattle.core_tree.specs.Valid.{ValidUnit, IsChild, entity_at}
-use Rattle.c_grammar.specs.Productions.{p_external, p_rest, p_declaration, p_struct, p_members, p_enum, p_declarator, p_either, p_parameter, p_block, p_init}
+use Rattle.c_grammar.specs.Productions.{p_external, p_declaration, p_struct, p_parameter, p_block}
 use Rattle.c_grammar.specs.Words.{word_extern}
 use Rattle.c_consts.specs.Core.{Core, Cores, Of, NoCores, MoreCores, kind_of, ctype_of, cores_under, core_in}
-use Rattle.c_inits.specs.Made.{Part, TagParts}
-use Rattle.c_senses.specs.Tree.{Source, Declaration, is_a, is_name, place_at, spelling_at, children_at, all_where, any_where, child_of, parent_of, all_nodes}
+use Rattle.c_inits.specs.Made.{Part}
+use Rattle.c_scope.specs.Known.{Declared as Declaration}
+use Rattle.c_senses.specs.Names.{ordinary_at}
+use Rattle.c_senses.specs.Tree.{Source, is_a, is_name, place_at, spelling_at, all_where, any_where, child_of, parent_of, all_nodes}
 use Rattle.c_senses.specs.World.{same_length}
-use Rattle.c_senses.specs.Declarators.{is_outermost, outermost_of, is_defined_list}
-use Rattle.c_senses.specs.Tags.{tag_of, is_tag_specifier, completed_from, members_under}
-use Rattle.c_senses.specs.Limits.{is_function_type, lacks_a_length}
-use Rattle.c_senses.specs.Entities.{own_type, all_together, types_of, keep, is_ordinary, is_internal, declares_function, is_typedef, is_at_file, is_parameter, is_defined, linkage_of, entity_of, storage_of, function_around, initialiser_for, has_storage, declaration_of, with_length}
+use Rattle.c_senses.specs.Declarators.{outermost_of, is_defined_list}
+use Rattle.c_senses.specs.Tags.{tag_of, completed_from, members_under}
+use Rattle.c_senses.specs.Limits.{lacks_a_length}
+use Rattle.c_senses.specs.Entities.{own_type, all_together, types_of, keep, first_of, internal_among, declares_function, is_typedef, is_defined, linkage_of, entity_of, storage_of, function_around, initialiser_for, has_storage, declaration_of, with_length}
 use Rattle.c_senses.specs.Keys.{key_of}
 use Rattle.c_senses.specs.Rows.{AreSenses, world_at}
-use Rattle.c_senses.specs.Sense.{Sense, Nothing, IsCore, IsDeclarator, IsInitial, sense_in}
+use Rattle.c_senses.specs.Sense.{Sense, IsCore, IsDeclarator, IsInitial, sense_in}
 
 -- the number of each entity and of each tag, by the syntax nodes by which they are known
 pub record Numbering : Type 0 where
@@ -113,7 +115,7 @@ module _ (s : Source) (senses : List Sense) where
 
   -- all declarations of an internal name, in order
   abbrev pub of_internal : ℕ → List Declaration
-  of_internal i = keep s sense_of (λ d. is_ordinary s sense_of (spelling_at s i) d && (d.linked && is_internal s sense_of (declares_function s sense_of d.node) d.node)) s.declared
+  of_internal i = internal_among s sense_of s.declared.ordinary (ordinary_at s i)
 
   -- an internal object that has a length in no declaration gets one element
   abbrev pub with_one : Ctype → Ctype
@@ -129,17 +131,13 @@ module _ (s : Source) (senses : List Sense) where
   abbrev pub is_definition_at : Declaration → Bool
   is_definition_at d = is_defined s sense_of d.node || is_some (initialiser_for s sense_of d.node)
 
-  abbrev pub first_of : ℕ → List Declaration → ℕ
-  first_of i [] = i
-  first_of i (d ∷ rest) = d.node
-
   abbrev pub is_tentative : Declaration → Bool
   is_tentative d = not (declares_function s sense_of d.node || has_storage s sense_of word_extern d.node)
 
   abbrev pub representative : ℕ → ℕ
   representative i =
       elim (linkage_of s sense_of i) [
-        | Internal ↦ first_of (first_of i (keep s sense_of is_tentative (of_internal i))) (keep s sense_of is_definition_at (of_internal i))
+        | Internal ↦ first_of s sense_of (first_of s sense_of i (keep s sense_of is_tentative (of_internal i))) (keep s sense_of is_definition_at (of_internal i))
         | _ ↦ i
       ]
 

@@ -1,5 +1,5 @@
 -- One row for each production, over what the nodes before stand for.
-use Rattle.std.specs.Prelude.{ℕ, zero, suc, ◌==◌, Bool, true, false, ◌&&◌, ◌||◌, nat_le, List, [], ◌∷◌, length, take, Option, Some, None, option_map, slice_get, ◌≡◌, ◌≤◌, if◌then◌else◌}
+use Rattle.std.specs.Prelude.{ℕ, ◌==◌, true, false, ◌&&◌, ◌||◌, nat_le, List, [], length, take, Option, Some, option_map, slice_get, ◌≡◌, ◌≤◌, if◌then◌else◌}
 use Rattle.pta_base.specs.declared.kind.Kind.{Kind}
 use Rattle.c_types.specs.Trees.{Ctype}
 use Rattle.c_grammar.specs.declared.trees.SyntaxNode.{SyntaxNode}
@@ -13,8 +13,8 @@ use Rattle.c_senses.specs.Expressions.{expression_row}
 use Rattle.c_senses.specs.Specifiers.{align_specifier, type_row, specs_row}
 use Rattle.c_senses.specs.Declarators.{plain_declarator_row, suffix_row, parameter_row, type_name_row, is_outermost, base_of, derived, adjusted}
 use Rattle.c_senses.specs.Tags.{struct_row, enum_row, members_row, member_declaration, field_row, enumerator_row, completed_from, members_under, look_of}
-use Rattle.c_senses.specs.Entities.{meaning_at, entity_of, storage_of, is_automatic_storage, is_in_static, function_around, by_place}
-use Rattle.c_senses.specs.Initialised.{designator_row, init_row, items_row, is_automatic}
+use Rattle.c_senses.specs.Entities.{meaning_at, storage_of, is_automatic_storage, is_in_static, function_around, by_place}
+use Rattle.c_senses.specs.Initialised.{designator_row, init_row, items_row}
 use Rattle.c_senses.specs.Statements.{rest_row, declaration_row, assert_row, block_row, statement_row}
 use Rattle.c_senses.specs.Sense.{Sense, Nothing, IsDeclarator, sense_in}
 

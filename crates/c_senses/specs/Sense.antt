@@ -1,5 +1,5 @@
 -- What syntax nodes stand for.
-use Rattle.std.specs.Prelude.{ℕ, zero, suc, ◌-◌, ◌==◌, ℤ, Bool, List, [], ◌∷◌, Option, Some, None, get_or}
+use Rattle.std.specs.Prelude.{ℕ, ℤ, List, [], ◌∷◌, Option, get_or}
 use Rattle.pta_base.specs.declared.kind.Kind.TheVariants.{Operand}
 use Rattle.c_types.specs.declared.term.Form.{Form}
 use Rattle.c_types.specs.Trees.{Ctype, Ctypes}

@@ -1,20 +1,19 @@
 -- Specifiers of declarations (C11 6.7.1 to 6.7.5).
-use Rattle.std.specs.Prelude.{ℕ, zero, suc, ◌+◌, ◌-◌, ◌*◌, ◌==◌, ℤ, pos, negsuc, Bool, true, false, ◌&&◌, ◌||◌, not, nat_lt, nat_le, List, [], ◌∷◌, ◌++◌, length, Option, Some, None, is_some, is_none, option_and_then, if◌then◌else◌}
-use Rattle.std.specs.Str.{bytes_eq}
+use Rattle.std.specs.Prelude.{ℕ, suc, ◌==◌, Bool, true, false, ◌&&◌, ◌||◌, not, nat_le, List, [], ◌∷◌, length, Option, Some, None, is_some, if◌then◌else◌}
 use Rattle.pta_base.specs.declared.kind.Kind.TheVariants.{Operand}
 use Rattle.c_lexer.specs.declared.TokenKind.{TokenKind}
-use Rattle.c_lexer.specs.declared.TokenKind.TheVariants.{Identifier, Keyword, Punctuator, Integer, Floating, Character, Text, End}
+use Rattle.c_lexer.specs.declared.TokenKind.TheVariants.{Keyword}
 use Rattle.c_types.specs.Trees.{Ctype, VoidType, BoolType, IntegerType, FloatingType, VaListType}
 use Rattle.core_tree.specs.Rows.{int, long, character}
-use Rattle.c_grammar.specs.Terminals.{contains, own_meaning, own_words, floating_type}
-use Rattle.c_grammar.specs.Productions.{p_external, p_rest, p_declaration, p_specs, p_storage, p_function, p_align, p_type, p_struct, p_enum, p_member, p_declarator, p_parameter, p_type_name, p_block}
-use Rattle.c_grammar.specs.Words.{word_auto, word_register, word_typedef, word_extern, word_static, word_void, word_bool, word_float, word_double, word_char, word_short, word_long, word_signed, word_unsigned}
-use Rattle.c_senses.specs.Tree.{Source, is_a, is_leaf, production_at, children_at, kind_at, spelling_at, word_at, first_where, last_where, all_where, any_where, child_of, parent_of}
+use Rattle.c_grammar.specs.Terminals.{contains, own_meaning, own_words}
+use Rattle.c_grammar.specs.Productions.{p_external, p_declaration, p_storage, p_function, p_type, p_declarator, p_parameter}
+use Rattle.c_grammar.specs.Words.{word_auto, word_register, word_void, word_bool, word_float, word_double, word_char, word_short, word_long, word_signed, word_unsigned}
+use Rattle.c_senses.specs.Tree.{Source, is_a, is_leaf, kind_at, spelling_at, word_at, last_where, all_where, child_of, parent_of}
 use Rattle.c_senses.specs.Given.{Given, Fits, Refuses, ◌>>=◌, given_if}
 use Rattle.c_senses.specs.World.{World, Meaning, TypeName, has_size}
 use Rattle.c_senses.specs.Literals.{unsigned_int, unsigned_long, long_long, unsigned_long_long}
 use Rattle.c_senses.specs.Constants.{constant_in}
-use Rattle.c_senses.specs.Sense.{Sense, Nothing, IsCore, IsType, IsSpecified, Specified}
+use Rattle.c_senses.specs.Sense.{Sense, Nothing, IsType, IsSpecified}
 
 abbrev pub counted : List ℕ → ℕ → ℕ
 counted [] word = 0

@@ -1,5 +1,5 @@
 -- Statements, blocks and declarations within them (C11 6.7.10, 6.8).
-use Rattle.std.specs.Prelude.{ℕ, zero, suc, ◌==◌, ℤ, pos, Bool, true, false, ◌&&◌, ◌||◌, not, nat_lt, List, [], ◌∷◌, ◌++◌, Option, Some, None, is_some, option_and_then, if◌then◌else◌}
+use Rattle.std.specs.Prelude.{ℕ, ◌==◌, ℤ, pos, Bool, true, false, ◌&&◌, ◌||◌, not, List, [], ◌∷◌, ◌++◌, Option, Some, None, is_some, option_and_then, if◌then◌else◌}
 use Rattle.std.specs.Ordering.{int_eq}
 use Rattle.pta_base.specs.declared.kind.Kind.TheVariants.{Operand}
 use Rattle.pta_base.specs.declared.place.Place.{Place}
@@ -7,16 +7,17 @@ use Rattle.c_types.specs.Trees.{Ctype, VoidType}
 use Rattle.core_tree.specs.declared.node.Storage.TheVariants.{Automatic}
 use Rattle.core_tree.specs.declared.node.NodeKind.{NodeKind}
 use Rattle.core_tree.specs.declared.node.NodeKind.TheVariants.{Expression, Block, If, While, DoWhile, For, Switch, Case, Default, Label, Goto, Break, Continue, Return, Skip}
-use Rattle.c_grammar.specs.Productions.{p_external, p_rest, p_declaration, p_declarator, p_init, p_block, p_statement, p_expression, p_conditional}
+use Rattle.c_grammar.specs.Productions.{p_rest, p_declaration, p_declarator, p_statement, p_expression, p_conditional}
 use Rattle.c_grammar.specs.Words.{word_case, word_default, word_if, word_switch, word_while, word_do, word_for, word_goto, word_continue, word_break, word_return, sign_semicolon}
-use Rattle.c_consts.specs.Core.{Core, Cores, Of, NoCores, MoreCores, kind_of, place_of, ctype_of, leaf, over, over_two}
+use Rattle.c_consts.specs.Core.{Core, Cores, Of, NoCores, MoreCores, kind_of, ctype_of, leaf}
 use Rattle.c_consts.specs.Wrapped.{converted}
-use Rattle.c_senses.specs.Tree.{Source, is_a, is_leaf, is_name, has_sign, has_word, is_number, place_at, spelling_at, word_at, children_at, first_where, last_where, all_where, any_where, child_of, parent_of, nearest_above, numbers_from}
+use Rattle.c_senses.specs.Tree.{Source, is_a, is_leaf, is_name, has_sign, has_word, is_number, place_at, spelling_at, word_at, children_at, first_where, all_where, any_where, child_of, nearest_above, numbers_from}
 use Rattle.c_senses.specs.Given.{Given, Fits, Refuses, ◌>>=◌, given_if, given_some}
 use Rattle.c_senses.specs.World.{World}
 use Rattle.c_senses.specs.Conversions.{operand_of, is_scalar, promotion, conversion}
 use Rattle.c_senses.specs.Constants.{constant_in, is_whole}
-use Rattle.c_senses.specs.Entities.{function_around, own_type, storage_of, declared_name, initialised_by, result_of, is_at_file}
+use Rattle.c_senses.specs.Places.{own_place}
+use Rattle.c_senses.specs.Entities.{function_around, own_type, storage_of, initialised_by, result_of}
 use Rattle.c_senses.specs.Sense.{Sense, Nothing, IsCore, IsDeclarator, IsRun, IsInitial, core_of, value_in, fits}
 
 abbrev pub statement : NodeKind → Place → Cores → Core
@@ -202,7 +203,7 @@ module _ (w : World) (s : Source) (sense : ℕ → Sense) where
   for_parts [] = record { first = None; condition = None; after = None }
 
   abbrev pub expression_statement : ℕ → ℕ → Given Core
-  expression_statement at c = value_in w at (sense c) >>= (λ v. Fits (statement Expression (place_of v) (one v)))
+  expression_statement at c = value_in w at (sense c) >>= (λ v. Fits (statement Expression (own_place s c) (one v)))
 
   abbrev pub for_first : ℕ → Option ℕ → Given (List Core)
   for_first at None = Fits []

@@ -1,21 +1,21 @@
 -- Structures, unions and enumerations: their tags, members and enumerators, and the keys by which units share them (C11 6.7.2.1 to
 -- 6.7.2.3).
-use Rattle.std.specs.Prelude.{ℕ, zero, suc, ◌+◌, ◌-◌, ◌*◌, ◌==◌, ℤ, pos, neg_ℤ, ◌+ℤ◌, int_le, Bool, true, false, ◌&&◌, ◌||◌, not, nat_lt, nat_le, List, [], ◌∷◌, ◌++◌, map, length, take, Option, Some, None, is_some, is_none, option_and_then, option_map, if◌then◌else◌}
-use Rattle.std.specs.Str.{bytes_eq}
+use Rattle.std.specs.Prelude.{ℕ, suc, ◌*◌, ◌==◌, ℤ, pos, neg_ℤ, ◌+ℤ◌, int_le, Bool, true, false, ◌&&◌, ◌||◌, not, nat_lt, nat_le, List, [], ◌∷◌, ◌++◌, map, length, Option, Some, None, is_some, is_none, option_and_then, if◌then◌else◌}
 use Rattle.pta_base.specs.declared.kind.Kind.TheVariants.{Operand}
-use Rattle.c_types.specs.Trees.{Ctype, VoidType, BoolType, IntegerType, ArrayOf, StructureOf, UnionOf}
+use Rattle.c_types.specs.Trees.{Ctype, BoolType, IntegerType, ArrayOf, StructureOf, UnionOf}
 use Rattle.c_types.specs.Layout.{Extent, Look, structure_of, union_of, member_extent, looked_up, laid_out, Completed}
 use Rattle.core_tree.specs.Rows.{int}
-use Rattle.c_grammar.specs.Productions.{p_unit, p_external, p_rest, p_declaration, p_specs, p_storage, p_type, p_struct, p_members, p_member, p_field, p_enum, p_enumerators, p_enumerator, p_declarator, p_suffix, p_parameter, p_type_name, p_block, p_conditional}
-use Rattle.c_grammar.specs.Words.{word_struct, word_union, word_enum, sign_colon}
+use Rattle.c_grammar.specs.Productions.{p_specs, p_struct, p_members, p_field, p_enum, p_enumerators, p_enumerator, p_declarator, p_conditional}
+use Rattle.c_grammar.specs.Words.{word_union, sign_colon}
 use Rattle.c_inits.specs.Made.{Part, TagParts}
-use Rattle.c_senses.specs.Tree.{Source, Space, Ordinary, OfTag, Declaration, is_a, is_leaf, is_name, has_sign, has_word, production_at, children_at, spelling_at, word_at, paired, first_where, last_where, all_where, any_where, child_of, parent_of, nearest_above, numbers_from, all_nodes}
+use Rattle.c_senses.specs.Tree.{Source, is_a, is_name, has_sign, has_word, children_at, spelling_at, word_at, first_where, last_where, all_where, any_where, child_of, parent_of, numbers_from}
+use Rattle.c_senses.specs.Names.{tag_of_leaf}
 use Rattle.c_senses.specs.Given.{Given, Fits, Refuses, ◌>>=◌, given_if, given_some}
 use Rattle.c_senses.specs.World.{World, has_size, has_name, same_length}
 use Rattle.c_senses.specs.Constants.{constant_in}
-use Rattle.c_senses.specs.Limits.{is_small, is_function_type, lacks_a_length, ends_flexible}
+use Rattle.c_senses.specs.Limits.{is_small, ends_flexible}
 use Rattle.c_senses.specs.Declarators.{derived, specified_at, sense_of_child}
-use Rattle.c_senses.specs.Sense.{Sense, Nothing, IsCore, IsType, IsDeclarator, IsMembers, IsValue, Derivation}
+use Rattle.c_senses.specs.Sense.{Sense, IsType, IsDeclarator, IsMembers, IsValue}
 
 -- a specifier of a structure, union or enumeration, its tag's leaf, and its list
 abbrev pub is_tag_specifier : Source → ℕ → Bool
@@ -33,30 +33,6 @@ is_union s i = any_where (has_word s word_union) (children_at s i)
 -- the word of a specifier
 abbrev pub keyword_of : Source → ℕ → Option ℕ
 keyword_of s i = word_at s i
-
--- the declaration of a leaf, and the first one of its name in its scope: a tag is known by that
-abbrev pub entry_of : List Declaration → ℕ → Option Declaration
-entry_of [] leaf = None
-entry_of (d ∷ rest) leaf = if d.node == leaf then Some d else entry_of rest leaf
-
-abbrev pub same_space : Space → Space → Bool
-same_space Ordinary Ordinary = true
-same_space OfTag OfTag = true
-same_space a b = false
-
-abbrev pub is_same_name : Declaration → Declaration → Bool
-is_same_name d e = same_space d.space e.space && ((d.scope == e.scope) && bytes_eq d.name e.name)
-
-abbrev pub first_like : Declaration → List Declaration → ℕ
-first_like d [] = d.node
-first_like d (e ∷ rest) = if is_same_name d e then e.node else first_like d rest
-
-abbrev pub first_of_name : Source → ℕ → ℕ
-first_of_name s leaf = elim (entry_of s.declared leaf) [ None ↦ leaf | Some d ↦ first_like d s.declared ]
-
--- the tag that a leaf means: the paired declaration's where it is a use, else its own
-abbrev pub tag_of_leaf : Source → ℕ → ℕ
-tag_of_leaf s leaf = first_of_name s (elim (paired s.uses leaf) [ None ↦ leaf | Some d ↦ d ])
 
 -- the tag of a specifier, by the node of its first declaration; an untagged one is known by its specifier
 abbrev pub tag_of : Source → ℕ → ℕ
@@ -168,16 +144,24 @@ module _ (w : World) (s : Source) (sense : ℕ → Sense) where
   has_part_named name [] = false
   has_part_named name (m ∷ rest) = has_name name m.name || has_part_named name rest
 
-  -- the last field of its declaration, with no further declaration of members
+  -- the last field of its declaration, with no further declaration of members; one of specifiers alone declares a member only where they
+  -- are an untagged structure or union
   abbrev pub is_last_in : (ℕ → Bool) → ℕ → ℕ → Bool
   is_last_in test p i = elim (last_where test (children_at s p)) [ None ↦ false | Some last ↦ last == i ]
+
+  abbrev pub has_untagged : Option ℕ → Bool
+  has_untagged None = false
+  has_untagged (Some specs) = is_some (untagged_in specs)
+
+  abbrev pub declares_members : ℕ → Bool
+  declares_members member = is_some (child_of s p_field member) || has_untagged (child_of s p_specs member)
 
   abbrev pub is_last_field : ℕ → Bool
   is_last_field i =
       elim (parent_of s i) [
         | None ↦ false
         | Some member ↦
-            is_last_in (is_a s p_field) member i && elim (parent_of s member) [ None ↦ false | Some list ↦ is_last_in (λ c. is_some (child_of s p_specs c)) list member ]
+            is_last_in (is_a s p_field) member i && elim (parent_of s member) [ None ↦ false | Some list ↦ is_last_in declares_members list member ]
       ]
 
   abbrev pub in_union : ℕ → Bool

@@ -1,38 +1,29 @@
--- A unit's text, its tokens and its syntax tree, with the declaration of each use of a name.
-use Rattle.std.specs.Prelude.{ℕ, zero, suc, ◌-◌, ◌==◌, Bool, true, false, ◌&&◌, ◌||◌, not, List, [], ◌∷◌, Option, Some, None, slice_get, length, option_and_then, option_map, find, if◌then◌else◌}
+-- A unit's text, its tokens and its syntax tree, with what its names mean.
+use Rattle.std.specs.Prelude.{ℕ, zero, suc, ◌-◌, ◌==◌, Bool, true, false, ◌&&◌, ◌||◌, List, [], ◌∷◌, Option, Some, None, slice_get, length, if◌then◌else◌}
 use Rattle.pta_base.specs.declared.place.Place.{Place}
 use Rattle.c_lexer.specs.declared.Token.{Token}
 use Rattle.c_lexer.specs.declared.TokenKind.{TokenKind}
-use Rattle.c_lexer.specs.declared.TokenKind.TheVariants.{Identifier, Keyword, Punctuator, Integer, Floating, Character, Text, End}
+use Rattle.c_lexer.specs.declared.TokenKind.TheVariants.{Identifier, Keyword, Punctuator, End}
 use Rattle.c_grammar.specs.declared.trees.SyntaxNode.{SyntaxNode}
 use Rattle.c_grammar.specs.Reads.{leaf}
 use Rattle.c_grammar.specs.Terminals.{spelled, contains}
+use Rattle.c_scope.specs.Known.{Declared}
 
--- the spaces of names (C11 6.2.3) that declarations tell apart here: ordinary names and tags
-pub data Space : Type 0 where
-  Ordinary : Space
-  OfTag : Space
+-- what is found of a unit's names: the declarations of ordinary names and those of tags (C11 6.2.3), each in the order in which they are
+-- made, and for each node the scopes around it, the innermost first
+pub record Names : Type 0 where
+  pub ordinary : List Declared
+  pub tags : List Declared
+  pub scopes : List (List ℕ)
 
--- a declaration of a name: the leaf that declares it, the nodes between which it is seen, the scope in which it stands, and whether
--- the name has linkage
-pub record Declaration : Type 0 where
-  pub node : ℕ
-  pub space : Space
-  pub name : List ℕ
-  pub from : ℕ
-  pub until : ℕ
-  pub scope : ℕ
-  pub linked : Bool
-
--- `uses` pairs the leaf of each use of a name with the leaf, or the specifier, that declares it; `declared` are all declarations in
--- the order of their leaves
+-- `uses` pairs the leaf of each use of a name with the leaf, or the specifier, that declares it
 pub record Source : Type 0 where
   pub unit : ℕ
   pub text : List ℕ
   pub tokens : List Token
   pub nodes : List SyntaxNode
   pub uses : List (ℕ × ℕ)
-  pub declared : List Declaration
+  pub declared : Names
 
 abbrev pub production_of : Option SyntaxNode → ℕ
 production_of None = leaf

@@ -3,7 +3,7 @@ use Rattle.c_senses.specs.Tree.{paired, place_at}
 use Rattle.c_check.specs.declared.known.Meaning.{Meaning}
 use Rattle.c_check.specs.Around.{meant, meaning_seen, is_open}
 use Rattle.c_check.specs.Answers.{source_in}
-use Rattle.c_check.proofs.Failing.{made_same}
+use Rattle.core_nodes.proofs.Failing.{made_same}
 use Rattle.c_check.proofs.Keeping.{use_meant, name_same}
 use Rattle.c_check.proofs.check.name.Goals as goal
 

@@ -1,7 +1,7 @@
 use Rattle.std.proofs.Common.{arith, refl, ◌≡◌, ◌<◌, ◌∙◌, ℕ, Option, Some, IfSome, length, sym, ap, subst, get_or}
 use Rattle.c_senses.specs.Given.{Given}
 use Rattle.c_senses.specs.Sense.{Sense, Nothing}
-use Rattle.c_check.specs.Standing.{core_at}
+use Rattle.core_nodes.specs.Standing.{core_at}
 use Rattle.c_check.specs.Built.{sense_from}
 use Rattle.c_check.specs.Answers.{source_in, sense_at, senses_at, Rowed}
 use Rattle.c_check.proofs.Keeping.{binary_chain, binary_none, none_of, not_zero}

@@ -1,11 +1,12 @@
 use Rattle.std.proofs.Common.{arith, ◌+◌, ◌∙◌, ℕ, List, Ok, Err, sym, ap, subst, get_or, length}
 use Rattle.c_senses.specs.Sense.{Sense}
 use Rattle.c_senses.specs.Expressions.{chained}
-use Rattle.c_check.specs.Standing.{core_at, Made}
-use Rattle.c_check.specs.Built.{built_between, linked, sense_from}
+use Rattle.core_nodes.specs.Standing.{core_at, Made}
+use Rattle.c_operators.specs.Between.{built_between}
+use Rattle.c_check.specs.Built.{linked, sense_from}
 use Rattle.c_check.specs.Answers.{source_in, senses_at}
-use Rattle.c_check.proofs.Growing.{knows_on, builds_on}
-use Rattle.c_check.proofs.Failing.{made_same}
+use Rattle.core_nodes.proofs.Growing.{knows_on, builds_on}
+use Rattle.core_nodes.proofs.Failing.{made_same}
 use Rattle.c_check.proofs.Keeping.{sense_kept, chain_goes_on, chain_fails, drop_none, drop_one}
 use Rattle.c_check.proofs.rows.chained.Goals as goal
 

@@ -1,8 +1,9 @@
 use Rattle.std.proofs.Common.{◌≡◌, ℕ, ◌<◌, ◌≤◌, ◌-◌, drop, List, length}
 use Rattle.c_senses.specs.World.{World}
 use Rattle.c_senses.specs.Expressions.{chained}
-use Rattle.c_check.specs.Standing.{core_at, IsReady, Builds, Knows}
-use Rattle.c_check.specs.Built.{built_between, sense_from}
+use Rattle.core_nodes.specs.Standing.{core_at, IsReady, Builds, Knows}
+use Rattle.c_operators.specs.Between.{built_between}
+use Rattle.c_check.specs.Built.{sense_from}
 use Rattle.c_check.specs.Answers.{source_in, senses_at}
 use Rattle.c_check.proofs.rows.chained.Given as goal
 

@@ -4,11 +4,11 @@ use Rattle.c_senses.specs.Given.{◌>>=◌}
 use Rattle.c_senses.specs.Sense.{Sense, value_in}
 use Rattle.c_senses.specs.Conversions.{operand_of}
 use Rattle.c_senses.specs.Objects.{index_row}
-use Rattle.c_check.specs.Standing.{core_at, Made}
-use Rattle.c_check.specs.Sorts.{sort_seen}
+use Rattle.core_nodes.specs.Standing.{core_at, Made}
+use Rattle.core_nodes.specs.Sorts.{sort_seen}
 use Rattle.c_check.specs.Answers.{sense_at}
-use Rattle.c_check.proofs.Growing.{knows_on}
-use Rattle.c_check.proofs.Failing.{fails, follows, made_same}
+use Rattle.core_nodes.proofs.Growing.{knows_on}
+use Rattle.core_nodes.proofs.Failing.{fails, follows, made_same}
 use Rattle.c_check.proofs.Keeping.{sense_kept, index_same}
 use Rattle.c_check.proofs.rows.indexed.Goals as goal
 

@@ -2,11 +2,11 @@ use Rattle.std.proofs.Common.{◌≡◌, subst, Ok, Err}
 use Rattle.c_consts.specs.Core.{Core}
 use Rattle.c_senses.specs.Given.{◌>>=◌}
 use Rattle.c_senses.specs.Conversions.{value_of}
-use Rattle.c_check.specs.Standing.{core_at, Made}
-use Rattle.c_check.specs.Sorts.{operator_seen}
-use Rattle.c_check.specs.Built.{built_between}
-use Rattle.c_check.proofs.Growing.{knows_on}
-use Rattle.c_check.proofs.Failing.{fails, follows}
+use Rattle.core_nodes.specs.Standing.{core_at, Made}
+use Rattle.c_operators.specs.Seen.{operator_seen}
+use Rattle.c_operators.specs.Between.{built_between}
+use Rattle.core_nodes.proofs.Growing.{knows_on}
+use Rattle.core_nodes.proofs.Failing.{fails, follows}
 use Rattle.c_check.proofs.rows.joined_values.Goals as goal
 
 pub returns-in-Err-value-clause-made : goal.returns-in-Err-value-clause-made

@@ -1,10 +1,10 @@
 use Rattle.std.proofs.Common.{◌≡◌, Some, sym, ap, subst}
 use Rattle.c_senses.specs.Sense.{Sense}
-use Rattle.c_check.specs.Standing.{core_at, Made}
-use Rattle.c_check.specs.Sorts.{operator_seen}
+use Rattle.core_nodes.specs.Standing.{core_at, Made}
+use Rattle.c_operators.specs.Seen.{operator_seen}
 use Rattle.c_check.specs.Built.{linked}
 use Rattle.c_check.specs.Answers.{source_in, sense_at}
-use Rattle.c_check.proofs.Failing.{made_same}
+use Rattle.core_nodes.proofs.Failing.{made_same}
 use Rattle.c_check.proofs.Keeping.{link_same}
 use Rattle.c_check.proofs.rows.linked.Goals as goal
 

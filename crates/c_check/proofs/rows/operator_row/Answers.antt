@@ -1,8 +1,8 @@
 use Rattle.c_senses.specs.Conversions.{value_of}
 use Rattle.c_senses.specs.Expressions.{value_core}
-use Rattle.c_check.specs.Standing.{core_at}
-use Rattle.c_check.proofs.Growing.{knows_on}
-use Rattle.c_check.proofs.Failing.{follows, made_same}
+use Rattle.core_nodes.specs.Standing.{core_at}
+use Rattle.core_nodes.proofs.Growing.{knows_on}
+use Rattle.core_nodes.proofs.Failing.{follows, made_same}
 use Rattle.c_check.proofs.Keeping.{takes_value}
 use Rattle.c_check.proofs.rows.operator_row.Goals as goal
 

@@ -6,7 +6,7 @@ use Rattle.c_senses.specs.Given.{Given}
 use Rattle.c_senses.specs.Sense.{Sense}
 use Rattle.c_check.specs.Built.{AreBuilt}
 use Rattle.c_check.specs.Answers.{source_in, sense_at, senses_at, Rowed}
-use Rattle.c_check.proofs.Growing.{builds_on}
+use Rattle.core_nodes.proofs.Growing.{builds_on}
 use Rattle.c_check.proofs.Walking.{fitting_on, one_more, refused, row_same, pushed, within_on, longer}
 use Rattle.c_check.proofs.walk.walk_nodes.Goals as goal
 

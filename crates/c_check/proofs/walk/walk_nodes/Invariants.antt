@@ -1,5 +1,5 @@
 use Rattle.std.proofs.Common.{◌≡◌, ◌+◌, ◌-◌, ◌<◌, ◌≤◌, length, All, IfSome}
-use Rattle.c_check.specs.Standing.{IsReady, Builds}
+use Rattle.core_nodes.specs.Standing.{IsReady, Builds}
 use Rattle.c_check.specs.Built.{Scene, AreBuilt}
 use Rattle.c_check.specs.Around.{Fitting}
 use Rattle.c_check.specs.Answers.{source_in, senses_at}

@@ -1,6 +1,0 @@
-use Rattle.c_types.specs.Table.{type_of}
-use Rattle.c_check.proofs.SameTypes.{same_by}
-use Rattle.c_check.proofs.sorts.same_types.Goals as goal
-
-pub returns : goal.returns
-returns c = same_by c.same.result (type_of c.args.types.now c.args.a.0) (type_of c.args.types.now c.args.b.0) c.same.ensures

@@ -1,0 +1,13 @@
+pub mod Onward
+pub mod Examples
+pub mod Fillable
+pub mod Filled
+pub mod Tags
+pub mod Stack
+pub mod Advance
+pub mod Settle
+pub mod Keys
+pub mod Lasting
+pub mod Named
+pub mod Depth
+pub mod Puts

@@ -1,0 +1,9 @@
+pub mod Suffixes
+pub mod Values
+pub mod Inside
+pub mod Terms
+pub mod Pieces
+pub mod Stops
+pub mod Narrow
+pub mod Literals
+pub mod Readings

@@ -1,0 +1,4 @@
+pub mod Parts
+pub mod Levels
+pub mod Found
+pub mod Nesting

@@ -1,0 +1,4 @@
+pub mod Seen
+pub mod Joined
+pub mod Between
+pub mod Members

@@ -1,0 +1,6 @@
+pub mod Growing
+pub mod Reading
+pub mod SameTypes
+pub mod Failing
+pub mod BitFields
+pub mod IntegerTypes

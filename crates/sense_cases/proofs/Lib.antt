@@ -1,0 +1,4 @@
+pub mod Readings
+pub mod Computing
+pub mod Finding
+pub mod Running

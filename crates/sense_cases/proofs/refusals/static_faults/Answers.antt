@@ -1,0 +1,12 @@
+use Rattle.std.proofs.Common.{refl}
+use Rattle.sense_cases.proofs.Computing.{computing}
+use Rattle.sense_cases.proofs.refusals.static_faults.Goals as goal
+
+pub returns : goal.returns
+unfolding computing
+returns c = record {
+  not_fixed = λ any. refl;
+  call_in_static = λ any. refl;
+  literal_in_static = λ any. refl;
+  automatic_in_static = λ any. refl;
+}

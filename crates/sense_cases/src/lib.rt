@@ -1,0 +1,6 @@
+//! Worked cases of what syntax trees stand for.
+#![tactic(auto)]
+
+pub mod cases;
+pub mod laws;
+pub mod refusals;
