@@ -194,6 +194,7 @@ fn letter_of(kind: &NodeKind) -> u8 {
     match kind {
         NodeKind::Named(e) => b'a' + (*e).min(25) as u8,
         NodeKind::Number(n) => b'0' + (*n).clamp(0, 9) as u8,
+        NodeKind::Text(_) => b'T',
         NodeKind::Fetch => b'F',
         NodeKind::NullValue => b'N',
         NodeKind::Convert => b'C',
@@ -411,6 +412,70 @@ fn constant(rt: HostRuntime) -> Result<(), Fail> {
     };
     let shapes: [Shape<'_>; 1] = [(b'7', 1, &[])];
     assert!(rt; gives(alloc, &case, &shapes)?);
+    Ok(())
+}
+
+// A tab is 9 in ASCII, and an octal escape has up to three digits (C11 6.4.4.4).
+#[test]
+fn character_constants(rt: HostRuntime) -> Result<(), Fail> {
+    let alloc = rt.alloc();
+    let rows: [Row<'_>; 2] = [(LEAF, 0, &[]), (PRIMARY, 0, &[0])];
+    let tab = Case {
+        text: b"'\\t'",
+        rows: &rows,
+        uses: &[],
+    };
+    let nine: [Shape<'_>; 1] = [(b'9', 1, &[])];
+    assert!(rt; gives(alloc, &tab, &nine)?);
+    let octal = Case {
+        text: b"'\\007'",
+        rows: &rows,
+        uses: &[],
+    };
+    let seven: [Shape<'_>; 1] = [(b'7', 1, &[])];
+    assert!(rt; gives(alloc, &octal, &seven)?);
+    Ok(())
+}
+
+// Strings side by side are one (C11 5.1.1.2p6, 6.4.5), at the place of the first.
+#[test]
+fn strings_side_by_side(rt: HostRuntime) -> Result<(), Fail> {
+    let alloc = rt.alloc();
+    let rows: [Row<'_>; 3] = [(LEAF, 0, &[]), (LEAF, 1, &[]), (PRIMARY, 0, &[0, 1])];
+    let case = Case {
+        text: b"\"ab\" \"c\"",
+        rows: &rows,
+        uses: &[],
+    };
+    let shapes: [Shape<'_>; 1] = [(b'T', 1, &[])];
+    assert!(rt; gives(alloc, &case, &shapes)?);
+    Ok(())
+}
+
+// What is no structure, and no pointer to one, has no members (C11 6.5.2.3p1, p2): the node of the `.` or `->` is named.
+#[test]
+fn members_of_others(rt: HostRuntime) -> Result<(), Fail> {
+    let alloc = rt.alloc();
+    let rows: [Row<'_>; 6] = [
+        (LEAF, 0, &[]),
+        (PRIMARY, 0, &[0]),
+        (LEAF, 1, &[]),
+        (LEAF, 2, &[]),
+        (POST, 1, &[2, 3]),
+        (UNARY, 0, &[1, 4]),
+    ];
+    let dot = Case {
+        text: b"a.b",
+        rows: &rows,
+        uses: &[(0, 100)],
+    };
+    assert_eq!(rt; refusal(alloc, &dot)?, Some(CheckFault::BadOperand(4)));
+    let arrow = Case {
+        text: b"p->b",
+        rows: &rows,
+        uses: &[(0, 102)],
+    };
+    assert_eq!(rt; refusal(alloc, &arrow)?, Some(CheckFault::BadOperand(4)));
     Ok(())
 }
 
