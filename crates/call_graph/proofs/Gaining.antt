@@ -1,18 +1,21 @@
 -- Lists that gain the pairs of a relation, step by step.
-use Rattle.std.proofs.Common.{◌≡◌, ◌↔◌, ℕ, ◌+◌, ◌<◌, ◌≤◌, ◌⊎◌, List, [], length, Option, Some, IsSome, slice_get, Contains, refl, sym, ◌∙◌, ap, subst, inl, inr, arith}
+use Rattle.std.proofs.Common.{◌≡◌, ◌↔◌, ℕ, ◌+◌, ◌<◌, ◌≤◌, ◌⊎◌, zero, suc, List, [], ◌∷◌, ◌++◌, length, get_or, Option, Some, IsSome, slice_get, Contains, refl, sym, ◌∙◌, ap, subst, inl, inr, arith}
 use Rattle.std.proofs.lemmas.Bool.{cases_lt}
-use Rattle.std.proofs.lemmas.Option.{same_Some, slice_get_within}
+use Rattle.std.proofs.lemmas.Option.{same_Some, slice_get_within, get_or_from_slice_get}
+use Rattle.std.proofs.lemmas.List.Elements.{Contains-get_or, Contains-append_left, Contains-append_right, Contains-append_cases}
 use Rattle.pta_base.specs.declared.effect.Effect.{Effect}
 use Rattle.pta_base.specs.declared.effect.Effect.TheVariants.{Nothing, GivesArgument, GivesNew, GivesObject, Copies, StoresInto, CallsBack}
 use Rattle.sol_model.specs.declared.system.System.{System}
 use Rattle.sol_model.specs.declared.system.CallSite.{CallSite}
 use Rattle.sol_model.specs.declared.system.Function.{Function}
+use Rattle.sol_model.specs.declared.system.LocationFact.{LocationFact}
+use Rattle.sol_model.specs.Systems.{IsLocationValid}
 use Rattle.sol_model.specs.Families.{Family, Has}
 use Rattle.sol_model.specs.Rules.{IsTarget, argument_row, back_signature}
 use Rattle.sol_model.specs.Targets.{CallsBackIn, IsGraphEdge}
 use Rattle.sol_model.proofs.Members.{Contains-at, at_Contains}
 use Rattle.call_graph.specs.Order.{IsInOrder}
-use Rattle.call_graph.specs.Graph.{Gains, IsGraph, IsFrom, IsBackIn, IsBackBy, IsBackEdge, IsCallEdge}
+use Rattle.call_graph.specs.Graph.{Gains, IsGraph, IsTo, IsFrom, IsBackIn, IsBackBy, IsBackAt, IsBackEdge, IsCallEdge}
 
 pub gains_same : (xs : List (ℕ × ℕ)) (Edge : ℕ → ℕ → Type 0) → ((a b : ℕ) → Edge a b → ⊥) → Gains xs xs Edge
 gains_same xs Edge none = record { kept = λ a b h. h; added = λ a b h. absurd (none a b h); nothing_else = λ a b h. inl h }
@@ -52,13 +55,55 @@ pub gains_none : (xs : List (ℕ × ℕ)) (Edge : ℕ → ℕ → ℕ → Type 0
 gains_none xs Edge = gains_same xs (λ a b. (k : ℕ) × (k < 0) × Edge k a b) (λ a b h. absurd (omega (arith, h.1)))
 
 -- ---- the pairs of one call
--- the functions so far that a row has are those that it has, where all were looked at
-pub held_all : (system : System) (F : Family) (row signature caller : ℕ) (old new : List (ℕ × ℕ)) (count : ℕ) → length system.functions ≤ count
-    → Gains old new (λ a b. (k : ℕ) × (k < count) × ((b ≡ k) × IsFrom system F row signature caller a b)) → Gains old new (IsFrom system F row signature caller)
-held_all system F row signature caller old new count all gains =
-    gains_as old new (λ a b. (k : ℕ) × (k < count) × ((b ≡ k) × IsFrom system F row signature caller a b)) (IsFrom system F row signature caller) gains
-    (λ a b h. (h.2).1)
-    (λ a b h. (b, (let within = slice_get_within system.functions b (h.1).0 ((h.1).1).known in omega arith), (refl, h)))
+-- ---- the functions at one location
+pub same_function : (functions : List Function) (found : Option ℕ) (n m : ℕ) (f g : Function) → found ≡ Some n → found ≡ Some m → slice_get functions n ≡ Some f → slice_get functions m ≡ Some g → f ≡ g
+same_function functions found n m f g one other at there =
+    let same : n ≡ m = same_Some n m (sym one ∙ other) in same_Some f g (sym at ∙ ap (slice_get functions) same ∙ there)
+
+pub to_none : (system : System) (signature caller location : ℕ) (fact : LocationFact) (xs : List (ℕ × ℕ)) → IsLocationValid system location fact
+    → ((number : ℕ) (function : Function) → fact.function ≡ Some number → slice_get system.functions number ≡ Some function → function.signature ≡ signature → ⊥)
+    → Gains xs xs (IsTo system signature caller location)
+to_none system signature caller location fact xs valid none =
+    gains_same xs (IsTo system signature caller location) (λ a b h. let f = h.1 in none b f.0 ((valid.own b f.0 (f.1).known).1 (f.1).stands) (f.1).known (f.1).agrees)
+
+only_pair : (p q : ℕ × ℕ) → Contains (p ∷ []) q → p ≡ q
+only_pair p q (zero, lt, is) = is
+only_pair p q (suc k, lt, is) = absurd (omega arith)
+
+pub to_one : (system : System) (signature caller location number : ℕ) (function : Function) (fact : LocationFact) (old new : List (ℕ × ℕ)) → IsLocationValid system location fact
+    → fact.function ≡ Some number → slice_get system.functions number ≡ Some function → function.signature ≡ signature → new ≡ old ++ (caller, number) ∷ []
+    → Gains old new (IsTo system signature caller location)
+to_one system signature caller location number function fact old new valid is known agrees now = record {
+  kept = λ a b h. subst (λ (xs : List (ℕ × ℕ)). Contains xs (a, b)) (sym now) (Contains-append_left old ((caller, number) ∷ []) (a, b) h);
+  added = λ a b h.
+      let f = h.1 in
+      let same : b ≡ number = same_Some _ _ (sym ((valid.own b f.0 (f.1).known).1 (f.1).stands) ∙ is) in
+      let pair : ◌≡◌ {A = ℕ × ℕ} (caller, number) (a, b) = λ i. (sym h.0 i, sym same i) in
+      subst (λ (xs : List (ℕ × ℕ)). Contains xs (a, b)) (sym now) (Contains-append_right old ((caller, number) ∷ []) (a, b) (0, omega arith, pair));
+  nothing_else = λ a b h. elim (Contains-append_cases old ((caller, number) ∷ []) (a, b) (subst (λ (xs : List (ℕ × ℕ)). Contains xs (a, b)) now h)) [
+    | inl before ↦ inl before
+    | inr one ↦
+        let pair = only_pair (caller, number) (a, b) one in
+        let same : number ≡ b = ap (λ (p : ℕ × ℕ). p.1) pair in
+        inr (sym (ap (λ (p : ℕ × ℕ). p.0) pair), (function, record { known = subst (λ (n : ℕ). slice_get system.functions n ≡ Some function) same known; stands = (valid.own number function known).0 is; agrees = agrees }))
+  ];
+}
+
+-- the pairs of one location after another
+pub located_all : (held : List ℕ) (Edge : ℕ → ℕ → ℕ → Type 0) (count : ℕ) (old new : List (ℕ × ℕ)) → count ≡ length held
+    → Gains old new (λ a b. (k : ℕ) × (k < count) × Edge (get_or held k 0) a b) → Gains old new (λ a b. (location : ℕ) × Contains held location × Edge location a b)
+located_all held Edge count old new all gains =
+    gains_as old new (λ a b. (k : ℕ) × (k < count) × Edge (get_or held k 0) a b) (λ a b. (location : ℕ) × Contains held location × Edge location a b) gains
+    (λ a b h. (get_or held h.0 0, Contains-get_or held h.0 0 (let lt = h.1 in omega arith), h.2))
+    (λ a b h. let w = at_Contains held h.0 h.1 in (w.0, (let lt = w.1 in omega arith), subst (λ (l : ℕ). Edge l a b) (sym (get_or_from_slice_get held w.0 h.0 0 w.2)) h.2))
+
+-- the functions at the locations that a row has are those that it has
+pub held_all : (system : System) (F : Family) (row signature caller : ℕ) (held : List ℕ) (old new : List (ℕ × ℕ)) → ((location : ℕ) → Contains held location ↔ Has F row location)
+    → Gains old new (λ a b. (location : ℕ) × Contains held location × IsTo system signature caller location a b) → Gains old new (IsFrom system F row signature caller)
+held_all system F row signature caller held old new same gains =
+    gains_as old new (λ a b. (location : ℕ) × Contains held location × IsTo system signature caller location a b) (IsFrom system F row signature caller) gains
+    (λ a b h. let f = (h.2).1 in ((h.2).0, (f.0, record { known = (f.1).known; reached = subst (λ (l : ℕ). Has F row l) (sym (f.1).stands) ((same h.0).0 h.1); agrees = (f.1).agrees })))
+    (λ a b h. let f = h.1 in ((f.0).location, (same (f.0).location).1 (f.1).reached, (h.0, (f.0, record { known = (f.1).known; stands = refl; agrees = (f.1).agrees }))))
 
 pub back_held : (system : System) (F : Family) (call : CallSite) (effect : Effect) (k : ℕ) (passed : Option (ℕ × ℕ)) (library row signature : ℕ) (old new : List (ℕ × ℕ))
     → effect ≡ CallsBack k passed → argument_row call k ≡ Some row → signature ≡ back_signature passed
@@ -101,12 +146,31 @@ back_edge system F call target library function old new reached some same gains 
     (λ a b h. subst (λ l. IsBackBy system F call l function a b) (sym same)
     (subst (λ (f : Function). IsBackBy system F call target f a b) (same_Some _ _ (sym (h.1).known ∙ reached.known)) h.3))
 
-pub backs_all : (system : System) (F : Family) (call : CallSite) (count : ℕ) (old new : List (ℕ × ℕ)) → length system.functions ≤ count
-    → Gains old new (λ a b. (k : ℕ) × (k < count) × IsBackEdge system F call k a b) → Gains old new (λ a b. (target : ℕ) × IsBackEdge system F call target a b)
-backs_all system F call count old new all gains =
-    gains_as old new (λ a b. (k : ℕ) × (k < count) × IsBackEdge system F call k a b) (λ a b. (target : ℕ) × IsBackEdge system F call target a b) gains
-    (λ a b h. (h.0, h.2))
-    (λ a b h. (h.0, (let within = slice_get_within system.functions h.0 (h.1).0 ((h.1).1).known in omega arith), h.1))
+-- the same of the function at a location
+pub back_at : (system : System) (F : Family) (call : CallSite) (target location : ℕ) (function : Function) (fact : LocationFact) (old new : List (ℕ × ℕ))
+    → IsLocationValid system location fact → fact.function ≡ Some target → slice_get system.functions target ≡ Some function
+    → Gains old new (IsBackEdge system F call target) → Gains old new (IsBackAt system F call location)
+back_at system F call target location function fact old new valid is known gains =
+    gains_as old new (IsBackEdge system F call target) (IsBackAt system F call location) gains
+    (λ a b h. (target, function, known, (valid.own target function known).0 is, h))
+    (λ a b h. let same : h.0 ≡ target = same_Some _ _ (sym ((valid.own h.0 h.1 h.2).1 h.3) ∙ is) in subst (λ (t : ℕ). IsBackEdge system F call t a b) same h.4)
+
+-- a location that is no library function of the call's signature has no call backs
+pub no_back_at : (system : System) (F : Family) (call : CallSite) (location : ℕ) (fact : LocationFact) (xs : List (ℕ × ℕ)) → IsLocationValid system location fact
+    → ((target : ℕ) (function : Function) → fact.function ≡ Some target → slice_get system.functions target ≡ Some function → IsSome function.library → function.signature ≡ call.signature → ⊥)
+    → Gains xs xs (IsBackAt system F call location)
+no_back_at system F call location fact xs valid none = gains_same xs (IsBackAt system F call location) (λ a b h.
+    let edge = h.4 in
+    let same : edge.0 ≡ h.1 = same_Some _ _ (sym (edge.1).known ∙ h.2) in
+    none h.0 h.1 ((valid.own h.0 h.1 h.2).1 h.3) h.2 (subst (λ (f : Function). IsSome f.library) same edge.2) (ap (λ (f : Function). f.signature) (sym same) ∙ (edge.1).agrees))
+
+-- the call backs of the functions at the locations that the callee's row has
+pub backs_all : (system : System) (F : Family) (call : CallSite) (held : List ℕ) (old new : List (ℕ × ℕ)) → ((location : ℕ) → Contains held location ↔ Has F call.callee location)
+    → Gains old new (λ a b. (location : ℕ) × Contains held location × IsBackAt system F call location a b) → Gains old new (λ a b. (target : ℕ) × IsBackEdge system F call target a b)
+backs_all system F call held old new same gains =
+    gains_as old new (λ a b. (location : ℕ) × Contains held location × IsBackAt system F call location a b) (λ a b. (target : ℕ) × IsBackEdge system F call target a b) gains
+    (λ a b h. ((h.2).0, (h.2).4))
+    (λ a b h. let f = (h.1).0 in (f.location, (same f.location).1 ((h.1).1).reached, (h.0, f, ((h.1).1).known, refl, h.1)))
 
 -- ---- all calls
 -- one more call

@@ -24,7 +24,7 @@ pub fn graph(alloc: Global, system: &System, rows: &Rows) -> Result<Vec<(u32, u3
 {
     let mut edges = Vec::new(alloc);
     for number in 0..system.calls.len() {
-        add_call(system, rows, call_at(system, number), &mut edges)?;
+        add_call(alloc, system, rows, call_at(system, number), &mut edges)?;
     }
     put_in_order(&mut edges);
     Ok(edges)

@@ -9,7 +9,7 @@ ghost use Rattle.delta_prop.specs.Turns.{IsTurn, TargetsSeen};
 use crate::along::carry;
 use crate::read::read_row;
 use crate::turn::Turn;
-use edge_book::EdgeBook;
+use edge_book::PairBook;
 use pta_base::OutOfMemory;
 use set_rows::{RowSeat, RowTable};
 use std::alloc::Global;
@@ -24,7 +24,7 @@ pub fn propagate(
     seat: &mut RowSeat,
     row: u32,
     done: &[u64],
-    book: &EdgeBook,
+    book: &PairBook,
 ) -> Result<Turn, OutOfMemory>
     requires own { IsOf table.now seat.old }
     requires valid { IsValid (system_of table.now) }

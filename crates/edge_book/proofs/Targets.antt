@@ -1,11 +1,10 @@
 -- The edges of a book by the row that they leave.
-use Rattle.std.proofs.Common.{◌≡◌, ℕ, Bool, true, false, not, cond, eqb, Vec, Global, List, [], ◌∷◌, ◌++◌, map, slice_get, Contains, true≢false, refl, sym, ap, ◌∙◌, inl, inr, arith, eqb-true, eq-eqb}
-use Rattle.std.specs.List.{filter, list_any}
+use Rattle.std.proofs.Common.{◌≡◌, ℕ, Bool, true, false, MatchBool, cond, eqb, Vec, Global, List, [], ◌∷◌, ◌++◌, map, slice_get, Contains, true≢false, refl, sym, ap, ◌∙◌, inl, inr, arith, eqb-true, eq-eqb}
+use Rattle.std.specs.List.{filter}
 use Rattle.std.proofs.lemmas.List.{map-append}
 use Rattle.std.proofs.lemmas.List.Elements.{filter-append, Contains-append_left, Contains-append_right, Contains-append_cases}
 use Rattle.std.proofs.lemmas.Option.{same_Some}
 use Rattle.sol_model.proofs.Members.{at_Contains}
-use Rattle.edge_book.specs.Edges.{same_pair}
 use Rattle.edge_book.specs.Leaving.{listed, targets_of, IsIndexed}
 
 abbrev from_row : ℕ → ℕ × ℕ → Bool
@@ -59,12 +58,10 @@ targets_push row a b book =
     ap (map to_row) (filter-append (from_row row) book ((a, b) ∷ [])) ∙ map-append to_row (filter (from_row row) book) (filter (from_row row) ((a, b) ∷ []))
     ∙ ap (λ (xs : List ℕ). targets_of row book ++ xs) (elim (eqb a row) as (λ (t : Bool). map to_row (cond t ((a, b) ∷ []) []) ≡ cond t (b ∷ []) []) [ true ↦ refl | false ↦ refl ])
 
--- a set of keys that got a new one
-pub keys_pushed : (old new : List (ℕ × ℕ)) (key : ℕ × ℕ) (b : Bool) → b ≡ not (list_any (same_pair key) old) → b ≡ true → new ≡ cond (list_any (same_pair key) old) old (old ++ key ∷ []) → new ≡ old ++ key ∷ []
-keys_pushed old new key b e t is = is ∙ (elim (list_any (same_pair key) old) as (λ (h : Bool). b ≡ not h → cond h old (old ++ key ∷ []) ≡ old ++ key ∷ []) [
-  | true ↦ λ no. absurd (true≢false (sym t ∙ no))
-  | false ↦ λ yes. refl
-] e)
+-- a set that got a new pair
+pub pushed : (old new : List (ℕ × ℕ)) (key : ℕ × ℕ) (b : Bool) → MatchBool b (new ≡ old ++ key ∷ []) (new ≡ old) → b ≡ true → new ≡ old ++ key ∷ []
+pushed old new key true m e = m
+pushed old new key false m e = absurd (true≢false (sym e))
 
 -- the lists of a book with one edge more
 pub indexed_push : (old mid new : List (Vec ℕ Global)) (keys more : List (ℕ × ℕ)) (a b : ℕ) → IsIndexed old keys → ((row : ℕ) → listed mid row ≡ listed old row)

@@ -1,34 +1,35 @@
-//! The book of edges.
+//! Books of pairs.
 ghost use Rattle.std.specs.Prelude.{◌≡◌, ◌+◌, ◌++◌, ◌<◌, [], ◌∷◌, Some, length, take, Contains, slice_get, OnErr, IfOk, MatchBool};
 ghost use Rattle.std.specs.List.Sorted.{IsStrictlySortedBy};
 ghost use Rattle.edge_book.specs.Edges.{AreApart, pair_order, with_pairs};
 ghost use Rattle.edge_book.specs.Leaving.{targets_of};
 
 use crate::leaving::Leaving;
-use indexmap::IndexSet;
+use crate::set::PairSet;
 use pta_base::OutOfMemory;
 use std::alloc::Global;
 use std::marker::Model;
 
-/// Edges between rows, each once, in order of arrival. An edge `(a, b)` says that the set of row `a` is included in
-/// that of row `b`. Contracts see a book as the list of its edges.
+/// Pairs of numbers, each once, in order of arrival, and by their first number: edges between rows, where an edge `(a, b)`
+/// says that the set of row `a` is included in that of row `b`, or rows with the constraints that read them. Contracts see a
+/// book as the list of its pairs.
 #[derive(Drop)]
-pub struct EdgeBook {
-    edges: IndexSet<(u32, u32)>,
+pub struct PairBook {
+    pairs: PairSet,
     leaving: Leaving,
     alloc: Global,
 }
 
-impl Model for EdgeBook {
+impl Model for PairBook {
     ghost use Rattle.std.specs.Prelude.{List, ℕ};
     ghost use Rattle.edge_book.specs.Edges.{AreApart};
     ghost use Rattle.edge_book.specs.Leaving.{IsIndexed};
 
     ghost Value = { List (ℕ × ℕ) };
 
-    ghost view = { λ b. b.edges.keys };
+    ghost view = { λ b. b.pairs };
 
-    ghost invariant = { λ b. AreApart b.edges.keys × IsIndexed b.leaving.lists.items b.edges.keys };
+    ghost invariant = { λ b. AreApart b.pairs × IsIndexed b.leaving.lists.items b.pairs };
 }
 
 /// One pair of a list.
@@ -39,13 +40,13 @@ fn pair_at(pairs: &[(u32, u32)], i: usize) -> (u32, u32)
     pairs[i]
 }
 
-impl EdgeBook {
+impl PairBook {
     /// A book with no edge.
-    pub fn new(alloc: Global) -> EdgeBook
+    pub fn new(alloc: Global) -> PairBook
         ensures { result ≡ [] }
     {
-        EdgeBook {
-            edges: IndexSet::new(alloc),
+        PairBook {
+            pairs: PairSet::new(alloc),
             leaving: Leaving::new(alloc),
             alloc,
         }
@@ -60,7 +61,7 @@ impl EdgeBook {
         ensures err { OnErr result (self.new ≡ self.old) }
     {
         self.leaving.reserve(from)?;
-        if !self.edges.insert((from, to))? {
+        if !self.pairs.add(from, to)? {
             return Ok(false);
         }
         self.leaving.push_reserved(from, to);
@@ -80,14 +81,14 @@ impl EdgeBook {
         ensures len { result ≡ length self.now }
         ensures once { AreApart self.now }
     {
-        self.edges.len()
+        self.pairs.len()
     }
 
     /// The edge of a number, counted from 0 in order of arrival; none exactly past the end.
     pub fn get(&self, index: usize) -> Option<(u32, u32)>
         ensures { result ≡ slice_get self.now index }
     {
-        self.edges.get_index(index).copied()
+        self.pairs.get(index)
     }
 
     /// The rows to which edges lead from a row, each once, in order of their arrival.

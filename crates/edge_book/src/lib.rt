@@ -8,9 +8,11 @@ mod effects;
 pub mod gather;
 mod leaving;
 mod members;
+mod set;
 
-pub use book::EdgeBook;
+pub use book::PairBook;
 pub use members::in_order;
+pub use set::PairSet;
 
 #[cfg(test)]
 mod tests;

@@ -6,7 +6,7 @@ ghost use Rattle.sol_model.specs.Rules.{DemandsEdge};
 ghost use Rattle.sol_model.specs.Systems.{IsValid, IsLocation};
 ghost use Rattle.edge_book.specs.Edges.{only, pair_order, ArePairsOf, TakesPairs, TakesFirst, StaysOrTakesFirst};
 
-use crate::EdgeBook;
+use crate::PairBook;
 use crate::effects::put_call;
 use pta_base::OutOfMemory;
 use sol_model::locations::sub_of;
@@ -22,7 +22,7 @@ pub fn in_order(pairs: &mut Vec<(u32, u32)>)
     pairs.dedup();
 }
 
-impl EdgeBook {
+impl PairBook {
     /// Adds the edges that a Load demands for one location of its pointer's row, and answers how many of them are new.
     /// The constraint of that number must be a Load. After want of memory the book has the first of these edges, up to
     /// one of them.

@@ -2,7 +2,7 @@
 ghost use Rattle.std.specs.Prelude.{◌≡◌, [], ◌∷◌, IfOk};
 ghost use Rattle.sol_model.specs.Systems.{IsValid, location_count};
 
-use crate::EdgeBook;
+use crate::PairBook;
 use pta_base::{Listing, OutOfMemory};
 use sol_model::{Constraint, LocationFact, System, TypeFact};
 use std::alloc::Global;
@@ -45,7 +45,7 @@ fn through_pointers(alloc: Global) -> Result<System, OutOfMemory>
 
 #[test]
 fn copies_in_a_ring_stand_once(rt: HostRuntime) -> Result<(), OutOfMemory> {
-    let mut book = EdgeBook::new(rt.alloc());
+    let mut book = PairBook::new(rt.alloc());
     for (from, to, new) in [
         (2, 1, true),
         (3, 2, true),
@@ -65,7 +65,7 @@ fn copies_in_a_ring_stand_once(rt: HostRuntime) -> Result<(), OutOfMemory> {
 #[test]
 fn members_bring_edges(rt: HostRuntime) -> Result<(), OutOfMemory> {
     let system = through_pointers(rt.alloc())?;
-    let mut book = EdgeBook::new(rt.alloc());
+    let mut book = PairBook::new(rt.alloc());
     assert_eq!(rt; book.edges_of_load(&system, 0, 2)?, 1);
     assert_eq!(rt; book.edges_of_store(&system, 1, 2)?, 1);
     assert_eq!(rt; book.edges_of_load(&system, 0, 2)?, 0, "it is there");

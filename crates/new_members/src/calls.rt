@@ -8,8 +8,8 @@ ghost use Rattle.new_members.specs.News.{Takes, IsLibraryAt, LibraryEdge, Librar
 
 use crate::books::add_all;
 use crate::effects::{enter_edges, enter_facts, renew_edges};
-use crate::lists::{members_of, news_of};
-use edge_book::EdgeBook;
+use crate::lists::{News, members_of, news_of};
+use edge_book::PairBook;
 use pta_base::OutOfMemory;
 use sol_model::locations::location_fact;
 use sol_model::sites::{call_at, function_at};
@@ -66,16 +66,15 @@ fn renew_library(
     system: &System,
     rows: &Rows,
     call: &CallSite,
-    row: u32,
-    new: &[u32],
+    news: &News,
     location: u32,
 ) -> Result<(), OutOfMemory>
     requires valid { IsValid system.now }
     requires fits { Fits system.now rows.now }
     requires call { IsCallValid system.now call.now }
-    requires new { All (IsLocation system.now) new.now }
+    requires new { All (IsLocation system.now) news.now.new.now }
     requires location { IsLocation system.now location }
-    ensures { OnOk result (Gains pairs.old.items pairs.new.items (NewLibraryEdge system.now (members rows.now) call.now row new.now location)) }
+    ensures { OnOk result (Gains pairs.old.items pairs.new.items (NewLibraryEdge system.now (members rows.now) call.now news.now.row news.now.new.now location)) }
 {
     let Some(number) = library_at(system, call, location) else {
         return Ok(());
@@ -88,8 +87,7 @@ fn renew_library(
         rows,
         call,
         number as usize,
-        row,
-        new,
+        news,
         function,
     )
 }
@@ -124,26 +122,25 @@ fn renew_libraries(
     system: &System,
     rows: &Rows,
     call: &CallSite,
-    row: u32,
-    new: &[u32],
+    news: &News,
     locations: &[u32],
 ) -> Result<(), OutOfMemory>
     requires valid { IsValid system.now }
     requires fits { Fits system.now rows.now }
     requires call { IsCallValid system.now call.now }
-    requires new { All (IsLocation system.now) new.now }
+    requires new { All (IsLocation system.now) news.now.new.now }
     requires locations { All (IsLocation system.now) locations.now }
-    ensures { OnOk result (Gains pairs.old.items pairs.new.items (λ a b. (location : ℕ) × Contains locations.now location × NewLibraryEdge system.now (members rows.now) call.now row new.now location a b)) }
+    ensures { OnOk result (Gains pairs.old.items pairs.new.items (λ a b. (location : ℕ) × Contains locations.now location × NewLibraryEdge system.now (members rows.now) call.now news.now.row news.now.new.now location a b)) }
 {
     for location in locations {
-        renew_library(alloc, pairs, system, rows, call, row, new, *location)?;
+        renew_library(alloc, pairs, system, rows, call, news, *location)?;
     }
     Ok(())
 }
 
 /// The edges that a call demands for each of a list of locations alone.
 fn enter_plain(
-    book: &mut EdgeBook,
+    book: &mut PairBook,
     system: &System,
     number: u32,
     new: &[u32],
@@ -162,24 +159,23 @@ fn enter_plain(
 /// What the rule of a call demands for new members of a row that it reads.
 pub(crate) fn renew_call(
     alloc: Global,
-    book: &mut EdgeBook,
+    book: &mut PairBook,
     facts: &mut Vec<(u32, u32)>,
     system: &System,
     rows: &Rows,
     number: u32,
-    row: u32,
-    new: &[u32],
+    news: &News,
 ) -> Result<(), OutOfMemory>
     requires valid { IsValid system.now }
     requires fits { Fits system.now rows.now }
     requires call { number < length system.now.calls }
-    requires new { All (IsLocation system.now) new.now }
-    ensures book { (site : CallSite) → slice_get system.now.calls number ≡ Some site → OnOk result (Takes book.old book.new (NewCallEdge system.now (members rows.now) site number row new.now)) }
-    ensures facts { (site : CallSite) → slice_get system.now.calls number ≡ Some site → OnOk result (Gains facts.old.items facts.new.items (NewCallFact system.now site row new.now)) }
+    requires new { All (IsLocation system.now) news.now.new.now }
+    ensures book { (site : CallSite) → slice_get system.now.calls number ≡ Some site → OnOk result (Takes book.old book.new (NewCallEdge system.now (members rows.now) site number news.now.row news.now.new.now)) }
+    ensures facts { (site : CallSite) → slice_get system.now.calls number ≡ Some site → OnOk result (Gains facts.old.items facts.new.items (NewCallFact system.now site news.now.row news.now.new.now)) }
 {
     let call = call_at(system, number as usize);
     let mut pairs = Vec::new(alloc);
-    let entered = news_of(Some(call.callee), row, new);
+    let entered = news_of(Some(call.callee), news);
     enter_plain(book, system, number, entered)?;
     enter_libraries(alloc, &mut pairs, facts, system, rows, call, entered)?;
     let reached = members_of(alloc, system, rows, call.callee)?;
@@ -189,8 +185,7 @@ pub(crate) fn renew_call(
         system,
         rows,
         call,
-        row,
-        new,
+        news,
         reached.as_slice(),
     )?;
     add_all(book, pairs.as_slice())

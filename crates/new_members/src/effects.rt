@@ -8,7 +8,7 @@ ghost use Rattle.sol_model.specs.Rules.{EffectEdge, EffectFact};
 ghost use Rattle.sol_model.specs.Systems.{IsValid, Fits, IsLocation, IsCallValid};
 ghost use Rattle.new_members.specs.News.{NewEdge};
 
-use crate::lists::{argument_members, fresh_members, members_of_any, news_of};
+use crate::lists::{News, argument_members, fresh_members, members_of_any, news_of};
 use crate::pairs::{put_backs, put_copies, put_stores};
 use edge_book::gather::put_between;
 use pta_base::{Effect, OutOfMemory};
@@ -106,15 +106,14 @@ fn renew_effect(
     rows: &Rows,
     call: &CallSite,
     number: usize,
-    row: u32,
-    new: &[u32],
+    news: &News,
     effect: Effect,
 ) -> Result<(), OutOfMemory>
     requires valid { IsValid system.now }
     requires fits { Fits system.now rows.now }
     requires call { IsCallValid system.now call.now }
-    requires new { All (IsLocation system.now) new.now }
-    ensures { OnOk result (Gains pairs.old.items pairs.new.items (NewEdge system.now (members rows.now) call.now number row new.now effect)) }
+    requires new { All (IsLocation system.now) news.now.new.now }
+    ensures { OnOk result (Gains pairs.old.items pairs.new.items (NewEdge system.now (members rows.now) call.now number news.now.row news.now.new.now effect)) }
 {
     match effect {
         Effect::Nothing => {}
@@ -122,23 +121,19 @@ fn renew_effect(
         Effect::GivesNew => {}
         Effect::GivesObject(_) => {}
         Effect::Copies(i, j) => {
-            let new_tos = news_of(argument_row(system, call, i), row, new);
+            let new_tos = news_of(argument_row(system, call, i), news);
             let froms = argument_members(alloc, system, rows, call, number, j)?;
             put_copies(pairs, system, new_tos, froms.as_slice())?;
             let tos = argument_members(alloc, system, rows, call, number, i)?;
-            let new_froms = news_of(argument_row(system, call, j), row, new);
+            let new_froms = news_of(argument_row(system, call, j), news);
             put_copies(pairs, system, tos.as_slice(), new_froms)?;
         }
         Effect::StoresInto(i, j) => {
             let from = argument_row(system, call, j);
-            put_stores(
-                pairs,
-                from,
-                news_of(argument_row(system, call, i), row, new),
-            )?;
+            put_stores(pairs, from, news_of(argument_row(system, call, i), news))?;
         }
         Effect::CallsBack(k, passed) => {
-            let backs = news_of(argument_row(system, call, k), row, new);
+            let backs = news_of(argument_row(system, call, k), news);
             put_backs(pairs, system, call, passed, backs)?;
         }
     }
@@ -200,19 +195,18 @@ pub(crate) fn renew_edges(
     rows: &Rows,
     call: &CallSite,
     number: usize,
-    row: u32,
-    new: &[u32],
+    news: &News,
     function: &Function,
 ) -> Result<(), OutOfMemory>
     requires valid { IsValid system.now }
     requires fits { Fits system.now rows.now }
     requires call { IsCallValid system.now call.now }
-    requires new { All (IsLocation system.now) new.now }
-    ensures { OnOk result (Gains pairs.old.items pairs.new.items (λ a b. (effect : Effect) × Contains function.now.effects effect × NewEdge system.now (members rows.now) call.now number row new.now effect a b)) }
+    requires new { All (IsLocation system.now) news.now.new.now }
+    ensures { OnOk result (Gains pairs.old.items pairs.new.items (λ a b. (effect : Effect) × Contains function.now.effects effect × NewEdge system.now (members rows.now) call.now number news.now.row news.now.new.now effect a b)) }
 {
     for i in 0..function.effects.len() {
         let effect = effect_at(function, i);
-        renew_effect(alloc, pairs, system, rows, call, number, row, new, effect)?;
+        renew_effect(alloc, pairs, system, rows, call, number, news, effect)?;
     }
     Ok(())
 }

@@ -9,9 +9,9 @@ ghost use Rattle.sol_model.specs.Systems.{IsValid, Fits, IsRow, IsLocation, HasM
 ghost use Rattle.new_members.specs.News.{Takes, NewContentsEdge, NewFieldFact, NewPointerEdge};
 
 use crate::books::add_all;
-use crate::lists::{members_of, news_of};
+use crate::lists::{News, members_of, news_of};
 use crate::pairs::put_copies;
-use edge_book::EdgeBook;
+use edge_book::PairBook;
 use edge_book::gather::put;
 use pta_base::OutOfMemory;
 use sol_model::locations::field_of;
@@ -20,7 +20,7 @@ use std::alloc::Global;
 
 /// The edges that a Load demands for each of a list of locations.
 pub(crate) fn renew_load(
-    book: &mut EdgeBook,
+    book: &mut PairBook,
     system: &System,
     constraint: u32,
     new: &[u32],
@@ -38,7 +38,7 @@ pub(crate) fn renew_load(
 
 /// The edges that a Store demands for each of a list of locations.
 pub(crate) fn renew_store(
-    book: &mut EdgeBook,
+    book: &mut PairBook,
     system: &System,
     constraint: u32,
     new: &[u32],
@@ -79,27 +79,26 @@ pub(crate) fn renew_field(
 /// The edges that a Contents demands for new members of one of its rows: each new one with all of the other row.
 pub(crate) fn renew_contents(
     alloc: Global,
-    book: &mut EdgeBook,
+    book: &mut PairBook,
     system: &System,
     rows: &Rows,
     to: u32,
     from: u32,
-    row: u32,
-    new: &[u32],
+    news: &News,
 ) -> Result<(), OutOfMemory>
     requires valid { IsValid system.now }
     requires fits { Fits system.now rows.now }
     requires to { IsRow system.now to }
     requires from { IsRow system.now from }
-    requires new { All (IsLocation system.now) new.now }
-    ensures { OnOk result (Takes book.old book.new (NewContentsEdge system.now (members rows.now) to from row new.now)) }
+    requires new { All (IsLocation system.now) news.now.new.now }
+    ensures { OnOk result (Takes book.old book.new (NewContentsEdge system.now (members rows.now) to from news.now.row news.now.new.now)) }
 {
     let mut pairs = Vec::new(alloc);
     let froms = members_of(alloc, system, rows, from)?;
     put_copies(
         &mut pairs,
         system,
-        news_of(Some(to), row, new),
+        news_of(Some(to), news),
         froms.as_slice(),
     )?;
     let tos = members_of(alloc, system, rows, to)?;
@@ -107,7 +106,7 @@ pub(crate) fn renew_contents(
         &mut pairs,
         system,
         tos.as_slice(),
-        news_of(Some(from), row, new),
+        news_of(Some(from), news),
     )?;
     add_all(book, pairs.as_slice())
 }

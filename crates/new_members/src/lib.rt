@@ -17,4 +17,4 @@ mod words;
 pub use reading::readers;
 pub use renewing::renew;
 pub use starting::start;
-pub use words::row_of;
+pub use words::row_words;

@@ -6,11 +6,18 @@ ghost use Rattle.sol_model.specs.Rules.{IsInArgument};
 ghost use Rattle.sol_model.specs.Systems.{IsValid, Fits, IsRow, IsLocation, IsCallValid, width_of};
 ghost use Rattle.new_members.specs.News.{IsIn};
 
-use crate::words::row_of;
+use crate::words::row_words;
 use pta_base::OutOfMemory;
 use sol_model::sites::argument_row;
 use sol_model::{CallSite, Rows, System};
 use std::alloc::Global;
+
+/// A row that has grown, and its new members.
+#[derive(Clone, Copy)]
+pub(crate) struct News<'a> {
+    pub(crate) row: u32,
+    pub(crate) new: &'a [u32],
+}
 
 /// Adds the number of each bit of a word, counted on from `base`.
 fn put_bits(list: &mut Vec<u32>, word: u64, base: u32) -> Result<(), OutOfMemory>
@@ -58,7 +65,7 @@ pub(crate) fn members_of(
     ensures has { IfOk result (λ list. (location : ℕ) → (Contains list.items location ↔ Has (members rows.now) row location)) }
     ensures known { IfOk result (λ list. All (IsLocation system.now) list.items) }
 {
-    new_members(alloc, row_of(rows, row), &[])
+    new_members(alloc, row_words(rows, row), &[])
 }
 
 /// The members of a row that may be there.
@@ -81,11 +88,11 @@ pub(crate) fn members_of_any(
 }
 
 /// The new members of a row that may be the one that grew.
-pub(crate) fn news_of<'a>(at: Option<u32>, row: u32, new: &'a [u32]) -> &'a [u32]
-    ensures has { (location : ℕ) → (Contains result.now location ↔ ((at ≡ Some row) × Contains new.now location)) }
-    ensures known { (count : ℕ) → All (λ location. location < count) new.now → All (λ location. location < count) result.now }
+pub(crate) fn news_of<'a>(at: Option<u32>, news: &News<'a>) -> &'a [u32]
+    ensures has { (location : ℕ) → (Contains result.now location ↔ ((at ≡ Some news.now.row) × Contains news.now.new.now location)) }
+    ensures known { (count : ℕ) → All (λ location. location < count) news.now.new.now → All (λ location. location < count) result.now }
 {
-    if at == Some(row) { new } else { &[] }
+    if at == Some(news.row) { news.new } else { &[] }
 }
 
 /// The objects that a call gets from the library function of this number.

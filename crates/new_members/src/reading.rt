@@ -6,14 +6,14 @@ ghost use Rattle.sol_model.specs.Rules.{argument_row};
 ghost use Rattle.sol_model.specs.Systems.{IsValid};
 ghost use Rattle.new_members.specs.News.{IsReader};
 
-use edge_book::EdgeBook;
+use edge_book::PairBook;
 use pta_base::OutOfMemory;
 use sol_model::sites::{call_at, constraint_at, first_row, rows_at};
 use sol_model::{Constraint, System};
 use std::alloc::Global;
 
 /// A row, with the number of a constraint that reads it.
-fn put_reader(readers: &mut EdgeBook, row: u32, number: u32) -> Result<(), OutOfMemory>
+fn put_reader(readers: &mut PairBook, row: u32, number: u32) -> Result<(), OutOfMemory>
     ensures { OnOk result (Gains readers.old readers.new (λ a b. (a ≡ row) × (b ≡ number))) }
 {
     readers.add(row, number)?;
@@ -22,7 +22,7 @@ fn put_reader(readers: &mut EdgeBook, row: u32, number: u32) -> Result<(), OutOf
 
 /// The rows that the rule of a call reads: those of its callee and of its arguments.
 fn put_call_readers(
-    readers: &mut EdgeBook,
+    readers: &mut PairBook,
     system: &System,
     call: u32,
     number: u32,
@@ -43,7 +43,7 @@ fn put_call_readers(
 }
 
 /// The rows that the rule of a constraint reads.
-fn put_readers(readers: &mut EdgeBook, system: &System, number: u32) -> Result<(), OutOfMemory>
+fn put_readers(readers: &mut PairBook, system: &System, number: u32) -> Result<(), OutOfMemory>
     requires valid { IsValid system.now }
     requires number { number < length system.now.constraints }
     ensures { OnOk result (Gains readers.old readers.new (λ a b. IsReader system.now a number × (b ≡ number))) }
@@ -83,11 +83,11 @@ fn put_readers(readers: &mut EdgeBook, system: &System, number: u32) -> Result<(
 
 /// For each row the numbers of the constraints whose rules read it, as pairs of a row and a number. A system of more
 /// than 2^32 constraints is past any memory.
-pub fn readers(alloc: Global, system: &System) -> Result<EdgeBook, OutOfMemory>
+pub fn readers(alloc: Global, system: &System) -> Result<PairBook, OutOfMemory>
     requires { IsValid system.now }
     ensures { IfOk result (λ readers. (row number : ℕ) → (Contains readers (row, number) ↔ IsReader system.now row number)) }
 {
-    let mut readers = EdgeBook::new(alloc);
+    let mut readers = PairBook::new(alloc);
     let count = system.constraints.len();
     if count > u32::MAX as usize {
         return Err(OutOfMemory);

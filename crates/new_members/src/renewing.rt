@@ -9,9 +9,9 @@ ghost use Rattle.new_members.specs.News.{Extends, IsIn, IsFact, IsGrown, IsReade
 
 use crate::calls::renew_call;
 use crate::forms::{renew_contents, renew_field, renew_load, renew_store};
-use crate::lists::new_members;
-use crate::words::{row_of, take_row};
-use edge_book::EdgeBook;
+use crate::lists::{News, new_members};
+use crate::words::{row_words, take_row};
+use edge_book::PairBook;
 use pta_base::OutOfMemory;
 use sol_model::sites::constraint_at;
 use sol_model::{Constraint, Rows, System};
@@ -20,23 +20,22 @@ use std::alloc::Global;
 /// What one constraint that reads a row demands for new members of the row.
 fn renew_constraint(
     alloc: Global,
-    book: &mut EdgeBook,
+    book: &mut PairBook,
     facts: &mut Vec<(u32, u32)>,
     system: &System,
     rows: &Rows,
     number: u32,
-    row: u32,
-    new: &[u32],
+    news: &News,
 ) -> Result<(), OutOfMemory>
     requires valid { IsValid system.now }
     requires fits { Fits system.now rows.now }
     requires number { number < length system.now.constraints }
-    requires reader { IsReader system.now row number }
-    requires new { All (IsLocation system.now) new.now }
-    requires members { (location : ℕ) → Contains new.now location → Has (members rows.now) row location }
+    requires reader { IsReader system.now news.now.row number }
+    requires new { All (IsLocation system.now) news.now.new.now }
+    requires members { (location : ℕ) → Contains news.now.new.now location → Has (members rows.now) news.now.row location }
     ensures kept { OnOk result (Extends book.old book.new) }
-    ensures book { (F : Family) (constraint : Constraint) → IsGrown F (members rows.now) row new.now → slice_get system.now.constraints number ≡ Some constraint → OnOk result (Renews book.old book.new (DemandsEdge system.now F constraint) (DemandsEdge system.now (members rows.now) constraint)) }
-    ensures facts { (F : Family) (constraint : Constraint) → IsGrown F (members rows.now) row new.now → slice_get system.now.constraints number ≡ Some constraint → OnOk result (Renews facts.old.items facts.new.items (DemandsFact system.now F constraint) (DemandsFact system.now (members rows.now) constraint)) }
+    ensures book { (F : Family) (constraint : Constraint) → IsGrown F (members rows.now) news.now.row news.now.new.now → slice_get system.now.constraints number ≡ Some constraint → OnOk result (Renews book.old book.new (DemandsEdge system.now F constraint) (DemandsEdge system.now (members rows.now) constraint)) }
+    ensures facts { (F : Family) (constraint : Constraint) → IsGrown F (members rows.now) news.now.row news.now.new.now → slice_get system.now.constraints number ≡ Some constraint → OnOk result (Renews facts.old.items facts.new.items (DemandsFact system.now F constraint) (DemandsFact system.now (members rows.now) constraint)) }
 {
     match constraint_at(system, number as usize) {
         Constraint::Address {
@@ -49,23 +48,23 @@ fn renew_constraint(
             to: _,
             ty: _,
             sub: _,
-        } => renew_load(book, system, number, new)?,
+        } => renew_load(book, system, number, news.new)?,
         Constraint::Store {
             pointer: _,
             from: _,
             ty: _,
             sub: _,
-        } => renew_store(book, system, number, new)?,
+        } => renew_store(book, system, number, news.new)?,
         Constraint::Field {
             from: _,
             to,
             ty,
             member,
-        } => renew_field(facts, system, to, ty, member, new)?,
+        } => renew_field(facts, system, to, ty, member, news.new)?,
         Constraint::Contents { to, from } => renew_contents(
-            alloc, book, system, rows, to, from, row, new,
+            alloc, book, system, rows, to, from, news,
         )?,
-        Constraint::Call { call } => renew_call(alloc, book, facts, system, rows, call, row, new)?,
+        Constraint::Call { call } => renew_call(alloc, book, facts, system, rows, call, news)?,
     }
     Ok(())
 }
@@ -73,25 +72,24 @@ fn renew_constraint(
 /// What all constraints that read a row demand for new members of the row.
 fn renew_readers(
     alloc: Global,
-    book: &mut EdgeBook,
+    book: &mut PairBook,
     facts: &mut Vec<(u32, u32)>,
     system: &System,
-    readers: &EdgeBook,
+    readers: &PairBook,
     rows: &Rows,
-    row: u32,
-    new: &[u32],
+    news: &News,
 ) -> Result<(), OutOfMemory>
     requires valid { IsValid system.now }
     requires fits { Fits system.now rows.now }
     requires readers { (at number : ℕ) → (Contains readers.now (at, number) ↔ IsReader system.now at number) }
-    requires new { All (IsLocation system.now) new.now }
-    requires members { (location : ℕ) → Contains new.now location → Has (members rows.now) row location }
+    requires new { All (IsLocation system.now) news.now.new.now }
+    requires members { (location : ℕ) → Contains news.now.new.now location → Has (members rows.now) news.now.row location }
     ensures kept { OnOk result (Extends book.old book.new) }
-    ensures book { (F : Family) → IsGrown F (members rows.now) row new.now → OnOk result (Renews book.old book.new (IsEdge system.now F) (IsEdge system.now (members rows.now))) }
-    ensures facts { (F : Family) → IsGrown F (members rows.now) row new.now → OnOk result (Renews facts.old.items facts.new.items (IsFact system.now F) (IsFact system.now (members rows.now))) }
+    ensures book { (F : Family) → IsGrown F (members rows.now) news.now.row news.now.new.now → OnOk result (Renews book.old book.new (IsEdge system.now F) (IsEdge system.now (members rows.now))) }
+    ensures facts { (F : Family) → IsGrown F (members rows.now) news.now.row news.now.new.now → OnOk result (Renews facts.old.items facts.new.items (IsFact system.now F) (IsFact system.now (members rows.now))) }
 {
-    for number in readers.targets(row) {
-        renew_constraint(alloc, book, facts, system, rows, *number, row, new)?;
+    for number in readers.targets(news.row) {
+        renew_constraint(alloc, book, facts, system, rows, *number, news)?;
     }
     Ok(())
 }
@@ -100,10 +98,10 @@ fn renew_readers(
 /// a book, and such facts to a list. `readers` has the constraints that read each row.
 pub fn renew(
     alloc: Global,
-    book: &mut EdgeBook,
+    book: &mut PairBook,
     facts: &mut Vec<(u32, u32)>,
     system: &System,
-    readers: &EdgeBook,
+    readers: &PairBook,
     rows: &mut Rows,
     row: u32,
     words: &[u64],
@@ -120,7 +118,7 @@ pub fn renew(
     ensures book { OnOk result (Renews book.old book.new (IsEdge system.now (members rows.old)) (IsEdge system.now (members rows.new))) }
     ensures facts { OnOk result (Renews facts.old.items facts.new.items (IsFact system.now (members rows.old)) (IsFact system.now (members rows.new))) }
 {
-    let new = new_members(alloc, words, row_of(rows, row))?;
+    let new = new_members(alloc, words, row_words(rows, row))?;
     take_row(system, rows, row, words);
     renew_readers(
         alloc,
@@ -129,7 +127,9 @@ pub fn renew(
         system,
         readers,
         rows,
-        row,
-        new.as_slice(),
+        &News {
+            row,
+            new: new.as_slice(),
+        },
     )
 }

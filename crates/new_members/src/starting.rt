@@ -4,7 +4,7 @@ ghost use Rattle.edge_book.specs.Edges.{AreApart, Gains};
 ghost use Rattle.sol_model.specs.Systems.{IsValid};
 ghost use Rattle.sol_model.specs.declared.system.Constraint.{Constraint};
 
-use edge_book::EdgeBook;
+use edge_book::PairBook;
 use edge_book::gather::put;
 use pta_base::OutOfMemory;
 use sol_model::sites::constraint_at;
@@ -13,7 +13,7 @@ use std::alloc::Global;
 
 /// The edge of a Copy, or the fact of an Address.
 fn start_constraint(
-    book: &mut EdgeBook,
+    book: &mut PairBook,
     facts: &mut Vec<(u32, u32)>,
     constraint: Constraint,
 ) -> Result<(), OutOfMemory>
@@ -36,7 +36,7 @@ fn start_constraint(
 pub fn start(
     alloc: Global,
     system: &System,
-    book: &mut EdgeBook,
+    book: &mut PairBook,
 ) -> Result<Vec<(u32, u32)>, OutOfMemory>
     requires { IsValid system.now }
     ensures book { OnOk result (Gains book.old book.new (λ a b. Contains system.now.constraints (Constraint.Copy a b))) }

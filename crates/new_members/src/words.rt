@@ -18,7 +18,7 @@ fn part(words: &[u64], first: usize, width: usize) -> &[u64]
 }
 
 /// The words of a row.
-pub fn row_of(rows: &Rows, row: u32) -> &[u64]
+pub fn row_words(rows: &Rows, row: u32) -> &[u64]
     requires { HoldsRow rows.now row }
     ensures value { result.now ≡ words_at rows.now row }
     ensures sized { length result.now ≡ rows.now.width }

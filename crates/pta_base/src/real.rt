@@ -6,37 +6,94 @@ use std::fs;
 use std::io::{self, Read, Seek, SeekFrom, Write};
 use std::rt::Files;
 
-/// Files by name: a unit's name is the path of its file. No text is told, since no clause can say what a file holds. Each
-/// failure to open, to seek or to read counts as a fault, whatever the name.
+/// An open file under its name, and the place of the next byte that it gives.
 #[derive(Drop)]
-pub struct FileUnits<'a, R: Files> {
+struct OpenFile<F: Drop> {
+    name: String,
+    file: F,
+    place: u64,
+}
+
+/// Files by name: a unit's name is the path of its file. No text is told, since no clause can say what a file holds. The file
+/// of the last name stays open, and a read goes on where the last one ended; only a read at another place seeks. So a file that
+/// is replaced meanwhile is read as it was, and a pipe can be read from its start on. Each failure to open, to seek or to read
+/// counts as a fault, whatever the name, and so does want of memory for the name; then the file is closed.
+#[derive(Drop)]
+pub struct FileUnits<'a, R: Files + AllocGlobal> {
     rt: &'a R,
+    open: Option<OpenFile<R::File>>,
     faults: u64,
 }
 
-impl<'a, R: Files> FileUnits<'a, R> {
-    /// The files that the runtime reaches. No fault has been.
+impl<'a, R: Files + AllocGlobal> FileUnits<'a, R> {
+    /// The files that the runtime reaches. None is open, and no fault has been.
     pub fn new(rt: &'a R) -> FileUnits<'a, R> {
-        FileUnits { rt, faults: 0 }
+        FileUnits {
+            rt,
+            open: None,
+            faults: 0,
+        }
     }
 }
 
-/// Reads a file from a place on.
-fn read_at<R: Files>(rt: &R, name: &str, at: u64, buf: &mut [u8]) -> io::Result<usize>
-    ensures { IfOk result (λ count. count ≤ length buf.new) }
-{
-    let mut file = fs::open(rt, name)?;
-    file.seek(SeekFrom::Start(at))?;
-    file.read(buf)
+/// The file of a name: the one that is open, where it has that name.
+fn file_of<R: Files + AllocGlobal>(
+    rt: &R,
+    open: Option<OpenFile<R::File>>,
+    name: &str,
+) -> io::Result<OpenFile<R::File>> {
+    if let Some(open) = open
+        && open.name.as_str() == name
+    {
+        return Ok(open);
+    }
+    Ok(OpenFile {
+        name: name.to_string(rt.alloc())?,
+        file: fs::open(rt, name)?,
+        place: 0,
+    })
 }
 
-impl<'a, R: Files> Units for FileUnits<'a, R> {
+/// Reads from a place on.
+fn read_at<F: Read + Seek + Drop>(
+    open: &mut OpenFile<F>,
+    at: u64,
+    buf: &mut [u8],
+) -> io::Result<usize>
+    ensures { IfOk result (λ count. count ≤ length buf.new) }
+{
+    if open.place != at {
+        open.file.seek(SeekFrom::Start(at))?;
+        open.place = at;
+    }
+    let count = open.file.read(buf)?;
+    open.place = at.saturating_add(count as u64);
+    Ok(count)
+}
+
+/// Reads the file of a name from a place on, and leaves it open.
+fn read_on<R: Files + AllocGlobal>(
+    rt: &R,
+    open: &mut Option<OpenFile<R::File>>,
+    name: &str,
+    at: u64,
+    buf: &mut [u8],
+) -> io::Result<usize>
+    ensures { IfOk result (λ count. count ≤ length buf.new) }
+{
+    let mut file = file_of(rt, open.take(), name)?;
+    let count = read_at(&mut file, at, buf)?;
+    *open = Some(file);
+    Ok(count)
+}
+
+impl<'a, R: Files + AllocGlobal> Units for FileUnits<'a, R> {
     ghost text = { λ units name. None };
 
     ghost faults = { λ units name. units.faults };
 
     fn read(&mut self, name: &str, at: u64, buf: &mut [u8]) -> Result<usize, Failed> {
-        match read_at(self.rt, name, at, buf) {
+        match read_on(self.rt, &mut self.open, name, at, buf) {
             Ok(count) => Ok(count),
             Err(_) => {
                 self.faults = self.faults.saturating_add(1);
@@ -111,7 +168,33 @@ mod tests {
         assert_eq!(rt; &buf[..2], b"x;".as_slice());
         assert_eq!(rt; units.read(path.as_str(), 6, &mut buf), Ok(0));
         fs::remove_file(&rt, path.as_str())?;
-        assert_eq!(rt; units.read(path.as_str(), 0, &mut buf), Err(Failed));
+        let mut anew = FileUnits::new(&rt);
+        assert_eq!(rt; anew.read(path.as_str(), 0, &mut buf), Err(Failed));
+        Ok(())
+    }
+
+    // The open file is read on, though another one has its name by now; another place is sought, and another name opened.
+    #[test]
+    fn the_open_file_is_read_on(rt: HostRuntime) -> Result<(), Fail> {
+        let path = path_of(&rt, "pta_base_replaced.i")?;
+        let other = path_of(&rt, "pta_base_other.i")?;
+        fs::write(&rt, path.as_str(), "int x;")?;
+        fs::write(&rt, other.as_str(), "char")?;
+        let mut units = FileUnits::new(&rt);
+        let mut buf = [0u8; 4];
+        assert_eq!(rt; units.read(path.as_str(), 0, &mut buf), Ok(4));
+        fs::remove_file(&rt, path.as_str())?;
+        fs::write(&rt, path.as_str(), "long y;")?;
+        assert_eq!(rt; units.read(path.as_str(), 4, &mut buf), Ok(2));
+        assert_eq!(rt; &buf[..2], b"x;".as_slice());
+        assert_eq!(rt; units.read(path.as_str(), 1, &mut buf), Ok(4));
+        assert_eq!(rt; buf.as_slice(), b"nt x".as_slice());
+        assert_eq!(rt; units.read(other.as_str(), 2, &mut buf), Ok(2));
+        assert_eq!(rt; &buf[..2], b"ar".as_slice());
+        assert_eq!(rt; units.read(path.as_str(), 4, &mut buf), Ok(3));
+        assert_eq!(rt; &buf[..3], b" y;".as_slice());
+        fs::remove_file(&rt, path.as_str())?;
+        fs::remove_file(&rt, other.as_str())?;
         Ok(())
     }
 

@@ -3,6 +3,4 @@
 #![tactic(auto)]
 
 #[cfg(test)]
-mod parts;
-#[cfg(test)]
 mod tests;

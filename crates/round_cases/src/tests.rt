@@ -3,7 +3,7 @@
 ghost use Rattle.std.specs.Prelude.{◌<◌, ◌≤◌};
 ghost use Rattle.sol_model.specs.Systems.{IsValid};
 
-use crate::parts::{
+use hand_systems::{
     CallPart, FunctionPart, INTEGER, PAIR, POINTER, address, blob, called, code, copy, field, load,
     object, store, system,
 };
@@ -54,6 +54,44 @@ impl Gate for Both {
         }
         self.late.store(1, Ordering::SeqCst);
     }
+}
+
+/// A gate that notes whether a worker comes with another turn than the one after its last, or than 0 in a new round. There
+/// is one worker, and so no other writer.
+#[derive(Drop)]
+struct Counted {
+    next: AtomicU64,
+    most: AtomicU64,
+    wrong: AtomicU64,
+}
+
+impl Gate for Counted {
+    fn pass(&self, worker: u32, turn: u32) {
+        let next = self.next.load(Ordering::SeqCst);
+        if worker > 0 || (turn > 0 && turn as u64 != next) {
+            self.wrong.store(1, Ordering::SeqCst);
+        }
+        self.next.store(turn as u64 + 1, Ordering::SeqCst);
+        if turn as u64 > self.most.load(Ordering::SeqCst) {
+            self.most.store(turn as u64, Ordering::SeqCst);
+        }
+    }
+}
+
+/// A gate at which each of two workers leaves a mark.
+fn both_gate() -> Both {
+    Both {
+        first: AtomicU64::new(0),
+        second: AtomicU64::new(0),
+        late: AtomicU64::new(0),
+    }
+}
+
+/// Both workers came to the gate, and neither waited in vain.
+fn expect_both<R: Abort>(rt: &R, gate: &Both) {
+    assert_eq!(rt; gate.first.load(Ordering::SeqCst), 1);
+    assert_eq!(rt; gate.second.load(Ordering::SeqCst), 1);
+    assert_eq!(rt; gate.late.load(Ordering::SeqCst), 0);
 }
 
 /// Solves a system on shared rows.
@@ -128,13 +166,9 @@ fn two_workers_at_once(rt: HostRuntime) -> Result<(), OutOfMemory> {
         &[],
     )?;
     assert!(rt; is_valid(&case));
-    let gate = Both {
-        first: AtomicU64::new(0),
-        second: AtomicU64::new(0),
-        late: AtomicU64::new(0),
-    };
+    let gate = both_gate();
     let rows = solved(&rt, alloc, &case, 2, &gate)?;
-    assert_eq!(rt; gate.late.load(Ordering::SeqCst), 0);
+    expect_both(&rt, &gate);
     assert!(rt; rows.words.as_slice() == [0u64, 0, 1, 3].as_slice());
     Ok(())
 }
@@ -846,13 +880,9 @@ fn linked_list(rt: HostRuntime) -> Result<(), OutOfMemory> {
     )?;
     expect(&rt, alloc, &case, LIST_SETS)?;
     assert!(rt; is_valid(&case));
-    let gate = Both {
-        first: AtomicU64::new(0),
-        second: AtomicU64::new(0),
-        late: AtomicU64::new(0),
-    };
+    let gate = both_gate();
     let rows = solved(&rt, alloc, &case, 2, &gate)?;
-    assert_eq!(rt; gate.late.load(Ordering::SeqCst), 0);
+    expect_both(&rt, &gate);
     assert!(rt; rows.words.as_slice() == LIST_SETS);
     Ok(())
 }
@@ -876,5 +906,15 @@ fn wide_round(rt: HostRuntime) -> Result<(), OutOfMemory> {
         &[],
         &[],
     )?;
-    expect(&rt, alloc, &case, sets.as_slice())
+    expect(&rt, alloc, &case, sets.as_slice())?;
+    assert!(rt; is_valid(&case));
+    let gate = Counted {
+        next: AtomicU64::new(0),
+        most: AtomicU64::new(0),
+        wrong: AtomicU64::new(0),
+    };
+    solved(&rt, alloc, &case, 1, &gate)?;
+    assert_eq!(rt; gate.wrong.load(Ordering::SeqCst), 0);
+    assert_eq!(rt; gate.most.load(Ordering::SeqCst), 296);
+    Ok(())
 }

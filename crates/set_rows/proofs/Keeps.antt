@@ -20,9 +20,10 @@ use Rattle.sol_model.proofs.Monotone.{given_in_closed}
 use Rattle.sol_model.proofs.Closed.{given_more, closed_same}
 use Rattle.set_rows.specs.declared.view.View.{View}
 use Rattle.set_rows.specs.Views.{words_of, known, fresh, looked, added, shutting, reading, half_kept, half_given, united, met, IsLeastWord, IsBelowWord, nobody, looked_at, added_at, shut_at, read_at, drew_at}
-use Rattle.set_rows.specs.Rule.{rows_in, closing_word, IsReached, Stands, Held, Kept}
+use Rattle.set_rows.specs.Rule.{rows_in, closing_word, IsReached, Stands, Held, IsWhole, Kept}
 use Rattle.std.proofs.Common.{mul-zero}
 use Rattle.set_rows.proofs.Holding.{Grown, held_seen, held_start, held_add, held_behind, held_shut, held_split, held_meet}
+use Rattle.set_rows.proofs.Wholes.{SameShare, whole_same, whole_start, whole_split, whole_meet}
 use Rattle.rows_core.specs.declared.event.Event.TheVariants.{Shut}
 use Rattle.rows_core.specs.Machine.{Machine, start, run, next}
 use Rattle.rows_core.proofs.Runs.{run_snoc, may_join}
@@ -38,8 +39,8 @@ abbrev with_view : State (Unit {0}) View → Homes → ℕ → View → State (U
 with_view s homes id w = record { words = s.words; homes = homes; views = set s.views id w }
 
 -- the rule, with one view changed
-view_changed : (S : System) (s : State (Unit {0}) View) (homes : Homes) (id : ℕ) (v w : View) → Kept S s → get_elem? s.views id ≡ some v → Grown v w → (w.live ≡ true → Stands S w s.words) → Kept S (with_view s homes id w)
-view_changed S s homes id v w kept here grown stands = record {
+view_changed : (S : System) (s : State (Unit {0}) View) (homes : Homes) (id : ℕ) (v w : View) → Kept S s → get_elem? s.views id ≡ some v → Grown v w → SameShare v w → (w.live ≡ true → Stands S w s.words) → Kept S (with_view s homes id w)
+view_changed S s homes id v w kept here grown same stands = record {
   valid = kept.valid;
   sized = kept.sized;
   reached = kept.reached;
@@ -51,6 +52,7 @@ view_changed S s homes id v w kept here grown stands = record {
     | inr e ↦ kept.views seat v e.1 live
   ];
   held = held_seen (words_of S) s.words s.views id v w here grown kept.held;
+  whole = whole_same s.views id v w here same kept.whole;
 }
 
 -- a word that is written as it was
@@ -112,7 +114,7 @@ looks S slots id me i live lt s kept _ at _ =
       looked me.0 i found,
       keeps,
       tt,
-      word_same S s s.homes (set s.views id (looked me.0 i found)) i (view_changed S s s.homes id me.0 (looked me.0 i found) kept at (looked_grown S me.0 s.words i lt st) (λ _. looked_stands S me.0 s.words i lt st)),
+      word_same S s s.homes (set s.views id (looked me.0 i found)) i (view_changed S s s.homes id me.0 (looked me.0 i found) kept at (looked_grown S me.0 s.words i lt st) (record { part = refl; halvings = refl; live = refl }) (λ _. looked_stands S me.0 s.words i lt st)),
       (
         refl,
         st.seen.facts i,
@@ -277,6 +279,7 @@ adds_kept S s id v i mask lt alive here kept st may =
         | inr e ↦ stands_more S u s.words (set s.words i new) (within_set s.words i new (omega arith) (within_or (get_or s.words i 0) mask)) (λ one. other ∙ one) (kept.views seat u e.1 live)
       ];
       held = held_add (words_of S) s.words s.views id v i mask lt (omega arith) (let e = st.sized in omega arith) alive st.seen.facts here kept.held;
+      whole = whole_same s.views id v (added v i mask (get_or s.words i 0)) here (record { part = refl; halvings = refl; live = refl }) kept.whole;
     }
 
 pub adds : (S : System) (slots id : ℕ) (me : Mine) (i mask : ℕ) → me.0.live ≡ true → i < words_of S
@@ -300,8 +303,9 @@ behind_kept : (S : System) (s : State (Unit {0}) View) (homes : Homes) (id : ℕ
     → ((v : View) → ((j : ℕ) → j < words_of S → get_or (set s.words i y) j 0 ≡ get_or s.words j 0) → Stands S v s.words → Stands S v (set s.words i y))
     → (w.live ≡ true → Stands S w (set s.words i y))
     → Held (words_of S) (set s.words i y) (set s.views id w)
+    → IsWhole (set s.views id w)
     → Kept S record { words = set s.words i y; homes = homes; views = set s.views id w }
-behind_kept S s homes id w i y behind kept reached small keep closed others own held =
+behind_kept S s homes id w i y behind kept reached small keep closed others own held whole =
     let rows : rows_in S (set s.words i y) ≡ rows_in S s.words = ap (shown (width_of S)) (take-set-le (words_of S) s.words i y behind) in record {
       valid = kept.valid;
       sized = length-set s.words i y ∙ kept.sized;
@@ -314,6 +318,7 @@ behind_kept S s homes id w i y behind kept reached small keep closed others own 
         | inr e ↦ others u (λ j lt. get_or-set_other s.words i j y 0 (λ e. omega arith)) (kept.views seat u e.1 live)
       ];
       held = held;
+      whole = whole;
     }
 
 -- a view stands where the words of the rows stay and the closing word does not fall
@@ -358,7 +363,8 @@ shuts S slots id me live closed s kept _ at _ =
       behind_kept S s s.homes id (shutting me.0) n (bit_or c 1) (omega arith) kept (reached_shut S s.words (set s.words n (bit_or c 1)) (ap (shown (width_of S)) (take-set-le n s.words n (bit_or c 1) (omega arith))) now rows kept.reached) (omega arith) (λ _. now) (λ _. rows)
           (λ v same stv. stands_behind S v s.words (set s.words n (bit_or c 1)) same (λ _. now) stv)
           (λ _. knowing S me.0 (set s.words n (bit_or c 1)) now (stands_behind S me.0 s.words (set s.words n (bit_or c 1)) (λ j lt. get_or-set_other s.words n j (bit_or c 1) 0 (λ e. omega arith)) (λ _. now) st))
-          (held_shut n (bit_or c 1) s.words s.views id me.0 live at kept.held),
+          (held_shut n (bit_or c 1) s.words s.views id me.0 live at kept.held)
+          (whole_same s.views id me.0 (shutting me.0) at (record { part = refl; halvings = refl; live = refl }) kept.whole),
       refl,
     )
 
@@ -384,7 +390,7 @@ reads S slots id me live s kept _ at _ =
       reading me.0 found,
       keeps,
       tt,
-      word_same S s s.homes (set s.views id (reading me.0 found)) (words_of S) (view_changed S s s.homes id me.0 (reading me.0 found) kept at (read_grown me.0 found) (λ _. read_stands S me.0 s.words st)),
+      word_same S s s.homes (set s.views id (reading me.0 found)) (words_of S) (view_changed S s s.homes id me.0 (reading me.0 found) kept at (read_grown me.0 found) (record { part = refl; halvings = refl; live = refl }) (λ _. read_stands S me.0 s.words st)),
       (refl, kept.closing, λ knows. known_shut S me.0 s.words st knows),
     )
 
@@ -400,7 +406,8 @@ draws S slots id me live s kept _ at _ =
       behind_kept S s s.homes id me.0 (n + 1) y (omega arith) kept (reached_same S s.words (set s.words (n + 1) y) (ap (shown (width_of S)) (take-set-le n s.words (n + 1) y (omega arith))) same kept.reached) (let c = kept.closing in omega arith) (λ one. same ∙ one) (λ one. kept.closed (sym same ∙ one))
           (λ v rows stv. stands_behind S v s.words (set s.words (n + 1) y) rows (λ one. same ∙ one) stv)
           (λ _. stands_behind S me.0 s.words (set s.words (n + 1) y) (λ j lt. get_or-set_other s.words (n + 1) j y 0 (λ e. omega arith)) (λ one. same ∙ one) st)
-          (held_behind n (n + 1) y s.words (set s.views id me.0) (omega arith) (held_seen n s.words s.views id me.0 me.0 at (record { live = λ l. l; seen = λ j k h. h; knows = λ l. l }) kept.held)),
+          (held_behind n (n + 1) y s.words (set s.views id me.0) (omega arith) (held_seen n s.words s.views id me.0 me.0 at (record { live = λ l. l; seen = λ j k h. h; knows = λ l. l }) kept.held))
+          (whole_same s.views id me.0 me.0 at (record { part = refl; halvings = refl; live = refl }) kept.whole),
       refl,
     )
 
@@ -436,6 +443,7 @@ halves S id v live s kept at = let st = kept.views id v at live in record {
     | inr e ↦ subst (λ (t : View). Stands S t s.words) e (half_stands S v s.words st)
   ];
   held = held_split (words_of S) s.words s.views id v at kept.held;
+  whole = whole_split s.views id v at live kept.whole;
 }
 
 united_has : (xs ys : List ℕ) (i k : ℕ) → bit_at (get_or (united xs ys) i 0) k ≡ 1 → (bit_at (get_or xs i 0) k ≡ 1) ⊎ (bit_at (get_or ys i 0) k ≡ 1)
@@ -480,6 +488,7 @@ meets S id v other w live alive s kept at apart there =
         ]
       ];
       held = held_meet (words_of S) s.words s.views id other v w apart live at before kept.held;
+      whole = whole_meet s.views id other v w apart live alive at before kept.whole;
     }
 
 -- the same, at a word whose number is that of the closing word
@@ -547,4 +556,5 @@ opens S words valid e =
       closed = λ one. absurd (let z = zero_at n in omega arith);
       views = λ seat v at live. elim (at_snoc [] (fresh S) v seat at) [ inl e ↦ absurd (some-ne-none v (sym e)) | inr e ↦ subst (λ (u : View). Stands S u words) e (fresh_stands S words) ];
       held = subst (λ (ws : List ℕ). Held n ws (fresh S ∷ [])) (sym e) (held_start S n);
+      whole = whole_start S;
     }

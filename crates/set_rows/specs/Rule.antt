@@ -1,7 +1,7 @@
 -- The rule of the shared words: it holds between any two steps of any threads. Its points: the rows are inside each
 -- closed family; the closing word is 0 or 1, and 1 only where the rows are closed; what each live view has seen is in
 -- the words; the words are a state of the rows machine; and what is in the words was seen by a live view.
-use Rattle.std.specs.Prelude.{◌≡◌, ℕ, ◌+◌, ◌<◌, ◌≤◌, ◌==◌, true, List, length, slice_index, take}
+use Rattle.std.specs.Prelude.{◌≡◌, ℕ, ◌+◌, ◌<◌, ◌≤◌, ◌==◌, ◌*◌, ◌-◌, ◌^◌, true, if◌then◌else◌, List, [], ◌∷◌, length, slice_index, take}
 use mathlib.Core.Option.{some}
 use lib.ListN.{get_elem?}
 use Rattle.std.specs.Int.{bit_at}
@@ -65,6 +65,21 @@ pub record Held (n : ℕ) (words : List ℕ) (views : List View) : Type 0 where
   pub facts : (j k : ℕ) → j < n → bit_at (slice_index words j) k ≡ 1 → Holder views j k
   pub closing : slice_index words n ≡ 1 → Knower views
 
+-- what a number of each view adds up to
+abbrev pub total : (View → ℕ) → List View → ℕ
+total f [] = 0
+total f (v ∷ views) = f v + total f views
+
+-- a live view's part, counted in parts of which 2 ^ level are the whole
+abbrev pub share_at : ℕ → View → ℕ
+share_at level v = if v.live then v.part * 2 ^ (level - v.halvings) else 0
+
+-- the parts of all live views are the whole; so a view whose part is the whole is the only live one
+pub record IsWhole (views : List View) : Type 0 where
+  pub level : ℕ
+  pub fine : (seat : ℕ) (v : View) → get_elem? views seat ≡ some v → v.live ≡ true → v.halvings ≤ level
+  pub parts : (n : ℕ) → level ≤ n → total (share_at n) views ≡ 2 ^ n
+
 -- a spent view is left out of the points on views
 pub record Kept (S : System) (s : State (Unit {0}) View) : Type 0 where
   pub valid : IsValid S
@@ -75,3 +90,4 @@ pub record Kept (S : System) (s : State (Unit {0}) View) : Type 0 where
   pub closed : closing_word S s.words ≡ 1 → IsClosed S (rows_in S s.words)
   pub views : (seat : ℕ) (v : View) → get_elem? s.views seat ≡ some v → v.live ≡ true → Stands S v s.words
   pub held : Held (words_of S) s.words s.views
+  pub whole : IsWhole s.views

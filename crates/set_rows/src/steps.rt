@@ -23,15 +23,15 @@ impl RowTable {
         ensures own { IfOk result (λ made. IsOf made.0 made.1) }
         ensures view { IfOk result (λ made. view made.1 ≡ fresh system.now) }
     {
-        let width = ((system.locations.len() as u64 + 63) / 64) as u32;
-        let count = system.rows as usize * width as usize;
+        let width = system.row_width();
+        let count = system.rows as usize * width;
         let words = vec![in alloc; 0u64; count + 2]?;
         let (table, seat) = Table::of_words(alloc, words.as_slice(), system)?;
         Ok((
             RowTable {
                 table,
                 count,
-                width,
+                width: width as u32,
             },
             RowSeat { seat },
         ))

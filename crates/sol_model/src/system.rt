@@ -126,3 +126,15 @@ pub struct System {
     /// The functions, those of the library among them.
     pub functions: Listing<Function>,
 }
+
+impl System {
+    ghost use Rattle.std.specs.Prelude.{◌≡◌};
+    ghost use Rattle.sol_model.specs.Systems.{width_of};
+
+    /// How many words a row has: one for each 64 locations.
+    pub fn row_width(&self) -> usize
+        ensures { result ≡ width_of self.now }
+    {
+        self.locations.len().div_ceil(64)
+    }
+}

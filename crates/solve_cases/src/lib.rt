@@ -2,6 +2,4 @@
 #![tactic(auto)]
 
 #[cfg(test)]
-mod parts;
-#[cfg(test)]
 mod tests;

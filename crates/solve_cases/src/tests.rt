@@ -1,10 +1,10 @@
 // Each system has at most 64 locations, so that each row is one word: bit l is location l.
-use crate::parts::{
+use call_graph::{graph, is_target};
+use edge_book::PairBook;
+use hand_systems::{
     CallPart, FunctionPart, INTEGER, PAIR, POINTER, address, blob, called, code, copy, field, load,
     object, store, system,
 };
-use call_graph::{graph, is_target};
-use edge_book::EdgeBook;
 use pta_base::{Effect, OutOfMemory};
 use sol_model::{Constraint, System, is_closed, plain_solve};
 use std::alloc::Global;
@@ -645,7 +645,7 @@ fn invalid(rt: HostRuntime) -> Result<(), OutOfMemory> {
 /// How many edges the first call of a system adds to a book for one location.
 fn new_edges(
     rt: &impl Abort,
-    book: &mut EdgeBook,
+    book: &mut PairBook,
     system: &System,
     location: u32,
 ) -> Result<u32, OutOfMemory> {
@@ -693,7 +693,7 @@ fn edges_of_a_call_for_one_target(rt: HostRuntime) -> Result<(), OutOfMemory> {
             fresh: &[],
         }],
     )?;
-    let mut book = EdgeBook::new(rt.alloc());
+    let mut book = PairBook::new(rt.alloc());
     for (location, new) in [(3, 0), (4, 0), (1, 3), (1, 0)] {
         assert_eq!(&rt;
             new_edges(&rt, &mut book, &case, location)?,

@@ -5,7 +5,7 @@ use Rattle.std.proofs.lemmas.Option.{same_Some, slice_get_past, none-some}
 use Rattle.std.proofs.lemmas.Nat.{mod_below, same_from_place}
 use Rattle.std.proofs.lemmas.List.Elements.{Contains-append_left, Contains-push, Contains-push_cases}
 use Rattle.sol_model.proofs.Members.{Contains-at, at_Contains}
-use Rattle.work_rounds.specs.Work.{AreDistinct}
+use Rattle.work_rounds.specs.Rounds.{AreRowsApart}
 use Rattle.work_rounds.proofs.Once.{distinct_push, one_place}
 
 -- the rows of one number of the first k blocks
@@ -79,13 +79,13 @@ numbers_all out todo block workers long so row = (
 abbrev pub IsFresh : List ℕ → ℕ → ℕ → List ℕ → Type 0
 IsFresh todo block at old = (k row : ℕ) → slice_get todo (k * block + at) ≡ Some row → Contains old row → ⊥
 
-pub once_some : (old mid todo : List ℕ) (block at n x : ℕ) → slice_get todo (n * block + at) ≡ Some x → OfBlocks old mid todo block at n → at < block → AreDistinct todo → IsFresh todo block at old → AreDistinct mid → AreDistinct (mid ++ x ∷ [])
+pub once_some : (old mid todo : List ℕ) (block at n x : ℕ) → slice_get todo (n * block + at) ≡ Some x → OfBlocks old mid todo block at n → at < block → AreRowsApart todo → IsFresh todo block at old → AreRowsApart mid → AreRowsApart (mid ++ x ∷ [])
 once_some old mid todo block at n x here so lt once fresh so_far = distinct_push mid x so_far (λ c. elim ((so x).0 c) [
   | inl o ↦ fresh n x here o
   | inr b ↦ absurd (let same = same_from_place b.0 at n at block lt lt (one_place todo once (b.0 * block + at) (n * block + at) x b.2 here) in let e = same.0 in let l = b.1 in omega arith)
 ])
 
-pub numbers_fresh : (out todo : List ℕ) (block workers at : ℕ) → OfNumbers out todo block workers at → at < block → AreDistinct todo → IsFresh todo block at out
+pub numbers_fresh : (out todo : List ℕ) (block workers at : ℕ) → OfNumbers out todo block workers at → at < block → AreRowsApart todo → IsFresh todo block at out
 numbers_fresh out todo block workers at so lt once k row here c =
     let p = (so row).0 c in
     let less : p.0 < block = (let l = p.1 in omega arith) in

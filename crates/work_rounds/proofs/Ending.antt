@@ -23,13 +23,13 @@ use Rattle.delta_prop.specs.declared.turn.Turn.{Turn}
 use Rattle.delta_prop.specs.Deltas.{AllDemanded, IsSound}
 use Rattle.delta_prop.proofs.Carries.{edge_more}
 use Rattle.new_members.specs.News.{Extends, IsFact}
-use Rattle.work_rounds.specs.Rounds.{IsCarried, HasWorked, HasClosed, IsSettled, IsTurnOf, IsTakenIn, IsNoted, IsWorked}
-use Rattle.work_rounds.specs.Turns.{HasShares, AreJoined}
+use Rattle.work_rounds.specs.Rounds.{AreCarried, HasWorked, HasClosed, IsSettled, IsTurnOf, IsTakenIn, IsNoted, IsWorked}
+use Rattle.work_rounds.specs.Turns.{HasShares, AreTogether}
 use Rattle.work_rounds.proofs.Sharing.{shares_together}
 
 pub joined_shares : (S : System) (book : List (ℕ × ℕ)) (v : View) (done : Rows) (todo : List ℕ) (workers first middle last : ℕ) (a b : View) (left right joined : Result (Vec Turn Global) OutOfMemory)
     → b.system ≡ a.system → IfOk left (λ ts. HasShares S book done todo workers first middle (half_kept v) a ts.items) → IfOk right (λ ts. HasShares S book done todo workers middle last (half_given v) b ts.items)
-    → IfOk joined (AreJoined left right) → IfOk joined (λ ts. HasShares S book done todo workers first last v (met a b) ts.items)
+    → IfOk joined (AreTogether left right) → IfOk joined (λ ts. HasShares S book done todo workers first last v (met a b) ts.items)
 joined_shares S book v done todo workers first middle last a b left right (Ok turns) e l r j =
     shares_together S book v done todo workers first middle last a b (j.0).items (j.1).items turns.items e j.4
     (subst (λ (x : Result (Vec Turn Global) OutOfMemory). IfOk x (λ ts. HasShares S book done todo workers first middle (half_kept v) a ts.items)) j.2 l)
@@ -88,7 +88,7 @@ module _ (S : System) (v w : View) (book more news : List (ℕ × ℕ)) (done af
       ];
     }
 
-    pub first_carried : (x : View) (first : ℕ) → first ≡ length book → Extends book more → IsInside (known w) (known x) → IsCarried (take first more) (members after) (known x)
+    pub first_carried : (x : View) (first : ℕ) → first ≡ length book → Extends book more → IsInside (known w) (known x) → AreCarried (take first more) (members after) (known x)
     first_carried x first e kept inside a b location c h =
         let whole : take first more ≡ book = ap (λ (n : ℕ). take n more) e ∙ ap (take (length book)) kept.1 ∙ take-append_seam book kept.0 in
         let edge : Contains book (a, b) = subst (λ (xs : List (ℕ × ℕ)). Contains xs (a, b)) whole c in
@@ -100,7 +100,7 @@ module _ (S : System) (v w : View) (book more news : List (ℕ × ℕ)) (done af
     pub settled_again : (x y : View) (noted listed final : List ℕ) → IsInside (known w) (known x) → IsInside (known x) (known y) → IsSound y
         → ((row : ℕ) → (Contains noted row ↔ (Contains {X = ℕ} [] row ⊎ ((turn : Turn) × Contains turns turn × Contains turn.grown.items row))))
         → ((row location : ℕ) → Contains news (row, location) → Has (known x) row location) → IsNoted S w x noted listed
-        → IsCarried more (members after) (known y) → IsNoted S x y listed final → IsSettled S y more after final
+        → AreCarried more (members after) (known y) → IsNoted S x y listed final → IsSettled S y more after final
     settled_again x y noted listed final to_x to_y sound note added first_noted carried last_noted = record {
       ready = record {
         demanded = more_demanded y (λ r l h. to_y r l (to_x r l h));

@@ -8,11 +8,11 @@ use Rattle.std.proofs.lemmas.List.Elements.{Contains-get_or}
 use Rattle.std.proofs.lemmas.List.Quantifiers.{all_pairs_push}
 use Rattle.delta_prop.specs.declared.turn.Turn.{Turn}
 use Rattle.work_rounds.specs.Turns.{row_of, all_of}
-use Rattle.work_rounds.specs.Work.{AreDistinct}
+use Rattle.work_rounds.specs.Rounds.{AreRowsApart}
 use Rattle.work_rounds.proofs.Sums.{In, IsApart, in_append, apart_append}
 
 -- a number stands at one place only
-pub one_place : (xs : List ℕ) → AreDistinct xs → (i j x : ℕ) → slice_get xs i ≡ Some x → slice_get xs j ≡ Some x → i ≡ j
+pub one_place : (xs : List ℕ) → AreRowsApart xs → (i j x : ℕ) → slice_get xs i ≡ Some x → slice_get xs j ≡ Some x → i ≡ j
 one_place xs once i j x a b =
     let same : get_or xs i 0 ≡ get_or xs j 0 = get_or_from_slice_get xs i x 0 a ∙ sym (get_or_from_slice_get xs j x 0 b) in
     elim (cases_order i j) [
@@ -23,7 +23,7 @@ one_place xs once i j x a b =
       ]
     ]
 
-pub distinct_push : (xs : List ℕ) (x : ℕ) → AreDistinct xs → (Contains xs x → ⊥) → AreDistinct (xs ++ x ∷ [])
+pub distinct_push : (xs : List ℕ) (x : ℕ) → AreRowsApart xs → (Contains xs x → ⊥) → AreRowsApart (xs ++ x ∷ [])
 distinct_push xs x once none = all_pairs_push (λ (one other : ℕ). one ≢ other) xs x once (λ k d lt e. none (subst (Contains xs) e (Contains-get_or xs k d lt)))
 
 at_in : {A : Type 0} (xs : List A) (x : A) → In x xs → (k : ℕ) × (slice_get xs k ≡ Some x)
@@ -46,7 +46,7 @@ in_shares (s ∷ rest) x i = elim (in_append (map row_of s) (map row_of (all_of 
 ]
 
 -- where a round's rows stand once, its turns' rows do
-pub shares_apart : (todo : List ℕ) (workers first : ℕ) (shares : List (List Turn)) → AreDistinct todo
+pub shares_apart : (todo : List ℕ) (workers first : ℕ) (shares : List (List Turn)) → AreRowsApart todo
     → ((k : ℕ) (share : List Turn) → slice_get shares k ≡ Some share → (i : ℕ) → slice_get (map row_of share) i ≡ slice_get todo (first + k + i * workers))
     → length shares + first ≤ workers → IsApart (map row_of (all_of shares))
 shares_apart todo workers first [] once rows few = tt
@@ -65,14 +65,14 @@ shares_apart todo workers first (s ∷ rest) once rows few =
     let same = same_from_place p.0 first j (first + suc k) workers here other (one_place todo once (p.0 * workers + first) (j * workers + (first + suc k)) x (own p.0 x p.1) there) in
     absurd (let e = same.1 in omega arith)))
 
-pub distinct_reverse : (xs : List ℕ) → AreDistinct xs → AreDistinct (reverse xs)
+pub distinct_reverse : (xs : List ℕ) → AreRowsApart xs → AreRowsApart (reverse xs)
 distinct_reverse xs once i j d lt long e =
     let n : length (reverse xs) ≡ length xs = length-reverse xs in
     once (length xs - 1 - j) (length xs - 1 - i) d (omega arith) (omega arith) (sym (get_or-reverse xs j d (omega arith)) ∙ sym e ∙ get_or-reverse xs i d (omega arith))
 
 -- sorted numbers without repetition
-pub distinct_rising : (xs : List ℕ) → AllPairs (λ (x y : ℕ). x < y) xs → AreDistinct xs
+pub distinct_rising : (xs : List ℕ) → AllPairs (λ (x y : ℕ). x < y) xs → AreRowsApart xs
 distinct_rising xs rising i j d lt long e = let l = rising i j d lt long in absurd (omega arith)
 
-pub none_twice : AreDistinct []
+pub none_twice : AreRowsApart []
 none_twice i j d lt long = absurd (omega arith)

@@ -12,12 +12,13 @@ use Rattle.sol_model.specs.Systems.{IsRow, width_of}
 use Rattle.new_members.specs.News.{words_at}
 use Rattle.work_rounds.proofs.Serving.{turns_served}
 use Rattle.set_rows.specs.declared.view.View.{View}
-use Rattle.set_rows.specs.Views.{half_kept, half_given, met}
+use Rattle.set_rows.specs.Views.{half_kept, half_given, met, OnlyAdded}
+use Rattle.set_rows.proofs.Adding.{known_more}
 use Rattle.set_rows.proofs.Samples.{met_first, met_second}
 use Rattle.delta_prop.specs.declared.turn.Turn.{Turn}
-use Rattle.work_rounds.specs.Rounds.{IsPiece, HasServed}
+use Rattle.work_rounds.specs.Rounds.{AreRowsApart, HasServed, IsPiece}
 use Rattle.work_rounds.specs.Turns.{all_of, row_of, AreTurns, IsShare, HasShares}
-use Rattle.work_rounds.specs.Work.{spent, AreDistinct}
+use Rattle.work_rounds.specs.Balance.{spent}
 use Rattle.delta_prop.specs.Deltas.{gained}
 use Rattle.edge_book.specs.Leaving.{targets_of}
 use Rattle.std.proofs.lemmas.List.Sums.{sum_by-append, sum_by-cons}
@@ -91,6 +92,61 @@ module _ (S : System) (book : List (ℕ × ℕ)) (v : View) where
           let goal : a.ors + b.ors ≤ v.ors + spent (width_of S) book (words_at done) (ts ++ us) = omega arith in goal);
     }
 
+-- one seat's shares, one after the other
+module _ (S : System) (book : List (ℕ × ℕ)) (done : Rows) (todo : List ℕ) (workers : ℕ) (v u w : View) (before : OnlyAdded v u) (after : OnlyAdded u w) where
+  piece_before : (turn : Turn) → IsPiece S book v u turn → IsPiece S book v w turn
+  piece_before turn p = record { row = p.row; sized = p.sized; read = p.read; done = λ l h. known_more u w after turn.row l (p.done l h); targets = λ to l e h. known_more u w after to l (p.targets to l e h); within = p.within }
+
+  piece_behind : (turn : Turn) → IsPiece S book u w turn → IsPiece S book v w turn
+  piece_behind turn p = record { row = p.row; sized = p.sized; read = λ l h. p.read l (known_more v u before turn.row l h); done = p.done; targets = p.targets; within = p.within }
+
+  served_after : (ts us : List Turn) → HasServed S book v u ts → HasServed S book u w us → HasServed S book v w (ts ++ us)
+  served_after ts us left right = record {
+    pieces = λ turn c. elim (Contains-append_cases ts us turn c) [
+      | inl l ↦ piece_before turn (left.pieces turn l)
+      | inr r ↦ piece_behind turn (right.pieces turn r)
+    ];
+    others = λ row location has. elim (right.others row location has) [
+      | inr new ↦ inr (new.0, Contains-append_right ts us new.0 new.1, new.2)
+      | inl old ↦ elim (left.others row location old) [ inl older ↦ inl older | inr new ↦ inr (new.0, Contains-append_left ts us new.0 new.1, new.2) ]
+    ];
+  }
+
+  share_before : (worker : ℕ) (ts : List Turn) → IsShare S book done todo workers worker v u ts → IsShare S book done todo workers worker v w ts
+  share_before worker ts s = record { from = s.from; to = s.to; begun = s.begun; turns_are = s.turns_are; ended = λ row l h. known_more u w after row l (s.ended row l h); rows = s.rows }
+
+  share_behind : (worker : ℕ) (ts : List Turn) → IsShare S book done todo workers worker u w ts → IsShare S book done todo workers worker v w ts
+  share_behind worker ts s = record { from = s.from; to = s.to; begun = λ row l h. s.begun row l (known_more v u before row l h); turns_are = s.turns_are; ended = s.ended; rows = s.rows }
+
+  pub shares_after : (first middle last : ℕ) (ts us all : List Turn) → all ≡ ts ++ us
+      → HasShares S book done todo workers first middle v u ts → HasShares S book done todo workers middle last u w us → HasShares S book done todo workers first last v w all
+  shares_after first middle last ts us all is left right = record {
+    shares = left.shares ++ right.shares;
+    all = is ∙ ap (λ (xs : List Turn). xs ++ us) left.all ∙ ap (λ (xs : List Turn). all_of left.shares ++ xs) right.all ∙ sym (all_append left.shares right.shares);
+    count = (let l = left.count in let r = right.count in let n = length-append left.shares right.shares in omega arith);
+    each = λ k share at. elim (at_append left.shares right.shares k share at) [
+      | inl h ↦ share_before (first + k) share (left.each k share h.1)
+      | inr h ↦
+          let there = share_behind (middle + h.0) share (right.each h.0 share h.2) in
+          let same : middle + h.0 ≡ first + k = (let l = left.count in let n = h.1 in omega arith) in
+          subst (λ (n : ℕ). IsShare S book done todo workers n v w share) same there
+    ];
+    served = subst (HasServed S book v w) (sym is) (served_after ts us left.served right.served);
+    ors = subst (λ (xs : List Turn). w.ors ≤ v.ors + spent (width_of S) book (words_at done) xs) (sym is)
+        (let l = left.ors in let r = right.ors in let s = spent_append (width_of S) book (words_at done) ts us in omega arith);
+  }
+
+-- no worker's turns
+pub no_shares : (S : System) (book : List (ℕ × ℕ)) (done : Rows) (todo : List ℕ) (workers first : ℕ) (v : View) → HasShares S book done todo workers first first v v []
+no_shares S book done todo workers first v = record {
+  shares = [];
+  all = refl;
+  count = (omega arith);
+  each = λ k share at. absurd (none-some share at);
+  served = record { pieces = λ turn c. absurd (let l = c.1 in omega arith); others = λ row location has. inl has };
+  ors = omega arith;
+}
+
 -- one worker's turns
 pub one_share : (S : System) (book : List (ℕ × ℕ)) (done : Rows) (todo : List ℕ) (workers first last : ℕ) (v w : View) (ts : List Turn) → first + 1 ≡ last
     → IsShare S book done todo workers first v w ts → HasServed S book v w ts → w.ors ≤ v.ors + spent (width_of S) book (words_at done) ts → HasShares S book done todo workers first last v w ts
@@ -154,7 +210,7 @@ each_row S book done todo workers v w turns h some row c =
     (t.0, subst (λ (ts : List Turn). Contains ts t.0) (sym h.all) (in_all h.shares worker share.0 t.0 share.1 t.1), sym t.2)
 
 -- no row of the round has had two turns
-pub rows_apart : (S : System) (book : List (ℕ × ℕ)) (done : Rows) (todo : List ℕ) (workers : ℕ) (v w : View) (turns : List Turn) → AreDistinct todo → HasShares S book done todo workers 0 workers v w turns → IsApart (map row_of turns)
+pub rows_apart : (S : System) (book : List (ℕ × ℕ)) (done : Rows) (todo : List ℕ) (workers : ℕ) (v w : View) (turns : List Turn) → AreRowsApart todo → HasShares S book done todo workers 0 workers v w turns → IsApart (map row_of turns)
 rows_apart S book done todo workers v w turns once h = subst (λ (ts : List Turn). IsApart (map row_of ts)) (sym h.all)
     (shares_apart todo workers 0 h.shares once (λ k share at i. (h.each k share at).rows i) (let e = h.count in omega arith))
 
@@ -167,7 +223,7 @@ pub alone : (S : System) (book : List (ℕ × ℕ)) (done : Rows) (todo : List �
     → AreTurns (width_of S) book (words_at done) v ts w → ((i : ℕ) → slice_get (map row_of ts) i ≡ slice_get todo (first + i * workers)) → HasShares S book done todo workers first last v w ts
 alone S book done todo workers first last v w ts own e all turns rows =
     one_share S book done todo workers first last v w ts e
-    record { from = v; to = w; begun = refl; turns_are = turns; ended = λ row location h. h; rows = rows }
+    record { from = v; to = w; begun = λ row location h. h; turns_are = turns; ended = λ row location h. h; rows = rows }
     (turns_served S book (words_at done) ts v w own (λ turn c. let at = at_Contains ts turn c in
     All-at (IsRow S) todo (first + at.0 * workers) turn.row all (sym (rows at.0) ∙ slice_get-map row_of ts at.0 ∙ ap (option_map row_of) at.2)) turns)
     (turns_paid (width_of S) book (words_at done) ts v w turns)

@@ -22,7 +22,8 @@ use Rattle.delta_prop.proofs.Carries.{edge_more}
 use Rattle.new_members.specs.News.{Extends, words_at}
 use Rattle.work_rounds.specs.Rounds.{IsSettled, IsTakenIn}
 use Rattle.work_rounds.specs.Turns.{row_of}
-use Rattle.work_rounds.specs.Work.{asked_by, edge_work, fact_work, fresh_targets, is_target, paid_for, size, spent, IsBooked, IsWork, OneWork, WorkGrows}
+use Rattle.work_rounds.specs.Balance.{paid_for, spent, IsBooked}
+use Rattle.work_rounds.specs.Work.{asked_by, edge_work, fact_work, fresh_targets, is_target, size, IsWork, OneWork, WorkGrows}
 use Rattle.work_rounds.proofs.Asking.{facts_within}
 use Rattle.work_rounds.proofs.Costs.{paid_within}
 use Rattle.work_rounds.proofs.Counts.{count_more, one_or_none}

@@ -5,6 +5,8 @@ use Rattle.pta_base.specs.declared.effect.Effect.TheVariants.{GivesNew}
 use Rattle.sol_model.specs.declared.system.System.{System}
 use Rattle.sol_model.specs.declared.system.LocationFact.{LocationFact}
 use Rattle.sol_model.specs.declared.system.Function.{Function}
+use Rattle.sol_model.specs.declared.system.CallSite.{CallSite}
+use Rattle.sol_model.specs.Solutions.{IsLeast}
 use Rattle.sol_model.specs.declared.system.Constraint.TheVariants.{Address, Field, Call}
 use Rattle.sol_model.specs.Families.{Family}
 use Rattle.work_rounds.specs.Work.{IsWork}
@@ -15,19 +17,22 @@ object_of ty = record { collapsed = false; ty = ty; function = None }
 abbrev pub library : Function
 library = record { location = 3; signature = 0; parameters = []; result = []; library = Some 0; effects = GivesNew ∷ [] }
 
+abbrev pub the_call : CallSite
+the_call = record { caller = 0; callee = 6; signature = 0; direct = false; place = record { unit = 0; line = 1; column = 1 }; arguments = []; result = 7 ∷ []; fresh = (0, 4) ∷ [] }
+
 abbrev pub gift : System
 gift = record {
   rows = 8;
   locations = object_of 1 ∷ object_of 0 ∷ object_of 0 ∷ record { collapsed = false; ty = 0; function = Some 0 } ∷ object_of 0 ∷ [];
   types = record { nodes = 1; members = [] } ∷ record { nodes = 2; members = 1 ∷ [] } ∷ [];
   constraints = Address 2 0 ∷ Field 2 5 1 0 ∷ Address 6 3 ∷ Call 0 ∷ [];
-  calls = record { caller = 0; callee = 6; signature = 0; direct = false; place = record { unit = 0; line = 1; column = 1 }; arguments = []; result = 7 ∷ []; fresh = (0, 4) ∷ [] } ∷ [];
+  calls = the_call ∷ [];
   functions = library ∷ [];
 }
 
 abbrev pub gift_sets : Family
 gift_sets row location = ((row == 2) && (location == 0)) || ((row == 5) && (location == 1)) || ((row == 6) && (location == 3)) || ((row == 7) && (location == 4))
 
--- two addresses, one member and one object of a call
+-- these sets are its least solution; its work is two addresses, one member and one object of a call
 abbrev pub GiftWork : Type 0
-GiftWork = IsWork gift gift_sets 4
+GiftWork = IsLeast gift gift_sets × IsWork gift gift_sets 4

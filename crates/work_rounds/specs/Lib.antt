@@ -1,3 +1,4 @@
+pub mod Balance
 pub mod Gift
 pub mod Ring
 pub mod Rounds

@@ -1,5 +1,5 @@
 -- What holds before and after a round.
-use Rattle.std.specs.Prelude.{◌≡◌, ◌⊎◌, ◌↔◌, ℕ, ◌+◌, ◌<◌, ◌≤◌, true, List, length, map, slice_index, Contains}
+use Rattle.std.specs.Prelude.{◌≡◌, ◌≢◌, ◌⊎◌, ◌↔◌, ℕ, ◌+◌, ◌<◌, ◌≤◌, true, List, length, map, slice_index, AllPairs, Contains}
 use Rattle.sol_model.specs.declared.system.System.{System}
 use Rattle.sol_model.specs.declared.rows.Rows.{Rows}
 use Rattle.sol_model.specs.Families.{Family, Has, IsInside, members}
@@ -11,18 +11,21 @@ use Rattle.set_rows.specs.Views.{known, SamePart}
 use Rattle.delta_prop.specs.declared.turn.Turn.{Turn}
 use Rattle.delta_prop.specs.Deltas.{AllDemanded, IsSound}
 use Rattle.new_members.specs.News.{IsIn, IsFact, Renews}
-use Rattle.work_rounds.specs.Work.{AreDistinct}
+
+-- no row stands twice
+abbrev pub AreRowsApart : List ℕ → Type 0
+AreRowsApart rows = AllPairs (λ one other. one ≢ other) rows
 
 -- what one row has in a family was seen in the other row of each edge
-abbrev pub IsCarried : List (ℕ × ℕ) → Family → Family → Type 0
-IsCarried book F G = (a b location : ℕ) → Contains book (a, b) → Has F a location → Has G b location
+abbrev pub AreCarried : List (ℕ × ℕ) → Family → Family → Type 0
+AreCarried book F G = (a b location : ℕ) → Contains book (a, b) → Has F a location → Has G b location
 
 -- each edge of the book is demanded, and what is done of its source was seen of its target
 pub record IsReady (S : System) (v : View) (book : List (ℕ × ℕ)) (done : Rows) : Type 0 where
   pub demanded : AllDemanded S (known v) book
   pub fits : Fits S done
   pub own : IsInside (members done) (known v)
-  pub carried : IsCarried book (members done) (known v)
+  pub carried : AreCarried book (members done) (known v)
 
 -- the seat has worked, alone or with seats split from it that have all been joined again
 pub record HasWorked (v w : View) : Type 0 where
@@ -103,4 +106,4 @@ pub record IsWorked (S : System) (v w : View) (book : List (ℕ × ℕ)) (done :
   pub worked : HasWorked v w
   pub served : HasServed S book v w turns
   pub each : (row : ℕ) → Contains todo row → (turn : Turn) × Contains turns turn × (turn.row ≡ row)
-  pub once : AreDistinct (map (λ turn. turn.row) turns)
+  pub once : AreRowsApart (map (λ turn. turn.row) turns)

@@ -12,7 +12,7 @@ use Rattle.delta_prop.specs.declared.turn.Turn.{Turn}
 use Rattle.delta_prop.specs.Turns.{IsTurn}
 use Rattle.new_members.specs.News.{words_at}
 use Rattle.work_rounds.specs.Rounds.{HasServed}
-use Rattle.work_rounds.specs.Work.{spent}
+use Rattle.work_rounds.specs.Balance.{spent}
 
 abbrev pub row_of : Turn → ℕ
 row_of turn = turn.row
@@ -23,11 +23,11 @@ AreTurns width book done v [] w = w ≡ v
 AreTurns width book done v (turn ∷ turns) w = (u : View) × IsTurn width book turn.row (done turn.row) v u turn × OnlyAdded v u × AreTurns width book done u turns w
 
 -- a worker's turns are those of its share of the rows: of number `worker`, `worker + workers` and so on; its seat began
--- with what had been seen before the round, and what it has seen is seen after it
+-- with all that had been seen before the round, and what it has seen is seen after it
 pub record IsShare (S : System) (book : List (ℕ × ℕ)) (done : Rows) (todo : List ℕ) (workers worker : ℕ) (v w : View) (turns : List Turn) : Type 0 where
   pub from : View
   pub to : View
-  pub begun : from.seen ≡ v.seen
+  pub begun : IsInside (known v) (known from)
   pub turns_are : AreTurns (width_of S) book (words_at done) from turns to
   pub ended : IsInside (known to) (known w)
   pub rows : (i : ℕ) → slice_get (map row_of turns) i ≡ slice_get todo (worker + i * workers)
@@ -48,5 +48,5 @@ pub record HasShares (S : System) (book : List (ℕ × ℕ)) (done : Rows) (todo
   pub ors : w.ors ≤ v.ors + spent (width_of S) book (words_at done) turns
 
 -- both were given, and this is the one after the other
-abbrev pub AreJoined : Result (Vec Turn Global) OutOfMemory → Result (Vec Turn Global) OutOfMemory → Vec Turn Global → Type 0
-AreJoined first second turns = (one : Vec Turn Global) × (other : Vec Turn Global) × (first ≡ Ok one) × (second ≡ Ok other) × (turns.items ≡ one.items ++ other.items)
+abbrev pub AreTogether : Result (Vec Turn Global) OutOfMemory → Result (Vec Turn Global) OutOfMemory → Vec Turn Global → Type 0
+AreTogether first second turns = (one : Vec Turn Global) × (other : Vec Turn Global) × (first ≡ Ok one) × (second ≡ Ok other) × (turns.items ≡ one.items ++ other.items)

@@ -1,21 +1,16 @@
 -- Work: how many steps a family asks for where each of its facts passes each edge once, and each fact that a rule
 -- demands outright is added once.
-use Rattle.std.specs.Prelude.{◌≡◌, ◌≢◌, ℕ, zero, suc, ◌+◌, ◌*◌, ◌≤◌, ◌==◌, ◌&&◌, ◌↔◌, Bool, false, cond, List, length, AllPairs, Contains, sum_by, count_by, slice_get, is_some}
+use Rattle.std.specs.Prelude.{◌≡◌, ℕ, zero, suc, ◌+◌, ◌≤◌, ◌==◌, ◌&&◌, ◌↔◌, Bool, false, cond, List, Contains, sum_by, count_by, slice_get, is_some}
 use Rattle.std.specs.Option.{option_map_or}
 use Rattle.sol_model.specs.declared.system.System.{System}
 use Rattle.sol_model.specs.declared.system.CallSite.{CallSite}
 use Rattle.sol_model.specs.declared.system.Constraint.{Constraint}
 use Rattle.sol_model.specs.declared.system.Constraint.TheVariants.{Address, Field}
-use Rattle.sol_model.specs.declared.rows.Rows.{Rows}
-use Rattle.sol_model.specs.Families.{Family, IsInside, members}
+use Rattle.sol_model.specs.Families.{Family, IsInside}
 use Rattle.sol_model.specs.Places.{field_of}
 use Rattle.sol_model.specs.Solutions.{IsEdge}
 use Rattle.sol_model.specs.Systems.{location_count}
-use Rattle.delta_prop.specs.declared.turn.Turn.{Turn}
-use Rattle.delta_prop.specs.Deltas.{gained}
 use Rattle.edge_book.specs.Edges.{AreApart}
-use Rattle.edge_book.specs.Leaving.{targets_of}
-use Rattle.new_members.specs.News.{IsFact}
 
 -- how many of the numbers below n pass a test
 abbrev pub count_below : ℕ → (ℕ → Bool) → ℕ
@@ -61,22 +56,3 @@ WorkGrows = (S : System) (F G : Family) (n m : ℕ) → IsInside F G → IsWork 
 
 abbrev pub OneWork : Type 0
 OneWork = (S : System) (F : Family) (n m : ℕ) → IsWork S F n → IsWork S F m → n ≡ m
-
--- the work that is paid for between two rounds: what is done has passed each edge of the book, and each fact of the
--- other book was added
-abbrev pub paid_for : System → Rows → List (ℕ × ℕ) → List (ℕ × ℕ) → ℕ
-paid_for S done book facts = edge_work S (members done) book + length facts
-
--- what turns pay: their new members, for each edge of their rows
-abbrev pub spent : ℕ → List (ℕ × ℕ) → (ℕ → List ℕ) → List Turn → ℕ
-spent width book done turns = sum_by (λ turn. gained width (done turn.row) turn.done.items * length (targets_of turn.row book)) turns
-
--- no row stands twice
-abbrev pub AreDistinct : List ℕ → Type 0
-AreDistinct rows = AllPairs (λ one other. one ≢ other) rows
-
--- no edge and no fact stands twice in its book, and each fact is demanded of what is done
-pub record IsBooked (S : System) (done : Rows) (book facts : List (ℕ × ℕ)) : Type 0 where
-  pub edges : AreApart book
-  pub facts_once : AreApart facts
-  pub demanded : (row location : ℕ) → Contains facts (row, location) → IsFact S (members done) row location

@@ -1,6 +1,6 @@
 //! In which order a round's rows are dealt out.
 ghost use Rattle.std.specs.Prelude.{◌≡◌, ℕ, ◌+◌, ◌*◌, ◌^◌, ◌<◌, ◌≤◌, ◌⊎◌, ◌↔◌, OnOk, IfOk, Some, Contains, length, slice_get};
-ghost use Rattle.work_rounds.specs.Work.{AreDistinct};
+ghost use Rattle.work_rounds.specs.Rounds.{AreRowsApart};
 
 use pta_base::OutOfMemory;
 use std::alloc::Global;
@@ -15,7 +15,7 @@ fn deal(
 ) -> Result<(), OutOfMemory>
     requires { (block ≤ 2 ^ 32) × (at ≤ 2 ^ 32) × (workers ≤ 64) }
     ensures rows { OnOk result ((row : ℕ) → (Contains out.new.items row ↔ (Contains out.old.items row ⊎ ((k : ℕ) × (k < workers) × (slice_get todo.now (k * block + at) ≡ Some row))))) }
-    ensures once { at < block → AreDistinct todo.now → AreDistinct out.old.items → ((k row : ℕ) → slice_get todo.now (k * block + at) ≡ Some row → Contains out.old.items row → ⊥) → OnOk result (AreDistinct out.new.items) }
+    ensures once { at < block → AreRowsApart todo.now → AreRowsApart out.old.items → ((k row : ℕ) → slice_get todo.now (k * block + at) ≡ Some row → Contains out.old.items row → ⊥) → OnOk result (AreRowsApart out.new.items) }
 {
     for k in 0..workers as usize {
         let i = k * block + at;
@@ -32,7 +32,7 @@ pub(crate) fn dealt(alloc: Global, todo: &[u32], workers: u32) -> Result<Vec<u32
     requires few { length todo.now < 2 ^ 32 }
     requires workers { (0 < workers) × (workers ≤ 64) }
     ensures rows { IfOk result (λ out. (row : ℕ) → (Contains out.items row ↔ Contains todo.now row)) }
-    ensures once { AreDistinct todo.now → IfOk result (λ out. AreDistinct out.items) }
+    ensures once { AreRowsApart todo.now → IfOk result (λ out. AreRowsApart out.items) }
 {
     let block = todo.len() / workers as usize + 1;
     let mut out = Vec::new(alloc);

@@ -1,6 +1,6 @@
 //! The turns of two groups of workers.
 ghost use Rattle.std.specs.Prelude.{IfOk};
-ghost use Rattle.work_rounds.specs.Turns.{AreJoined};
+ghost use Rattle.work_rounds.specs.Turns.{AreTogether};
 
 use delta_prop::Turn;
 use pta_base::OutOfMemory;
@@ -10,7 +10,7 @@ pub(crate) fn together(
     first: Result<Vec<Turn>, OutOfMemory>,
     second: Result<Vec<Turn>, OutOfMemory>,
 ) -> Result<Vec<Turn>, OutOfMemory>
-    ensures { IfOk result (AreJoined first second) }
+    ensures { IfOk result (AreTogether first second) }
 {
     let mut turns = first?;
     let mut more = second?;

@@ -9,48 +9,62 @@ ghost use Rattle.work_rounds.specs.Rounds.{IsReady};
 ghost use Rattle.work_rounds.specs.Turns.{AreTurns, row_of};
 
 use delta_prop::{Turn, propagate};
-use edge_book::EdgeBook;
-use new_members::row_of;
+use edge_book::PairBook;
+use new_members::row_words;
 use pta_base::{Gate, OutOfMemory};
 use set_rows::{RowSeat, RowTable};
 use sol_model::Rows;
 use std::alloc::Global;
 
+/// What all workers of a round have: the table, what is done of each row, the edges, the rows to do, the number of
+/// workers, and the gate.
+#[derive(Clone, Copy)]
+pub(crate) struct Round<'a, G> {
+    pub(crate) table: &'a RowTable,
+    pub(crate) done: &'a Rows,
+    pub(crate) book: &'a PairBook,
+    pub(crate) todo: &'a [u32],
+    pub(crate) workers: u32,
+    pub(crate) gate: &'a G,
+}
+
 /// A worker's pieces: piece i of a round belongs to worker i modulo the number of workers. The worker passes the gate
 /// before each, with its count of pieces from 0.
 pub(crate) fn serve<G: Gate>(
     alloc: Global,
-    table: &RowTable,
+    round: &Round<G>,
     seat: &mut RowSeat,
-    done: &Rows,
-    book: &EdgeBook,
-    todo: &[u32],
     worker: u32,
-    workers: u32,
-    gate: &G,
 ) -> Result<Vec<Turn>, OutOfMemory>
-    requires own { IsOf table.now seat.old }
-    requires valid { IsValid (system_of table.now) }
-    requires ready { IsReady (system_of table.now) (view seat.old) book.now done.now }
-    requires todo { All (IsRow (system_of table.now)) todo.now }
-    requires few { length todo.now < 2 ^ 32 }
-    requires workers { (worker < workers) × (workers ≤ 64) }
-    ensures own { IsOf table.now seat.new }
+    requires own { IsOf round.now.table.now seat.old }
+    requires valid { IsValid (system_of round.now.table.now) }
+    requires ready { IsReady (system_of round.now.table.now) (view seat.old) round.now.book.now round.now.done.now }
+    requires todo { All (IsRow (system_of round.now.table.now)) round.now.todo.now }
+    requires few { length round.now.todo.now < 2 ^ 32 }
+    requires workers { (worker < round.now.workers) × (round.now.workers ≤ 64) }
+    ensures own { IsOf round.now.table.now seat.new }
     ensures view { OnlyAdded (view seat.old) (view seat.new) }
     ensures sound { IsSound (view seat.old) → IsSound (view seat.new) }
-    ensures turns { IfOk result (λ turns. AreTurns (width_of (system_of table.now)) book.now (words_at done.now) (view seat.old) turns.items (view seat.new)) }
-    ensures rows { IfOk result (λ turns. (i : ℕ) → slice_get (map row_of turns.items) i ≡ slice_get todo.now (worker + i * workers)) }
+    ensures turns { IfOk result (λ turns. AreTurns (width_of (system_of round.now.table.now)) round.now.book.now (words_at round.now.done.now) (view seat.old) turns.items (view seat.new)) }
+    ensures rows { IfOk result (λ turns. (i : ℕ) → slice_get (map row_of turns.items) i ≡ slice_get round.now.todo.now (worker + i * round.now.workers)) }
 {
     let mut turns = Vec::new(alloc);
     let mut turn = 0;
     let mut piece = worker as usize;
-    while piece < todo.len() {
-        gate.pass(worker, turn);
+    while piece < round.todo.len() {
+        round.gate.pass(worker, turn);
         turns.reserve(1)?;
-        let row = todo[piece];
-        turns.push_reserved(propagate(alloc, table, seat, row, row_of(done, row), book)?);
+        let row = round.todo[piece];
+        turns.push_reserved(propagate(
+            alloc,
+            round.table,
+            seat,
+            row,
+            row_words(round.done, row),
+            round.book,
+        )?);
         turn += 1;
-        piece += workers as usize;
+        piece += round.workers as usize;
     }
     Ok(turns)
 }

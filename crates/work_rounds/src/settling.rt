@@ -10,25 +10,44 @@ ghost use Rattle.set_rows.specs.Calls.{system_of, view, IsOf};
 ghost use Rattle.delta_prop.specs.Deltas.{AllDemanded, IsSound};
 ghost use Rattle.edge_book.specs.Edges.{AreApart, Gains};
 ghost use Rattle.new_members.specs.News.{Extends, IsFact, IsReader, words_at};
-ghost use Rattle.work_rounds.specs.Rounds.{IsCarried, IsNoted, IsSettled, IsTakenIn, IsTurnOf, IsWorked};
-ghost use Rattle.work_rounds.specs.Work.{IsBooked, edge_work, paid_for, spent};
+ghost use Rattle.work_rounds.specs.Rounds.{AreCarried, IsNoted, IsSettled, IsTakenIn, IsTurnOf, IsWorked};
+ghost use Rattle.work_rounds.specs.Balance.{IsBooked, paid_for, spent};
+ghost use Rattle.work_rounds.specs.Work.{edge_work};
 
 use delta_prop::{Turn, carry};
-use edge_book::EdgeBook;
-use new_members::{renew, row_of, start};
+use edge_book::{PairBook, PairSet};
+use new_members::{renew, row_words, start};
 use pta_base::OutOfMemory;
 use set_rows::{RowSeat, RowTable};
 use sol_model::{Rows, System};
 use std::alloc::Global;
+
+/// What stays as it is while a system is solved: the system, its table, which constraints read which rows, and a row's
+/// words without a location.
+#[derive(Clone, Copy)]
+pub(crate) struct Ground<'a> {
+    pub(crate) system: &'a System,
+    pub(crate) table: &'a RowTable,
+    pub(crate) readers: &'a PairBook,
+    pub(crate) nothing: &'a [u64],
+}
+
+/// How far solving has come: what is done of each row, the edges, and the facts that were added.
+#[derive(Drop)]
+pub(crate) struct Progress {
+    pub(crate) done: Rows,
+    pub(crate) book: PairBook,
+    pub(crate) facts: PairSet,
+}
 
 /// What turns have done: it is done now of their rows, and the edges and facts that rules demand for new members are
 /// taken in.
 fn take_in(
     alloc: Global,
     system: &System,
-    readers: &EdgeBook,
+    readers: &PairBook,
     done: &mut Rows,
-    book: &mut EdgeBook,
+    book: &mut PairBook,
     facts: &mut Vec<(u32, u32)>,
     turns: &[Turn],
 ) -> Result<(), OutOfMemory>
@@ -90,13 +109,13 @@ fn add_fact(table: &RowTable, seat: &mut RowSeat, width: usize, row: u32, locati
     table.add(seat, word, 1 << (location % 64));
 }
 
-/// Adds a fact that a rule demands to its row, and notes this as grown, where the fact is not yet in the book of facts
+/// Adds a fact that a rule demands to its row, and notes this as grown, where the fact is not yet in the set of facts
 /// that were added.
 fn add_once(
     table: &RowTable,
     seat: &mut RowSeat,
     width: usize,
-    facts: &mut EdgeBook,
+    facts: &mut PairSet,
     row: u32,
     location: u32,
     todo: &mut Vec<u32>,
@@ -125,12 +144,12 @@ fn add_once(
 }
 
 /// Adds facts that rules demand to their rows, each that was not added before, and notes these rows as grown. It takes
-/// no more steps than the book of facts has grown.
+/// no more steps than the set of facts has grown.
 fn add_facts(
     table: &RowTable,
     seat: &mut RowSeat,
     width: usize,
-    facts: &mut EdgeBook,
+    facts: &mut PairSet,
     demanded: &[(u32, u32)],
     todo: &mut Vec<u32>,
 ) -> Result<(), OutOfMemory>
@@ -160,7 +179,7 @@ fn carry_new(
     table: &RowTable,
     seat: &mut RowSeat,
     done: &Rows,
-    book: &EdgeBook,
+    book: &PairBook,
     first: usize,
     nothing: &[u64],
     todo: &mut Vec<u32>,
@@ -170,12 +189,12 @@ fn carry_new(
     requires fits { Fits (system_of table.now) done.now }
     requires inside { IsInside (members done.now) (known (view seat.old)) }
     requires demanded { AllDemanded (system_of table.now) (known (view seat.old)) book.now }
-    requires carried { IsCarried (take first book.now) (members done.now) (known (view seat.old)) }
+    requires carried { AreCarried (take first book.now) (members done.now) (known (view seat.old)) }
     requires nothing { nothing.now ≡ replicate (width_of (system_of table.now)) 0 }
     ensures own { IsOf table.now seat.new }
     ensures view { OnlyAdded (view seat.old) (view seat.new) }
     ensures sound { IsSound (view seat.old) → IsSound (view seat.new) }
-    ensures carried { OnOk result (IsCarried book.now (members done.now) (known (view seat.new))) }
+    ensures carried { OnOk result (AreCarried book.now (members done.now) (known (view seat.new))) }
     ensures once { AreApart book.now }
     ensures ors { OnOk result ((view seat.new).ors + edge_work (system_of table.now) (members done.now) (take first book.now) ≤ (view seat.old).ors + edge_work (system_of table.now) (members done.now) book.now) }
     ensures todo { OnOk result (IsNoted (system_of table.now) (view seat.old) (view seat.new) todo.old.items todo.new.items) }
@@ -183,7 +202,7 @@ fn carry_new(
     for i in first..book.len() {
         if let Some((from, to)) = book.get(i) {
             todo.reserve(1)?;
-            if carry(table, seat, from, to, nothing, row_of(done, from)) {
+            if carry(table, seat, from, to, nothing, row_words(done, from)) {
                 todo.push_reserved(to);
             }
         }
@@ -195,38 +214,62 @@ fn carry_new(
 /// turns and this call take are paid for by what is done of the edges' sources, and by facts that are new.
 pub(crate) fn settle(
     alloc: Global,
-    system: &System,
-    table: &RowTable,
+    ground: &Ground,
     seat: &mut RowSeat,
-    readers: &EdgeBook,
-    done: &mut Rows,
-    book: &mut EdgeBook,
-    facts: &mut EdgeBook,
+    progress: &mut Progress,
     turns: &[Turn],
-    nothing: &[u64],
 ) -> Result<Vec<u32>, OutOfMemory>
-    requires own { IsOf table.now seat.old }
-    requires valid { IsValid system.now }
-    requires system { system_of table.now ≡ system.now }
-    requires readers { (row number : ℕ) → (Contains readers.now (row, number) ↔ IsReader system.now row number) }
-    requires nothing { nothing.now ≡ replicate (width_of system.now) 0 }
-    requires worked { (before : View) × (todo : List ℕ) × IsWorked system.now before (view seat.old) book.old done.old todo turns.now }
-    requires booked { IsBooked system.now done.old book.old facts.old }
-    ensures own { IsOf table.now seat.new }
+    requires own { IsOf ground.now.table.now seat.old }
+    requires valid { IsValid ground.now.system.now }
+    requires system { system_of ground.now.table.now ≡ ground.now.system.now }
+    requires readers { (row number : ℕ) → (Contains ground.now.readers.now (row, number) ↔ IsReader ground.now.system.now row number) }
+    requires nothing { ground.now.nothing.now ≡ replicate (width_of ground.now.system.now) 0 }
+    requires worked { (before : View) × (todo : List ℕ) × IsWorked ground.now.system.now before (view seat.old) progress.old.book progress.old.done todo turns.now }
+    requires booked { IsBooked ground.now.system.now progress.old.done progress.old.book progress.old.facts }
+    ensures own { IsOf ground.now.table.now seat.new }
     ensures view { OnlyAdded (view seat.old) (view seat.new) }
     ensures sound { IsSound (view seat.old) → IsSound (view seat.new) }
-    ensures settled { IfOk result (λ todo. IsSettled system.now (view seat.new) book.new done.new todo.items) }
-    ensures booked { OnOk result (IsBooked system.now done.new book.new facts.new) }
-    ensures paid { OnOk result ((view seat.new).ors + (spent (width_of system.now) book.old (words_at done.old) turns.now + paid_for system.now done.old book.old facts.old) ≤ (view seat.old).ors + paid_for system.now done.new book.new facts.new) }
+    ensures settled { IfOk result (λ todo. IsSettled ground.now.system.now (view seat.new) progress.new.book progress.new.done todo.items) }
+    ensures booked { OnOk result (IsBooked ground.now.system.now progress.new.done progress.new.book progress.new.facts) }
+    ensures paid { OnOk result ((view seat.new).ors + (spent (width_of ground.now.system.now) progress.old.book (words_at progress.old.done) turns.now + paid_for ground.now.system.now progress.old.done progress.old.book progress.old.facts) ≤ (view seat.old).ors + paid_for ground.now.system.now progress.new.done progress.new.book progress.new.facts) }
 {
-    let first = book.len();
+    let Ground {
+        system,
+        table,
+        readers,
+        nothing,
+    } = *ground;
+    let first = progress.book.len();
     let mut demanded = Vec::new(alloc);
-    take_in(alloc, system, readers, done, book, &mut demanded, turns)?;
+    take_in(
+        alloc,
+        system,
+        readers,
+        &mut progress.done,
+        &mut progress.book,
+        &mut demanded,
+        turns,
+    )?;
     let mut todo = Vec::new(alloc);
     note_grown(&mut todo, turns)?;
     let width = nothing.len();
-    add_facts(table, seat, width, facts, demanded.as_slice(), &mut todo)?;
-    carry_new(table, seat, done, book, first, nothing, &mut todo)?;
+    add_facts(
+        table,
+        seat,
+        width,
+        &mut progress.facts,
+        demanded.as_slice(),
+        &mut todo,
+    )?;
+    carry_new(
+        table,
+        seat,
+        &progress.done,
+        &progress.book,
+        first,
+        nothing,
+        &mut todo,
+    )?;
     Ok(todo)
 }
 
@@ -237,8 +280,8 @@ pub(crate) fn begin(
     table: &RowTable,
     seat: &mut RowSeat,
     width: usize,
-    book: &mut EdgeBook,
-    facts: &mut EdgeBook,
+    book: &mut PairBook,
+    facts: &mut PairSet,
 ) -> Result<Vec<u32>, OutOfMemory>
     requires own { IsOf table.now seat.old }
     requires valid { IsValid system.now }

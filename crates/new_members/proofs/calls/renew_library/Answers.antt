@@ -10,7 +10,7 @@ use Rattle.new_members.proofs.Answering.{on_ok, one_function}
 use Rattle.new_members.proofs.calls.renew_library.Goals as goal
 
 pub returns-in_default : goal.returns-in_default
-returns-in_default c = gains_none c.args.pairs.now.items (NewLibraryEdge c.args.system.now (members c.args.rows.now) c.args.call.now c.args.row c.args.new.now c.args.location)
+returns-in_default c = gains_none c.args.pairs.now.items (NewLibraryEdge c.args.system.now (members c.args.rows.now) c.args.call.now c.args.news.now.row c.args.news.now.new.now c.args.location)
     (λ a b d. none-some d.0 (sym c.in_default.is ∙ (c.library_at.ensures.value d.0).0 d.1))
 
 pub function_at-function-requires-clause-known : goal.function_at-function-requires-clause-known
@@ -25,8 +25,8 @@ returns c =
     let function : Function = c.function_at-function.result.now in
     let old = c.args.pairs.now.items in
     let new = c.renew_edges.new.pairs.items in
-    let E = NewLibraryEdge S G call c.args.row c.args.new.now c.args.location in
-    let T : ℕ → Function → ℕ → ℕ → Type 0 = λ n f a b. (effect : Effect) × Contains f.effects effect × NewEdge S G call n c.args.row c.args.new.now effect a b in
+    let E = NewLibraryEdge S G call c.args.news.now.row c.args.news.now.new.now c.args.location in
+    let T : ℕ → Function → ℕ → ℕ → Type 0 = λ n f a b. (effect : Effect) × Contains f.effects effect × NewEdge S G call n c.args.news.now.row c.args.news.now.new.now effect a b in
     on_ok c.renew_edges.result (Gains old new (T number function)) (Gains old new E)
     (gains_same old new (T number function) E
     (λ a b h. (number, (c.library_at.ensures.value number).1 c.in-Some.is, (function, c.function_at-function.ensures.value, h)))

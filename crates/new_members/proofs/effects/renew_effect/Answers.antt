@@ -9,7 +9,7 @@ pub returns-in_ok-put_copies-in-Copies-2 : goal.returns-in_ok-put_copies-in-Copi
 returns-in_ok-put_copies-in-Copies-2 c =
     let call = c.args.call.now in
     let S = c.args.system.now in
-    let E : Effect → ℕ → ℕ → Type 0 = NewEdge S (members c.args.rows.now) call c.args.number c.args.row c.args.new.now in
+    let E : Effect → ℕ → ℕ → Type 0 = NewEdge S (members c.args.rows.now) call c.args.number c.args.news.now.row c.args.news.now.new.now in
     let old = c.args.pairs.now.items in
     let mid = c.put_copies.new.pairs.items in
     let new = c.put_copies-in-Copies.new.pairs.items in
@@ -47,7 +47,7 @@ returns-in_ok-put_copies-in-Copies-2 c =
 pub returns-in_ok-put_stores-in-StoresInto : goal.returns-in_ok-put_stores-in-StoresInto
 returns-in_ok-put_stores-in-StoresInto c =
     let call = c.args.call.now in
-    let E : Effect → ℕ → ℕ → Type 0 = NewEdge c.args.system.now (members c.args.rows.now) call c.args.number c.args.row c.args.new.now in
+    let E : Effect → ℕ → ℕ → Type 0 = NewEdge c.args.system.now (members c.args.rows.now) call c.args.number c.args.news.now.row c.args.news.now.new.now in
     let tos = c.news_of.result.now in
     gains_same c.args.pairs.now.items c.put_stores.new.pairs.items (λ a b. Contains tos b × (c.argument_row-from.result ≡ Some a)) (E c.args.effect)
     (λ a b h. subst (λ (e : Effect). E e a b) (sym c.in-StoresInto.is)
@@ -60,7 +60,7 @@ pub returns-in_ok-put_backs-in-CallsBack : goal.returns-in_ok-put_backs-in-Calls
 returns-in_ok-put_backs-in-CallsBack c =
     let call = c.args.call.now in
     let S = c.args.system.now in
-    let E : Effect → ℕ → ℕ → Type 0 = NewEdge S (members c.args.rows.now) call c.args.number c.args.row c.args.new.now in
+    let E : Effect → ℕ → ℕ → Type 0 = NewEdge S (members c.args.rows.now) call c.args.number c.args.news.now.row c.args.news.now.new.now in
     let backs = c.news_of-backs.result.now in
     gains_same c.args.pairs.now.items c.put_backs.new.pairs.items (λ a b. (location : ℕ) × Contains backs location × BackEdge S call c.in-CallsBack.passed location a b) (E c.args.effect)
     (λ a b h. subst (λ (e : Effect). E e a b) (sym c.in-CallsBack.is)

@@ -11,7 +11,7 @@ pub returns : goal.returns
 returns c =
     let S = c.args.system.now in
     let G = members c.args.rows.now in
-    let E = NewContentsEdge S G c.args.to c.args.from c.args.row c.args.new.now in
+    let E = NewContentsEdge S G c.args.to c.args.from c.args.news.now.row c.args.news.now.new.now in
     let old = c.args.book.now in
     let new = c.add_all.new.book in
     let none = c.new-pairs.result.items in
@@ -30,13 +30,13 @@ returns c =
       | inr some ↦ elim some [
         | inl p ↦ inl (let n = (c.news_of.ensures.has p.0).0 p.1 in (
           p.0,
-          (same_Some c.args.to c.args.row n.0, n.1),
+          (same_Some c.args.to c.args.news.now.row n.0, n.1),
           (p.2.0, (c.in_ok-froms.ensures.has p.2.0).0 (subst (λ (xs : List ℕ). Contains xs p.2.0) c.as_slice.ensures.value p.2.1), p.2.2),
         ))
         | inr p ↦ inr (let n = (c.news_of-2.ensures.has p.2.0).0 p.2.1 in (
           p.0,
           (c.in_ok-tos.ensures.has p.0).0 (subst (λ (xs : List ℕ). Contains xs p.0) c.as_slice-2.ensures.value p.1),
-          (p.2.0, (same_Some c.args.from c.args.row n.0, n.1), p.2.2),
+          (p.2.0, (same_Some c.args.from c.args.news.now.row n.0, n.1), p.2.2),
         ))
       ]
     ])

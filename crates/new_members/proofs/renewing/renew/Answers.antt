@@ -24,10 +24,10 @@ renew_readers-requires-clause-new c =
 
 pub returns-clause-book : goal.returns-clause-book
 returns-clause-book c = c.renew_readers.ensures.book (members c.args.rows.now)
-    (grown_by (members c.args.rows.now) (members c.take_row.new.rows) c.args.row c.args.words.now c.row_of.result.now c.as_slice.result.now (λ r l. (c.take_row.ensures.has r l).0) (λ l. (c.row_of.ensures.has l).1)
+    (grown_by (members c.args.rows.now) (members c.take_row.new.rows) c.args.row c.args.words.now c.row_words.result.now c.as_slice.result.now (λ r l. (c.take_row.ensures.has r l).0) (λ l. (c.row_words.ensures.has l).1)
     (λ l h. subst (λ (xs : List ℕ). Contains xs l) (sym c.as_slice.ensures.value) ((c.in_ok-new.ensures l).1 h)))
 
 pub returns-clause-facts : goal.returns-clause-facts
 returns-clause-facts c = c.renew_readers.ensures.facts (members c.args.rows.now)
-    (grown_by (members c.args.rows.now) (members c.take_row.new.rows) c.args.row c.args.words.now c.row_of.result.now c.as_slice.result.now (λ r l. (c.take_row.ensures.has r l).0) (λ l. (c.row_of.ensures.has l).1)
+    (grown_by (members c.args.rows.now) (members c.take_row.new.rows) c.args.row c.args.words.now c.row_words.result.now c.as_slice.result.now (λ r l. (c.take_row.ensures.has r l).0) (λ l. (c.row_words.ensures.has l).1)
     (λ l h. subst (λ (xs : List ℕ). Contains xs l) (sym c.as_slice.ensures.value) ((c.in_ok-new.ensures l).1 h)))

@@ -14,8 +14,8 @@ pub returns-in_ok-renew_load-in-Load-clause-book : goal.returns-in_ok-renew_load
 returns-in_ok-renew_load-in-Load-clause-book c F constraint grown at =
     let S = c.args.system.now in
     let G = members c.args.rows.now in
-    let row : ℕ = c.args.row in
-    let new = c.args.new.now in
+    let row : ℕ = c.args.news.now.row in
+    let new = c.args.news.now.new.now in
     let con : Constraint = Load c.in-Load.pointer c.in-Load.to c.in-Load.ty c.in-Load.sub in
     let here : slice_get S.constraints c.args.number ≡ Some con = c.in-Load.ensures.value in
     let reads = reads_of S row c.args.number con c.requires.reader here in
@@ -30,8 +30,8 @@ pub returns-in_ok-renew_store-in-Store-clause-book : goal.returns-in_ok-renew_st
 returns-in_ok-renew_store-in-Store-clause-book c F constraint grown at =
     let S = c.args.system.now in
     let G = members c.args.rows.now in
-    let row : ℕ = c.args.row in
-    let new = c.args.new.now in
+    let row : ℕ = c.args.news.now.row in
+    let new = c.args.news.now.new.now in
     let con : Constraint = Store c.in-Store.pointer c.in-Store.from c.in-Store.ty c.in-Store.sub in
     let here : slice_get S.constraints c.args.number ≡ Some con = c.in-Store.ensures.value in
     let reads = reads_of S row c.args.number con c.requires.reader here in
@@ -46,8 +46,8 @@ pub returns-in_ok-renew_field-in-Field-clause-facts : goal.returns-in_ok-renew_f
 returns-in_ok-renew_field-in-Field-clause-facts c F constraint grown at =
     let S = c.args.system.now in
     let G = members c.args.rows.now in
-    let row : ℕ = c.args.row in
-    let new = c.args.new.now in
+    let row : ℕ = c.args.news.now.row in
+    let new = c.args.news.now.new.now in
     let con : Constraint = Field c.in-Field.from c.in-Field.to c.in-Field.ty c.in-Field.member in
     let here : slice_get S.constraints c.args.number ≡ Some con = c.in-Field.ensures.value in
     let reads = reads_of S row c.args.number con c.requires.reader here in
@@ -62,8 +62,8 @@ pub returns-in_ok-renew_contents-in-Contents-clause-book : goal.returns-in_ok-re
 returns-in_ok-renew_contents-in-Contents-clause-book c F constraint grown at =
     let S = c.args.system.now in
     let G = members c.args.rows.now in
-    let row : ℕ = c.args.row in
-    let new = c.args.new.now in
+    let row : ℕ = c.args.news.now.row in
+    let new = c.args.news.now.new.now in
     let con : Constraint = Contents c.in-Contents.to c.in-Contents.from in
     let here : slice_get S.constraints c.args.number ≡ Some con = c.in-Contents.ensures.value in
     let reads = reads_of S row c.args.number con c.requires.reader here in
@@ -78,8 +78,8 @@ pub returns-in_ok-renew_call-in-Call-clause-book : goal.returns-in_ok-renew_call
 returns-in_ok-renew_call-in-Call-clause-book c F constraint grown at =
     let S = c.args.system.now in
     let G = members c.args.rows.now in
-    let row : ℕ = c.args.row in
-    let new = c.args.new.now in
+    let row : ℕ = c.args.news.now.row in
+    let new = c.args.news.now.new.now in
     let con : Constraint = Call c.in-Call.call in
     let here : slice_get S.constraints c.args.number ≡ Some con = c.in-Call.ensures.value in
     let reads = reads_of S row c.args.number con c.requires.reader here in
@@ -95,8 +95,8 @@ pub returns-in_ok-renew_call-in-Call-clause-facts : goal.returns-in_ok-renew_cal
 returns-in_ok-renew_call-in-Call-clause-facts c F constraint grown at =
     let S = c.args.system.now in
     let G = members c.args.rows.now in
-    let row : ℕ = c.args.row in
-    let new = c.args.new.now in
+    let row : ℕ = c.args.news.now.row in
+    let new = c.args.news.now.new.now in
     let con : Constraint = Call c.in-Call.call in
     let here : slice_get S.constraints c.args.number ≡ Some con = c.in-Call.ensures.value in
     let reads = reads_of S row c.args.number con c.requires.reader here in

@@ -24,18 +24,18 @@ loop-number-init c =
     let G = members c.args.rows.now in
     let items = c.targets-number-items.result.now in record {
       kept = extends_none c.args.book.now;
-      edges = renewing_start S (DemandsEdge S) G c.args.row c.args.new.now items c.args.book.now;
-      facts = renewing_start S (DemandsFact S) G c.args.row c.args.new.now items c.args.facts.now.items;
+      edges = renewing_start S (DemandsEdge S) G c.args.news.now.row c.args.news.now.new.now items c.args.book.now;
+      facts = renewing_start S (DemandsFact S) G c.args.news.now.row c.args.news.now.new.now items c.args.facts.now.items;
     }
 
 pub renew_constraint-requires-clause-number : goal.renew_constraint-requires-clause-number
 renew_constraint-requires-clause-number c =
-    let r = is_reader c.args.system.now c.args.row c.loop-number.number-index c.targets-number-items.result.now c.args.readers.now c.targets-number-items.ensures c.requires.readers c.loop-number-test.true in
+    let r = is_reader c.args.system.now c.args.news.now.row c.loop-number.number-index c.targets-number-items.result.now c.args.readers.now c.targets-number-items.ensures c.requires.readers c.loop-number-test.true in
     slice_get_within c.args.system.now.constraints (get_or c.targets-number-items.result.now c.loop-number.number-index 0) r.0 r.1
 
 pub renew_constraint-requires-clause-reader : goal.renew_constraint-requires-clause-reader
 renew_constraint-requires-clause-reader c =
-    is_reader c.args.system.now c.args.row c.loop-number.number-index c.targets-number-items.result.now c.args.readers.now c.targets-number-items.ensures c.requires.readers c.loop-number-test.true
+    is_reader c.args.system.now c.args.news.now.row c.loop-number.number-index c.targets-number-items.result.now c.args.readers.now c.targets-number-items.ensures c.requires.readers c.loop-number-test.true
 
 pub loop-number-preserved : goal.loop-number-preserved
 loop-number-preserved c =
@@ -43,11 +43,11 @@ loop-number-preserved c =
     let G = members c.args.rows.now in
     let items = c.targets-number-items.result.now in
     let i : ℕ = c.loop-number.number-index in
-    let r = is_reader S c.args.row i items c.args.readers.now c.targets-number-items.ensures c.requires.readers c.loop-number-test.true in
+    let r = is_reader S c.args.news.now.row i items c.args.readers.now c.targets-number-items.ensures c.requires.readers c.loop-number-test.true in
     let step = c.in_ok-renew_constraint.ensures in record {
       kept = kept_both c.args.book.now c.loop-number.book c.renew_constraint.new.book c.loop-number.invariant.kept step.kept;
-      edges = renewing_next S (DemandsEdge S) G c.args.row c.args.new.now items i c.args.book.now c.loop-number.book c.renew_constraint.new.book r.0 c.loop-number.invariant.edges r.1 step.book;
-      facts = renewing_next S (DemandsFact S) G c.args.row c.args.new.now items i c.args.facts.now.items c.loop-number.facts.items c.renew_constraint.new.facts.items r.0 c.loop-number.invariant.facts r.1 step.facts;
+      edges = renewing_next S (DemandsEdge S) G c.args.news.now.row c.args.news.now.new.now items i c.args.book.now c.loop-number.book c.renew_constraint.new.book r.0 c.loop-number.invariant.edges r.1 step.book;
+      facts = renewing_next S (DemandsFact S) G c.args.news.now.row c.args.news.now.new.now items i c.args.facts.now.items c.loop-number.facts.items c.renew_constraint.new.facts.items r.0 c.loop-number.invariant.facts r.1 step.facts;
     }
 
 pub returns-clause-kept : goal.returns-clause-kept
@@ -57,14 +57,14 @@ pub returns-clause-book : goal.returns-clause-book
 returns-clause-book c F grown =
     let S = c.args.system.now in
     let G = members c.args.rows.now in
-    renewing_done S (DemandsEdge S) G c.args.row c.args.new.now c.targets-number-items.result.now c.loop-number.number-index c.args.book.now c.loop-number.book c.args.readers.now
+    renewing_done S (DemandsEdge S) G c.args.news.now.row c.args.news.now.new.now c.targets-number-items.result.now c.loop-number.number-index c.args.book.now c.loop-number.book c.args.readers.now
     (let n = c.loop-number-test.false in omega arith) c.targets-number-items.ensures c.requires.readers
-    (λ H g constraint a b no d. unread_edge S H G c.args.row c.args.new.now g constraint a b no d) c.loop-number.invariant.edges F grown
+    (λ H g constraint a b no d. unread_edge S H G c.args.news.now.row c.args.news.now.new.now g constraint a b no d) c.loop-number.invariant.edges F grown
 
 pub returns-clause-facts : goal.returns-clause-facts
 returns-clause-facts c F grown =
     let S = c.args.system.now in
     let G = members c.args.rows.now in
-    renewing_done S (DemandsFact S) G c.args.row c.args.new.now c.targets-number-items.result.now c.loop-number.number-index c.args.facts.now.items c.loop-number.facts.items c.args.readers.now
+    renewing_done S (DemandsFact S) G c.args.news.now.row c.args.news.now.new.now c.targets-number-items.result.now c.loop-number.number-index c.args.facts.now.items c.loop-number.facts.items c.args.readers.now
     (let n = c.loop-number-test.false in omega arith) c.targets-number-items.ensures c.requires.readers
-    (λ H g constraint a b no d. unread_fact S H G c.args.row c.args.new.now g constraint a b no d) c.loop-number.invariant.facts F grown
+    (λ H g constraint a b no d. unread_fact S H G c.args.news.now.row c.args.news.now.new.now g constraint a b no d) c.loop-number.invariant.facts F grown

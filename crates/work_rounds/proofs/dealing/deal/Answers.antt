@@ -1,6 +1,6 @@
 use Rattle.std.proofs.Common.{ℕ, ◌+◌, ◌*◌, ◌<◌, List, get_or, Vec, Global, sym, ap, ◌∙◌, subst, arith}
 use Rattle.std.proofs.lemmas.Option.{slice_get-get_or}
-use Rattle.work_rounds.specs.Work.{AreDistinct}
+use Rattle.work_rounds.specs.Rounds.{AreRowsApart}
 use Rattle.work_rounds.proofs.Blocks.{IsFresh, OfBlocks, blocks_none, blocks_some, blocks_past, once_some}
 use Rattle.work_rounds.proofs.dealing.deal.Goals as goal
 use Rattle.work_rounds.proofs.dealing.deal.Goals.{then-i-todo+in_ok-push, else-i-todo}
@@ -23,7 +23,7 @@ loop-k-preserved c =
     let inv = c.loop-k.invariant in
     let P : List ℕ → Type 0 = λ xs. record {
       rows : OfBlocks old xs todo block at (k + 1);
-      once : at < block → AreDistinct todo → AreDistinct old → IsFresh todo block at old → AreDistinct xs;
+      once : at < block → AreRowsApart todo → AreRowsApart old → IsFresh todo block at old → AreRowsApart xs;
     } in
     elim c.if-i-todo.branch [
       | then-i-todo+in_ok-push w ↦ subst P (sym (ap (λ (v : Vec ℕ Global). v.items) w.out-is ∙ w.in_ok-push.ensures.items)) record {

@@ -2,13 +2,13 @@ use Rattle.std.proofs.Common.{◌≡◌, ℕ, ◌+◌, ◌*◌, ◌/◌, ◌%◌
 use Rattle.std.proofs.lemmas.Nat.{mod_below}
 use Rattle.work_rounds.proofs.Blocks.{OfNumbers, numbers_none, numbers_next, numbers_all, numbers_fresh}
 use Rattle.work_rounds.proofs.Once.{none_twice}
-use Rattle.work_rounds.specs.Work.{AreDistinct}
+use Rattle.work_rounds.specs.Rounds.{AreRowsApart}
 use Rattle.work_rounds.proofs.dealing.dealt.Goals as goal
 
 pub loop-at-init : goal.loop-at-init
 loop-at-init c = record {
   rows = subst (λ (xs : List ℕ). OfNumbers xs c.args.todo.now (length c.args.todo.now / c.args.workers + 1) c.args.workers 0) (sym c.new-out.ensures.items) (numbers_none c.args.todo.now (length c.args.todo.now / c.args.workers + 1) c.args.workers);
-  once = λ all. subst AreDistinct (sym c.new-out.ensures.items) none_twice;
+  once = λ all. subst AreRowsApart (sym c.new-out.ensures.items) none_twice;
 }
 
 pub deal-requires : goal.deal-requires

@@ -9,14 +9,14 @@ use Rattle.work_rounds.proofs.pieces.serve.Given as goal
 
 abbrev pub invariant-loop-piece : goal.invariant-loop-piece
 invariant-loop-piece g l = record {
-  own : IsOf l.table l.seat;
+  own : IsOf l.round.table.now l.seat;
   more : OnlyAdded (view l.initial.seat) (view l.seat);
   sound : IsSound (view l.initial.seat) → IsSound (view l.seat);
   few : l.turn ≤ l.piece;
-  turns : AreTurns (width_of (system_of l.table)) l.book (words_at l.done) (view l.initial.seat) l.turns.items (view l.seat);
-  piece : l.piece ≡ l.worker + length l.turns.items * l.workers;
-  rows : (i : ℕ) → i < length l.turns.items → slice_get (map row_of l.turns.items) i ≡ slice_get l.todo (l.worker + i * l.workers);
+  turns : AreTurns (width_of (system_of l.round.table.now)) l.round.book.now (words_at l.round.done.now) (view l.initial.seat) l.turns.items (view l.seat);
+  piece : l.piece ≡ l.worker + length l.turns.items * l.round.workers;
+  rows : (i : ℕ) → i < length l.turns.items → slice_get (map row_of l.turns.items) i ≡ slice_get l.round.todo.now (l.worker + i * l.round.workers);
 }
 
 abbrev pub decreases-loop-piece : goal.decreases-loop-piece
-decreases-loop-piece g l = length l.todo - l.piece
+decreases-loop-piece g l = length l.round.todo.now - l.piece

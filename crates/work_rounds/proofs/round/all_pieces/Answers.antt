@@ -20,12 +20,12 @@ returns-clause-worked g c =
 
 pub returns-clause-shares : goal.returns-clause-shares
 returns-clause-shares g c =
-    let S = system_of c.args.table.now in
+    let S = system_of c.args.round.now.table.now in
     let v = view c.args.seat.now in
     let b = view c.spread-mine.result.0 in
     let split = c.split-mine.ensures in
-    let Shares : View → View → Vec Turn Global → Type 0 = λ x y turns. HasShares S c.args.book.now c.args.done.now c.args.todo.now c.args.workers 0 c.args.workers x y turns.items in
+    let Shares : View → View → Vec Turn Global → Type 0 = λ x y turns. HasShares S c.args.round.now.book.now c.args.round.now.done.now c.args.round.now.todo.now c.args.round.now.workers 0 c.args.round.now.workers x y turns.items in
     if_ok c.spread-mine.result.1 (Shares (half_given v) b) (Shares v (view c.meet.new.into))
     (λ turns h. subst (λ (w : View). Shares v w turns) (sym c.meet.ensures.view) (subst (λ (x : View). Shares v (met x b) turns) (sym split.view)
-    (shares_round S c.args.book.now c.args.done.now c.args.todo.now c.args.workers 0 c.args.workers v b turns.items (c.spread-mine.ensures.view.system ∙ ap (λ (u : View). u.system) split.new) h)))
+    (shares_round S c.args.round.now.book.now c.args.round.now.done.now c.args.round.now.todo.now c.args.round.now.workers 0 c.args.round.now.workers v b turns.items (c.spread-mine.ensures.view.system ∙ ap (λ (u : View). u.system) split.new) h)))
     (subst (λ (x : View). IfOk c.spread-mine.result.1 (Shares x b)) split.new c.spread-mine.ensures.shares)

@@ -49,8 +49,8 @@ read_of S u done row words e wide fits same seen =
     seen_at S u row row words done.words e fits (λ k lt. same k (subst (λ (n : ℕ). k < n) (sym wide) lt) ∙ ap (λ (n : ℕ). get_or done.words (row * n + k) 0) wide)
     (λ location h. seen location (subst (λ (n : ℕ). Has (shown n done.words) row location) (sym wide) h))
 
-pub row_of-requires : goal.row_of-requires
-row_of-requires c = row_held (system_of c.args.table.now) c.args.done.now c.requires.fits c.in-Some.from (c.requires.demanded.rows c.in-Some.from c.in-Some.to (edge_at c.args.book.now c.loop-i.i c.in-Some.from c.in-Some.to c.in-Some.ensures)).0
+pub row_words-requires : goal.row_words-requires
+row_words-requires c = row_held (system_of c.args.table.now) c.args.done.now c.requires.fits c.in-Some.from (c.requires.demanded.rows c.in-Some.from c.in-Some.to (edge_at c.args.book.now c.loop-i.i c.in-Some.from c.in-Some.to c.in-Some.ensures)).0
 
 pub carry-requires-clause-rows : goal.carry-requires-clause-rows
 carry-requires-clause-rows c = c.requires.demanded.rows c.in-Some.from c.in-Some.to (edge_at c.args.book.now c.loop-i.i c.in-Some.from c.in-Some.to c.in-Some.ensures)
@@ -66,7 +66,7 @@ pub carry-requires-clause-read : goal.carry-requires-clause-read
 carry-requires-clause-read c =
     let v = view c.args.seat.now in
     let u = view c.loop-i.seat in
-    read_of (system_of c.args.table.now) u c.args.done.now c.in-Some.from c.row_of.result.now c.loop-i.invariant.own.1 c.requires.fits.width c.row_of.ensures.small c.row_of.ensures.words
+    read_of (system_of c.args.table.now) u c.args.done.now c.in-Some.from c.row_words.result.now c.loop-i.invariant.own.1 c.requires.fits.width c.row_words.ensures.small c.row_words.ensures.words
     (λ location h. known_more v u c.loop-i.invariant.more c.in-Some.from location (c.requires.inside c.in-Some.from location h))
 
 pub carry-requires-clause-was : goal.carry-requires-clause-was
@@ -113,11 +113,11 @@ loop-i-preserved c =
             more = added_twice v u w inv.more x.carry.ensures.view;
             sound = λ s. x.carry.ensures.sound (inv.sound s);
             carried = carried_more book F u w i from to at x.carry.ensures.view
-                (λ location h. in_seen S w to location x.row_of.result.now x.carry.ensures.own.1 (x.row_of.ensures.sized ∙ c.requires.fits.width) x.carry.ensures.carried ((x.row_of.ensures.has location).0 h)) inv.carried;
+                (λ location h. in_seen S w to location x.row_words.result.now x.carry.ensures.own.1 (x.row_words.ensures.sized ∙ c.requires.fits.width) x.carry.ensures.carried ((x.row_words.ensures.has location).0 h)) inv.carried;
             noted = noted_then S v u w start so_far (so_far ++ to ∷ []) inv.noted
                 (noted_one S u w so_far to (c.requires.demanded.rows from to (Contains-at book i (from, to) at)).1 (carried_others S u w to inv.own.1 x.carry.ensures.own.1 x.carry.ensures.others));
-            ors = edge_paid S F book c.args.first i from to v.ors u.ors w.ors (gained (width_of S) c.args.nothing.now x.row_of.result.now) at inv.ors x.carry.ensures.ors
-                (edge_pays S c.args.done.now from c.args.nothing.now x.row_of.result.now c.requires.fits (λ location. (x.row_of.ensures.has location).1));
+            ors = edge_paid S F book c.args.first i from to v.ors u.ors w.ors (gained (width_of S) c.args.nothing.now x.row_words.result.now) at inv.ors x.carry.ensures.ors
+                (edge_pays S c.args.done.now from c.args.nothing.now x.row_words.result.now c.requires.fits (λ location. (x.row_words.ensures.has location).1));
           }
       | in-Some+in_ok-reserve+else-carry x ↦
           let from : ℕ = x.in-Some.from in
@@ -130,10 +130,10 @@ loop-i-preserved c =
             more = added_twice v u w inv.more x.carry.ensures.view;
             sound = λ s. x.carry.ensures.sound (inv.sound s);
             carried = carried_more book F u w i from to at x.carry.ensures.view
-                (λ location h. in_seen S w to location x.row_of.result.now x.carry.ensures.own.1 (x.row_of.ensures.sized ∙ c.requires.fits.width) x.carry.ensures.carried ((x.row_of.ensures.has location).0 h)) inv.carried;
+                (λ location h. in_seen S w to location x.row_words.result.now x.carry.ensures.own.1 (x.row_words.ensures.sized ∙ c.requires.fits.width) x.carry.ensures.carried ((x.row_words.ensures.has location).0 h)) inv.carried;
             noted = subst (λ (y : View). IsNoted S v y start so_far) (sym same) inv.noted;
-            ors = edge_paid S F book c.args.first i from to v.ors u.ors w.ors (gained (width_of S) c.args.nothing.now x.row_of.result.now) at inv.ors x.carry.ensures.ors
-                (edge_pays S c.args.done.now from c.args.nothing.now x.row_of.result.now c.requires.fits (λ location. (x.row_of.ensures.has location).1));
+            ors = edge_paid S F book c.args.first i from to v.ors u.ors w.ors (gained (width_of S) c.args.nothing.now x.row_words.result.now) at inv.ors x.carry.ensures.ors
+                (edge_pays S c.args.done.now from c.args.nothing.now x.row_words.result.now c.requires.fits (λ location. (x.row_words.ensures.has location).1));
           }
       | in_default x ↦ absurd (let e = slice_get-get_or book i (0, 0) (let l = c.loop-i-test.true in let n = c.len-i-end.ensures.len in omega arith) in none-some (get_or book i (0, 0)) (sym (sym c.get.ensures ∙ x.in_default.is) ∙ e))
     ]

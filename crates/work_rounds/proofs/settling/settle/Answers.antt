@@ -11,34 +11,35 @@ use Rattle.new_members.specs.News.{IsFact, words_at}
 use Rattle.work_rounds.specs.Rounds.{IsTakenIn, IsNoted}
 use Rattle.work_rounds.proofs.Ending.{turns_of, after_inside, facts_demanded, facts_known, more_demanded, first_carried, settled_again, fact_more, worked_known}
 use Rattle.work_rounds.specs.Turns.{row_of}
-use Rattle.work_rounds.specs.Work.{edge_work, spent}
+use Rattle.work_rounds.specs.Balance.{spent}
+use Rattle.work_rounds.specs.Work.{edge_work}
 use Rattle.work_rounds.proofs.Sums.{apart_list}
 use Rattle.work_rounds.proofs.Working.{old_edges, round_paid, turns_pay}
 use Rattle.work_rounds.proofs.settling.settle.Goals as goal
 
 pub take_in-requires-clause-turns : goal.take_in-requires-clause-turns
 take_in-requires-clause-turns c =
-    let S = c.args.system.now in
+    let S = c.args.ground.now.system.now in
     let round = c.requires.worked.2 in
     let v = c.requires.worked.0 in
     let todo = c.requires.worked.1 in
     let w = view c.args.seat.now in
     let own : w.system ≡ S = c.requires.own.1 ∙ c.requires.system in
-    let book = c.args.book.now in
-    let done = c.args.done.now in
+    let book = c.args.progress.now.book in
+    let done = c.args.progress.now.done in
     let turns = c.args.turns.now in
     turns_of S v w book [] [] done done todo turns c.requires.valid own round
 
 pub add_facts-requires-clause-known : goal.add_facts-requires-clause-known
 add_facts-requires-clause-known c row location h =
-    let S = c.args.system.now in
+    let S = c.args.ground.now.system.now in
     let round = c.requires.worked.2 in
     let v = c.requires.worked.0 in
     let todo = c.requires.worked.1 in
     let w = view c.args.seat.now in
     let own : w.system ≡ S = c.requires.own.1 ∙ c.requires.system in
-    let book = c.args.book.now in
-    let done = c.args.done.now in
+    let book = c.args.progress.now.book in
+    let done = c.args.progress.now.done in
     let turns = c.args.turns.now in
     let more = c.take_in.new.book in
     let after = c.take_in.new.done in
@@ -49,14 +50,14 @@ add_facts-requires-clause-known c row location h =
 
 pub add_facts-requires-clause-demanded : goal.add_facts-requires-clause-demanded
 add_facts-requires-clause-demanded c row location h =
-    let S = c.args.system.now in
+    let S = c.args.ground.now.system.now in
     let round = c.requires.worked.2 in
     let v = c.requires.worked.0 in
     let todo = c.requires.worked.1 in
     let w = view c.args.seat.now in
     let own : w.system ≡ S = c.requires.own.1 ∙ c.requires.system in
-    let book = c.args.book.now in
-    let done = c.args.done.now in
+    let book = c.args.progress.now.book in
+    let done = c.args.progress.now.done in
     let turns = c.args.turns.now in
     let more = c.take_in.new.book in
     let after = c.take_in.new.done in
@@ -70,14 +71,14 @@ carry_new-requires-clause-fits c = subst (λ (T : System). Fits T c.take_in.new.
 
 pub carry_new-requires-clause-inside : goal.carry_new-requires-clause-inside
 carry_new-requires-clause-inside c row location h =
-    let S = c.args.system.now in
+    let S = c.args.ground.now.system.now in
     let round = c.requires.worked.2 in
     let v = c.requires.worked.0 in
     let todo = c.requires.worked.1 in
     let w = view c.args.seat.now in
     let own : w.system ≡ S = c.requires.own.1 ∙ c.requires.system in
-    let book = c.args.book.now in
-    let done = c.args.done.now in
+    let book = c.args.progress.now.book in
+    let done = c.args.progress.now.done in
     let turns = c.args.turns.now in
     let more = c.take_in.new.book in
     let after = c.take_in.new.done in
@@ -87,14 +88,14 @@ carry_new-requires-clause-inside c row location h =
 
 pub carry_new-requires-clause-demanded : goal.carry_new-requires-clause-demanded
 carry_new-requires-clause-demanded c =
-    let S = c.args.system.now in
+    let S = c.args.ground.now.system.now in
     let round = c.requires.worked.2 in
     let v = c.requires.worked.0 in
     let todo = c.requires.worked.1 in
     let w = view c.args.seat.now in
     let own : w.system ≡ S = c.requires.own.1 ∙ c.requires.system in
-    let book = c.args.book.now in
-    let done = c.args.done.now in
+    let book = c.args.progress.now.book in
+    let done = c.args.progress.now.done in
     let turns = c.args.turns.now in
     let more = c.take_in.new.book in
     let after = c.take_in.new.done in
@@ -105,14 +106,14 @@ carry_new-requires-clause-demanded c =
 
 pub carry_new-requires-clause-carried : goal.carry_new-requires-clause-carried
 carry_new-requires-clause-carried c =
-    let S = c.args.system.now in
+    let S = c.args.ground.now.system.now in
     let round = c.requires.worked.2 in
     let v = c.requires.worked.0 in
     let todo = c.requires.worked.1 in
     let w = view c.args.seat.now in
     let own : w.system ≡ S = c.requires.own.1 ∙ c.requires.system in
-    let book = c.args.book.now in
-    let done = c.args.done.now in
+    let book = c.args.progress.now.book in
+    let done = c.args.progress.now.done in
     let turns = c.args.turns.now in
     let more = c.take_in.new.book in
     let after = c.take_in.new.done in
@@ -129,14 +130,14 @@ returns-clause-sound c s = c.in_ok-carry_new.ensures.sound (c.in_ok-add_facts.en
 
 pub returns-clause-settled : goal.returns-clause-settled
 returns-clause-settled c =
-    let S = c.args.system.now in
+    let S = c.args.ground.now.system.now in
     let round = c.requires.worked.2 in
     let v = c.requires.worked.0 in
     let todo = c.requires.worked.1 in
     let w = view c.args.seat.now in
     let own : w.system ≡ S = c.requires.own.1 ∙ c.requires.system in
-    let book = c.args.book.now in
-    let done = c.args.done.now in
+    let book = c.args.progress.now.book in
+    let done = c.args.progress.now.done in
     let turns = c.args.turns.now in
     let more = c.take_in.new.book in
     let after = c.take_in.new.done in
@@ -162,11 +163,11 @@ add_facts-requires-clause-had c row location h =
 
 pub returns-clause-booked : goal.returns-clause-booked
 returns-clause-booked c =
-    let S = c.args.system.now in
-    let done = c.args.done.now in
+    let S = c.args.ground.now.system.now in
+    let done = c.args.progress.now.done in
     let after = c.take_in.new.done in
     let news = c.take_in.new.facts.items in
-    let taken : IsTakenIn S c.args.turns.now done after c.args.book.now c.take_in.new.book [] news = subst (λ (xs : List (ℕ × ℕ)). IsTakenIn S c.args.turns.now done after c.args.book.now c.take_in.new.book xs news) c.new-demanded.ensures.items c.in_ok-take_in.ensures.taken in
+    let taken : IsTakenIn S c.args.turns.now done after c.args.progress.now.book c.take_in.new.book [] news = subst (λ (xs : List (ℕ × ℕ)). IsTakenIn S c.args.turns.now done after c.args.progress.now.book c.take_in.new.book xs news) c.new-demanded.ensures.items c.in_ok-take_in.ensures.taken in
     record {
       edges = c.carry_new.ensures.once;
       facts_once = c.add_facts.ensures.once c.requires.booked.facts_once;
@@ -181,10 +182,10 @@ returns-clause-booked c =
 
 pub returns-clause-paid : goal.returns-clause-paid
 returns-clause-paid c =
-    let S = c.args.system.now in
+    let S = c.args.ground.now.system.now in
     let round = c.requires.worked.2 in
-    let book = c.args.book.now in
-    let done = c.args.done.now in
+    let book = c.args.progress.now.book in
+    let done = c.args.progress.now.done in
     let turns = c.args.turns.now in
     let more = c.take_in.new.book in
     let after = c.take_in.new.done in
@@ -193,7 +194,7 @@ returns-clause-paid c =
     let w = view c.args.seat.now in
     let x = view c.add_facts.new.seat in
     let y = view c.carry_new.new.seat in
-    round_paid S w x y done after book more c.args.facts.now c.add_facts.new.facts (spent (width_of S) book (words_at done) turns)
+    round_paid S w x y done after book more c.args.progress.now.facts c.add_facts.new.facts (spent (width_of S) book (words_at done) turns)
     (turns_pay S done after book more [] news turns round.before.ready.fits taken (apart_list (map row_of turns) round.once))
     c.in_ok-add_facts.ensures.ors
     (subst (λ (xs : List (ℕ × ℕ)). y.ors + edge_work S (members after) xs ≤ x.ors + edge_work S (members after) more) (old_edges book more c.len-first.result c.len-first.ensures.len c.in_ok-take_in.ensures.kept)

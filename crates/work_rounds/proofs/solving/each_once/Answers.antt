@@ -6,7 +6,7 @@ use Rattle.std.specs.Ordering.{nat_cmp}
 use Rattle.std.proofs.lemmas.List.Filters.{dedup_is}
 use Rattle.std.proofs.lemmas.List.Kept.{AllPairs-from_increasing, Contains-dedup_nat, Contains-from_dedup}
 use Rattle.std.proofs.lemmas.Map.Keys.{IsStrictlyIncreasing-dedup}
-use Rattle.work_rounds.specs.Work.{AreDistinct}
+use Rattle.work_rounds.specs.Rounds.{AreRowsApart}
 use Rattle.work_rounds.proofs.Once.{distinct_reverse, distinct_rising}
 use Rattle.std.proofs.lemmas.List.Sorted.{Contains-permutation, IsPermutation-sym}
 use Rattle.work_rounds.proofs.solving.each_once.Goals as goal
@@ -33,11 +33,11 @@ returns-else-backwards-clause-rows c row =
     (down, up)
 
 -- a sorted list without repetition
-rising : (sorted left : List ℕ) → IsSorted nat_cmp sorted → IsFiltered (DiffersFromLast eqb) [] sorted left → AreDistinct left
-rising sorted left order kept = subst AreDistinct (sym (dedup_is eqb sorted left kept)) (distinct_rising (dedup eqb sorted) (AllPairs-from_increasing (dedup eqb sorted) (IsStrictlyIncreasing-dedup sorted order)))
+rising : (sorted left : List ℕ) → IsSorted nat_cmp sorted → IsFiltered (DiffersFromLast eqb) [] sorted left → AreRowsApart left
+rising sorted left order kept = subst AreRowsApart (sym (dedup_is eqb sorted left kept)) (distinct_rising (dedup eqb sorted) (AllPairs-from_increasing (dedup eqb sorted) (IsStrictlyIncreasing-dedup sorted order)))
 
 pub returns-then-backwards-clause-once : goal.returns-then-backwards-clause-once
-returns-then-backwards-clause-once c = subst AreDistinct (sym c.reverse.ensures.items)
+returns-then-backwards-clause-once c = subst AreRowsApart (sym c.reverse.ensures.items)
     (distinct_reverse c.dedup.new.self.items (rising c.sort_unstable.new.self.items c.dedup.new.self.items c.sort_unstable.ensures.sorted c.dedup.ensures.filtered))
 
 pub returns-else-backwards-clause-once : goal.returns-else-backwards-clause-once

@@ -5,10 +5,10 @@ use Rattle.sol_model.specs.Systems.{Fits, width_of}
 use Rattle.set_rows.specs.declared.view.View.{View}
 use Rattle.set_rows.specs.Views.{known, shutting, reading}
 use Rattle.set_rows.specs.Calls.{view}
-use Rattle.work_rounds.specs.Rounds.{HasClosed, HasWorked, IsSettled}
+use Rattle.work_rounds.specs.Rounds.{AreRowsApart, HasClosed, HasWorked, IsSettled}
 use Rattle.work_rounds.proofs.Parts.{worked_alone, worked_again, worked_and_closed, on_err}
 use Rattle.work_rounds.proofs.Ending.{settled_same, closed_when_done, least_when_done, closing, has_closed}
-use Rattle.work_rounds.specs.Work.{AreDistinct, IsWork}
+use Rattle.work_rounds.specs.Work.{IsWork}
 use Rattle.work_rounds.proofs.Working.{work_done}
 use Rattle.work_rounds.proofs.solving.solve.Goals as goal
 
@@ -40,7 +40,7 @@ shut-requires-clause-closed g c =
     let u = view c.loop-round.seat in
     let done_all : c.loop-round.todo.items ≡ [] = empty c.loop-round.todo.items (let z : c.loop-round.todo.len ≡ 0 = eqb-true c.loop-round.todo.len 0 (sym c.is_empty.ensures ∙ c.if-is_empty.true) in let k = c.loop-round.todo.ok in let n : length c.loop-round.todo.items ≡ 0 = omega arith in n) in
     subst (λ (T : System). IsClosed T (known u)) (sym c.requires.system)
-    (closed_when_done c.args.system.now u c.loop-round.book c.loop-round.done (subst (IsSettled c.args.system.now u c.loop-round.book c.loop-round.done) done_all c.loop-round.invariant.settled))
+    (closed_when_done c.args.system.now u c.loop-round.progress.book c.loop-round.progress.done (subst (IsSettled c.args.system.now u c.loop-round.progress.book c.loop-round.progress.done) done_all c.loop-round.invariant.settled))
 
 pub returns-then-is_empty-clause-closed : goal.returns-then-is_empty-clause-closed
 returns-then-is_empty-clause-closed g c =
@@ -60,7 +60,7 @@ returns-then-is_empty-clause-least g c =
     let end : y ≡ reading (shutting u) 1 = closing u x y c.is_shut.result c.shut.ensures.view c.is_shut.ensures.view (c.is_shut.ensures.known (ap (λ (z : View). z.knows) c.shut.ensures.view)) in
     let done_all : c.loop-round.todo.items ≡ [] = empty c.loop-round.todo.items (let z : c.loop-round.todo.len ≡ 0 = eqb-true c.loop-round.todo.len 0 (sym c.is_empty.ensures ∙ c.if-is_empty.true) in let k = c.loop-round.todo.ok in let n : length c.loop-round.todo.items ≡ 0 = omega arith in n) in
     subst (λ (z : View). IsLeast S (known z)) (sym end)
-    (least_when_done S u c.loop-round.book c.loop-round.done (c.loop-round.invariant.own.1 ∙ c.requires.system) (subst (IsSettled S u c.loop-round.book c.loop-round.done) done_all c.loop-round.invariant.settled))
+    (least_when_done S u c.loop-round.progress.book c.loop-round.progress.done (c.loop-round.invariant.own.1 ∙ c.requires.system) (subst (IsSettled S u c.loop-round.progress.book c.loop-round.progress.done) done_all c.loop-round.invariant.settled))
 
 pub work_round-requires-clause-nothing : goal.work_round-requires-clause-nothing
 work_round-requires-clause-nothing g c κs within = c.as_slice-in-loop-round.ensures.value ∙ c.in_ok-nothing.ensures.items_if_clones_equal (λ y e. e) ∙ ap (λ (n : ℕ). replicate {A = ℕ} n 0) c.row_width-width.ensures
@@ -69,8 +69,8 @@ pub work_round-requires-clause-settled : goal.work_round-requires-clause-settled
 work_round-requires-clause-settled g c κs within =
     let S = c.args.system.now in
     let u = view c.loop-round.seat in
-    let book = c.loop-round.book in
-    let done = c.loop-round.done in
+    let book = c.loop-round.progress.book in
+    let done = c.loop-round.progress.done in
     let once = c.each_once.new.todo.items in
     let rows = c.in_ok-rows.rows.items in
     subst (IsSettled S u book done) (sym c.as_slice-in-loop-round-2.ensures.value)
@@ -104,12 +104,12 @@ returns-then-is_empty-clause-bound g c =
     let y = view c.is_shut.new.seat in
     let end : y ≡ reading (shutting u) 1 = closing u x y c.is_shut.result c.shut.ensures.view c.is_shut.ensures.view (c.is_shut.ensures.known (ap (λ (z : View). z.knows) c.shut.ensures.view)) in
     let done_all : c.loop-round.todo.items ≡ [] = empty c.loop-round.todo.items (let z : c.loop-round.todo.len ≡ 0 = eqb-true c.loop-round.todo.len 0 (sym c.is_empty.ensures ∙ c.if-is_empty.true) in let k = c.loop-round.todo.ok in let n : length c.loop-round.todo.items ≡ 0 = omega arith in n) in
-    let work = work_done S u c.loop-round.book c.loop-round.facts c.loop-round.done v.ors (c.loop-round.invariant.own.1 ∙ c.requires.system) c.requires.valid
-    (subst (IsSettled S u c.loop-round.book c.loop-round.done) done_all c.loop-round.invariant.settled) c.loop-round.invariant.booked c.loop-round.invariant.paid in
+    let work = work_done S u c.loop-round.progress.book c.loop-round.progress.facts c.loop-round.progress.done v.ors (c.loop-round.invariant.own.1 ∙ c.requires.system) c.requires.valid
+    (subst (IsSettled S u c.loop-round.progress.book c.loop-round.progress.done) done_all c.loop-round.invariant.settled) c.loop-round.invariant.booked c.loop-round.invariant.paid in
     subst (λ (z : View). (n : ℕ) × IsWork S (known z) n × (z.ors ≤ v.ors + n + 1)) (sym end) (work.0, work.1, (let l = work.2 in omega arith))
 
 pub work_round-requires-clause-once : goal.work_round-requires-clause-once
-work_round-requires-clause-once g c κs within = subst AreDistinct (sym c.as_slice-in-loop-round-2.ensures.value) (c.in_ok-rows.ensures.once (subst AreDistinct (sym c.as_slice.ensures.value) c.each_once.ensures.once))
+work_round-requires-clause-once g c κs within = subst AreRowsApart (sym c.as_slice-in-loop-round-2.ensures.value) (c.in_ok-rows.ensures.once (subst AreRowsApart (sym c.as_slice.ensures.value) c.each_once.ensures.once))
 
 pub returns-in_err-rows-clause-err : goal.returns-in_err-rows-clause-err
 returns-in_err-rows-clause-err g c = on_err c.from_residual-in_err-rows.result (HasWorked (view c.args.seat.now) (view c.loop-round.seat)) c.loop-round.invariant.worked

@@ -1,14 +1,14 @@
 use Rattle.set_rows.specs.Calls.{view, IsOf}
 use Rattle.std.proofs.Common.{◌+◌, ◌≤◌}
 use Rattle.work_rounds.specs.Rounds.{HasWorked, IsSettled}
-use Rattle.work_rounds.specs.Work.{IsBooked, paid_for}
+use Rattle.work_rounds.specs.Balance.{IsBooked, paid_for}
 use Rattle.work_rounds.proofs.solving.solve.Given as goal
 
 abbrev pub invariant-loop-round : goal.invariant-loop-round
 invariant-loop-round g l = record {
   own : IsOf l.table l.seat;
   worked : HasWorked (view l.fn.seat) (view l.seat);
-  settled : IsSettled l.system (view l.seat) l.book l.done l.todo.items;
-  booked : IsBooked l.system l.done l.book l.facts;
-  paid : (view l.seat).ors ≤ (view l.fn.seat).ors + paid_for l.system l.done l.book l.facts;
+  settled : IsSettled l.system (view l.seat) l.progress.book l.progress.done l.todo.items;
+  booked : IsBooked l.system l.progress.done l.progress.book l.progress.facts;
+  paid : (view l.seat).ors ≤ (view l.fn.seat).ors + paid_for l.system l.progress.done l.progress.book l.progress.facts;
 }

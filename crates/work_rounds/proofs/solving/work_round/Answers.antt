@@ -8,7 +8,7 @@ use Rattle.work_rounds.specs.Rounds.{HasServed}
 use Rattle.new_members.specs.News.{words_at}
 use Rattle.new_members.proofs.Answering.{on_ok}
 use Rattle.work_rounds.specs.Turns.{row_of, HasShares}
-use Rattle.work_rounds.specs.Work.{paid_for, spent}
+use Rattle.work_rounds.specs.Balance.{paid_for, spent}
 use Rattle.work_rounds.proofs.Parts.{worked_alone, worked_again}
 use Rattle.work_rounds.proofs.Sharing.{each_row, rows_apart}
 use Rattle.work_rounds.proofs.Sums.{IsApart, list_apart}
@@ -19,22 +19,22 @@ all_pieces-requires-clause-todo g c κs within = λ k d lt. subst (λ (T : Syste
 
 pub settle-requires-clause-worked : goal.settle-requires-clause-worked
 settle-requires-clause-worked g c =
-    let S = c.args.system.now in
+    let S = c.args.ground.now.system.now in
     let v = view c.args.seat.now in
     let w = view c.all_pieces.new.seat in
     let turns = c.in_ok-turns.turns.items in
     let settled = c.as_slice.result.now in
-    let shares : HasShares S c.args.book.now c.args.done.now c.args.todo.now c.args.workers 0 c.args.workers v w turns =
-    subst (λ (T : System). HasShares T c.args.book.now c.args.done.now c.args.todo.now c.args.workers 0 c.args.workers v w turns) c.requires.system c.in_ok-turns.ensures.shares in (
+    let shares : HasShares S c.args.progress.now.book c.args.progress.now.done c.args.todo.now c.args.crew.now.workers 0 c.args.crew.now.workers v w turns =
+    subst (λ (T : System). HasShares T c.args.progress.now.book c.args.progress.now.done c.args.todo.now c.args.crew.now.workers 0 c.args.crew.now.workers v w turns) c.requires.system c.in_ok-turns.ensures.shares in (
       v,
       c.args.todo.now,
       record {
         before = c.requires.settled;
         worked = c.in_ok-turns.ensures.worked;
-        served = subst (HasServed S c.args.book.now v w) (sym c.as_slice.ensures.value) shares.served;
+        served = subst (HasServed S c.args.progress.now.book v w) (sym c.as_slice.ensures.value) shares.served;
         each = subst (λ (ts : List Turn). (row : ℕ) → Contains c.args.todo.now row → (turn : Turn) × Contains ts turn × (turn.row ≡ row)) (sym c.as_slice.ensures.value)
-            (each_row S c.args.book.now c.args.done.now c.args.todo.now c.args.workers v w turns shares c.requires.workers.0);
-        once = list_apart (map row_of settled) (subst (λ (ts : List Turn). IsApart (map row_of ts)) (sym c.as_slice.ensures.value) (rows_apart S c.args.book.now c.args.done.now c.args.todo.now c.args.workers v w turns c.requires.once shares));
+            (each_row S c.args.progress.now.book c.args.progress.now.done c.args.todo.now c.args.crew.now.workers v w turns shares c.requires.workers.0);
+        once = list_apart (map row_of settled) (subst (λ (ts : List Turn). IsApart (map row_of ts)) (sym c.as_slice.ensures.value) (rows_apart S c.args.progress.now.book c.args.progress.now.done c.args.todo.now c.args.crew.now.workers v w turns c.requires.once shares));
       },
     )
 
@@ -47,15 +47,15 @@ returns-clause-worked g c =
 
 pub returns-clause-paid : goal.returns-clause-paid
 returns-clause-paid g c =
-    let S = c.args.system.now in
+    let S = c.args.ground.now.system.now in
     let v = view c.args.seat.now in
     let w = view c.all_pieces.new.seat in
-    let book = c.args.book.now in
-    let done = c.args.done.now in
+    let book = c.args.progress.now.book in
+    let done = c.args.progress.now.done in
     let turns = c.in_ok-turns.turns.items in
     let spending : w.ors ≤ v.ors + spent (width_of S) book (words_at done) turns =
     subst (λ (T : System). w.ors ≤ v.ors + spent (width_of T) book (words_at done) turns) c.requires.system c.in_ok-turns.ensures.shares.ors in
-    let Paid : List Turn → Type 0 = λ ts. (view c.settle.new.seat).ors + (spent (width_of S) book (words_at done) ts + paid_for S done book c.args.facts.now) ≤ w.ors + paid_for S c.settle.new.done c.settle.new.book c.settle.new.facts in
-    on_ok c.settle.result (Paid c.as_slice.result.now) ((view c.settle.new.seat).ors + paid_for S done book c.args.facts.now ≤ v.ors + paid_for S c.settle.new.done c.settle.new.book c.settle.new.facts)
+    let Paid : List Turn → Type 0 = λ ts. (view c.settle.new.seat).ors + (spent (width_of S) book (words_at done) ts + paid_for S done book c.args.progress.now.facts) ≤ w.ors + paid_for S c.settle.new.progress.done c.settle.new.progress.book c.settle.new.progress.facts in
+    on_ok c.settle.result (Paid c.as_slice.result.now) ((view c.settle.new.seat).ors + paid_for S done book c.args.progress.now.facts ≤ v.ors + paid_for S c.settle.new.progress.done c.settle.new.progress.book c.settle.new.progress.facts)
     (λ h. let p : Paid turns = subst Paid c.as_slice.ensures.value h in omega arith)
     c.settle.ensures.paid
