@@ -1,8 +1,9 @@
 -- How the scopes keep what each name means now: a log of the declarations, each with what its name meant before, and a map.
 use Rattle.std.specs.Prelude.{◌≡◌, ℕ, Bool, Option, Some, None, IsSome, List, [], ◌∷◌, ◌++◌, map, if◌then◌else◌}
 use Rattle.std.specs.Global.{Vec}
-use Rattle.std.specs.HashMap.{HashMap, get_by}
+use Rattle.std.specs.BTreeMap.{BTreeMap}
 use Rattle.std.specs.List.{flat_map}
+use Rattle.std.specs.Map.{lookup}
 use Rattle.std.specs.Str.{bytes_eq}
 use Rattle.c_grammar.specs.declared.scopes.Declared.{Declared}
 use Rattle.c_grammar.specs.Names.{Declaration, meaning}
@@ -27,28 +28,34 @@ abbrev pub flat : Option (Option Bool) → Option Bool
 flat None = None
 flat (Some m) = m
 
-module _ {S : Type 0} where
-  -- what the map says of a name
-  abbrev pub known : HashMap (Vec ℕ) (Option Bool) S → List ℕ → Option Bool
-  known current name = flat (get_by (λ k. bytes_eq name k.items) current)
+-- what each name means now, by its bytes
+abbrev pub Meanings : Type 0
+Meanings = BTreeMap (Vec ℕ) (Option Bool)
 
-  -- a name that has an entry has another meaning, and every other name has what it had
-  abbrev pub Restores : HashMap (Vec ℕ) (Option Bool) S → List ℕ → Option Bool → HashMap (Vec ℕ) (Option Bool) S → Type 0
-  Restores old name before new = IsSome (get_by (λ k. bytes_eq name k.items) old) → (q : List ℕ) → known new q ≡ (if bytes_eq name q then before else known old q)
+-- what the map has of a name
+abbrev pub entry_of : Meanings → List ℕ → Option (Option Bool)
+entry_of current name = lookup (λ k. bytes_eq name k.items) current.entries
+
+-- what the map says of a name
+abbrev pub known : Meanings → List ℕ → Option Bool
+known current name = flat (entry_of current name)
+
+-- a name that has an entry has another meaning, and every other name has what it had
+abbrev pub Restores : Meanings → List ℕ → Option Bool → Meanings → Type 0
+Restores old name before new = IsSome (entry_of old name) → (q : List ℕ) → known new q ≡ (if bytes_eq name q then before else known old q)
 
 -- each declaration of the second list, which follows the first, has what its name meant before it
 abbrev pub Recorded : List Declared → List Declared → Type 0
 Recorded earlier [] = Unit {0}
 Recorded earlier (d ∷ ds) = (d.before ≡ meaning None (seen_all earlier) d.name.items) × Recorded (earlier ++ d ∷ []) ds
 
-module _ {S : Type 0} where
-  -- the map says what each name means behind the declarations of both lists, and the second list is recorded
-  abbrev pub Says : List Declared → List Declared → HashMap (Vec ℕ) (Option Bool) S → Type 0
-  Says earlier ds current = Recorded earlier ds × ((q : List ℕ) → known current q ≡ meaning None (seen_all (earlier ++ ds)) q)
+-- the map says what each name means behind the declarations of both lists, and the second list is recorded
+abbrev pub Says : List Declared → List Declared → Meanings → Type 0
+Says earlier ds current = Recorded earlier ds × ((q : List ℕ) → known current q ≡ meaning None (seen_all (earlier ++ ds)) q)
 
-  abbrev pub Kept : List (Vec Declared) → List Declared → HashMap (Vec ℕ) (Option Bool) S → Type 0
-  Kept enclosing innermost current = Says [] (log enclosing innermost) current
+abbrev pub Kept : List (Vec Declared) → List Declared → Meanings → Type 0
+Kept enclosing innermost current = Says [] (log enclosing innermost) current
 
-  -- the declarations of a scope are taken back
-  abbrev pub Forgets : List Declared → HashMap (Vec ℕ) (Option Bool) S → HashMap (Vec ℕ) (Option Bool) S → Type 0
-  Forgets scope old new = (earlier : List Declared) → Says earlier scope old → Says earlier [] new
+-- the declarations of a scope are taken back
+abbrev pub Forgets : List Declared → Meanings → Meanings → Type 0
+Forgets scope old new = (earlier : List Declared) → Says earlier scope old → Says earlier [] new

@@ -1,5 +1,5 @@
 -- The names that the open scopes declare (C11 6.2.1).
-use Rattle.std.specs.Prelude.{ℕ, ◌-◌, Bool, Option, Some, None, List, [], ◌∷◌, ◌++◌, take, length, codes, slice_index_or, if◌then◌else◌}
+use Rattle.std.specs.Prelude.{ℕ, ◌-◌, Bool, nat_lt, Option, Some, None, List, [], ◌∷◌, ◌++◌, take, length, codes, slice_index_or, if◌then◌else◌}
 use Rattle.std.specs.Option.{unwrap_or}
 use Rattle.std.specs.List.{flat_map}
 use Rattle.std.specs.Str.{bytes_eq}
@@ -22,6 +22,10 @@ entered names = record { enclosing = names.enclosing ++ names.innermost ∷ []; 
 
 abbrev pub left : Names → Names
 left names = record { enclosing = take (length names.enclosing - 1) names.enclosing; innermost = slice_index_or names.enclosing (length names.enclosing - 1) names.innermost }
+
+-- the declarations of the scope that is closed; the file's scope is none of these
+abbrev pub closing : Names → List Declaration
+closing names = if nat_lt 0 (length names.enclosing) then names.innermost else []
 
 abbrev pub declared : Names → Declaration → Names
 declared names d = record { enclosing = names.enclosing; innermost = names.innermost ++ d ∷ [] }

@@ -1,16 +1,17 @@
 -- What a production notes of what it has read, for the choices and the declarations that ask for it.
-use Rattle.std.specs.Prelude.{ℕ, ◌==◌, Bool, true, false, ◌||◌, nat_le, ◌&&◌, Option, Some, None, List, [], ◌∷◌, ◌++◌, if◌then◌else◌}
+use Rattle.std.specs.Prelude.{ℕ, ◌==◌, Bool, true, false, ◌||◌, nat_le, ◌&&◌, Option, Some, None, List, [], ◌++◌, if◌then◌else◌}
 use Rattle.std.specs.Option.{option_to_list}
 use Rattle.c_grammar.specs.declared.notes.Notes.{Notes}
-use Rattle.c_grammar.specs.declared.notes.Parameter.{Parameter}
 use Rattle.c_grammar.specs.declared.notes.Shape.{Shape}
 use Rattle.c_grammar.specs.declared.notes.Shape.TheVariants.{Nameless, Bare, Listed, Function, Other}
-use Rattle.c_grammar.specs.Productions.{p_rest, p_specs, p_storage, p_type, p_struct, p_enum, p_enumerator, p_declarator, p_either, p_suffix, p_parameter, p_body, p_just_typedef, p_just_void, p_just_bool, p_floating_name, p_typedef_name, p_just_struct, p_just_union, p_star, p_just_ident, p_list_suffix}
+use Rattle.c_grammar.specs.Log.{seen_all}
+use Rattle.c_grammar.specs.Names.{Names, Declaration, closing}
+use Rattle.c_grammar.specs.Productions.{p_rest, p_specs, p_storage, p_type, p_struct, p_enum, p_enumerator, p_declarator, p_either, p_suffix, p_just_typedef, p_just_void, p_just_bool, p_floating_name, p_typedef_name, p_just_struct, p_just_union, p_star, p_just_ident, p_list_suffix}
 
 -- The notes of a production:
 -- whether its specifiers have the word typedef; the token of the name that it declares; whether a star stands before the name
--- at its level; what the declarator makes of its name; the word of one type specifier; the type words of specifiers; and the
--- names of the parameter list that belongs to the declared name, each with whether it is a typedef name.
+-- at its level; what the declarator makes of its name; the word of one type specifier; the type words of specifiers; and what the
+-- parameter list that belongs to the declared name declares: its parameters and the enumerators in it, in the order of the text.
 pub record Noted : Type 0 where
   pub typedef_seen : Bool
   pub name : Option ℕ
@@ -18,11 +19,11 @@ pub record Noted : Type 0 where
   pub shape : Shape
   pub word : Option ℕ
   pub words : List ℕ
-  pub parameters : List Parameter
+  pub parameters : List Declaration
 
 -- the code's notes, seen so
 abbrev pub noted : Notes → Noted
-noted n = record { typedef_seen = n.typedef_seen; name = n.name; pointer = n.pointer; shape = n.shape; word = n.word; words = n.words.items; parameters = n.parameters.items }
+noted n = record { typedef_seen = n.typedef_seen; name = n.name; pointer = n.pointer; shape = n.shape; word = n.word; words = n.words.items; parameters = seen_all n.parameters.items }
 
 abbrev pub no_notes : Noted
 no_notes = record { typedef_seen = false; name = None; pointer = false; shape = Nameless; word = None; words = []; parameters = [] }
@@ -63,23 +64,15 @@ shape_closed pointer Nameless = Nameless
 shape_closed pointer Function = Function
 shape_closed pointer Other = Other
 
-abbrev pub parameters_after : Shape → List Parameter → List Parameter → List Parameter
+abbrev pub parameters_after : Shape → List Declaration → List Declaration → List Declaration
 parameters_after Bare inner outer = inner
 parameters_after Listed inner outer = outer
 parameters_after Nameless inner outer = outer
 parameters_after Function inner outer = outer
 parameters_after Other inner outer = outer
 
--- the declared name, if there is one
-abbrev pub named : Option ℕ → Bool → List Parameter
-named None typedef_seen = []
-named (Some token) typedef_seen = record { token = token; is_type = typedef_seen } ∷ []
-
 abbrev pub with_word : Option ℕ → Noted → Noted
 with_word word n = record n { words = n.words ++ option_to_list word }
-
-abbrev pub with_parameter : Option ℕ → Bool → Noted → Noted
-with_parameter name typedef_seen n = record n { parameters = n.parameters ++ named name typedef_seen }
 
 abbrev pub with_suffix : Noted → Noted → Noted
 with_suffix inner n = record n { shape = shape_after inner.shape n.shape; parameters = parameters_after n.shape inner.parameters n.parameters }
@@ -93,9 +86,8 @@ notes_after production inner outer =
     else if (production == p_struct) || (production == p_enum) then record outer { word = inner.word }
     else if (production == p_declarator) || (production == p_either) then record outer { name = inner.name; shape = shape_closed inner.pointer inner.shape; parameters = inner.parameters }
     else if production == p_suffix then with_suffix inner outer
-    else if production == p_parameter then with_parameter inner.name inner.typedef_seen outer
     else outer
 
--- the names that a row declares at its place for that: in a function's body its parameters
-unfoldable pub names_of : ℕ → Noted → List Parameter
-names_of row n = if row == p_body then n.parameters else named n.name n.typedef_seen
+-- after a step of scopes in a row: a parameter list keeps what the scope that it closes has declared (C11 6.2.1p4)
+unfoldable pub notes_step : ℕ → ℕ → Names → Noted → Noted
+notes_step row step scopes n = if (row == p_list_suffix) && (step == 1) then record n { parameters = closing scopes } else n

@@ -1,17 +1,17 @@
 -- What it is to read a production: a relation over the table, the tokens and the scopes.
-use Rattle.std.specs.Prelude.{◌≡◌, ℕ, ◌+◌, ◌<◌, ◌≤◌, ◌==◌, Bool, true, false, Option, Some, None, Result, Ok, Err, List, [], ◌∷◌, ◌++◌, length, map, slice_get, if◌then◌else◌}
+use Rattle.std.specs.Prelude.{◌≡◌, ℕ, ◌+◌, ◌<◌, ◌≤◌, ◌==◌, Bool, true, false, Option, Some, None, Result, Ok, Err, List, [], ◌∷◌, ◌++◌, length, slice_get, if◌then◌else◌}
 use Rattle.pta_base.specs.declared.kind.Kind.{Kind}
 use Rattle.c_lexer.specs.declared.Token.{Token}
 use Rattle.c_lexer.specs.declared.TokenKind.{TokenKind}
 use Rattle.c_grammar.specs.declared.rows.Item.TheVariants as item
-use Rattle.c_grammar.specs.declared.notes.Parameter.{Parameter}
 use Rattle.c_grammar.specs.declared.trees.SyntaxNode.{SyntaxNode}
 use Rattle.c_grammar.specs.Table.{item_of}
 use Rattle.c_grammar.specs.Fits.{fits, chosen}
 use Rattle.c_grammar.specs.Names.{Names, Declaration, entered, left, all_declared}
 use Rattle.c_grammar.specs.Terminals.{terminal, takes, spelled}
 use Rattle.c_grammar.specs.Refusals.{refusal, refused_token}
-use Rattle.c_grammar.specs.Notes.{Noted, notes_begin, notes_token, notes_after, names_of}
+use Rattle.c_grammar.specs.Notes.{Noted, notes_begin, notes_token, notes_step, notes_after}
+use Rattle.c_grammar.specs.Productions.{p_body}
 use Rattle.c_grammar.specs.Tree.{makes_node, nests}
 
 -- a node of the syntax tree
@@ -57,8 +57,15 @@ abbrev pub name_at : List ℕ → Option Token → List ℕ
 name_at text None = []
 name_at text (Some t) = spelled text t
 
-abbrev pub declaration_of : List ℕ → List Token → Parameter → Declaration
-declaration_of text tokens p = (name_at text (slice_get tokens p.token), p.is_type)
+-- the name of a token as it is declared, if there is one
+abbrev pub named : List ℕ → List Token → Option ℕ → Bool → List Declaration
+named text tokens None is_type = []
+named text tokens (Some token) is_type = (name_at text (slice_get tokens token), is_type) ∷ []
+
+-- what a row declares at its place for that: a function's body what the parameter list of its function declares, any other row the
+-- name that it has read
+unfoldable pub names_of : List ℕ → List Token → ℕ → Noted → List Declaration
+names_of text tokens row n = if row == p_body then n.parameters else named text tokens n.name n.typedef_seen
 
 module _ (text : List ℕ) (tokens : List Token) where
   abbrev pub first : State → ℕ
@@ -88,12 +95,12 @@ module _ (text : List ℕ) (tokens : List Token) where
     notes = notes_token p s.place (first s) s.notes;
   }
 
-  -- the scopes after a step of them: one is opened, one is closed, or the names that the row has read are declared
+  -- the scopes after a step of them: one is opened, one is closed, or what the row declares is declared
   unfoldable pub stepped : ℕ → ℕ → Names → Noted → Names
-  stepped p n scopes notes = if n == 0 then entered scopes else if n == 1 then left scopes else all_declared scopes (map (declaration_of text tokens) (names_of p notes))
+  stepped p n scopes notes = if n == 0 then entered scopes else if n == 1 then left scopes else all_declared scopes (names_of text tokens p notes)
 
   abbrev pub scoped : ℕ → ℕ → State → State
-  scoped p n s = record s { scopes = stepped p n s.scopes s.notes }
+  scoped p n s = record s { scopes = stepped p n s.scopes s.notes; notes = notes_step p n s.scopes s.notes }
 
 -- where a production begins, and where it has been read to its end
 abbrev pub opened : ℕ → State → State

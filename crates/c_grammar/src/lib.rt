@@ -2,7 +2,8 @@
 #![tactic(auto)]
 
 ghost use Rattle.c_grammar.specs.Table.{item_of};
-ghost use Rattle.std.specs.Prelude.{◌≡◌};
+ghost use Rattle.std.specs.Prelude.{◌≡◌, ◌<◌, ◌^◌};
+ghost use Rattle.std.specs.Option.{OnSome};
 
 mod firsts;
 pub mod laws;
@@ -21,10 +22,11 @@ use rows::{ITEMS, STARTS};
 pub use scopes::Scopes;
 pub use trees::{SyntaxNode, Tree};
 
-/// The item at a place of a production's row, or `None` past its end. The rows are those of C11 Annex A.2 in a form in which
+/// The item at a place of a production's row, or `None` past its end. No row is longer than 2^16. The rows are those of C11 Annex A.2 in a form in which
 /// at most two tokens decide each choice.
 pub fn item(production: u32, at: u32) -> Option<Item>
-    ensures { result ≡ item_of production at }
+    ensures is { result ≡ item_of production at }
+    ensures low { OnSome result (at < 2 ^ 16) }
 {
     if production >= 252 {
         return None;

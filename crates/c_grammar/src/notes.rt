@@ -4,6 +4,7 @@ ghost use Rattle.c_grammar.specs.Notes.{noted, Noted};
 ghost use Rattle.std.specs.Prelude.{◌≡◌, ◌++◌, ◌∷◌, [], OnOk};
 
 use crate::productions::*;
+use crate::scopes::Declared;
 use pta_base::OutOfMemory;
 use std::alloc::Global;
 
@@ -22,13 +23,6 @@ pub enum Shape {
     Other,
 }
 
-/// The name of a parameter by its token, and whether it is declared as a typedef name.
-#[derive(Clone, Copy, Debug)]
-pub struct Parameter {
-    pub token: u32,
-    pub is_type: bool,
-}
-
 /// What a production has noted of the tokens and productions that it has read.
 #[derive(Drop)]
 pub struct Notes {
@@ -38,7 +32,7 @@ pub struct Notes {
     pub(crate) shape: Shape,
     pub(crate) word: Option<u32>,
     pub(crate) words: Vec<u32>,
-    pub(crate) parameters: Vec<Parameter>,
+    pub(crate) parameters: Vec<Declared>,
 }
 
 /// Whether a row takes a type word.
@@ -160,7 +154,6 @@ impl Notes {
                 self.close_suffix(inner);
                 Ok(())
             }
-            PARAMETER => self.add_parameter(inner.name, inner.typedef_seen),
             _ => Ok(()),
         }
     }
@@ -171,16 +164,6 @@ impl Notes {
     {
         if let Some(word) = word {
             self.words.push(word)?;
-        }
-        Ok(())
-    }
-
-    /// Adds the name of a parameter.
-    fn add_parameter(&mut self, name: Option<u32>, is_type: bool) -> Result<(), OutOfMemory>
-        ensures { OnOk result (noted self.new ≡ spec.with_parameter name is_type (noted self.old)) }
-    {
-        if let Some(token) = name {
-            self.parameters.push(Parameter { token, is_type })?;
         }
         Ok(())
     }

@@ -1,24 +1,40 @@
 //! The scopes of names while a unit is read.
-ghost use Rattle.c_grammar.specs.Log.{known, Restores, Forgets};
+ghost use Rattle.c_grammar.specs.Log.{known, seen, seen_all, Restores, Forgets};
 ghost use Rattle.c_grammar.specs.Names as names;
 ghost use Rattle.c_grammar.specs.Names.{Names};
 ghost use Rattle.std.specs.Prelude.{◌≡◌, ◌<◌, nat_lt, length, IfOk, OnOk, OnErr};
 
 use pta_base::OutOfMemory;
 use std::alloc::Global;
-use std::collections::HashMap;
+use std::collections::BTreeMap;
 use std::marker::Model;
 
 /// A declared name, whether it is a typedef name, and what the name meant before.
 #[derive(Drop)]
-struct Declared {
+pub struct Declared {
     name: Vec<u8>,
     is_type: bool,
     before: Option<bool>,
 }
 
+impl Declared {
+    /// The name.
+    pub(crate) fn name(&self) -> &[u8]
+        ensures { result.now ≡ (seen self.now).0 }
+    {
+        &self.name
+    }
+
+    /// Whether it is a typedef name.
+    pub(crate) fn is_type(&self) -> bool
+        ensures { result ≡ (seen self.now).1 }
+    {
+        self.is_type
+    }
+}
+
 /// What each name means now: whether it is a typedef name, or nothing where no open scope declares it.
-type Meanings = HashMap<Vec<u8>, Option<bool>>;
+type Meanings = BTreeMap<Vec<u8>, Option<bool>>;
 
 /// The open scopes with the names that they declare (C11 6.2.1). The file's scope is always open.
 #[derive(Drop)]
@@ -71,10 +87,13 @@ fn restore(current: &mut Meanings, name: &[u8], before: Option<bool>)
 }
 
 /// Gives all names of a scope, from the last one on, the meanings that they had before.
-fn forget(scope: &mut Vec<Declared>, current: &mut Meanings)
-    ensures { Forgets scope.old.items current.old current.new }
+fn forget(scope: &[Declared], current: &mut Meanings)
+    ensures { Forgets scope.now current.old current.new }
 {
-    while let Some(declared) = scope.pop() {
+    let mut rest = scope.len();
+    while rest > 0 {
+        rest -= 1;
+        let declared = &scope[rest];
         restore(current, &declared.name, declared.before);
     }
 }
@@ -87,7 +106,7 @@ impl Scopes {
         Scopes {
             enclosing: Vec::new(alloc),
             innermost: Vec::new(alloc),
-            current: HashMap::new(alloc),
+            current: BTreeMap::new(alloc),
             alloc,
         }
     }
@@ -110,15 +129,17 @@ impl Scopes {
         !self.enclosing.is_empty()
     }
 
-    /// Closes the innermost scope, which isn't the file's.
-    pub fn leave(&mut self)
-        requires { 0 < length self.old.enclosing }
-        ensures { self.new ≡ names.left self.old }
+    /// Closes the innermost scope, and hands out its declarations in their order. Where the file's scope alone is open, it stays
+    /// open, and there are none.
+    pub fn leave(&mut self) -> Vec<Declared>
+        ensures scopes { self.new ≡ names.left self.old }
+        ensures closed { seen_all result.items ≡ names.closing self.old }
     {
-        forget(&mut self.innermost, &mut self.current);
-        if let Some(scope) = self.enclosing.pop() {
-            self.innermost = scope;
-        }
+        let Some(scope) = self.enclosing.pop() else {
+            return Vec::new(self.alloc);
+        };
+        forget(&self.innermost, &mut self.current);
+        std::mem::replace(&mut self.innermost, scope)
     }
 
     /// Declares a name in the innermost scope, as a typedef name or as another one. Where memory runs out, the scopes stay as

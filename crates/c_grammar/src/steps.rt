@@ -1,12 +1,13 @@
 //! The steps of scopes that the table asks for.
-ghost use Rattle.c_grammar.specs.Names.{all_declared, declared};
-ghost use Rattle.c_grammar.specs.Notes.{noted, names_of};
-ghost use Rattle.c_grammar.specs.Reads.{declaration_of, name_at, stepped};
-ghost use Rattle.std.specs.Prelude.{◌≡◌, map, slice_get, OnOk};
+ghost use Rattle.c_grammar.specs.Log.{seen, seen_all};
+ghost use Rattle.c_grammar.specs.Names.{all_declared, closing, declared, left};
+ghost use Rattle.c_grammar.specs.Notes.{noted, notes_step};
+ghost use Rattle.c_grammar.specs.Reads.{name_at, named, names_of, stepped};
+ghost use Rattle.std.specs.Prelude.{◌≡◌, slice_get, OnOk};
 
-use crate::notes::{Notes, Parameter};
-use crate::productions::BODY;
-use crate::scopes::Scopes;
+use crate::notes::Notes;
+use crate::productions::{BODY, LIST_SUFFIX};
+use crate::scopes::{Declared, Scopes};
 use crate::terminals::spelled;
 use c_lexer::Token;
 use pta_base::OutOfMemory;
@@ -21,35 +22,34 @@ fn name_of<'a>(text: &'a [u8], tokens: &[Token], token: u32) -> &'a [u8]
     }
 }
 
-/// Declares one name.
+/// Declares the name of a token, if there is one.
 fn declare_name(
     scopes: &mut Scopes,
     text: &[u8],
     tokens: &[Token],
-    name: Parameter,
+    name: Option<u32>,
+    is_type: bool,
 ) -> Result<(), OutOfMemory>
-    ensures { OnOk result (scopes.new ≡ declared scopes.old (declaration_of text.now tokens.now name)) }
+    ensures { OnOk result (scopes.new ≡ all_declared scopes.old (named text.now tokens.now name is_type)) }
 {
-    scopes.declare(name_of(text, tokens, name.token), name.is_type)
+    match name {
+        Some(token) => scopes.declare(name_of(text, tokens, token), is_type),
+        None => Ok(()),
+    }
 }
 
-/// Declares names in their order.
-fn declare_names(
-    scopes: &mut Scopes,
-    text: &[u8],
-    tokens: &[Token],
-    names: &[Parameter],
-) -> Result<(), OutOfMemory>
-    ensures { OnOk result (scopes.new ≡ all_declared scopes.old (map (declaration_of text.now tokens.now) names.now)) }
+/// Declares anew what a scope declared, in its order.
+fn declare_all(scopes: &mut Scopes, scope: &[Declared]) -> Result<(), OutOfMemory>
+    ensures { OnOk result (scopes.new ≡ all_declared scopes.old (seen_all scope.now)) }
 {
-    for name in names {
-        declare_name(scopes, text, tokens, *name)?;
+    for declared in scope {
+        scopes.declare(declared.name(), declared.is_type())?;
     }
     Ok(())
 }
 
-/// Declares the names that a row has read.
-#[tactic(auto, unfolding(crate::specs::Notes::names_of))]
+/// Declares what a row declares.
+#[tactic(auto, unfolding(crate::specs::Reads::names_of))]
 fn declare_read(
     scopes: &mut Scopes,
     text: &[u8],
@@ -57,38 +57,44 @@ fn declare_read(
     row: u32,
     notes: &Notes,
 ) -> Result<(), OutOfMemory>
-    ensures { OnOk result (scopes.new ≡ all_declared scopes.old (map (declaration_of text.now tokens.now) (names_of row (noted notes.now)))) }
+    ensures { OnOk result (scopes.new ≡ all_declared scopes.old (names_of text.now tokens.now row (noted notes.now))) }
 {
     if row == BODY {
-        return declare_names(scopes, text, tokens, &notes.parameters);
-    }
-    match notes.name {
-        Some(token) => {
-            let is_type = notes.typedef_seen;
-            declare_name(scopes, text, tokens, Parameter { token, is_type })
-        }
-        None => Ok(()),
+        declare_all(scopes, &notes.parameters)
+    } else {
+        declare_name(scopes, text, tokens, notes.name, notes.typedef_seen)
     }
 }
 
-/// Opens a scope (0), closes one (1), or declares the names that the row has read (2).
-#[tactic(auto, unfolding(crate::specs::Reads::stepped))]
+/// Closes a scope; a parameter list keeps what it has declared.
+#[tactic(auto, unfolding(crate::specs::Notes::notes_step))]
+fn close(scopes: &mut Scopes, row: u32, notes: &mut Notes)
+    ensures scopes { scopes.new ≡ left scopes.old }
+    ensures notes { noted notes.new ≡ notes_step row 1 scopes.old (noted notes.old) }
+{
+    let scope = scopes.leave();
+    if row == LIST_SUFFIX {
+        notes.parameters = scope;
+    }
+}
+
+/// Opens a scope (0), closes one (1), or declares what the row declares (2).
+#[tactic(auto, unfolding(crate::specs::Reads::stepped, crate::specs::Notes::notes_step))]
 pub fn step_scopes(
     scopes: &mut Scopes,
     text: &[u8],
     tokens: &[Token],
     row: u32,
     step: u8,
-    notes: &Notes,
+    notes: &mut Notes,
 ) -> Result<(), OutOfMemory>
-    ensures { OnOk result (scopes.new ≡ stepped text.now tokens.now row step scopes.old (noted notes.now)) }
+    ensures scopes { OnOk result (scopes.new ≡ stepped text.now tokens.now row step scopes.old (noted notes.old)) }
+    ensures notes { OnOk result (noted notes.new ≡ notes_step row step scopes.old (noted notes.old)) }
 {
     match step {
         0 => scopes.enter(),
         1 => {
-            if scopes.is_nested() {
-                scopes.leave();
-            }
+            close(scopes, row, notes);
             Ok(())
         }
         _ => declare_read(scopes, text, tokens, row, notes),

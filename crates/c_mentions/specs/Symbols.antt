@@ -4,7 +4,8 @@ use Rattle.std.specs.List.{position_from}
 use Rattle.std.specs.Option.{unwrap_or}
 use Rattle.std.specs.Str.{bytes_eq}
 use Rattle.std.specs.Global.{Vec}
-use Rattle.std.specs.HashMap.{HashMap, get_by}
+use Rattle.std.specs.BTreeMap.{BTreeMap}
+use Rattle.std.specs.Map.{lookup}
 use Rattle.c_lexer.specs.declared.Token.{Token}
 use Rattle.c_grammar.specs.Reads.{name_at}
 use Rattle.c_grammar.specs.Terminals.{spelled}
@@ -27,10 +28,9 @@ pub record Numbers (text : List ℕ) (tokens : List Token) (symbols : List ℕ) 
   pub all : length symbols ≡ length tokens
   pub each : (token : ℕ) → token < length tokens → slice_index symbols token ≡ symbol_of text tokens token
 
-module _ {S : Type 0} where
-  -- what a map of first tokens says of a name
-  abbrev pub known : HashMap (Vec ℕ) ℕ S → List ℕ → Option ℕ
-  known firsts name = get_by (λ k. bytes_eq name k.items) firsts
+-- what a map of first tokens says of a name
+abbrev pub known : BTreeMap (Vec ℕ) ℕ → List ℕ → Option ℕ
+known firsts name = lookup (λ k. bytes_eq name k.items) firsts.entries
 
 abbrev pub first_or : Option ℕ → ℕ → ℕ
 first_or None token = token

@@ -8,18 +8,25 @@ use c_grammar::terminals::spelled;
 use c_lexer::Token;
 use pta_base::OutOfMemory;
 use std::alloc::Global;
-use std::collections::HashMap;
+use std::collections::BTreeMap;
 
 /// The first token of each spelling.
-type Firsts = HashMap<Vec<u8>, u32>;
+type Firsts = BTreeMap<Vec<u8>, u32>;
+
+/// The first token that spells a name.
+fn first_of(firsts: &Firsts, name: &[u8]) -> Option<u32>
+    ensures { result ≡ spec.known firsts.now name.now }
+{
+    firsts.get(name).copied()
+}
 
 /// The symbol of an identifier behind those that are numbered, which is numbered too.
 fn number(alloc: Global, firsts: &mut Firsts, name: &[u8], token: u32) -> Result<u32, OutOfMemory>
     ensures symbol { IfOk result (λ symbol. symbol ≡ spec.first_or (spec.known firsts.old name.now) token) }
     ensures known { OnOk result ((other : List ℕ) → spec.known firsts.new other ≡ spec.known_after (spec.known firsts.old) name.now token other) }
 {
-    match firsts.get(name) {
-        Some(first) => Ok(*first),
+    match first_of(firsts, name) {
+        Some(first) => Ok(first),
         None => {
             let mut key = Vec::new(alloc);
             key.extend_from_slice(name)?;
@@ -53,7 +60,7 @@ pub fn symbols(alloc: Global, text: &[u8], tokens: &[Token]) -> Result<Vec<u32>,
     requires { length tokens.now < 2 ^ 32 }
     ensures { IfOk result (λ symbols. Numbers text.now tokens.now symbols.items) }
 {
-    let mut firsts = HashMap::new(alloc);
+    let mut firsts = BTreeMap::new(alloc);
     let mut symbols = Vec::new(alloc);
     for (token, here) in tokens.iter().enumerate() {
         symbols.push(number_token(alloc, &mut firsts, text, *here, token as u32)?)?;

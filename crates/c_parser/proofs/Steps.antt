@@ -1,16 +1,16 @@
 -- How the rules of reading follow from what the code tests.
 use Rattle.std.proofs.Common.{◌≡◌, ℕ, ◌+◌, ◌≤◌, true, false, List, [], ◌∷◌, ◌++◌, length, Some, None, Result, Ok, Err, refl, sym, ap, subst}
 use Rattle.c_lexer.specs.declared.Token.{Token}
-use Rattle.c_grammar.specs.declared.rows.Item.TheVariants as item
-use Rattle.c_grammar.specs.Table.{item_of}
 use Rattle.c_grammar.specs.Names.{Names}
-use Rattle.c_grammar.specs.Notes.{Noted, notes_begin, notes_after}
+use Rattle.c_grammar.specs.Notes.{noted, notes_begin, notes_step, notes_after}
 use Rattle.c_grammar.specs.Refusals.{refusal}
 use Rattle.c_grammar.specs.Terminals.{terminal, terminal_of, nothing}
 use Rattle.std.proofs.lemmas.Option.{slice_get_past}
 use Rattle.c_grammar.specs.Tree.{makes_node, nests}
-use Rattle.c_grammar.specs.Reads.{State, Fault, malformed, unsupported, too_deep, Node, Walks, Opens, opened, closed, first, second, most_nested, whole, broken, fits_at, chosen_at, no_use, no_choice, no_again}
-use Rattle.c_parser.specs.Parse.{Gives, Faults, fault_seen}
+use Rattle.c_grammar.specs.Reads.{State, Fault, malformed, unsupported, too_deep, Walks, Opens, opened, closed, first, second, most_nested, whole, broken, stepped, scoped}
+use Rattle.c_parser.specs.declared.reader.Own.{Own}
+use Rattle.c_grammar.specs.declared.trees.SyntaxNode.{SyntaxNode}
+use Rattle.c_parser.specs.Parse.{state, Faults, fault_seen}
 use Rattle.c_parser.specs.declared.ParseFault.{ParseFault}
 use Rattle.c_parser.specs.declared.ParseFault.TheVariants.{Malformed, Unsupported, TooDeep, OutOfMemory}
 
@@ -50,27 +50,14 @@ module _ (text : List ℕ) (tokens : List Token) (q d : ℕ) (s : State) (fits_i
       let v = subst (λ x. Walks text tokens q 0 (d + nests q) x (Ok t)) (sym (opened_own q s e)) w in
       subst (λ x. Opens text tokens q d s (Ok x)) (closed_own q s t e) (whole fits_in taken_up v)
 
-  broken_own : (f : Fault) → makes_node q ≡ true → Walks text tokens q 0 (d + nests q) (own_begin q s) (Err f) → Opens text tokens q d s (Err f)
+  pub broken_own : (f : Fault) → makes_node q ≡ true → Walks text tokens q 0 (d + nests q) (own_begin q s) (Err f) → Opens text tokens q d s (Err f)
   broken_own f e w = broken fits_in taken_up (subst (λ x. Walks text tokens q 0 (d + nests q) x (Err f)) (sym (opened_own q s e)) w)
 
-  pub faults_own : (e : ParseFault) → makes_node q ≡ true → Faults (Walks text tokens q 0 (d + nests q) (own_begin q s)) e → Faults (Opens text tokens q d s) e
-  faults_own (Malformed n) e w = broken_own _ e w
-  faults_own (Unsupported k n) e w = broken_own _ e w
-  faults_own (TooDeep n) e w = broken_own _ e w
-  faults_own OutOfMemory e w = tt
-
-  helper : (r : Result State Fault) → makes_node q ≡ false → Walks text tokens q 0 (d + nests q) s r → Opens text tokens q d s r
+  pub helper : (r : Result State Fault) → makes_node q ≡ false → Walks text tokens q 0 (d + nests q) s r → Opens text tokens q d s r
   helper (Ok t) e w =
       let v = subst (λ x. Walks text tokens q 0 (d + nests q) x (Ok t)) (sym (opened_helper q s e)) w in
       subst (λ x. Opens text tokens q d s (Ok x)) (closed_helper q s t e) (whole fits_in taken_up v)
   helper (Err f) e w = broken fits_in taken_up (subst (λ x. Walks text tokens q 0 (d + nests q) x (Err f)) (sym (opened_helper q s e)) w)
-
-  pub gives_helper : {X : Type 0} (r : Result X ParseFault) (view : X → State) → makes_node q ≡ false → Gives (Walks text tokens q 0 (d + nests q) s) r view → Gives (Opens text tokens q d s) r view
-  gives_helper (Ok x) view e w = helper _ e w
-  gives_helper (Err (Malformed n)) view e w = helper _ e w
-  gives_helper (Err (Unsupported k n)) view e w = helper _ e w
-  gives_helper (Err (TooDeep n)) view e w = helper _ e w
-  gives_helper (Err OutOfMemory) view e w = tt
 
 -- a fault that is told
 pub faults_told : (P : Result State Fault → Type 0) (e : ParseFault) (f : Fault) → fault_seen e ≡ Some f → P (Err f) → Faults P e
@@ -86,16 +73,7 @@ faults_map P Q (Unsupported k n) g h = g _ h
 faults_map P Q (TooDeep n) g h = g _ h
 faults_map P Q OutOfMemory g h = tt
 
-pub same_state : (place : ℕ) (scopes : Names) (nodes nodes' : List Node) (children children' : List ℕ) (notes notes' : Noted) → nodes ≡ nodes' → children ≡ children' → notes ≡ notes' →
-    ◌≡◌ {A = State} (record { place = place; scopes = scopes; nodes = nodes; children = children; notes = notes }) (record { place = place; scopes = scopes; nodes = nodes'; children = children'; notes = notes' })
-same_state place scopes nodes nodes' children children' notes notes' a b d = cc
-
-module _ (text : List ℕ) (tokens : List Token) (p at d : ℕ) (s : State) (e : ParseFault) where
-  pub faults_use : (q : ℕ) → item_of p at ≡ Some (item.Use q) → Faults (Opens text tokens q d s) e → Faults (Walks text tokens p at d s) e
-  faults_use q i h = faults_map (Opens text tokens q d s) (Walks text tokens p at d s) e (λ f w. no_use i w) h
-
-  pub faults_choice : (a b q : ℕ) → item_of p at ≡ Some (item.Choice a b) → chosen_at text tokens a b s ≡ Some q → Faults (Opens text tokens q d s) e → Faults (Walks text tokens p at d s) e
-  faults_choice a b q i c h = faults_map (Opens text tokens q d s) (Walks text tokens p at d s) e (λ f w. no_choice i c w) h
-
-  pub faults_again : (q : ℕ) → item_of p at ≡ Some (item.Repeat q) → fits_at text tokens q s ≡ true → Faults (Opens text tokens q d s) e → Faults (Walks text tokens p at d s) e
-  faults_again q i k h = faults_map (Opens text tokens q d s) (Walks text tokens p at d s) e (λ f w. no_again i k w) h
+-- a step of scopes
+pub scoped_state : (text : List ℕ) (tokens : List Token) (p n place : ℕ) (scopes scopes' : Names) (nodes : List SyntaxNode) (own own' : Own) → scopes' ≡ stepped text tokens p n scopes (noted own.notes) → noted own'.notes ≡ notes_step p n scopes (noted own.notes)
+    → own'.children.items ≡ own.children.items → state place scopes' nodes own' ≡ scoped text tokens p n (state place scopes nodes own)
+scoped_state text tokens p n place scopes scopes' nodes own own' a b d = cc

@@ -35,16 +35,6 @@ Faults P (Unsupported kind place) = P (Err (unsupported kind place))
 Faults P (TooDeep place) = P (Err (too_deep place))
 Faults P OutOfMemory = Unit {0}
 
--- Gives P r s: what was returned is a fault that P allows, or P allows the state s of its value.
-abbrev pub Gives : {X : Type 0} → (Result State Fault → Type 0) → Result X ParseFault → (X → State) → Type 0
-Gives P (Ok x) s = P (Ok (s x))
-Gives P (Err e) s = Faults P e
-
--- Follows P r Q: P holds of what was returned if it is a fault, and else whatever Q allows of its value, P allows.
-abbrev pub Follows : {X : Type 0} → (Result State Fault → Type 0) → Result X ParseFault → (X → Result State Fault → Type 0) → Type 0
-Follows P (Ok x) Q = (r : Result State Fault) → Q x r → P r
-Follows P (Err e) Q = Faults P e
-
 -- a call begins with no children and no notes of its own
 abbrev pub begin : ℕ → Names → List SyntaxNode → State
 begin place scopes nodes = record { place = place; scopes = scopes; nodes = map node_of nodes; children = []; notes = no_notes }

@@ -1,12 +1,13 @@
-//! The reader: it walks the table, and a production is read where an item uses it.
+//! The reader: it walks the table, and keeps the productions that are open in a list.
 ghost use Rattle.c_grammar.specs.Notes.{noted, notes_after};
 ghost use Rattle.c_grammar.specs.Productions.{p_nothing};
 ghost use Rattle.c_grammar.specs.Reads.{Walks, Opens, fault_of, node_of, taken};
 ghost use Rattle.c_grammar.specs.Refusals as refuse;
 ghost use Rattle.c_grammar.specs.Table.{item_of};
-ghost use Rattle.c_parser.specs.Bounds.{can_be_empty, leads, Onward};
-ghost use Rattle.c_parser.specs.Parse.{state, Answers, Gives, Follows, Sees, fault_seen};
-ghost use Rattle.std.specs.Prelude.{◌≡◌, ◌+◌, ◌<◌, ◌≤◌, ◌^◌, length, map, [], ◌∷◌, ◌++◌, false, IfOk, OnOk, Some};
+ghost use Rattle.c_parser.specs.Leads as leads;
+ghost use Rattle.c_parser.specs.Leads.{Leads, IsOpened, IsEntered, IsFaulty, IsTurned};
+ghost use Rattle.c_parser.specs.Parse.{state, Answers, Faults, Sees, fault_seen};
+ghost use Rattle.std.specs.Prelude.{◌≡◌, ℕ, List, ◌+◌, ◌<◌, ◌≤◌, ◌^◌, length, map, [], ◌∷◌, ◌++◌, false, IfOk, OnOk, Some, None, MatchResult, true};
 
 use crate::ParseFault;
 use c_grammar::looks::{chosen, fits, makes_node, nests, refusal, refused_token};
@@ -26,7 +27,7 @@ struct Input<'a> {
     tokens: &'a [Token],
 }
 
-/// Of the production that is being read: its children so far, and what it has noted.
+/// Of a production that is being read: its children so far, and what it has noted.
 #[derive(Drop)]
 struct Own {
     children: Vec<u32>,
@@ -41,11 +42,25 @@ struct Ahead {
     second: u32,
 }
 
-/// Where reading goes on: the next token, and the place in the row.
-#[derive(Clone, Copy)]
-struct Next {
-    ahead: Ahead,
+/// A production that is being read: the place in its row, its first token, how many constructs that nest are open within it, and,
+/// where it makes a node, what its user has of its own.
+#[derive(Drop)]
+struct Frame {
+    production: u32,
     at: u32,
+    token: u32,
+    depth: u32,
+    outer: Option<Own>,
+}
+
+/// How far reading has come: the next token, what the innermost open production has of its own, that production, and those that
+/// use it, from the outermost on.
+#[derive(Drop)]
+struct Progress {
+    ahead: Ahead,
+    own: Own,
+    top: Frame,
+    users: Vec<Frame>,
 }
 
 /// The most constructs that may be open at a token.
@@ -53,47 +68,6 @@ const MOST_NESTED: u32 = 256;
 
 /// The production of a leaf.
 const LEAF: u32 = u32::MAX;
-
-/// Reads a production that makes a node from the token `at` on, within `depth` open constructs, and answers the number of the
-/// token behind it. The node is the last one of the tree. After a fault the scopes and the tree are only fit to be dropped.
-pub fn read_production(
-    alloc: Global,
-    tokens: &Tokens,
-    production: u32,
-    at: usize,
-    depth: u32,
-    scopes: &mut Scopes,
-    tree: &mut Tree,
-) -> Result<usize, ParseFault>
-    requires tokens { length tokens.now.list.items < 2 ^ 32 }
-    requires within { at ≤ length tokens.now.list.items }
-    requires nested { depth ≤ 256 }
-    requires real { production < p_nothing }
-    ensures { Answers production tokens.now at depth scopes.old tree.old result scopes.new tree.new }
-{
-    let input = Input {
-        alloc,
-        text: tokens.text,
-        tokens: &tokens.list,
-    };
-    let mut own = Own {
-        children: Vec::new(alloc),
-        notes: Notes::new(alloc),
-    };
-    let ahead = look(input, scopes, at);
-    match read(
-        input,
-        production,
-        ahead,
-        depth,
-        scopes,
-        &mut tree.nodes,
-        &mut own,
-    ) {
-        Ok(end) => Ok(end.place),
-        Err(fault) => Err(fault),
-    }
-}
 
 /// Looks at the token at a place and at the one behind it.
 fn look(input: Input, scopes: &Scopes, place: usize) -> Ahead
@@ -136,39 +110,44 @@ fn add_node(
     Ok(())
 }
 
-/// Takes the next token as a leaf.
+/// Takes the next token as a leaf of the innermost production.
 fn take_token(
     input: Input,
-    production: u32,
-    ahead: Ahead,
+    progress: &mut Progress,
     scopes: &Scopes,
     nodes: &mut Vec<SyntaxNode>,
-    own: &mut Own,
-) -> Result<Ahead, OutOfMemory>
-    requires place { ahead.place < 2 ^ 32 }
-    requires sees { Sees input.text.now input.tokens.now scopes.now ahead }
-    ensures place { IfOk result (λ next. next.place ≡ ahead.place + 1) }
-    ensures sees { IfOk result (λ next. Sees input.entry.text.now input.entry.tokens.now scopes.now next) }
-    ensures takes { OnOk result (state (ahead.place + 1) scopes.now nodes.new.items own.new
-        ≡ taken input.entry.text.now input.entry.tokens.now production (state ahead.place scopes.now nodes.old.items own.old)) }
+) -> Result<(), OutOfMemory>
+    requires place { progress.old.ahead.place < 2 ^ 32 }
+    requires sees { Sees input.text.now input.tokens.now scopes.now progress.old.ahead }
+    ensures place { OnOk result (progress.new.ahead.place ≡ progress.old.ahead.place + 1) }
+    ensures sees { OnOk result (Sees input.entry.text.now input.entry.tokens.now scopes.now progress.new.ahead) }
+    ensures takes { OnOk result (state (progress.old.ahead.place + 1) scopes.now nodes.new.items progress.new.own
+        ≡ taken input.entry.text.now input.entry.tokens.now progress.old.top.production (state progress.old.ahead.place scopes.now nodes.old.items progress.old.own)) }
+    ensures top { OnOk result (progress.new.top ≡ progress.old.top) }
+    ensures users { OnOk result (progress.new.users ≡ progress.old.users) }
 {
+    let ahead = progress.ahead;
     let token = ahead.place as u32;
     let leaf = SyntaxNode {
         production: LEAF,
         token,
         children: Vec::new(input.alloc),
     };
-    add_node(nodes, &mut own.children, leaf)?;
-    own.notes.token(production, token, ahead.first);
-    Ok(Ahead {
+    add_node(nodes, &mut progress.own.children, leaf)?;
+    progress
+        .own
+        .notes
+        .token(progress.top.production, token, ahead.first);
+    progress.ahead = Ahead {
         place: ahead.place + 1,
         first: ahead.second,
         second: terminal(input.text, input.tokens, scopes, ahead.place + 2),
-    })
+    };
+    Ok(())
 }
 
 /// Makes the node of a production that has been read to its end.
-fn close(
+fn make_node(
     production: u32,
     token: u32,
     inner: Own,
@@ -189,160 +168,252 @@ fn close(
     own.notes.after(production, inner.notes)
 }
 
-/// Reads a production from a token on, within `depth` open constructs, and answers where reading goes on.
-#[cycle(reader)]
-fn read(
+/// Makes the node of a production that has been read to its end, if it makes one; then its user has its own again.
+fn finish(
+    production: u32,
+    token: u32,
+    outer: Option<Own>,
+    own: &mut Own,
+    nodes: &mut Vec<SyntaxNode>,
+) -> Result<(), OutOfMemory>
+    ensures { OnOk result ((place : ℕ) (scopes : leads.Names) → state place scopes nodes.new.items own.new ≡ leads.ended_by production token outer (state place scopes nodes.old.items own.old)) }
+{
+    let Some(outer) = outer else {
+        return Ok(());
+    };
+    let inner = std::mem::replace(own, outer);
+    make_node(production, token, inner, nodes, own)
+}
+
+/// Opens a production at a token, within `depth` open constructs.
+fn open(
     input: Input,
     production: u32,
     ahead: Ahead,
     depth: u32,
-    scopes: &mut Scopes,
-    nodes: &mut Vec<SyntaxNode>,
     own: &mut Own,
-) -> Result<Ahead, ParseFault>
-    requires tokens { length input.tokens.now < 2 ^ 32 }
-    requires within { ahead.place ≤ length input.tokens.now }
-    requires sees { Sees input.text.now input.tokens.now scopes.old ahead }
-    requires nested { depth ≤ 256 }
-    ensures reads { Gives (Opens input.entry.text.now input.entry.tokens.now production depth (state ahead.place scopes.old nodes.old.items own.old))
-        result (λ end. state end.place scopes.new nodes.new.items own.new) }
-    ensures onward { IfOk result (λ end. (ahead.place ≤ end.place) × (end.place ≤ length input.entry.tokens.now) × (can_be_empty production ≡ false → ahead.place < end.place)) }
-    ensures sees { IfOk result (λ end. Sees input.entry.text.now input.entry.tokens.now scopes.new end) }
+) -> Result<Frame, ParseFault>
+    requires { ahead.place < 2 ^ 32 }
+    ensures { MatchResult result
+        (λ frame. IsOpened input.entry.text.now input.entry.tokens.now production ahead depth own.old own.new frame)
+        (λ fault. IsFaulty input.entry.text.now input.entry.tokens.now production ahead depth own.old fault) }
 {
-    let deeper = depth + nests(production);
     let token = ahead.place as u32;
+    let deeper = depth.saturating_add(nests(production));
     if deeper > MOST_NESTED {
         return Err(ParseFault::TooDeep(token));
     }
-    match refusal(production, ahead.first, ahead.second) {
-        Some(kind) => return Err(ParseFault::Unsupported(kind, token)),
-        None => {}
+    if let Some(kind) = refusal(production, ahead.first, ahead.second) {
+        return Err(ParseFault::Unsupported(kind, token));
     }
-    if !makes_node(production) {
-        return walk(input, production, ahead, deeper, scopes, nodes, own);
-    }
-    let mut inner = Own {
-        children: Vec::new(input.alloc),
-        notes: own.notes.begin(input.alloc, production),
+    let outer = if makes_node(production) {
+        let inner = Own {
+            children: Vec::new(input.alloc),
+            notes: own.notes.begin(input.alloc, production),
+        };
+        Some(std::mem::replace(own, inner))
+    } else {
+        None
     };
-    let end = match walk(input, production, ahead, deeper, scopes, nodes, &mut inner) {
-        Ok(end) => end,
+    Ok(Frame {
+        production,
+        at: 0,
+        token,
+        depth: deeper,
+        outer,
+    })
+}
+
+/// Notes that a production uses another one.
+fn add_user(users: &mut Vec<Frame>, user: Frame) -> Result<(), OutOfMemory>
+    ensures { OnOk result (users.new.items ≡ users.old.items ++ user ∷ []) }
+{
+    users.push(user)?;
+    Ok(())
+}
+
+/// Opens a production that the innermost one uses, which goes on at a place of its row behind it.
+fn enter(input: Input, progress: &mut Progress, used: u32, on: u32) -> Result<(), ParseFault>
+    requires { progress.old.ahead.place < 2 ^ 32 }
+    ensures { MatchResult result
+        (λ done. IsEntered input.entry.text.now input.entry.tokens.now used on progress.old progress.new)
+        (λ fault. IsFaulty input.entry.text.now input.entry.tokens.now used progress.old.ahead progress.old.top.depth progress.old.own fault) }
+{
+    let frame = match open(
+        input,
+        used,
+        progress.ahead,
+        progress.top.depth,
+        &mut progress.own,
+    ) {
+        Ok(frame) => frame,
         Err(fault) => return Err(fault),
     };
-    match close(production, token, inner, nodes, own) {
-        Ok(()) => Ok(end),
+    let mut user = std::mem::replace(&mut progress.top, frame);
+    user.at = on;
+    match add_user(&mut progress.users, user) {
+        Ok(()) => Ok(()),
         Err(_) => Err(ParseFault::OutOfMemory),
     }
 }
 
-/// Reads the items of a production's row.
-#[cycle(reader)]
-fn walk(
-    input: Input,
-    production: u32,
-    ahead: Ahead,
-    depth: u32,
-    scopes: &mut Scopes,
-    nodes: &mut Vec<SyntaxNode>,
-    own: &mut Own,
-) -> Result<Ahead, ParseFault>
-    requires tokens { length input.tokens.now < 2 ^ 32 }
-    requires within { ahead.place ≤ length input.tokens.now }
-    requires sees { Sees input.text.now input.tokens.now scopes.old ahead }
-    requires nested { depth ≤ 256 }
-    ensures walks { Gives (Walks input.entry.text.now input.entry.tokens.now production 0 depth (state ahead.place scopes.old nodes.old.items own.old))
-        result (λ end. state end.place scopes.new nodes.new.items own.new) }
-    ensures onward { IfOk result (λ end. (ahead.place ≤ end.place) × (end.place ≤ length input.entry.tokens.now) × (can_be_empty production ≡ false → ahead.place < end.place)) }
-    ensures sees { IfOk result (λ end. Sees input.entry.text.now input.entry.tokens.now scopes.new end) }
+/// Ends the innermost production, whose row has been read, and answers whether one that uses it goes on.
+fn close(progress: &mut Progress, nodes: &mut Vec<SyntaxNode>) -> Result<bool, OutOfMemory>
+    ensures place { OnOk result (progress.new.ahead ≡ progress.old.ahead) }
+    ensures turns { IfOk result (λ goes. (text : List ℕ) (tokens : List leads.Token) (scopes : leads.Names) → item_of progress.old.top.production progress.old.top.at ≡ None
+        → IsTurned text tokens goes progress.old scopes nodes.old.items progress.new scopes nodes.new.items) }
 {
-    let start = ahead.place;
-    let mut next = Next { ahead, at: 0 };
-    while let Some(item) = item(production, next.at) {
-        next = match step(
-            input, production, item, next, start, depth, scopes, nodes, own,
-        ) {
-            Ok(next) => next,
-            Err(fault) => return Err(fault),
-        };
+    let outer = progress.top.outer.take();
+    finish(
+        progress.top.production,
+        progress.top.token,
+        outer,
+        &mut progress.own,
+        nodes,
+    )?;
+    match progress.users.pop() {
+        Some(user) => {
+            progress.top = user;
+            Ok(true)
+        }
+        None => Ok(false),
     }
-    Ok(next.ahead)
 }
 
-/// Reads one item, or one turn of a repetition.
-#[cycle(reader)]
+/// Reads one item of the innermost production, or one turn of a repetition.
 fn step(
     input: Input,
-    production: u32,
     item: Item,
-    from: Next,
-    _start: usize,
-    depth: u32,
+    progress: &mut Progress,
     scopes: &mut Scopes,
     nodes: &mut Vec<SyntaxNode>,
-    own: &mut Own,
-) -> Result<Next, ParseFault>
+) -> Result<(), ParseFault>
     requires tokens { length input.tokens.now < 2 ^ 32 }
-    requires within { from.ahead.place ≤ length input.tokens.now }
-    requires sees { Sees input.text.now input.tokens.now scopes.old from.ahead }
-    requires started { _start ≤ from.ahead.place }
-    requires begun { leads production from.at ≡ false → _start < from.ahead.place }
-    requires nested { depth ≤ 256 }
-    requires low { from.at < 10 }
-    requires stands { item_of production from.at ≡ Some item }
-    ensures steps { Follows (Walks input.entry.text.now input.entry.tokens.now production from.at depth (state from.ahead.place scopes.old nodes.old.items own.old))
-        result (λ next. Walks input.entry.text.now input.entry.tokens.now production next.at depth (state next.ahead.place scopes.new nodes.new.items own.new)) }
-    ensures onward { IfOk result (λ next. Onward production item from next (length input.entry.tokens.now)) }
-    ensures sees { IfOk result (λ next. Sees input.entry.text.now input.entry.tokens.now scopes.new next.ahead) }
+    requires within { progress.old.ahead.place ≤ length input.tokens.now }
+    requires sees { Sees input.text.now input.tokens.now scopes.old progress.old.ahead }
+    requires low { progress.old.top.at < 2 ^ 16 }
+    requires stands { item_of progress.old.top.production progress.old.top.at ≡ Some item }
+    ensures steps { MatchResult result
+        (λ done. IsTurned input.entry.text.now input.entry.tokens.now true progress.old scopes.old nodes.old.items progress.new scopes.new nodes.new.items)
+        (λ fault. Faults (Leads input.entry.text.now input.entry.tokens.now progress.old scopes.old nodes.old.items) fault) }
+    ensures within { OnOk result (progress.new.ahead.place ≤ length input.entry.tokens.now) }
+    ensures sees { OnOk result (Sees input.entry.text.now input.entry.tokens.now scopes.new progress.new.ahead) }
 {
-    let on = from.at + 1;
-    let ahead = from.ahead;
+    let on = progress.top.at + 1;
+    let ahead = progress.ahead;
     match item {
         Item::Token(kind) => {
-            if !takes(production, kind, ahead.first) {
+            if !takes(progress.top.production, kind, ahead.first) {
                 return Err(misfit(ahead.first, ahead.place));
             }
-            match take_token(input, production, ahead, scopes, nodes, own) {
-                Ok(ahead) => Ok(Next { ahead, at: on }),
+            progress.top.at = on;
+            match take_token(input, progress, scopes, nodes) {
+                Ok(()) => Ok(()),
                 Err(_) => Err(ParseFault::OutOfMemory),
             }
         }
-        Item::Use(used) => match read(input, used, ahead, depth, scopes, nodes, own) {
-            Ok(ahead) => Ok(Next { ahead, at: on }),
-            Err(fault) => Err(fault),
-        },
+        Item::Use(used) => enter(input, progress, used, on),
         Item::Choice(one, other) => {
-            match chosen(one, other, ahead.first, ahead.second, &own.notes) {
-                Some(used) => match read(input, used, ahead, depth, scopes, nodes, own) {
-                    Ok(ahead) => Ok(Next { ahead, at: on }),
-                    Err(fault) => Err(fault),
-                },
+            match chosen(one, other, ahead.first, ahead.second, &progress.own.notes) {
+                Some(used) => enter(input, progress, used, on),
                 None => Err(misfit(ahead.first, ahead.place)),
             }
         }
         Item::Repeat(repeated) => {
-            if !fits(repeated, ahead.first, ahead.second, &own.notes) {
-                return Ok(Next { ahead, at: on });
+            if fits(repeated, ahead.first, ahead.second, &progress.own.notes) {
+                let at = progress.top.at;
+                return enter(input, progress, repeated, at);
             }
-            match read(input, repeated, ahead, depth, scopes, nodes, own) {
-                Ok(ahead) => Ok(Next { ahead, at: from.at }),
-                Err(fault) => Err(fault),
-            }
+            progress.top.at = on;
+            Ok(())
         }
         Item::Scope(step) => {
-            match step_scopes(
-                scopes,
-                input.text,
-                input.tokens,
-                production,
-                step,
-                &own.notes,
-            ) {
-                Ok(()) => Ok(Next {
-                    ahead: look(input, scopes, ahead.place),
-                    at: on,
-                }),
+            let row = progress.top.production;
+            let notes = &mut progress.own.notes;
+            match step_scopes(scopes, input.text, input.tokens, row, step, notes) {
+                Ok(()) => {
+                    progress.ahead = look(input, scopes, ahead.place);
+                    progress.top.at = on;
+                    Ok(())
+                }
                 Err(_) => Err(ParseFault::OutOfMemory),
             }
         }
     }
+}
+
+/// Reads one item of the innermost production or ends it, and answers whether reading goes on.
+fn turn(
+    input: Input,
+    progress: &mut Progress,
+    scopes: &mut Scopes,
+    nodes: &mut Vec<SyntaxNode>,
+) -> Result<bool, ParseFault>
+    requires tokens { length input.tokens.now < 2 ^ 32 }
+    requires within { progress.old.ahead.place ≤ length input.tokens.now }
+    requires sees { Sees input.text.now input.tokens.now scopes.old progress.old.ahead }
+    ensures turns { MatchResult result
+        (λ goes. IsTurned input.entry.text.now input.entry.tokens.now goes progress.old scopes.old nodes.old.items progress.new scopes.new nodes.new.items)
+        (λ fault. Faults (Leads input.entry.text.now input.entry.tokens.now progress.old scopes.old nodes.old.items) fault) }
+    ensures within { OnOk result (progress.new.ahead.place ≤ length input.entry.tokens.now) }
+    ensures sees { OnOk result (Sees input.entry.text.now input.entry.tokens.now scopes.new progress.new.ahead) }
+{
+    match item(progress.top.production, progress.top.at) {
+        Some(item) => match step(input, item, progress, scopes, nodes) {
+            Ok(()) => Ok(true),
+            Err(fault) => Err(fault),
+        },
+        None => match close(progress, nodes) {
+            Ok(goes) => Ok(goes),
+            Err(_) => Err(ParseFault::OutOfMemory),
+        },
+    }
+}
+
+/// Reads a production that makes a node from the token `at` on, within `depth` open constructs, and answers the number of the
+/// token behind it. The node is the last one of the tree. After a fault the scopes and the tree are only fit to be dropped.
+/// Nothing recurses: the productions that are open stand in a list, as many as memory has room for.
+pub fn read_production(
+    alloc: Global,
+    tokens: &Tokens,
+    production: u32,
+    at: usize,
+    depth: u32,
+    scopes: &mut Scopes,
+    tree: &mut Tree,
+) -> Result<usize, ParseFault>
+    requires tokens { length tokens.now.list.items < 2 ^ 32 }
+    requires within { at ≤ length tokens.now.list.items }
+    requires nested { depth ≤ 256 }
+    requires real { production < p_nothing }
+    ensures { Answers production tokens.now at depth scopes.old tree.old result scopes.new tree.new }
+{
+    let input = Input {
+        alloc,
+        text: tokens.text,
+        tokens: &tokens.list,
+    };
+    let mut own = Own {
+        children: Vec::new(alloc),
+        notes: Notes::new(alloc),
+    };
+    let ahead = look(input, scopes, at);
+    let top = match open(input, production, ahead, depth, &mut own) {
+        Ok(top) => top,
+        Err(fault) => return Err(fault),
+    };
+    let mut progress = Progress {
+        ahead,
+        own,
+        top,
+        users: Vec::new(alloc),
+    };
+    'turns: for _ in 0..u64::MAX {
+        match turn(input, &mut progress, scopes, &mut tree.nodes) {
+            Ok(true) => {}
+            Ok(false) => return Ok(progress.ahead.place),
+            Err(fault) => return Err(fault),
+        }
+    }
+    Err(ParseFault::OutOfMemory)
 }

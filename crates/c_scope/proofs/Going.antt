@@ -1,7 +1,7 @@
 -- What is known and which labels there are, node by node.
 use Rattle.std.proofs.Common.{◌≡◌, ℕ, suc, ◌+◌, ◌<◌, Bool, true, false, ltb, Option, Some, None, List, [], ◌∷◌, ◌++◌, length, take, get_or, cond, refl, sym, ap, subst, ◌∙◌, arith, length-take}
 use Rattle.std.proofs.lemmas.List.{take_more}
-use Rattle.std.specs.HashMap.{HashMap}
+use Rattle.std.specs.BTreeMap.{BTreeMap}
 use Rattle.c_mentions.specs.declared.mentions.Mention.{Mention}
 use Rattle.c_mentions.specs.declared.mentions.Mention.TheVariants as mention
 use Rattle.c_scope.specs.Known.{Happening, Known, known, nothing_known, after, first_label, is_label}
@@ -48,27 +48,26 @@ or_first_none : (o : Option ℕ) → o ≡ or_first o None
 or_first_none None = refl
 or_first_none (Some n) = refl
 
-module _ {S : Type 0} where
-  -- a label more, by what a node does
-  label_noted : (before : HashMap (ℕ × ℕ) ℕ S) (n : ℕ) (h : Happening) (m : Mention) (body symbol : ℕ)
-      → label_after before h.body n m body symbol ≡ or_first (label_at before body symbol) (cond (is_label body symbol h m) (Some n) None)
-  label_noted before n h (mention.Label s) body symbol = refl
-  label_noted before n h mention.Nothing body symbol = or_first_none (label_at before body symbol)
-  label_noted before n h (mention.Use s e) body symbol = or_first_none (label_at before body symbol)
-  label_noted before n h (mention.Tag s e) body symbol = or_first_none (label_at before body symbol)
-  label_noted before n h (mention.Goto s) body symbol = or_first_none (label_at before body symbol)
-  label_noted before n h (mention.Declares a b d f g) body symbol = or_first_none (label_at before body symbol)
+-- a label more, by what a node does
+label_noted : (before : BTreeMap (ℕ × ℕ) ℕ) (n : ℕ) (h : Happening) (m : Mention) (body symbol : ℕ)
+    → label_after before h.body n m body symbol ≡ or_first (label_at before body symbol) (cond (is_label body symbol h m) (Some n) None)
+label_noted before n h (mention.Label s) body symbol = refl
+label_noted before n h mention.Nothing body symbol = or_first_none (label_at before body symbol)
+label_noted before n h (mention.Use s e) body symbol = or_first_none (label_at before body symbol)
+label_noted before n h (mention.Tag s e) body symbol = or_first_none (label_at before body symbol)
+label_noted before n h (mention.Goto s) body symbol = or_first_none (label_at before body symbol)
+label_noted before n h (mention.Declares a b d f g) body symbol = or_first_none (label_at before body symbol)
 
-  pub label_more : (old : HashMap (ℕ × ℕ) ℕ S) (all : List Happening) (i : ℕ) (e : Happening) (body symbol : ℕ) → i < length all
-      → label_at old body symbol ≡ first_label 0 (take i all) body symbol
-      → label_after old (get_or all i e).body i (get_or all i e).mention body symbol ≡ first_label 0 (take (i + 1) all) body symbol
-  label_more old all i e body symbol l f =
-      let h = get_or all i e in
-      let n : 0 + length (take i all) ≡ i = simp length-take (omega arith) in
-      label_noted old i h h.mention body symbol
-      ∙ (ap (λ o. or_first o (cond (is_label body symbol h h.mention) (Some i) None)) f
-      ∙ (ap (λ m. or_first (first_label 0 (take i all) body symbol) (cond (is_label body symbol h h.mention) (Some m) None)) (sym n)
-      ∙ sym (ap (λ l. first_label 0 l body symbol) (take_more all i e l) ∙ first_label-push 0 (take i all) h body symbol)))
+pub label_more : (old : BTreeMap (ℕ × ℕ) ℕ) (all : List Happening) (i : ℕ) (e : Happening) (body symbol : ℕ) → i < length all
+    → label_at old body symbol ≡ first_label 0 (take i all) body symbol
+    → label_after old (get_or all i e).body i (get_or all i e).mention body symbol ≡ first_label 0 (take (i + 1) all) body symbol
+label_more old all i e body symbol l f =
+    let h = get_or all i e in
+    let n : 0 + length (take i all) ≡ i = simp length-take (omega arith) in
+    label_noted old i h h.mention body symbol
+    ∙ (ap (λ o. or_first o (cond (is_label body symbol h h.mention) (Some i) None)) f
+    ∙ (ap (λ m. or_first (first_label 0 (take i all) body symbol) (cond (is_label body symbol h h.mention) (Some m) None)) (sym n)
+    ∙ sym (ap (λ l. first_label 0 l body symbol) (take_more all i e l) ∙ first_label-push 0 (take i all) h body symbol)))
 
 module _ (unit : Unit) (all : List Happening) (h : AreHappenings unit all) (i : ℕ) (d : Setting) (within : i < length unit.settings.now) where
   abbrev none : Happening
@@ -85,7 +84,7 @@ module _ (unit : Unit) (all : List Happening) (h : AreHappenings unit all) (i : 
   Sees m = m ≡ mention_at unit.text.now unit.tokens.now (symbol_at unit.symbols.now) (nodes_of unit.nodes.now) i (ltb setting.body unit.file) setting.role
 
   -- the labels behind one node more
-  pub labels_noted : {S : Type 0} (old new : HashMap (ℕ × ℕ) ℕ S) (m : Mention) → Sees m
+  pub labels_noted : (old new : BTreeMap (ℕ × ℕ) ℕ) (m : Mention) → Sees m
       → ((body symbol : ℕ) → label_at new body symbol ≡ label_after old setting.body i m body symbol)
       → ((body symbol : ℕ) → label_at old body symbol ≡ first_label 0 (take i all) body symbol)
       → (body symbol : ℕ) → label_at new body symbol ≡ first_label 0 (take (i + 1) all) body symbol

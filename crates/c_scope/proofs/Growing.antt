@@ -10,7 +10,8 @@ use Rattle.c_mentions.specs.declared.roles.TagUse.{TagUse}
 use Rattle.c_mentions.specs.declared.roles.TagUse.TheVariants.{Declares, Refers, Uses}
 use Rattle.c_scope.specs.declared.kinds.NameFault.{NameFault}
 use Rattle.c_scope.specs.declared.kinds.NameFault.TheVariants.{Undeclared, Redeclared}
-use Rattle.c_scope.specs.Known.{Happening, Declared, Known, known, after, after_use, after_tag_use, after_tag_reference, after_tag, after_goto, after_declaration, with_fault, with_use, with_tag, tag_declared, declared_by, first_scope, innermost, is_first, clashes, those_at, first_fault, earlier}
+use Rattle.c_scope.specs.declared.kinds.Declared.{Declared}
+use Rattle.c_scope.specs.Known.{Happening, Known, known, after, after_use, after_tag_use, after_tag_reference, after_tag, after_goto, after_declaration, with_fault, with_use, with_tag, tag_declared, declared_by, first_scope, innermost, is_first, clashes, those_at, first_fault, earlier}
 use Rattle.c_scope.proofs.Steps.{first_fault-push}
 
 chosen : (b : Bool) (g f : NameFault) → ◌≡◌ {A = Option NameFault} (cond b (Some g) (Some f)) None → ⊥

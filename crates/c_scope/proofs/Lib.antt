@@ -3,3 +3,4 @@ pub mod Steps
 pub mod Going
 pub mod AllHappen
 pub mod Growing
+pub mod Keys

@@ -1,6 +1,6 @@
 -- Steps of what is known, as the binder makes them.
 use Rattle.std.proofs.Common.{◌≡◌, ℕ, Bool, true, false, ◌||◌, eqb, Option, List, [], ◌∷◌, ◌++◌, cond, refl, sym, ap, ◌∙◌}
-use Rattle.std.specs.HashSet.{HashSet}
+use Rattle.std.specs.BTreeSet.{BTreeSet}
 use Rattle.c_scope.specs.declared.kinds.NameFault.{NameFault}
 use Rattle.c_scope.specs.Known.{first_fault, earlier}
 use Rattle.c_scope.specs.Binding.{has, HasAll}
@@ -16,6 +16,5 @@ or_same true false = refl
 or_same false true = refl
 or_same false false = refl
 
-module _ {S : Type 0} where
-  pub has_more : (old new : HashSet ℕ S) (list : List ℕ) (n : ℕ) → ((q : ℕ) → has new q ≡ cond (eqb n q) true (has old q)) → HasAll old list → HasAll new (list ++ n ∷ [])
-  has_more old new list n f h q = f q ∙ (or_same (eqb n q) (has old q) ∙ (ap (λ b. b || eqb n q) (h q) ∙ sym (contains-push list n q)))
+pub has_more : (old new : BTreeSet ℕ) (list : List ℕ) (n : ℕ) → ((q : ℕ) → has new q ≡ cond (eqb n q) true (has old q)) → HasAll old list → HasAll new (list ++ n ∷ [])
+has_more old new list n f h q = f q ∙ (or_same (eqb n q) (has old q) ∙ (ap (λ b. b || eqb n q) (h q) ∙ sym (contains-push list n q)))

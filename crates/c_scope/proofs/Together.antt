@@ -2,13 +2,14 @@
 use Rattle.std.proofs.Common.{◌≡◌, ℕ, ◌<◌, ◌≤◌, Bool, true, false, ◌||◌, not, eqb, Option, Some, None, List, [], ◌∷◌, ◌++◌, filter, cond, refl, sym, ap, subst, ◌∙◌, arith, append-nil, eqb-true}
 use Rattle.std.specs.List.{list_any, slice_get}
 use Rattle.std.proofs.lemmas.Bool.{and_parts}
-use Rattle.std.specs.HashMap.{HashMap}
+use Rattle.std.specs.BTreeMap.{BTreeMap}
 use Rattle.c_scope.specs.declared.kinds.Kind.{Kind}
 use Rattle.c_scope.specs.declared.kinds.Kind.TheVariants.{Linked, Typedef, Plain}
 use Rattle.c_scope.specs.declared.places.Entry.{Entry}
 use Rattle.c_scope.specs.declared.places.Found.{Found}
 use Rattle.c_mentions.specs.declared.settings.Scope.{Scope}
-use Rattle.c_scope.specs.Known.{Declared, is_at, those_at, last_of, latest, or_else, innermost, agrees, clashes}
+use Rattle.c_scope.specs.declared.kinds.Declared.{Declared}
+use Rattle.c_scope.specs.Known.{is_at, those_at, last_of, latest, or_else, innermost, agrees, clashes}
 use Rattle.c_scope.specs.Places.{merged, joined, clash, entry_of, together, entry_at, entry_after, Says, seen, found_of}
 use Rattle.c_mentions.specs.Settings.{IsChain}
 
@@ -29,22 +30,21 @@ together_more : (b : Bool) (xs : List Declared) (d : Declared) → together None
 together_more true xs d = together-push None xs d
 together_more false xs d = ap (together None) (append-nil xs)
 
-module _ {S : Type 0} where
-  pub says_more : (old new : HashMap (ℕ × ℕ) Entry S) (ds : List Declared) (d : Declared) (entry : Entry) → Says old ds
-      → ((scope symbol : ℕ) → entry_at new scope symbol ≡ entry_after old d.scope d.symbol (joined (entry_at old d.scope d.symbol) (entry_of d)) scope symbol)
-      → Says new (ds ++ d ∷ [])
-  says_more old new ds d entry h f scope symbol =
-      let here = entry_of d in
-      let b : Bool = is_at scope symbol d in
-      f scope symbol
-      ∙ ((elim b as (λ t. is_at scope symbol d ≡ t → cond t (Some (joined (entry_at old d.scope d.symbol) here)) (entry_at old scope symbol) ≡ cond t (Some (joined (together None (those_at scope symbol ds)) here)) (together None (those_at scope symbol ds))) [
-        | true ↦ λ t. ap (λ o. Some (joined o here)) (same t ∙ h scope symbol)
-        | false ↦ λ t. h scope symbol
-      ]) refl
-      ∙ (sym (together_more b (those_at scope symbol ds) d) ∙ ap (together None) (sym (filter-push (is_at scope symbol) ds d))))
-    where
-      same : is_at scope symbol d ≡ true → entry_at old d.scope d.symbol ≡ entry_at old scope symbol
-      same t = let p = and_parts (eqb d.scope scope) (eqb d.symbol symbol) t in ap (λ n. entry_at old n d.symbol) (eqb-true d.scope scope p.0) ∙ ap (λ n. entry_at old scope n) (eqb-true d.symbol symbol p.1)
+pub says_more : (old new : BTreeMap (ℕ × ℕ) Entry) (ds : List Declared) (d : Declared) (entry : Entry) → Says old ds
+    → ((scope symbol : ℕ) → entry_at new scope symbol ≡ entry_after old d.scope d.symbol (joined (entry_at old d.scope d.symbol) (entry_of d)) scope symbol)
+    → Says new (ds ++ d ∷ [])
+says_more old new ds d entry h f scope symbol =
+    let here = entry_of d in
+    let b : Bool = is_at scope symbol d in
+    f scope symbol
+    ∙ ((elim b as (λ t. is_at scope symbol d ≡ t → cond t (Some (joined (entry_at old d.scope d.symbol) here)) (entry_at old scope symbol) ≡ cond t (Some (joined (together None (those_at scope symbol ds)) here)) (together None (those_at scope symbol ds))) [
+      | true ↦ λ t. ap (λ o. Some (joined o here)) (same t ∙ h scope symbol)
+      | false ↦ λ t. h scope symbol
+    ]) refl
+    ∙ (sym (together_more b (those_at scope symbol ds) d) ∙ ap (together None) (sym (filter-push (is_at scope symbol) ds d))))
+  where
+    same : is_at scope symbol d ≡ true → entry_at old d.scope d.symbol ≡ entry_at old scope symbol
+    same t = let p = and_parts (eqb d.scope scope) (eqb d.symbol symbol) t in ap (λ n. entry_at old n d.symbol) (eqb-true d.scope scope p.0) ∙ ap (λ n. entry_at old scope n) (eqb-true d.symbol symbol p.1)
 
 -- whether the declarations taken together clash with a further one
 clash_merged : (a b k : Kind) → not (agrees (merged a b) k) ≡ not (agrees a k) || not (agrees b k)
@@ -101,9 +101,8 @@ seen_together : (before : Option Entry) (last : Option Declared) (xs : List Decl
 seen_together before last [] e = e
 seen_together before last (x ∷ xs) e = seen_together (Some (joined before (entry_of x))) (Some x) xs (ap Some (seen_joined before x))
 
-module _ {S : Type 0} where
-  pub latest_seen : (places : HashMap (ℕ × ℕ) Entry S) (ds : List Declared) (scope symbol : ℕ) → Says places ds → seen_entry (entry_at places scope symbol) ≡ found_of (latest scope symbol ds)
-  latest_seen places ds scope symbol h = ap seen_entry (h scope symbol) ∙ seen_together None None (those_at scope symbol ds) refl
+pub latest_seen : (places : BTreeMap (ℕ × ℕ) Entry) (ds : List Declared) (scope symbol : ℕ) → Says places ds → seen_entry (entry_at places scope symbol) ≡ found_of (latest scope symbol ds)
+latest_seen places ds scope symbol h = ap seen_entry (h scope symbol) ∙ seen_together None None (those_at scope symbol ds) refl
 
 or_found : (one other : Option Declared) (f : Found) → found_of one ≡ Some f → found_of (or_else one other) ≡ Some f
 or_found None other f e = absurd (cc)
@@ -116,7 +115,7 @@ or_none_found (Some d) other e = absurd (cc)
 same_scope : (here other : Scope) (o : Option Scope) → o ≡ Some here → o ≡ Some other → here ≡ other
 same_scope here other o e f = cc
 
-module _ {S : Type 0} (places : HashMap (ℕ × ℕ) Entry S) (scopes : List Scope) (ds : List Declared) (symbol : ℕ) (says : Says places ds) where
+module _ (places : BTreeMap (ℕ × ℕ) Entry) (scopes : List Scope) (ds : List Declared) (symbol : ℕ) (says : Says places ds) where
   here_seen : (here : Scope) (s : ℕ) → here.number ≡ s → seen_entry (entry_at places here.number symbol) ≡ found_of (latest s symbol ds)
   here_seen here s e = ap (λ n. seen_entry (entry_at places n symbol)) e ∙ latest_seen places ds s symbol says
 

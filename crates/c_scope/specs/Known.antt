@@ -12,6 +12,9 @@ use Rattle.c_mentions.specs.declared.mentions.Linkage.TheVariants as linkage
 use Rattle.c_mentions.specs.declared.mentions.Mention.{Mention}
 use Rattle.c_mentions.specs.declared.mentions.Mention.TheVariants.{Nothing, Use, Tag, Label, Goto}
 use Rattle.c_mentions.specs.declared.mentions.Mention.TheVariants as mention
+-- a declaration: the node of its name, its symbol, its scope, whether it has linkage or is a typedef name, and whether it
+-- declares a function or a function's type
+use Rattle.c_scope.specs.declared.kinds.Declared.{Declared}
 use Rattle.c_scope.specs.declared.kinds.Kind.{Kind}
 use Rattle.c_scope.specs.declared.kinds.Kind.TheVariants.{Linked, Typedef, Plain}
 use Rattle.c_scope.specs.declared.kinds.NameFault.{NameFault}
@@ -22,15 +25,6 @@ pub record Happening : Type 0 where
   pub mention : Mention
   pub scopes : List ℕ
   pub body : ℕ
-
--- a declaration: the node of its name, its symbol, its scope, whether it has linkage or is a typedef name, and whether it
--- declares a function or a function's type
-pub record Declared : Type 0 where
-  pub node : ℕ
-  pub symbol : ℕ
-  pub scope : ℕ
-  pub kind : Kind
-  pub is_function : Bool
 
 -- Behind so many nodes: the declarations of ordinary names and of tags, in order; the uses that mean a function or a function's
 -- type; each use of a name or tag with the declaration that it means, and each goto with its label; and the nodes that are

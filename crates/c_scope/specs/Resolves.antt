@@ -12,7 +12,8 @@ use Rattle.c_mentions.specs.Symbols.{symbol_of}
 use Rattle.c_mentions.specs.Settings.{Standing, standings}
 use Rattle.c_mentions.specs.Mentions.{mention_at}
 use Rattle.c_mentions.specs.declared.mentions.Mention.TheVariants.{Use}
-use Rattle.c_scope.specs.Known.{Happening, Declared, Known, known, nothing_known, first_label, first_fault, innermost}
+use Rattle.c_scope.specs.declared.kinds.Declared.{Declared}
+use Rattle.c_scope.specs.Known.{Happening, Known, known, nothing_known, first_label, first_fault, innermost}
 
 module _ (text : List ℕ) (tokens : List Token) (nodes : List Node) where
   -- what a node does, by where it stands
@@ -43,11 +44,13 @@ first_of text tokens nodes = first_fault None (bindings text tokens nodes).fault
 abbrev pub fault_of : Tokens → Tree → Option NameFault
 fault_of tokens tree = first_of tokens.text.now tokens.list.items (nodes_of tree.nodes.items)
 
--- no name is at fault, and these are the uses and the gotos, in order, with what they mean
+-- no name is at fault, and these are the uses and the gotos, in order, with what they mean, and the declarations
 pub record IsBound (tokens : Tokens) (tree : Tree) (bound : Bound) : Type 0 where
   pub right : fault_of tokens tree ≡ None
   pub uses : bound.uses.items ≡ (bindings tokens.text.now tokens.list.items (nodes_of tree.nodes.items)).uses
   pub labels : bound.labels.items ≡ (bindings tokens.text.now tokens.list.items (nodes_of tree.nodes.items)).labels
+  pub names : bound.names.items ≡ (bindings tokens.text.now tokens.list.items (nodes_of tree.nodes.items)).names
+  pub tags : bound.tags.items ≡ (bindings tokens.text.now tokens.list.items (nodes_of tree.nodes.items)).tags
 
 -- the first fault; want of memory says nothing of the unit
 abbrev pub IsNameFault : Tokens → Tree → NameFault → Type 0

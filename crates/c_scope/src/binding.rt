@@ -1,23 +1,23 @@
 //! What is known of names while the nodes are gone through.
 ghost use Rattle.c_scope.specs.Binding as spec;
 ghost use Rattle.c_scope.specs.Binding.{Turns, label_at};
-ghost use Rattle.c_scope.specs.Known.{Declared, after, after_declaration, after_goto, after_label, after_tag, after_use, first_scope, tag_declared, with_fault};
+ghost use Rattle.c_scope.specs.Known.{after, after_declaration, after_goto, after_label, after_tag, after_use, first_scope, tag_declared, with_fault};
 ghost use Rattle.c_scope.specs.Known as known;
 ghost use Rattle.c_scope.specs.Places.{declared_at, found_of};
 ghost use Rattle.c_mentions.specs.Settings.{IsChain};
 ghost use Rattle.std.specs.Prelude.{◌≡◌, ℕ, List, Option, IfOk, OnOk};
 
-use crate::kinds::{Kind, NameFault};
-use crate::places::{Entry, Found, Places, declare, meaning, scope_at};
+use crate::kinds::{Declared, Kind, NameFault};
+use crate::places::{Entry, Found, Places, declare, declared_by, meaning, scope_at};
 use c_mentions::declarators::Derivation;
 use c_mentions::mentions::{Linkage, Mention};
 use c_mentions::roles::TagUse;
 use c_mentions::settings::Scope;
 use pta_base::OutOfMemory;
-use std::collections::{HashMap, HashSet};
+use std::collections::{BTreeMap, BTreeSet};
 
 /// The first label of each symbol in the body of each function.
-pub(crate) type Labels = HashMap<(u32, u32), u32>;
+pub(crate) type Labels = BTreeMap<(u32, u32), u32>;
 
 /// What is known of names: the declarations of ordinary names and of tags, the uses that mean functions or their types, the uses
 /// and the gotos with what they mean, and the first node that is at fault.
@@ -25,7 +25,9 @@ pub(crate) type Labels = HashMap<(u32, u32), u32>;
 pub(crate) struct Binder {
     pub(crate) names: Places,
     pub(crate) tags: Places,
-    pub(crate) functions: HashSet<u32>,
+    pub(crate) declared: Vec<Declared>,
+    pub(crate) tagged: Vec<Declared>,
+    pub(crate) functions: BTreeSet<u32>,
     pub(crate) uses: Vec<(u32, u32)>,
     pub(crate) labels: Vec<(u32, u32)>,
     pub(crate) fault: Option<NameFault>,
@@ -108,7 +110,7 @@ fn earlier(first: Option<NameFault>, fault: NameFault) -> Option<NameFault>
 
 /// Whether a declarator declares a function, by the derivation next to its name or by its type.
 fn declares_function(
-    functions: &HashSet<u32>,
+    functions: &BTreeSet<u32>,
     derivation: Derivation,
     type_name: Option<u32>,
 ) -> bool
@@ -161,7 +163,7 @@ fn take_fault(binder: &mut Binder, fault: NameFault)
 
 /// Notes a function among the meanings of uses.
 fn note_function(
-    functions: &mut HashSet<u32>,
+    functions: &mut BTreeSet<u32>,
     node: u32,
     is_function: bool,
 ) -> Result<(), OutOfMemory>
@@ -206,6 +208,7 @@ fn declare_tag(binder: &mut Binder, node: u32, symbol: u32, scope: u32) -> Resul
         is_function: false,
     };
     declare(&mut binder.tags, scope, symbol, entry)?;
+    binder.tagged.push(declared_by(scope, symbol, entry))?;
     Ok(())
 }
 
@@ -303,7 +306,9 @@ fn take_declaration(
 ) -> Result<(), OutOfMemory>
     ensures { IfOk result (λ done. Turns binder.old binder.new (after_declaration (declared_at scope symbol entry))) }
 {
-    if declare(&mut binder.names, scope, symbol, entry)? {
+    let is_redeclared = declare(&mut binder.names, scope, symbol, entry)?;
+    binder.declared.push(declared_by(scope, symbol, entry))?;
+    if is_redeclared {
         take_fault(binder, NameFault::Redeclared(entry.node));
     }
     Ok(())

@@ -14,6 +14,21 @@ pub enum Kind {
     Plain,
 }
 
+/// A declaration of an ordinary name or of a tag (C11 6.2.1, 6.2.3).
+#[derive(Clone, Copy, Debug, PartialEq, Eq)]
+pub struct Declared {
+    /// The node of the name, or of the specifier that declares the tag.
+    pub node: u32,
+    /// The symbol of the name: the number of its spelling's first token.
+    pub symbol: u32,
+    /// The number of the scope.
+    pub scope: u32,
+    /// What the declaration is to further ones.
+    pub kind: Kind,
+    /// Whether it declares a function, or a typedef name of a function's type.
+    pub is_function: bool,
+}
+
 /// Why names can't be bound, with the number of the node of the name.
 #[derive(Clone, Copy, Debug, PartialEq, Eq)]
 pub enum NameFault {

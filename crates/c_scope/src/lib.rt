@@ -7,5 +7,5 @@ pub mod laws;
 mod places;
 mod resolving;
 
-pub use kinds::{Kind, NameFault};
+pub use kinds::{Declared, Kind, NameFault};
 pub use resolving::{Bound, resolve};

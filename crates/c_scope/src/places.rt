@@ -1,15 +1,15 @@
 //! The declarations of names by scope and symbol.
-ghost use Rattle.c_scope.specs.Known.{Declared, clashes, innermost, those_at};
+ghost use Rattle.c_scope.specs.Known.{clashes, innermost, those_at};
 ghost use Rattle.c_scope.specs.Places as spec;
 ghost use Rattle.c_scope.specs.Places.{Says, found_of};
 ghost use Rattle.c_mentions.specs.Settings.{IsChain};
 ghost use Rattle.std.specs.Prelude.{◌≡◌, ◌∷◌, [], ◌++◌, ℕ, List, IfOk, slice_get};
 ghost use Rattle.std.specs.List.{list_any};
 
-use crate::kinds::Kind;
+use crate::kinds::{Declared, Kind};
 use c_mentions::settings::Scope;
 use pta_base::OutOfMemory;
-use std::collections::HashMap;
+use std::collections::BTreeMap;
 
 /// The declarations of one name in one scope: the node of the latest, whether that declares a function or a function's type,
 /// and what all of them are to a further one: `Plain` where two of them differ.
@@ -21,7 +21,7 @@ pub(crate) struct Entry {
 }
 
 /// The declarations by the number of the scope and the symbol.
-pub(crate) type Places = HashMap<(u32, u32), Entry>;
+pub(crate) type Places = BTreeMap<(u32, u32), Entry>;
 
 /// The declaration that a use means.
 #[derive(Clone, Copy, Debug)]
@@ -103,6 +103,19 @@ fn put(places: &mut Places, scope: u32, symbol: u32, entry: Entry) -> Result<(),
     Ok(())
 }
 
+/// The declaration of a symbol in a scope.
+pub(crate) fn declared_by(scope: u32, symbol: u32, entry: Entry) -> Declared
+    ensures { result ≡ spec.declared_at scope symbol entry }
+{
+    Declared {
+        node: entry.node,
+        symbol,
+        scope,
+        kind: entry.kind,
+        is_function: entry.is_function,
+    }
+}
+
 /// Declares a symbol in a scope, and answers whether the declaration may not stand beside those before it there.
 pub(crate) fn declare(
     places: &mut Places,
@@ -139,17 +152,15 @@ pub(crate) fn scope_at(scopes: &[Scope], place: u32) -> Option<Scope>
 pub(crate) fn meaning(places: &Places, scopes: &[Scope], scope: u32, symbol: u32) -> Option<Found>
     ensures { (chain : List ℕ) (ds : List Declared) → IsChain scopes.now scope chain → Says places.now ds → result ≡ found_of (innermost chain symbol ds) }
 {
-    match scope_at(scopes, scope) {
-        None => None,
-        Some(here) => match entry_at(places, here.number, symbol) {
-            Some(entry) => Some(seen(entry)),
-            None => {
-                if here.outer < scope {
-                    meaning(places, scopes, here.outer, symbol)
-                } else {
-                    None
-                }
-            }
-        },
+    let mut place = scope;
+    while let Some(here) = scope_at(scopes, place) {
+        if let Some(entry) = entry_at(places, here.number, symbol) {
+            return Some(seen(entry));
+        }
+        if here.outer >= place {
+            return None;
+        }
+        place = here.outer;
     }
+    None
 }

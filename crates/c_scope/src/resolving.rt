@@ -9,7 +9,7 @@ ghost use Rattle.c_mentions.specs.Syntax.{nodes_of};
 ghost use Rattle.std.specs.Prelude.{◌≡◌, ◌<◌, ◌^◌, ℕ, List, length, nat_lt, IfOk, MatchResult};
 
 use crate::binding::{Around, Binder, Labels, note_label, take};
-use crate::kinds::NameFault;
+use crate::kinds::{Declared, NameFault};
 use c_grammar::{SyntaxNode, Tree};
 use c_lexer::{Token, Tokens};
 use c_mentions::mentions::{Mention, mention_at};
@@ -17,7 +17,7 @@ use c_mentions::settings::{Scope, Setting, place_of, settings_of};
 use c_mentions::symbols::symbols;
 use pta_base::OutOfMemory;
 use std::alloc::Global;
-use std::collections::{HashMap, HashSet};
+use std::collections::{BTreeMap, BTreeSet};
 
 /// The names of a unit bound to their declarations, by the numbers of the nodes.
 #[derive(Drop)]
@@ -26,6 +26,10 @@ pub struct Bound {
     pub uses: Vec<(u32, u32)>,
     /// The names of `goto` statements, each with its label.
     pub labels: Vec<(u32, u32)>,
+    /// The declarations of ordinary names, in the order in which they are made.
+    pub names: Vec<Declared>,
+    /// The declarations of tags, in the order in which they are made.
+    pub tags: Vec<Declared>,
 }
 
 /// A unit with the symbols of its tokens and the settings of its nodes.
@@ -61,7 +65,7 @@ fn find_labels(alloc: Global, unit: Unit) -> Result<Labels, OutOfMemory>
     requires { length unit.settings.now < 2 ^ 32 }
     ensures { IfOk result (λ labels. (all : List Happening) → AreHappenings unit.entry all → (body symbol : ℕ) → label_at labels body symbol ≡ first_label 0 all body symbol) }
 {
-    let mut labels = HashMap::new(alloc);
+    let mut labels = BTreeMap::new(alloc);
     for (node, setting) in unit.settings.iter().enumerate() {
         let mention = mention_of(unit, node as u32, *setting);
         note_label(&mut labels, setting.body, node as u32, mention)?;
@@ -75,9 +79,11 @@ fn bind_all(alloc: Global, unit: Unit, labels: &Labels) -> Result<Binder, OutOfM
     ensures { IfOk result (λ binder. (all : List Happening) → AreHappenings unit.entry all → Holds binder (known unit.entry.file (label_at labels.now) 0 nothing_known all)) }
 {
     let mut binder = Binder {
-        names: HashMap::new(alloc),
-        tags: HashMap::new(alloc),
-        functions: HashSet::new(alloc),
+        names: BTreeMap::new(alloc),
+        tags: BTreeMap::new(alloc),
+        declared: Vec::new(alloc),
+        tagged: Vec::new(alloc),
+        functions: BTreeSet::new(alloc),
         uses: Vec::new(alloc),
         labels: Vec::new(alloc),
         fault: None,
@@ -129,6 +135,7 @@ fn bind(
 
 /// Binds each use of an ordinary name, a tag or a label of a unit to the node of the innermost declaration that is visible there
 /// (C11 6.2.1, 6.2.3), in the order of the uses. A label is visible in its whole function, any other name from its declaration on.
+/// The declarations of ordinary names and of tags are listed in the order in which they are made.
 /// `Undeclared` and `Redeclared` come exactly where a node is undeclared or redeclared, with the first such node.
 pub fn resolve(alloc: Global, tokens: &Tokens, tree: &Tree) -> Result<Bound, NameFault>
     requires { length tokens.now.list.items < 2 ^ 32 }
@@ -144,6 +151,8 @@ pub fn resolve(alloc: Global, tokens: &Tokens, tree: &Tree) -> Result<Bound, Nam
         None => Ok(Bound {
             uses: binder.uses,
             labels: binder.labels,
+            names: binder.declared,
+            tags: binder.tagged,
         }),
         Some(fault) => Err(fault),
     }

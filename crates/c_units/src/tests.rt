@@ -91,6 +91,22 @@ fn units(rt: HostRuntime) -> Result<(), Fail> {
             Outcome::Read,
         ),
         ("enum{A}; void f(int A){A=1;}", Outcome::Read),
+        (
+            "typedef int T;int f(enum{T}x){T*x;return 0;}",
+            Outcome::Read,
+        ),
+        (
+            "typedef int T;int g();int f(enum{T}x){return g(T,(T));}",
+            Outcome::Read,
+        ),
+        (
+            "typedef int T;int f(int g(enum{T}x)){T*y;return 0;}",
+            Outcome::Read,
+        ),
+        (
+            "typedef int T;int f(int g(enum{T}x)){return g((T));}",
+            Outcome::Malformed(1, 50),
+        ),
         ("int struct s y;", Outcome::Malformed(1, 5)),
         ("static x;", Outcome::Malformed(1, 8)),
         ("int (*f(void))(int){return 0;}", Outcome::Read),

@@ -1,10 +1,13 @@
-use Rattle.std.proofs.Common.{vec_len, List}
+use Rattle.std.proofs.Common.{◌≤◌, List, length, take}
 use Rattle.c_grammar.specs.declared.scopes.Declared.{Declared}
 use Rattle.c_grammar.specs.Log.{Says}
 use Rattle.c_grammar.proofs.scopes.forget.Given as goal
 
-abbrev pub invariant-loop-declared : goal.invariant-loop-declared
-invariant-loop-declared l = (earlier : List Declared) → Says earlier l.fn.scope.items l.fn.current → Says earlier l.scope.items l.current
+abbrev pub invariant-loop-rest : goal.invariant-loop-rest
+invariant-loop-rest l = record {
+  within : l.rest ≤ length l.scope;
+  says : (earlier : List Declared) → Says earlier l.fn.scope l.fn.current → Says earlier (take l.rest l.scope) l.current;
+}
 
-abbrev pub decreases-loop-declared : goal.decreases-loop-declared
-decreases-loop-declared l = vec_len l.scope
+abbrev pub decreases-loop-rest : goal.decreases-loop-rest
+decreases-loop-rest l = l.rest

@@ -7,6 +7,8 @@ pub returns : goal.returns
 returns c = λ k h. record {
   names = h.names;
   tags = h.tags;
+  declared = h.declared;
+  tagged = h.tagged;
   functions = h.functions;
   uses = h.uses;
   labels = h.labels;

@@ -19,7 +19,7 @@ returns-in-None c =
     let b = c.in_ok-binder.binder in
     let h : Holds b (bindings text c.args.tokens.now.list.items (nodes_of c.args.tree.now.nodes.items)) =
     subst (λ l. Holds b (bindings text l (nodes_of c.args.tree.now.nodes.items))) c.as_slice.ensures.value (subst (λ l. Holds b (bindings text c.as_slice.result.now (nodes_of l))) c.as_slice-2.ensures.value c.in_ok-binder.ensures) in
-    record { right = sym h.fault ∙ c.in-None.is; uses = h.uses; labels = h.labels }
+    record { right = sym h.fault ∙ c.in-None.is; uses = h.uses; labels = h.labels; names = h.declared; tags = h.tagged }
 
 pub returns-in-Some : goal.returns-in-Some
 returns-in-Some c =
