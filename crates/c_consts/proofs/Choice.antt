@@ -5,14 +5,14 @@ use Rattle.core_tree.specs.declared.node.Node.{Node}
 use Rattle.core_tree.specs.declared.node.NodeKind.TheVariants.{Choose}
 use Rattle.core_tree.specs.Typed.{IsInteger}
 use Rattle.c_consts.specs.declared.fault.ConstFault.{ConstFault}
-use Rattle.c_consts.specs.Nodes.{AreRows}
+use Rattle.c_consts.specs.Nodes.{AreRowsUnder}
 use Rattle.c_consts.specs.Answer.{Chosen, is_zero}
 use Rattle.c_consts.specs.Spine.{HeldAt, StartsWith, HasThree, IsOfKind, IsAnswer, IsRest}
 use Rattle.c_consts.proofs.Rest.{rest_choice, rest_choice_fails, rest_choice_other_fails}
 use Rattle.c_consts.proofs.Rows.{branch_held}
 use Rattle.c_consts.proofs.Finish.{integer_here, three_are}
 
-module _ (types : Table) (nodes : List Node) (i a b : ℕ) (x : ℤ) (live first second : Bool) (rows : AreRows types nodes) (kind : IsOfKind nodes i Choose) (start : StartsWith types nodes i x) (three : HasThree nodes i a b) (one_is : first ≡ (live && not (is_zero x))) (other_is : second ≡ (live && is_zero x)) where
+module _ (types : Table) (nodes : List Node) (i a b : ℕ) (x : ℤ) (live first second : Bool) (rows : AreRowsUnder types nodes i) (kind : IsOfKind nodes i Choose) (start : StartsWith types nodes i x) (three : HasThree nodes i a b) (one_is : first ≡ (live && not (is_zero x))) (other_is : second ≡ (live && is_zero x)) where
   integer : IsInteger (type_of types kind.node.ty.0)
   integer = integer_here types nodes i kind.node kind.at Choose Chosen x kind (λ t. refl) start
 

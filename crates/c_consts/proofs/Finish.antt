@@ -10,7 +10,8 @@ use Rattle.core_tree.specs.declared.node.NodeKind.TheVariants.{Choose, Convert, 
 use Rattle.core_tree.specs.Typed.{Holds, IsInteger, type_at}
 use Rattle.core_tree.specs.Rows.{RowOf, Unary, Binary}
 use Rattle.c_consts.specs.declared.fault.ConstFault.{ConstFault}
-use Rattle.c_consts.specs.Nodes.{AreRows, IsConstantKind, bare}
+use Rattle.core_tree.specs.Range.{here}
+use Rattle.c_consts.specs.Nodes.{AreRowsUnder, IsConstantKind, bare}
 use Rattle.c_consts.specs.Operators.{Gives}
 use Rattle.c_consts.specs.Spine.{HeldAt, OperandIn, OperandsIn, StartsWith, HasOne, HasTwo, HasThree, IsOfKind, asked_at, first_in, operand_of}
 use Rattle.c_consts.specs.Answer.{Form, form_of, of_integer}
@@ -32,10 +33,10 @@ module _ (types : Table) (nodes : List Node) (i : ℕ) (n : Node) (at : slice_ge
   three_are a b h = ap (λ (m : Node). m.children) (some_inj n h.node (slice_get nodes i) at h.at) ∙ h.children
 
   -- the row of a node of that kind
-  pub row_is : AreRows types nodes → (kind : NodeKind) → IsOfKind nodes i kind → IsConstantKind kind → RowOf (bare types nodes) kind (type_of types n.ty.0) n.children
+  pub row_is : AreRowsUnder types nodes i → (kind : NodeKind) → IsOfKind nodes i kind → IsConstantKind kind → RowOf (bare types nodes) kind (type_of types n.ty.0) n.children
   row_is rows kind k of =
       let is = kind_is kind k in
-      subst (λ (q : NodeKind). RowOf (bare types nodes) q (type_of types n.ty.0) n.children) is (rows.rows i n at (subst (λ (q : NodeKind). IsConstantKind q) (sym is) of))
+      subst (λ (q : NodeKind). RowOf (bare types nodes) q (type_of types n.ty.0) n.children) is (rows.rows i n here at (subst (λ (q : NodeKind). IsConstantKind q) (sym is) of))
 
   -- the first operand is the first child
   first_child : (a : ℕ) (more : List ℕ) (x : ℤ) → n.children ≡ a ∷ more → StartsWith types nodes i x → HeldAt types nodes a x
@@ -53,7 +54,7 @@ module _ (types : Table) (nodes : List Node) (i : ℕ) (n : Node) (at : slice_ge
   unary_held op x h s (inl (a, children, row)) = operand_held op (type_at (bare types nodes) a) (type_of types n.ty.0) x row (first_child a [] x children s)
   unary_held op x h s (inr (a, b, children, row)) = let one = one_is h in absurd (let no : ⊥ = cc in no)
 
-  pub operand_one : AreRows types nodes → (op : Op) (x : ℤ) → IsOfKind nodes i (Arith op) → HasOne nodes i → StartsWith types nodes i x → OperandIn op (type_of types n.ty.0) x
+  pub operand_one : AreRowsUnder types nodes i → (op : Op) (x : ℤ) → IsOfKind nodes i (Arith op) → HasOne nodes i → StartsWith types nodes i x → OperandIn op (type_of types n.ty.0) x
   operand_one rows op x kind one s = unary_held op x one s (arith_children (bare types nodes) op (type_of types n.ty.0) n.children (row_is rows (Arith op) kind tt))
 
   binary_held : (op : Op) (c : ℕ) (x y : ℤ) → HasTwo nodes i c → StartsWith types nodes i x → HeldAt types nodes c y → ((a : ℕ) × (n.children ≡ a ∷ []) × Unary op (type_at (bare types nodes) a) (type_of types n.ty.0)) ⊎ ((a : ℕ) × (b : ℕ) × (n.children ≡ a ∷ b ∷ []) × Binary op (type_at (bare types nodes) a) (type_at (bare types nodes) b) (type_of types n.ty.0)) → OperandsIn op (type_of types n.ty.0) x y
@@ -63,7 +64,7 @@ module _ (types : Table) (nodes : List Node) (i : ℕ) (n : Node) (at : slice_ge
       let same : c ≡ b = cc in
       operands_held op (type_at (bare types nodes) a) (type_at (bare types nodes) b) (type_of types n.ty.0) x y row (first_child a (b ∷ []) x children s) (subst (λ (q : ℕ). HeldAt types nodes q y) same held)
 
-  pub operands_two : AreRows types nodes → (op : Op) (c : ℕ) (x y : ℤ) → IsOfKind nodes i (Arith op) → HasTwo nodes i c → StartsWith types nodes i x → HeldAt types nodes c y → OperandsIn op (type_of types n.ty.0) x y
+  pub operands_two : AreRowsUnder types nodes i → (op : Op) (c : ℕ) (x y : ℤ) → IsOfKind nodes i (Arith op) → HasTwo nodes i c → StartsWith types nodes i x → HeldAt types nodes c y → OperandsIn op (type_of types n.ty.0) x y
   operands_two rows op c x y kind two s held = binary_held op c x y two s held (arith_children (bare types nodes) op (type_of types n.ty.0) n.children (row_is rows (Arith op) kind tt))
 
   -- a node with a first operand, of such a kind, is of an integer type
@@ -81,19 +82,19 @@ module _ (types : Table) (nodes : List Node) (i : ℕ) (n : Node) (at : slice_ge
   three_of (a ∷ b ∷ []) e l = absurd (omega arith)
   three_of (a ∷ b ∷ c ∷ d ∷ more) e l = absurd (omega arith)
 
-  pub length_three : AreRows types nodes → IsOfKind nodes i Choose → length n.children ≡ 3
+  pub length_three : AreRowsUnder types nodes i → IsOfKind nodes i Choose → length n.children ≡ 3
   length_three rows kind =
       let (c, a, b, children, s, t) = choice_children (bare types nodes) (type_of types n.ty.0) n.children (row_is rows Choose kind tt) in
       ap (λ (xs : List ℕ). length xs) children
 
-  pub three_here : AreRows types nodes → IsOfKind nodes i Choose → HasThree nodes i (get_or n.children 1 0) (get_or n.children 2 0)
+  pub three_here : AreRowsUnder types nodes i → IsOfKind nodes i Choose → HasThree nodes i (get_or n.children 1 0) (get_or n.children 2 0)
   three_here rows kind = three_of n.children refl (length_three rows kind)
 
   one_or_two : (length n.children ≡ 2 → ⊥) → (op : Op) → ((a : ℕ) × (n.children ≡ a ∷ []) × Unary op (type_at (bare types nodes) a) (type_of types n.ty.0)) ⊎ ((a : ℕ) × (b : ℕ) × (n.children ≡ a ∷ b ∷ []) × Binary op (type_at (bare types nodes) a) (type_at (bare types nodes) b) (type_of types n.ty.0)) → HasOne nodes i
   one_or_two short op (inl (a, children, row)) = record { node = n; at = at; first = a; children = children }
   one_or_two short op (inr (a, b, children, row)) = absurd (short (rw children refl))
 
-  pub one_here : AreRows types nodes → (op : Op) → IsOfKind nodes i (Arith op) → (length n.children ≡ 2 → ⊥) → HasOne nodes i
+  pub one_here : AreRowsUnder types nodes i → (op : Op) → IsOfKind nodes i (Arith op) → (length n.children ≡ 2 → ⊥) → HasOne nodes i
   one_here rows op kind short = one_or_two short op (arith_children (bare types nodes) op (type_of types n.ty.0) n.children (row_is rows (Arith op) kind tt))
 
   two_of : (children : List ℕ) → n.children ≡ children → length children ≡ 2 → HasTwo nodes i (get_or children 1 0)
@@ -105,7 +106,7 @@ module _ (types : Table) (nodes : List Node) (i : ℕ) (n : Node) (at : slice_ge
   pub two_here : length n.children ≡ 2 → HasTwo nodes i (get_or n.children 1 0)
   two_here l = two_of n.children refl l
 
-  pub conversion_child : AreRows types nodes → IsOfKind nodes i Convert → (a : ℕ) × (n.children ≡ a ∷ [])
+  pub conversion_child : AreRowsUnder types nodes i → IsOfKind nodes i Convert → (a : ℕ) × (n.children ≡ a ∷ [])
   conversion_child rows kind = convert_child (bare types nodes) (type_of types n.ty.0) n.children (row_is rows Convert kind tt)
 
 -- what is read at an index is the entry there
@@ -120,12 +121,12 @@ asked_anywhere true i j v = refl
 asked_anywhere false i j v = refl
 
 -- one operand behind the first is a node, of a smaller number
-pub two_less : (types : Table) (nodes : List Node) (i b : ℕ) → AreRows types nodes → HasTwo nodes i b → b < i
+pub two_less : (types : Table) (nodes : List Node) (i b : ℕ) → AreRowsUnder types nodes i → HasTwo nodes i b → b < i
 two_less types nodes i b rows h =
     let all = subst (λ (xs : List ℕ). All (λ c. c < i) xs) h.children (rows.order.children i h.node h.at) in
     All-head (λ c. c < i) b [] (All-tail (λ c. c < i) h.first (b ∷ []) all)
 
-pub three_less : (types : Table) (nodes : List Node) (i a b : ℕ) → AreRows types nodes → HasThree nodes i a b → (a < i) × (b < i)
+pub three_less : (types : Table) (nodes : List Node) (i a b : ℕ) → AreRowsUnder types nodes i → HasThree nodes i a b → (a < i) × (b < i)
 three_less types nodes i a b rows h =
     let all = subst (λ (xs : List ℕ). All (λ c. c < i) xs) h.children (rows.order.children i h.node h.at) in
     let rest = All-tail (λ c. c < i) h.first (a ∷ b ∷ []) all in

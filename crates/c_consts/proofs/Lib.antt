@@ -5,6 +5,7 @@ pub mod Climb
 pub mod Rows
 pub mod Finish
 pub mod Choice
+pub mod Under
 pub mod Units
 pub mod Examples
 pub mod Faults

@@ -9,7 +9,8 @@ use Rattle.core_tree.specs.declared.node.NodeKind.{NodeKind}
 use Rattle.core_tree.specs.declared.node.NodeKind.TheVariants.{Number, Choose, Convert, Arith}
 use Rattle.core_tree.specs.Typed.{CoreTrees, IsInteger, Holds, type_at, half_of}
 use Rattle.core_tree.specs.Rows.{RowOf, Unary, Binary}
-use Rattle.c_consts.specs.Nodes.{AreRows, IsConstantKind, bare}
+use Rattle.core_tree.specs.Range.{here}
+use Rattle.c_consts.specs.Nodes.{AreRowsUnder, IsConstantKind, bare}
 use Rattle.c_consts.specs.Wrapped.{IsHeld}
 use Rattle.c_consts.specs.Answer.{Form, of_integer}
 use Rattle.c_consts.specs.Spine.{OperandIn, OperandsIn, HeldAt, last_by, last_in, operand_of}
@@ -105,25 +106,25 @@ integer_first form (StructureOf tag) children a e = cc
 integer_first form (UnionOf tag) children a e = cc
 
 -- the number of a node that is one is in its type
-number_by : (types : Table) (nodes : List Node) (i : ℕ) (node : Node) → AreRows types nodes → slice_get nodes i ≡ Some node → (kind : NodeKind) → node.kind ≡ kind → (x : ℤ) → last_by i kind ≡ Ok x → Holds (type_of types node.ty.0) x
+number_by : (types : Table) (nodes : List Node) (i : ℕ) (node : Node) → AreRowsUnder types nodes i → slice_get nodes i ≡ Some node → (kind : NodeKind) → node.kind ≡ kind → (x : ℤ) → last_by i kind ≡ Ok x → Holds (type_of types node.ty.0) x
 number_by types nodes i node rows at (Number n) k x e =
-    let row = rows.rows i node at (subst (λ (q : NodeKind). IsConstantKind q) (sym k) tt) in
-    let here = number_held (bare types nodes) n (type_of types node.ty.0) node.children (subst (λ (q : NodeKind). RowOf (bare types nodes) q (type_of types node.ty.0) node.children) k row) in
+    let row = rows.rows i node here at (subst (λ (q : NodeKind). IsConstantKind q) (sym k) tt) in
+    let held = number_held (bare types nodes) n (type_of types node.ty.0) node.children (subst (λ (q : NodeKind). RowOf (bare types nodes) q (type_of types node.ty.0) node.children) k row) in
     let same : n ≡ x = cc in
-    subst (λ (q : ℤ). Holds (type_of types node.ty.0) q) same here
+    subst (λ (q : ℤ). Holds (type_of types node.ty.0) q) same held
 number_by types nodes i node rows at kind k x e = cc
 
-last_held_in : (types : Table) (nodes : List Node) (i : ℕ) (o : Option Node) → AreRows types nodes → slice_get nodes i ≡ o → (x : ℤ) → last_in i o ≡ Ok x → HeldAt types nodes i x
+last_held_in : (types : Table) (nodes : List Node) (i : ℕ) (o : Option Node) → AreRowsUnder types nodes i → slice_get nodes i ≡ o → (x : ℤ) → last_in i o ≡ Ok x → HeldAt types nodes i x
 last_held_in types nodes i None rows at x e = cc
 last_held_in types nodes i (Some node) rows at x e = rw at (number_by types nodes i node rows at node.kind refl x e)
 
-pub last_held : (types : Table) (nodes : List Node) (i : ℕ) → AreRows types nodes → (x : ℤ) → last_in i (slice_get nodes i) ≡ Ok x → HeldAt types nodes i x
+pub last_held : (types : Table) (nodes : List Node) (i : ℕ) → AreRowsUnder types nodes i → (x : ℤ) → last_in i (slice_get nodes i) ≡ Ok x → HeldAt types nodes i x
 last_held types nodes i rows x e = last_held_in types nodes i (slice_get nodes i) rows refl x e
 
 -- the branches of a choice have its type
-pub branch_held : (types : Table) (nodes : List Node) (i c a b : ℕ) (node : Node) → AreRows types nodes → slice_get nodes i ≡ Some node → node.kind ≡ Choose → node.children ≡ c ∷ a ∷ b ∷ [] → ((x : ℤ) → HeldAt types nodes a x → HeldAt types nodes i x) × ((x : ℤ) → HeldAt types nodes b x → HeldAt types nodes i x)
+pub branch_held : (types : Table) (nodes : List Node) (i c a b : ℕ) (node : Node) → AreRowsUnder types nodes i → slice_get nodes i ≡ Some node → node.kind ≡ Choose → node.children ≡ c ∷ a ∷ b ∷ [] → ((x : ℤ) → HeldAt types nodes a x → HeldAt types nodes i x) × ((x : ℤ) → HeldAt types nodes b x → HeldAt types nodes i x)
 branch_held types nodes i c a b node rows at k children =
-    let row = rows.rows i node at (subst (λ (q : NodeKind). IsConstantKind q) (sym k) tt) in
+    let row = rows.rows i node here at (subst (λ (q : NodeKind). IsConstantKind q) (sym k) tt) in
     let (c', a', b', e, s, t) = choice_children (bare types nodes) (type_of types node.ty.0) node.children (subst (λ (q : NodeKind). RowOf (bare types nodes) q (type_of types node.ty.0) node.children) k row) in
     let one : a' ≡ a = cc in
     let other : b' ≡ b = cc in

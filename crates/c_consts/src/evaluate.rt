@@ -3,9 +3,9 @@
 ghost use Rattle.std.specs.Prelude.{◌≡◌, ◌<◌, IfOk, length};
 ghost use Rattle.core_tree.specs.declared.node.NodeKind.TheVariants.{Arith, Choose};
 ghost use Rattle.core_tree.specs.Typed.{Holds, type_at};
-ghost use Rattle.c_consts.specs.Core.{Core, Stands};
+ghost use Rattle.c_consts.specs.Core.{Core, InOrder, Stands};
 ghost use Rattle.c_consts.specs.Answer.{located, constant_of};
-ghost use Rattle.c_consts.specs.Nodes.{AreRows, bare};
+ghost use Rattle.c_consts.specs.Nodes.{AreRowsUnder, RowsUnder, bare};
 ghost use Rattle.c_consts.specs.Spine.{HeldAt, StartsWith, StartsBelow, IsAnswer, IsRest, IsClimbed, IsOfKind};
 
 use crate::fault::ConstFault;
@@ -20,7 +20,7 @@ use core_tree::node::{Node, NodeKind, Op};
 // down the first operands is no recursion.
 #[cycle(evaluate)]
 fn evaluate(types: &TypeTable, nodes: &[Node], node: u32, live: bool) -> Result<i128, ConstFault>
-    requires rows { AreRows types.now nodes.now }
+    requires rows { AreRowsUnder types.now nodes.now node }
     requires node { node < length nodes.now }
     ensures value { IsAnswer types.now nodes.now node live result }
     ensures holds { IfOk result (λ v. HeldAt types.now nodes.now node v) }
@@ -41,7 +41,7 @@ fn climb(
     start: i128,
     live: bool,
 ) -> Result<i128, ConstFault>
-    requires rows { AreRows types.now nodes.now }
+    requires rows { AreRowsUnder types.now nodes.now node }
     requires node { node < length nodes.now }
     requires start { StartsBelow types.now nodes.now node depth start }
     ensures value { IsClimbed types.now nodes.now node depth live start result }
@@ -68,7 +68,7 @@ fn finish(
     start: i128,
     live: bool,
 ) -> Result<i128, ConstFault>
-    requires rows { AreRows types.now nodes.now }
+    requires rows { AreRowsUnder types.now nodes.now node }
     requires node { node < length nodes.now }
     requires start { StartsWith types.now nodes.now node start }
     ensures value { IsRest types.now nodes.now node live start result }
@@ -92,7 +92,7 @@ fn finish_operator(
     start: i128,
     live: bool,
 ) -> Result<i128, ConstFault>
-    requires rows { AreRows types.now nodes.now }
+    requires rows { AreRowsUnder types.now nodes.now node }
     requires node { node < length nodes.now }
     requires start { StartsWith types.now nodes.now node start }
     requires kind { IsOfKind nodes.now node (Arith op) }
@@ -117,7 +117,7 @@ fn finish_choice(
     start: i128,
     live: bool,
 ) -> Result<i128, ConstFault>
-    requires rows { AreRows types.now nodes.now }
+    requires rows { AreRowsUnder types.now nodes.now node }
     requires node { node < length nodes.now }
     requires start { StartsWith types.now nodes.now node start }
     requires kind { IsOfKind nodes.now node Choose }
@@ -132,7 +132,7 @@ fn finish_choice(
 }
 
 /// The value of an integer constant expression (C11 6.6) of core nodes, computed in the types of its nodes. Each node is
-/// over nodes of smaller numbers and stands in the row of its kind.
+/// over nodes of smaller numbers, and the expression's own, those under `node`, stand in the rows of their kinds.
 ///
 /// Operands are looked at in order, and then the node itself; the first fault decides. Numbers, and operators, choices
 /// and conversions of integer type, have a constant's form, and any other node is `NotConstant`. The branch of a choice
@@ -141,7 +141,8 @@ fn finish_choice(
 /// one (6.5.7p3). Unsigned results wrap (6.2.5p9), a shift to the right keeps the sign, and a negative number shifted to
 /// the left is its product with the power of two.
 pub fn constant(types: &TypeTable, nodes: &[Node], node: u32) -> Result<i128, ConstFault>
-    requires rows { AreRows types.now nodes.now }
+    requires order { InOrder types.now nodes.now }
+    requires rows { RowsUnder types.now nodes.now node }
     requires node { node < length nodes.now }
     ensures value { (c : Core) → Stands types.now nodes.now node c → result ≡ located nodes.now node (constant_of c) }
     ensures tree { (c : Core) × Stands types.now nodes.now node c }

@@ -4,10 +4,11 @@ ghost use Rattle.std.specs.Prelude.{◌≡◌, ℕ, ◌+◌, ◌<◌, ◌≤◌,
 ghost use Rattle.c_types.specs.Table.{type_of};
 ghost use Rattle.core_tree.specs.declared.node.NodeKind.TheVariants.{Arith, Choose, Convert};
 ghost use Rattle.core_tree.specs.Typed.{Holds, IsInteger};
+ghost use Rattle.c_consts.specs.Core.{InOrder};
 ghost use Rattle.c_consts.specs.Wrapped.{converted};
 ghost use Rattle.c_consts.specs.Operators.{Gives};
 ghost use Rattle.c_consts.specs.Answer.{unary_in, binary_in, is_zero};
-ghost use Rattle.c_consts.specs.Nodes.{AreRows};
+ghost use Rattle.c_consts.specs.Nodes.{AreRowsUnder};
 ghost use Rattle.c_consts.specs.Spine.{first_operand, head_of, Leads, HeldAt, last_in, asked_at, StartsWith, IsAnswer, IsRest, OperandIn, OperandsIn, HasOne, HasTwo, HasThree, IsOfKind};
 
 use crate::fault::ConstFault;
@@ -20,7 +21,7 @@ use core_tree::rows::is_integer;
 
 // The first operand of a node, where it has a constant's form.
 pub(crate) fn first_operand(types: &TypeTable, nodes: &[Node], node: u32) -> Option<u32>
-    requires rows { AreRows types.now nodes.now }
+    requires order { InOrder types.now nodes.now }
     requires node { node < length nodes.now }
     ensures { result ≡ first_operand types.now nodes.now node }
 {
@@ -49,7 +50,7 @@ fn head(list: &[u32]) -> Option<u32>
 
 // How many first operands down the last one of them is, and its number.
 pub(crate) fn spine(types: &TypeTable, nodes: &[Node], node: u32) -> (u32, u32)
-    requires rows { AreRows types.now nodes.now }
+    requires order { InOrder types.now nodes.now }
     requires node { node < length nodes.now }
     ensures leads { Leads types.now nodes.now node result.0 result.1 }
     ensures last { first_operand types.now nodes.now result.1 ≡ None }
@@ -66,7 +67,7 @@ pub(crate) fn spine(types: &TypeTable, nodes: &[Node], node: u32) -> (u32, u32)
 
 // The node so many first operands down.
 pub(crate) fn descend(types: &TypeTable, nodes: &[Node], node: u32, depth: u32) -> u32
-    requires rows { AreRows types.now nodes.now }
+    requires order { InOrder types.now nodes.now }
     requires node { node < length nodes.now }
     requires leads { (j : ℕ) × Leads types.now nodes.now node depth j }
     ensures { Leads types.now nodes.now node depth result }
@@ -157,7 +158,7 @@ pub(crate) fn last_of(nodes: &[Node], node: u32) -> Result<i128, ConstFault>
 
 // The operand of an operator behind the first one, if there is one.
 pub(crate) fn other_operand(types: &TypeTable, nodes: &[Node], node: u32, op: Op) -> Option<u32>
-    requires rows { AreRows types.now nodes.now }
+    requires rows { AreRowsUnder types.now nodes.now node }
     requires node { node < length nodes.now }
     requires kind { IsOfKind nodes.now node (Arith op) }
     ensures one { IsNone result → HasOne nodes.now node }
@@ -173,7 +174,7 @@ pub(crate) fn other_operand(types: &TypeTable, nodes: &[Node], node: u32, op: Op
 
 // The branches of a choice.
 pub(crate) fn branches(types: &TypeTable, nodes: &[Node], node: u32) -> (u32, u32)
-    requires rows { AreRows types.now nodes.now }
+    requires rows { AreRowsUnder types.now nodes.now node }
     requires node { node < length nodes.now }
     requires kind { IsOfKind nodes.now node Choose }
     ensures { HasThree nodes.now node result.0 result.1 }
@@ -208,7 +209,7 @@ pub(crate) fn finish_one(
     start: i128,
     live: bool,
 ) -> Result<i128, ConstFault>
-    requires rows { AreRows types.now nodes.now }
+    requires rows { AreRowsUnder types.now nodes.now node }
     requires node { node < length nodes.now }
     requires start { StartsWith types.now nodes.now node start }
     requires kind { IsOfKind nodes.now node (Arith op) }
@@ -230,7 +231,7 @@ pub(crate) fn finish_two(
     second: i128,
     live: bool,
 ) -> Result<i128, ConstFault>
-    requires rows { AreRows types.now nodes.now }
+    requires rows { AreRowsUnder types.now nodes.now node }
     requires node { node < length nodes.now }
     requires start { StartsWith types.now nodes.now node start }
     requires kind { IsOfKind nodes.now node (Arith op) }
@@ -259,7 +260,7 @@ pub(crate) fn finish_conversion(
     start: i128,
     live: bool,
 ) -> i128
-    requires rows { AreRows types.now nodes.now }
+    requires rows { AreRowsUnder types.now nodes.now node }
     requires node { node < length nodes.now }
     requires start { StartsWith types.now nodes.now node start }
     requires kind { IsOfKind nodes.now node Convert }

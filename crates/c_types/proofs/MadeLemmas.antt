@@ -1,9 +1,11 @@
 -- A table stays well made.
-use Rattle.std.proofs.Common.{arith, ◌≡◌, ◌≢◌, ℕ, suc, ◌<◌, ◌⊎◌, inl, inr, List, [], ◌∷◌, ◌++◌, length, length-append, refl, ap, sym, ◌∙◌, subst, Option, Some, None, slice_get, map, All, Bool, true, false, cond, eqb, IsSome}
+use Rattle.std.proofs.Common.{arith, ◌≡◌, ◌≢◌, ℕ, suc, ◌<◌, ◌⊎◌, inl, inr, List, [], ◌∷◌, ◌++◌, length, length-append, refl, ap, sym, ◌∙◌, subst, Option, Some, None, slice_get, map, take, All, Bool, true, false, cond, eqb, IsSome}
 use Rattle.std.specs.Option.{option_map}
 use Rattle.std.proofs.lemmas.Bool.Decides.{eqb_tells}
 use Rattle.std.proofs.lemmas.List.Elements.{All-nil, All-cons}
-use Rattle.std.proofs.lemmas.List.{length-map}
+use Rattle.std.specs.List.{take-map}
+use Rattle.std.proofs.Math.Seq.{take-append_seam}
+use Rattle.std.proofs.lemmas.List.{length-map, take-append-le}
 use Rattle.c_types.specs.declared.table.Entry.{Entry}
 use Rattle.c_types.specs.Inside.{terms_of}
 use Rattle.c_types.specs.declared.term.Term.{Term}
@@ -12,7 +14,7 @@ use Rattle.c_types.specs.declared.term.MemberTerm.{MemberTerm}
 use Rattle.c_types.specs.Trees.{Ctype, VoidType, BoolType, IntegerType, FloatingType, VaListType, PointerTo, ArrayOf, FunctionFrom, StructureOf, UnionOf}
 use Rattle.c_types.specs.Layout.{Extent, Look, Completed, extent_of, repeated, of_members, member_extent, element_extent, or_flexible, flexible, laid_out, looked_up, structure_of, union_of}
 use Rattle.c_types.specs.Table.{Table, TagMembers, type_of, completions, look_in, extent_in, extents_in, members_in, members_among}
-use Rattle.c_types.specs.Made.{IsSized, KeepsApart, TagsApart, StandsAsStructure, StandsAsUnion, IsFlexible, IsMember, AreMembers, IsMade, HasBits}
+use Rattle.c_types.specs.Made.{IsSized, KeepsApart, TagsApart, StandsAsStructure, StandsAsUnion, IsFlexible, IsMember, AreMembers, IsMade, HasBits, earlier}
 use Rattle.c_types.proofs.Push.{slice_get_push, slice_get_left}
 use Rattle.c_types.proofs.Kept.{type_kept}
 
@@ -261,6 +263,12 @@ module _ (table : Table) (c : TagMembers) (made : IsMade table) (unseen : member
       | inl p ↦ members_kept tag ms (made.members tag ms p)
       | inr p ↦ subst (λ (n : ℕ). AreMembers next n ms) p.0 (subst (λ (xs : List MemberTerm). AreMembers next c.tag xs) p.1 (members_kept c.tag c.members are))
     ];
+    ordered = λ k x at. elim (slice_get_push table.completed c k x at) [
+      | inl p ↦ subst (λ (cs : List TagMembers). AreMembers (record table { completed = cs }) x.tag x.members) (sym (take-append-le k table.completed (c ∷ []) (omega (arith, p.0)))) (made.ordered k x p.1)
+      | inr p ↦
+          let whole : take k (table.completed ++ c ∷ []) ≡ table.completed = ap (λ (n : ℕ). take n (table.completed ++ c ∷ [])) p.0 ∙ take-append_seam table.completed (c ∷ []) in
+          subst (λ (cs : List TagMembers). AreMembers (record table { completed = cs }) x.tag x.members) (sym whole) (subst (λ (y : TagMembers). AreMembers table y.tag y.members) (sym p.1) are)
+    ];
     laid = laid_next;
   }
 
@@ -277,9 +285,15 @@ apart_more terms t apart h = record { each = λ i j tag a b. both i j tag (slice
     both i j tag (inr p) (inr q) = cc
 
 -- with one term more
-module _ (table : Table) (t : Term) (made : IsMade table) (sized : IsSized t) (apart : KeepsApart table.terms t) where
+module _ (table : Table) (t : Term) where
   abbrev longer : Table
   longer = record table { terms = table.terms ++ t ∷ [] }
+
+  structure_longer : (tag : ℕ) → StandsAsStructure table.terms tag → StandsAsStructure (table.terms ++ t ∷ []) tag
+  structure_longer tag h = (h.0, slice_get_left table.terms t h.0 (Structure tag) h.1)
+
+  union_longer : (tag : ℕ) → StandsAsUnion table.terms tag → StandsAsUnion (table.terms ++ t ∷ []) tag
+  union_longer tag h = (h.0, slice_get_left table.terms t h.0 (Union tag) h.1)
 
   module _ (same : completions longer ≡ completions table) where
     same_look : look_in longer ≡ look_in table
@@ -303,12 +317,6 @@ module _ (table : Table) (t : Term) (made : IsMade table) (sized : IsSized t) (a
     flexible_longer (FunctionFrom r ps f) h = absurd h
     flexible_longer (StructureOf tag) h = absurd h
     flexible_longer (UnionOf tag) h = absurd h
-
-    structure_longer : (tag : ℕ) → StandsAsStructure table.terms tag → StandsAsStructure longer.terms tag
-    structure_longer tag h = (h.0, slice_get_left table.terms t h.0 (Structure tag) h.1)
-
-    union_longer : (tag : ℕ) → StandsAsUnion table.terms tag → StandsAsUnion longer.terms tag
-    union_longer tag h = (h.0, slice_get_left table.terms t h.0 (Union tag) h.1)
 
     member_longer : (tag : ℕ) (ms : List MemberTerm) (k : ℕ) (m : MemberTerm) → m.ty.0 < length table.terms → IsMember table tag ms k m → IsMember longer tag ms k m
     member_longer tag ms k m lt h =
@@ -336,34 +344,53 @@ module _ (table : Table) (t : Term) (made : IsMade table) (sized : IsSized t) (a
         ∙ (extents_each (λ m. member_extent (look_in longer) (type_of longer m.ty.0)) (λ m. member_extent (look_in table) (type_of table m.ty.0)) ms (λ k m at. ap (λ (look : Look). member_extent look (type_of longer m.ty.0)) same_look ∙ ap (member_extent (look_in table)) (same_type m.ty.0 (h k m at).0))
         ∙ sym (extents_map table ms))
 
-    laid_longer : (tag : ℕ) → look_in longer tag ≡ option_map (extents_in longer) (members_in table tag)
-    laid_longer tag = go (members_in table tag) refl
-      where
-        go : (o : Option (List MemberTerm)) → members_in table tag ≡ o → look_in longer tag ≡ option_map (extents_in longer) (members_in table tag)
-        go (Some ms) at =
-            ap (λ (look : Look). look tag) same_look
-            ∙ (made.laid tag ∙ (ap (option_map (extents_in table)) at ∙ (ap Some (sym (extents_longer tag ms (made.members tag ms at))) ∙ sym (ap (option_map (extents_in longer)) at))))
-        go None at =
-            ap (λ (look : Look). look tag) same_look
-            ∙ (made.laid tag ∙ (ap (option_map (extents_in table)) at ∙ sym (ap (option_map (extents_in longer)) at)))
+-- the table as it was earlier has one term more as well
+same_earlier : (table : Table) (t : Term) → completions (longer table t) ≡ completions table → (k : ℕ) → completions (longer (earlier table k) t) ≡ completions (earlier table k)
+same_earlier table t same k =
+    let f : TagMembers → Completed = λ (c : TagMembers). record { tag = c.tag; types = map (λ (m : MemberTerm). type_of (longer table t) m.ty.0) c.members } in
+    let g : TagMembers → Completed = λ (c : TagMembers). record { tag = c.tag; types = map (λ (m : MemberTerm). type_of table m.ty.0) c.members } in
+    sym (take-map f k table.completed) ∙ (ap (λ (cs : List Completed). take k cs) same ∙ take-map g k table.completed)
 
-    pub made_longer : IsMade longer
-    made_longer = record {
-      sizes = sized_more table.terms t made.sizes sized;
-      apart = apart_more table.terms t made.apart apart;
-      stands = λ tag ms h. elim (made.stands tag ms h) [ inl p ↦ inl (structure_longer tag p) | inr p ↦ inr (union_longer tag p) ];
-      members = λ tag ms h. members_longer tag ms (made.members tag ms h);
-      laid = laid_longer;
-    }
+module _ (table : Table) (t : Term) (made : IsMade table) (sized : IsSized t) (apart : KeepsApart table.terms t) (same : completions (longer table t) ≡ completions table) where
+  laid_longer : (tag : ℕ) → look_in (longer table t) tag ≡ option_map (extents_in (longer table t)) (members_in table tag)
+  laid_longer tag = go (members_in table tag) refl
+    where
+      go : (o : Option (List MemberTerm)) → members_in table tag ≡ o → look_in (longer table t) tag ≡ option_map (extents_in (longer table t)) (members_in table tag)
+      go (Some ms) at =
+          ap (λ (look : Look). look tag) (same_look table t same)
+          ∙ (made.laid tag ∙ (ap (option_map (extents_in table)) at ∙ (ap Some (sym (extents_longer table t same tag ms (made.members tag ms at))) ∙ sym (ap (option_map (extents_in (longer table t))) at))))
+      go None at =
+          ap (λ (look : Look). look tag) (same_look table t same)
+          ∙ (made.laid tag ∙ (ap (option_map (extents_in table)) at ∙ sym (ap (option_map (extents_in (longer table t))) at)))
+
+  pub made_longer : IsMade (longer table t)
+  made_longer = record {
+    sizes = sized_more table.terms t made.sizes sized;
+    apart = apart_more table.terms t made.apart apart;
+    stands = λ tag ms h. elim (made.stands tag ms h) [ inl p ↦ inl (structure_longer table t tag p) | inr p ↦ inr (union_longer table t tag p) ];
+    members = λ tag ms h. members_longer table t same tag ms (made.members tag ms h);
+    ordered = λ k c at. members_longer (earlier table k) t (same_earlier table t same k) c.tag c.members (made.ordered k c at);
+    laid = laid_longer;
+  }
 
 -- the tags of the table don't matter
-pub made_tagged : (table : Table) (n : ℕ) → IsMade table → IsMade (record table { tags = n })
-made_tagged table n made = record {
-  sizes = made.sizes;
-  apart = made.apart;
-  stands = made.stands;
-  members = λ tag ms h k m at.
-      let old = made.members tag ms h k m at in (
+module _ (table : Table) (n : ℕ) where
+  flexible_tagged : (x : Ctype) → IsFlexible table x → IsFlexible (record table { tags = n }) x
+  flexible_tagged (ArrayOf of None) h = h
+  flexible_tagged (ArrayOf of (Some k)) h = absurd h
+  flexible_tagged VoidType h = absurd h
+  flexible_tagged BoolType h = absurd h
+  flexible_tagged (IntegerType size rank signed) h = absurd h
+  flexible_tagged FloatingType h = absurd h
+  flexible_tagged VaListType h = absurd h
+  flexible_tagged (PointerTo to) h = absurd h
+  flexible_tagged (FunctionFrom r ps f) h = absurd h
+  flexible_tagged (StructureOf tag) h = absurd h
+  flexible_tagged (UnionOf tag) h = absurd h
+
+  members_tagged : (tag : ℕ) (ms : List MemberTerm) → AreMembers table tag ms → AreMembers (record table { tags = n }) tag ms
+  members_tagged tag ms h k m at =
+      let old = h k m at in (
         old.0,
         record {
           object = elim old.1.object [
@@ -372,22 +399,17 @@ made_tagged table n made = record {
           ];
           bits = old.1.bits;
         },
-      );
+      )
+
+pub made_tagged : (table : Table) (n : ℕ) → IsMade table → IsMade (record table { tags = n })
+made_tagged table n made = record {
+  sizes = made.sizes;
+  apart = made.apart;
+  stands = made.stands;
+  members = λ tag ms h. members_tagged table n tag ms (made.members tag ms h);
+  ordered = λ k c at. members_tagged (earlier table k) n c.tag c.members (made.ordered k c at);
   laid = made.laid;
 }
-  where
-    flexible_tagged : (x : Ctype) → IsFlexible table x → IsFlexible (record table { tags = n }) x
-    flexible_tagged (ArrayOf of None) h = h
-    flexible_tagged (ArrayOf of (Some k)) h = absurd h
-    flexible_tagged VoidType h = absurd h
-    flexible_tagged BoolType h = absurd h
-    flexible_tagged (IntegerType size rank signed) h = absurd h
-    flexible_tagged FloatingType h = absurd h
-    flexible_tagged VaListType h = absurd h
-    flexible_tagged (PointerTo to) h = absurd h
-    flexible_tagged (FunctionFrom r ps f) h = absurd h
-    flexible_tagged (StructureOf tag) h = absurd h
-    flexible_tagged (UnionOf tag) h = absurd h
 
 pub made_empty : IsMade (record { terms = []; tags = 0; completed = [] })
 made_empty = record {
@@ -395,6 +417,7 @@ made_empty = record {
   apart = record { each = λ i j tag a b. cc };
   stands = λ tag ms h. cc;
   members = λ tag ms h. cc;
+  ordered = λ k c at. cc;
   laid = λ tag. refl;
 }
 

@@ -1,11 +1,11 @@
 -- What is true of every table of types.
-use Rattle.std.specs.Prelude.{◌≡◌, ℕ, ◌+◌, ◌*◌, ◌<◌, ◌≤◌, ◌⊎◌, Bool, ◌||◌, nat_eq, IsTrue, IsSome, List, Option, Some, None, length, slice_get}
+use Rattle.std.specs.Prelude.{◌≡◌, ℕ, ◌+◌, ◌*◌, ◌<◌, ◌≤◌, ◌⊎◌, Bool, ◌||◌, nat_eq, IsTrue, IsSome, List, take, Option, Some, None, length, slice_get}
 use Rattle.std.specs.Option.{option_map}
 use Rattle.c_types.specs.declared.term.Term.{Term}
 use Rattle.c_types.specs.declared.term.Term.TheVariants.{Integer, Structure, Union}
 use Rattle.c_types.specs.declared.term.MemberTerm.{MemberTerm}
 use Rattle.c_types.specs.Trees.{Ctype, BoolType, IntegerType, ArrayOf}
-use Rattle.c_types.specs.Table.{Table, IsAfter, HasTag, type_of, look_in, extent_in, members_in, extents_in}
+use Rattle.c_types.specs.Table.{Table, TagMembers, IsAfter, HasTag, type_of, look_in, extent_in, members_in, extents_in}
 
 -- the sizes of integer types
 abbrev pub is_integer_size : ℕ → Bool
@@ -82,11 +82,17 @@ ArePlain table members =
 abbrev pub AreNamed : Table → Type 0
 AreNamed table = (i : ℕ) (t : Term) → slice_get table.terms i ≡ Some t → IsAfter i t × HasTag table.tags t
 
+-- the table when so many of its tags were complete
+abbrev pub earlier : Table → ℕ → Table
+earlier table k = record table { completed = take k table.completed }
+
 -- what every table keeps
 pub record IsMade (table : Table) : Type 0 where
   pub sizes : (i : ℕ) (t : Term) → slice_get table.terms i ≡ Some t → IsSized t
   pub apart : TagsApart table.terms
   pub stands : (tag : ℕ) (members : List MemberTerm) → members_in table tag ≡ Some members → StandsAsStructure table.terms tag ⊎ StandsAsUnion table.terms tag
   pub members : (tag : ℕ) (members : List MemberTerm) → members_in table tag ≡ Some members → AreMembers table tag members
+  -- what a tag has as members was complete before the tag was
+  pub ordered : (k : ℕ) (c : TagMembers) → slice_get table.completed k ≡ Some c → AreMembers (earlier table k) c.tag c.members
   -- a tag is laid out from its members as they are in this very table
   pub laid : (tag : ℕ) → look_in table tag ≡ option_map (extents_in table) (members_in table tag)

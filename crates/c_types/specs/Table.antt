@@ -1,5 +1,5 @@
 -- What a table of types is to its callers.
-use Rattle.std.specs.Prelude.{ℕ, ◌<◌, ◌^◌, ◌+◌, cond, eqb, slice_get, nat_lt, if◌then◌else◌, List, [], ◌∷◌, Option, Some, None, map, length, All}
+use Rattle.std.specs.Prelude.{◌≡◌, ℕ, ◌<◌, ◌^◌, ◌+◌, cond, eqb, slice_get, nat_lt, if◌then◌else◌, List, [], ◌∷◌, Option, Some, None, map, length, All}
 use Rattle.c_types.specs.declared.term.Term.{Term}
 use Rattle.c_types.specs.declared.term.Term.TheVariants.{Pointer, Array, Function, Structure, Union}
 use Rattle.c_types.specs.declared.term.MemberTerm.{MemberTerm}
@@ -80,3 +80,13 @@ NotArray term = Unit {0}
 -- what members take, in order
 abbrev pub extents_in : Table → List MemberTerm → List Extent
 extents_in table members = map (member_extent (look_in table)) (map (λ m. type_of table m.ty.0) members)
+
+-- the first id of a type
+pub record IsFirstOf (table : Table) (t : Ctype) (id : ℕ) : Type 0 where
+  pub known : id < length table.terms
+  pub same : type_of table id ≡ t
+  pub least : (j : ℕ) → j < id → type_of table j ≡ t → ⊥
+
+-- no id has the type
+pub record IsNowhere (table : Table) (t : Ctype) : Type 0 where
+  pub none : (j : ℕ) → j < length table.terms → type_of table j ≡ t → ⊥

@@ -2,6 +2,7 @@
 #![tactic(auto)]
 
 mod index;
+pub mod key;
 pub mod layout;
 mod parts;
 pub mod table;

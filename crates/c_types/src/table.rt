@@ -1,11 +1,12 @@
 // The table of a unit's types.
 
-ghost use Rattle.std.specs.Prelude.{◌≡◌, ℕ, ◌+◌, ◌-◌, ◌*◌, ◌^◌, ◌<◌, ◌≤◌, ◌↔◌, ◌⊎◌, ◌++◌, ◌∷◌, [], None, Some, IsTrue, IfOk, IfSome, List, Option, OnErr, OnOk, MatchResult, MatchOption, All, length, map, slice_get, slice_index};
+ghost use Rattle.std.specs.Prelude.{◌≡◌, ℕ, ◌+◌, ◌-◌, ◌*◌, ◌^◌, ◌<◌, ◌≤◌, ◌↔◌, ◌⊎◌, ◌++◌, ◌∷◌, [], None, Some, IsTrue, IfOk, IfSome, IfNone, List, Option, OnErr, OnOk, MatchResult, MatchOption, All, length, map, slice_get, slice_index};
 ghost use Rattle.std.specs.Option.{option_map};
-ghost use Rattle.c_types.specs.Table.{types_of, type_of, IsAfter, HasTag, NotArray, look_in, extent_in, size_below, nodes_within, node_of, extents_in, members_in};
+ghost use Rattle.c_types.specs.Table.{types_of, type_of, IsAfter, HasTag, NotArray, IsFirstOf, IsNowhere, look_in, extent_in, size_below, nodes_within, node_of, extents_in, members_in};
 ghost use Rattle.c_types.specs.Made.{AreNamed, IsFresh, IsMade, IsSized, KeepsApart, StandsAsStructure, StandsAsUnion, AreMembers};
 ghost use Rattle.c_types.specs.Parts.{class_of_type, head_type, first_member_of, field_in, within_32};
 ghost use Rattle.c_types.specs.declared.table.Entry.{Entry};
+ghost use Rattle.c_types.specs.declared.term.MemberTerm.{MemberTerm};
 ghost use Rattle.c_types.specs.Trees.{Ctype, grow, grown, tree_at, trees_at};
 ghost use Rattle.c_types.specs.Layout.{Extent, extent_of, element_extent, member_extent, flexible, structure_of, union_of};
 ghost use Rattle.c_types.specs.Bounds.{cap, bounds, bounds_or, bounds_times};
@@ -116,8 +117,25 @@ impl TypeTable {
         }
     }
 
+    /// How many tags are complete.
+    pub fn completed_count(&self) -> u32
+        ensures { result ≡ length self.now.completed }
+    {
+        self.completed.len() as u32
+    }
+
+    /// The tag that was completed in that position, from 0 in the order of `complete`.
+    pub fn completed_tag(&self, position: u32) -> u32
+        requires { position < length self.now.completed }
+        ensures { (members : List MemberTerm)
+            × (slice_get self.now.completed position ≡ Some (record { tag = result; members = members })) }
+    {
+        self.completed[position as usize].tag
+    }
+
     /// The number of types. Ids are the numbers below it. What every table keeps is told here: sizes of integers, tags
-    /// of one keyword, complete members, and that each tag is laid out from its members as they are in this table.
+    /// of one keyword, members that were complete before their tag was, and that each tag is laid out from its members as
+    /// they are in this table.
     pub fn type_count(&self) -> u32
         ensures count { result ≡ length self.now.terms }
         ensures made { IsMade self.now }
@@ -147,6 +165,25 @@ impl TypeTable {
         ensures { IsTrue result ↔ (type_of self.now a.0 ≡ type_of self.now b.0) }
     {
         same_in(&self.entries, a, b)
+    }
+
+    /// The first id of the same type.
+    pub fn first_same(&self, id: TypeId) -> TypeId
+        requires { id.0 < length self.now.terms }
+        ensures { IsFirstOf self.now (type_of self.now id.0) result.0 }
+    {
+        first_in(&self.entries, id)
+    }
+
+    /// The first id of the type that a term over the table's types is; None exactly where the table has no such type.
+    pub fn find(&self, term: &Term) -> Result<Option<TypeId>, OutOfMemory>
+        requires { IsAfter (length self.now.terms) term.now }
+        ensures { IfOk result (λ found.
+            MatchOption found (IsNowhere self.now (grow (types_of self.now) term.now))
+            (λ id. IsFirstOf self.now (grow (types_of self.now) term.now) id.0)) }
+    {
+        let found = found_in(self.alloc, &self.entries, &self.index, term)?;
+        Ok(found)
     }
 
     /// The members of a tag in order; None exactly where it isn't complete.
@@ -599,6 +636,48 @@ fn same_in(entries: &[Entry], a: TypeId, b: TypeId) -> bool
     ensures { let types = grown [] (terms_of entries.now) in IsTrue result ↔ (tree_at types a.0 ≡ tree_at types b.0) }
 {
     entries[a.0 as usize].first == entries[b.0 as usize].first
+}
+
+// The first id of the same type.
+fn first_in(entries: &[Entry], id: TypeId) -> TypeId
+    requires entries { (tags : ℕ) × AreEntries entries.now tags }
+    requires id { id.0 < length entries.now }
+    ensures known { result.0 < length entries.now }
+    ensures same { let types = grown [] (terms_of entries.now) in tree_at types result.0 ≡ tree_at types id.0 }
+    ensures least { let types = grown [] (terms_of entries.now) in
+        (j : ℕ) → j < result.0 → tree_at types j ≡ tree_at types id.0 → ⊥ }
+{
+    TypeId(entries[id.0 as usize].first)
+}
+
+// The first id of the type of a term.
+fn found_in(
+    alloc: Global,
+    entries: &[Entry],
+    index: &KeyIndex,
+    term: &Term,
+) -> Result<Option<TypeId>, OutOfMemory>
+    requires entries { (tags : ℕ) × AreEntries entries.now tags }
+    requires index { IsIndex entries.now index.now }
+    requires types { IsAfter (length entries.now) term.now }
+    ensures found { IfOk result (λ found. IfSome found (λ id. id.0 < length entries.now)) }
+    ensures same { let types = grown [] (terms_of entries.now) in
+        IfOk result (λ found. IfSome found (λ id. tree_at types id.0 ≡ grow types term.now)) }
+    ensures least { let types = grown [] (terms_of entries.now) in
+        IfOk result (λ found. IfSome found (λ id. (j : ℕ) → j < id.0 → tree_at types j ≡ grow types term.now → ⊥)) }
+    ensures nowhere { let types = grown [] (terms_of entries.now) in
+        IfOk result (λ found. IfNone found ((j : ℕ) → j < length entries.now → tree_at types j ≡ grow types term.now → ⊥)) }
+{
+    if entries.len() >= u32::MAX as usize {
+        return Err(OutOfMemory);
+    }
+    let key = key_for(alloc, entries, term)?;
+    let first = first_of(entries, index, key.as_slice(), term);
+    if (first as usize) < entries.len() {
+        Ok(Some(TypeId(first)))
+    } else {
+        Ok(None)
+    }
 }
 
 // What a term that is no array takes.

@@ -17,6 +17,7 @@ use Rattle.core_tree.specs.Rows.{RowOf, IsFunction, Initialises}
 use Rattle.type_rules.specs.Sizes.{HasSize, IsOpenIn, TagsHaveSizes, ResultHasSize}
 pub use Rattle.core_tree.specs.Rows.{InitialisesEntity, Has}
 pub use Rattle.core_tree.specs.Range.{node_at, entity_at, EachNode, EachEntity, SomeNode, SomeEntity, child_in, child_at, IsChild, Under, here, below, named_by, listed_by, listed_in, InRange, ChildOnce, OncePlaced, OnlyHolder, HoldsOnce, OnceHeld}
+pub use Rattle.core_tree.specs.Linkages.{Linkages}
 pub use Rattle.type_rules.specs.Sizes.{with_one, HasSignature}
 pub use Rattle.type_rules.specs.Conversions.{result_of}
 
@@ -352,25 +353,28 @@ pub record IsCaseOf (u : CoreTrees) (switch case : ℕ) : Type 0 where
   pub under : Under u switch case
   pub innermost : Innermost u switch case
 
-abbrev pub IsCase : ℤ → NodeKind → Type 0
-IsCase x (Case y) = y ≡ x
+-- a case of that number, or `default` where there is none
+abbrev pub IsCase : Option ℤ → NodeKind → Type 0
+IsCase (Some x) (Case y) = y ≡ x
+IsCase None Default = ⊤
 IsCase x kind = ⊥
 
 -- no other case of the switch has the number
-pub record OnlyCase (u : CoreTrees) (s a : ℕ) (x : ℤ) : Type 0 where
+pub record OnlyCase (u : CoreTrees) (s a : ℕ) (x : Option ℤ) : Type 0 where
   pub each : EachNode u (λ b other. IsCase x other.kind → IsCaseOf u s b → a ≡ b)
 
 -- the case differs from the others of that switch, if it stands in it
-unfoldable pub DiffersIn : CoreTrees → ℕ → ℤ → ℕ → NodeKind → Type 0
+unfoldable pub DiffersIn : CoreTrees → ℕ → Option ℤ → ℕ → NodeKind → Type 0
 DiffersIn u a x s kind = IsSwitch kind → IsCaseOf u s a → OnlyCase u s a x
 
 -- the case differs from the others of its switch
-pub record DiffersInAll (u : CoreTrees) (a : ℕ) (x : ℤ) : Type 0 where
+pub record DiffersInAll (u : CoreTrees) (a : ℕ) (x : Option ℤ) : Type 0 where
   pub each : EachNode u (λ s node. DiffersIn u a x s node.kind)
 
--- the cases of one switch differ
+-- the cases of one switch differ, and one of them at most is `default`
 abbrev pub CaseDiffers : CoreTrees → ℕ → NodeKind → Type 0
-CaseDiffers u a (Case x) = DiffersInAll u a x
+CaseDiffers u a (Case x) = DiffersInAll u a (Some x)
+CaseDiffers u a Default = DiffersInAll u a None
 CaseDiffers u a kind = ⊤
 
 abbrev pub DistinctCases : CoreTrees → Type 0
@@ -439,6 +443,7 @@ pub record Keyed (tags : ℕ) (keys : List (Option (List ℕ))) : Type 0 where
 pub record ValidUnit (unit : Unit) : Type 0 where
   pub trees : Valid (trees_of unit)
   pub keys : Keyed unit.types.tags unit.tags.items
+  pub linkages : Linkages (trees_of unit)
 
 -- a function with a body and without parameters has its type with the list (void) in the table
 abbrev pub IsSigned : CoreTrees → Entity → Type 0

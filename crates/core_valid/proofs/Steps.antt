@@ -1,7 +1,6 @@
 -- Fixed values are those whose step is.
-use Rattle.std.proofs.Common.{arith, ◌≡◌, ℕ, ◌<◌, List, [], ◌∷◌, Option, Some, None, Bool, IsTrue, ◌↔◌, slice_get, length, get_or, refl, sym, ap, ◌∙◌, subst, All}
+use Rattle.std.proofs.Common.{◌≡◌, ℕ, List, [], ◌∷◌, Option, Some, None, Bool, IsTrue, ◌↔◌, slice_get, get_or, refl, subst, All}
 use Rattle.std.proofs.lemmas.Option.{slice_get_within, slice_get-get_or, get_or_from_slice_get}
-use Rattle.std.proofs.lemmas.List.Elements.{All-get_or}
 use Rattle.c_types.specs.Trees.{Ctype}
 use Rattle.c_types.specs.Table.{type_of}
 use Rattle.core_tree.specs.declared.node.Node.{Node}
@@ -9,7 +8,7 @@ use Rattle.core_tree.specs.declared.node.NodeKind.{NodeKind}
 use Rattle.core_tree.specs.declared.node.NodeKind.TheVariants.{Named, Text, Literal, FunctionName, Deref, Member, Number, NullValue, AddressOf, Decay, PointerAdd, Convert, Upcast, Choose, Arith}
 use Rattle.core_tree.specs.Typed.{CoreTrees, IsInteger, IsPointer, type_at}
 use Rattle.core_tree.specs.Range.{node_at}
-use Rattle.core_tree.specs.Valid.{FixedNumber, plain, made, FixedPlace, text, function, object, literal, member, target, FixedPointer, null, address, decay, upcast, converted, moved, IsStaticEntity, IsNumber, MakesNumber, KindIs}
+use Rattle.core_tree.specs.Valid.{FixedNumber, plain, made, FixedPlace, text, function, object, literal, member, target, FixedPointer, null, address, decay, upcast, converted, moved, IsNumber, MakesNumber, KindIs}
 use Rattle.core_valid.specs.Fixed.{NumberStep, NumberStepAt, PlaceStep, PlaceStepAt, PointerStep, PointerStepAt}
 
 -- a node of that kind over those children takes the step of that kind

@@ -1,16 +1,16 @@
 -- What is asked of each node and entity, taken together, is all that is asked of a unit or a program.
-use Rattle.std.proofs.Common.{arith, ◌≡◌, ℕ, ◌<◌, List, Option, Some, None, IfSome, slice_get, length, get_or, refl, sym, ap, ◌∙◌, subst, inl, inr, All}
+use Rattle.std.proofs.Common.{arith, ◌≡◌, ℕ, ◌<◌, Option, Some, IfSome, slice_get, length, get_or, sym, ap, ◌∙◌, subst, inl, inr, All}
 use Rattle.std.proofs.lemmas.Option.{slice_get_within, slice_get-get_or, slice_get_cases}
 use Rattle.core_tree.specs.declared.node.Node.{Node}
 use Rattle.core_tree.specs.declared.node.Entity.{Entity}
 use Rattle.core_tree.specs.declared.under.Group.TheVariants.{Children}
 use Rattle.core_tree.specs.Typed.{CoreTrees}
-use Rattle.core_tree.specs.Range.{EachNode, EachEntity, node_at, entity_at, child_at, child_in, IsChild, InRange, ChildOnce, OnceHeld}
+use Rattle.core_tree.specs.Range.{EachNode, EachEntity, node_at, entity_at, child_at, child_in, named_by, InRange, ChildOnce, OnceHeld}
 use Rattle.core_tree.specs.Groups.{group_of}
 use Rattle.core_tree.specs.declared.node.Program.{Program}
 use Rattle.core_tree.specs.Typed.{trees_in}
 use Rattle.core_tree.specs.Valid.{Valid, ValidProgram}
-use Rattle.core_valid.specs.Each.{NodeInRange, EntityInRange, NodeRight, NodeRightIn, EntityRight, EntityRightIn, NodesRight, EntitiesRight, Checked, Linked}
+use Rattle.core_valid.specs.Each.{NodeInRange, EntityInRange, NodeRightIn, EntityRightIn, NodesRight, EntitiesRight, Checked, Linked}
 use Rattle.core_tree.proofs.Climb.{parent_node, parent_within, child_before}
 
 pub range_from : (u : CoreTrees) → EachNode u (λ n node. NodeInRange u n node) → EachEntity u (λ e entity. EntityInRange u entity) → InRange u
@@ -41,6 +41,12 @@ range_entities u range e entity at = record {
 
 pub all_types : (u : CoreTrees) → InRange u → All (λ (entity : Entity). entity.ty.0 < length u.types.terms) u.entities
 all_types u range k d lt = range.entity_types k (get_or u.entities k d) (slice_get-get_or u.entities k d lt)
+
+pub all_node_types : (u : CoreTrees) → InRange u → All (λ (node : Node). node.ty.0 < length u.types.terms) u.nodes
+all_node_types u range k d lt = range.types k (get_or u.nodes k d) (slice_get-get_or u.nodes k d lt)
+
+pub all_named : (u : CoreTrees) → InRange u → All (λ (node : Node). IfSome (named_by node.kind) (λ e. e < length u.entities)) u.nodes
+all_named u range k d lt = range.entities k (get_or u.nodes k d) (slice_get-get_or u.nodes k d lt)
 
 -- a child as an entry of a node's list
 child_entry : (u : CoreTrees) (n k c : ℕ) (node : Node) → node_at u n ≡ Some node → child_at u n k ≡ Some c → slice_get node.children k ≡ Some c

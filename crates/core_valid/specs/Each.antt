@@ -1,9 +1,9 @@
 -- What is asked of one node and of one entity.
-use Rattle.std.specs.Prelude.{ℕ, ◌≡◌, ◌<◌, List, Option, Some, None, IfSome, slice_get, length, All}
+use Rattle.std.specs.Prelude.{ℕ, ◌<◌, Option, Some, None, IfSome, length, All}
 use Rattle.core_tree.specs.declared.node.Node.{Node}
 use Rattle.core_tree.specs.declared.node.Entity.{Entity}
 use Rattle.core_tree.specs.Typed.{CoreTrees}
-use Rattle.core_tree.specs.Range.{EachNode, EachEntity, node_at, entity_at, named_by, listed_by, InRange, ChildOnce}
+use Rattle.core_tree.specs.Range.{EachNode, EachEntity, named_by, listed_by, InRange, ChildOnce}
 use Rattle.core_tree.specs.Valid.{InRow, IsInOwner, IsLiteral, IsListable, HoldsFixed, MayStand, FitsFunctions, CaseDiffers, ValueSized, IsOwned, HasBody, IsListed, IsUsed, EntitySized, ResultSized, IsSigned, HasLength, InUnits}
 use Rattle.type_rules.specs.Sizes.{TagsHaveSizes}
 

@@ -1,4 +1,4 @@
-// The cases of a switch differ (C11 6.8.4.2p3).
+// The cases of a switch differ, and one at most is `default` (C11 6.8.4.2p3).
 
 ghost use Rattle.std.specs.Prelude.{◌≡◌, ℕ, ◌↔◌, IsTrue};
 ghost use Rattle.core_tree.specs.Seen.{core_of};
@@ -42,18 +42,19 @@ fn is_case_of(trees: &Trees<'_>, s: usize, case: usize) -> bool
     is_under(trees, s, case) && innermost(trees, s, case)
 }
 
-// Whether a kind is the case of a number.
-fn is_case(x: i128, kind: &NodeKind) -> bool
+// Whether a kind is the case of a number, or `default` where there is none.
+fn is_case(x: Option<i128>, kind: &NodeKind) -> bool
     ensures { IsTrue result ↔ IsCase x kind.now }
 {
-    match kind {
-        NodeKind::Case(y) => *y == x,
+    match (x, kind) {
+        (Some(number), NodeKind::Case(y)) => *y == number,
+        (None, NodeKind::Default) => true,
         _ => false,
     }
 }
 
 // Whether no other case of a switch has that number.
-fn only_case(trees: &Trees<'_>, s: usize, a: usize, x: i128) -> bool
+fn only_case(trees: &Trees<'_>, s: usize, a: usize, x: Option<i128>) -> bool
     requires range { InRange (core_of trees.now) }
     requires once { ChildOnce (core_of trees.now) }
     ensures { IsTrue result ↔ OnlyCase (core_of trees.now) s a x }
@@ -65,7 +66,7 @@ fn only_case(trees: &Trees<'_>, s: usize, a: usize, x: i128) -> bool
 
 // Whether a case differs from the others of a switch, if it stands in it.
 #[tactic(auto, unfolding(core_tree::specs::Valid::DiffersIn))]
-fn differs_in(trees: &Trees<'_>, s: usize, kind: &NodeKind, a: usize, x: i128) -> bool
+fn differs_in(trees: &Trees<'_>, s: usize, kind: &NodeKind, a: usize, x: Option<i128>) -> bool
     requires range { InRange (core_of trees.now) }
     requires once { ChildOnce (core_of trees.now) }
     ensures { IsTrue result ↔ DiffersIn (core_of trees.now) a x s kind.now }
@@ -80,13 +81,14 @@ pub fn case_differs(trees: &Trees<'_>, a: usize, kind: &NodeKind) -> bool
     ensures { IsTrue result ↔ CaseDiffers (core_of trees.now) a kind.now }
 {
     match kind {
-        NodeKind::Case(x) => differs_in_each(trees, a, *x),
+        NodeKind::Case(x) => differs_in_each(trees, a, Some(*x)),
+        NodeKind::Default => differs_in_each(trees, a, None),
         _ => true,
     }
 }
 
 // Whether a case differs from the others of each switch in which it stands.
-fn differs_in_each(trees: &Trees<'_>, a: usize, x: i128) -> bool
+fn differs_in_each(trees: &Trees<'_>, a: usize, x: Option<i128>) -> bool
     requires range { InRange (core_of trees.now) }
     requires once { ChildOnce (core_of trees.now) }
     ensures { IsTrue result

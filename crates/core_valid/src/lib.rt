@@ -5,6 +5,7 @@ mod bodies;
 mod cases;
 mod entities;
 mod fixed;
+mod linkages;
 #[cfg(test)]
 mod tests;
 mod unit;

@@ -38,6 +38,8 @@ const LONG: u32 = 2;
 
 const FUNCTION: u32 = 3;
 
+const OPEN_FUNCTION: u32 = 4;
+
 // The types of the unit in order: void, int, long, and the function's.
 fn types_of(alloc: Global, fault: Fault) -> Result<TypeTable, OutOfMemory> {
     let mut types = TypeTable::new(alloc);
@@ -280,6 +282,63 @@ fn one_fault_each(rt: HostRuntime) -> Result<(), Fail> {
         let unit = unit_with(rt.alloc(), fault)?;
         assert!(rt; !valid_unit(&unit), "{fault:?}");
     }
+    Ok(())
+}
+
+// A declaration `int f();`, or `int f(void);`, at a column.
+fn declaration(
+    alloc: Global,
+    column: u32,
+    ty: u32,
+    used: Option<Place>,
+) -> Result<Entity, OutOfMemory> {
+    Ok(Entity {
+        name: Text::copy_of(alloc, "f")?,
+        unit: 0,
+        place: place_at(column),
+        ty: TypeId(ty),
+        linkage: Linkage::External,
+        storage: Storage::Declared,
+        owner: None,
+        body: None,
+        used,
+    })
+}
+
+// The unit `int f();`, with `int f(void);` behind it or not, in which a use of the first one has the type `int (void)`.
+fn unit_with_use(alloc: Global, second: bool) -> Result<Unit, OutOfMemory> {
+    let mut types = types_of(alloc, Fault::Nothing)?;
+    add_function(alloc, &mut types, TypeId(INT), Form::Unspecified)?;
+    let mut nodes = Vec::new(alloc);
+    push_node(
+        alloc,
+        &mut nodes,
+        30,
+        NodeKind::FunctionName(0),
+        FUNCTION,
+        &[],
+    )?;
+    let mut entities = Vec::new(alloc);
+    push_to(
+        &mut entities,
+        declaration(alloc, 5, OPEN_FUNCTION, Some(place_at(30)))?,
+    )?;
+    if second {
+        push_to(&mut entities, declaration(alloc, 15, FUNCTION, None)?)?;
+    }
+    Ok(Unit {
+        name: Text::copy_of(alloc, "a.i")?,
+        types,
+        tags: Vec::new(alloc),
+        nodes,
+        entities,
+    })
+}
+
+#[test]
+fn uses_of_declarations(rt: HostRuntime) -> Result<(), Fail> {
+    assert!(rt; !valid_unit(&unit_with_use(rt.alloc(), false)?));
+    assert!(rt; valid_unit(&unit_with_use(rt.alloc(), true)?));
     Ok(())
 }
 

@@ -3,9 +3,11 @@
 ghost use Rattle.std.specs.Prelude.{◌≡◌, ℕ, ◌<◌, ◌↔◌, Option, Some, IsTrue, All, length};
 ghost use Rattle.core_tree.specs.Typed.{trees_of, trees_in};
 ghost use Rattle.core_tree.specs.Valid.{OnlyKey, KeyedOnce, Keyed, ValidUnit, ValidProgram, EachNode, EachEntity, InRange, IsSigned, HasLength, InUnits};
+ghost use Rattle.core_tree.specs.Linkages.{Linkages};
 ghost use Rattle.core_tree.specs.Seen.{core_of};
 ghost use Rattle.core_valid.specs.Each.{Checked, EntityLinked, EntitiesLinked, NodesLinked, Linked};
 
+use crate::linkages::linkages;
 use crate::valid::checked;
 use core_tree::node::{Entity, Node, Program, Storage, Unit};
 use core_tree::trees::Trees;
@@ -72,13 +74,37 @@ fn unit_keyed(unit: &Unit) -> bool
     keyed(unit.types.tag_count(), unit.tags.as_slice())
 }
 
+// Whether the linkages of a unit are what they may be.
+fn unit_linkages(unit: &Unit) -> bool
+    requires { InRange (trees_of unit.now) }
+    ensures { IsTrue result ↔ Linkages (trees_of unit.now) }
+{
+    let trees = Trees {
+        types: &unit.types,
+        nodes: unit.nodes.as_slice(),
+        entities: unit.entities.as_slice(),
+    };
+    linkages(&trees)
+}
+
+// Whether all holds of a unit that is asked of units alone.
+fn unit_alone(unit: &Unit) -> bool
+    requires { InRange (trees_of unit.now) }
+    ensures { IsTrue result
+        ↔ (Keyed unit.now.types.tags unit.now.tags.items × Linkages (trees_of unit.now)) }
+{
+    unit_keyed(unit) && unit_linkages(unit)
+}
+
 /// Whether a unit is valid: each node stands over its children in the row of its kind, each type, node and entity that is
-/// named is in range, and each node and entity stands where it may (C11 6.5 to 6.9). It takes no memory, and looks at
-/// each node once for each other one, or more often: it is for contracts and tests.
+/// named is in range, and each node and entity stands where it may (C11 6.5 to 6.9). So that valid units link to valid
+/// programs, what a literal makes, an automatic object and a parameter have no linkage, and a use of an entity with
+/// external linkage has the type of some external declaration of that name in the unit (C11 6.2.2, 6.2.7). It takes no
+/// memory, and looks at each node once for each other one, or more often: it is for contracts and tests.
 pub fn valid_unit(unit: &Unit) -> bool
     ensures { IsTrue result ↔ ValidUnit unit.now }
 {
-    unit_checked(unit) && unit_keyed(unit)
+    unit_checked(unit) && unit_alone(unit)
 }
 
 // Whether all holds of a program that is asked of units and programs alike.

@@ -3,7 +3,7 @@ use Rattle.std.proofs.Common.{arith, ◌≡◌, ℕ, zero, suc, ◌+◌, ◌<◌
 use Rattle.std.specs.Str.{bytes_eq}
 use Rattle.std.proofs.lemmas.Slice.Eq.{bytes_eq-Decides}
 use Rattle.lib_summaries.specs.declared.table.Row.{Row as CodeRow}
-use Rattle.lib_summaries.specs.Table.{Row, row, find_from}
+use Rattle.lib_summaries.specs.Table.{Row, row, find_from, effects_among}
 use Rattle.lib_summaries.specs.Shown.{shown}
 
 drop_shown : (rows : List CodeRow) (i : ℕ) (d : CodeRow) → i < length rows → drop i (map shown rows) ≡ shown (get_or rows i d) ∷ drop (suc i) (map shown rows)
@@ -36,3 +36,13 @@ module _ (rows : List CodeRow) (i : ℕ) (d : CodeRow) (name : List ℕ) (lt : i
 
 pub none_left : (rows : List CodeRow) (i : ℕ) (name : List ℕ) → length rows ≤ i → find_from i (drop i (map shown rows)) name ≡ None
 none_left rows i name h = ap (λ (rs : List Row). find_from i rs name) (drop_end rows i h)
+
+pub effects_at : (rows : List CodeRow) (i : ℕ) (d : CodeRow) → i < length rows → effects_among (map shown rows) i ≡ (get_or rows i d).effects.now
+effects_at [] i d h = absurd (omega arith)
+effects_at (r ∷ rows) zero d h = refl
+effects_at (r ∷ rows) (suc i) d h = effects_at rows i d (omega arith)
+
+pub effects_past : (rows : List CodeRow) (i : ℕ) → length rows ≤ i → effects_among (map shown rows) i ≡ []
+effects_past [] i h = refl
+effects_past (r ∷ rows) zero h = absurd (omega arith)
+effects_past (r ∷ rows) (suc i) h = effects_past rows i (omega arith)

@@ -1,5 +1,6 @@
 -- The library functions and objects that a program may name: their shapes and what a call does to sets.
-use Rattle.std.specs.Prelude.{ℕ, ◌+◌, List, [], ◌∷◌, Option, Some, None, cond, codes}
+use Rattle.std.specs.Prelude.{ℕ, zero, suc, ◌+◌, List, [], ◌∷◌, Option, Some, None, cond, codes, slice_get}
+use Rattle.std.specs.Option.{option_map}
 use Rattle.std.specs.Str.{bytes_eq}
 use Rattle.pta_base.specs.declared.effect.Effect.{Effect}
 use Rattle.pta_base.specs.declared.effect.Effect.TheVariants.{Nothing, GivesArgument, GivesNew, GivesObject, Copies, StoresInto, CallsBack}
@@ -89,3 +90,21 @@ find_from n (r ∷ rest) name = cond (bytes_eq r.name name) (Some (record { numb
 -- the number and row of a library name
 unfoldable pub summary_of : List ℕ → Option Numbered
 summary_of name = find_from 0 rows name
+
+-- the name of the row in that position
+abbrev pub name_among : List Row → ℕ → Option (List ℕ)
+name_among table number = option_map (λ r. r.name) (slice_get table number)
+
+-- the name of that number
+unfoldable pub name_of : ℕ → Option (List ℕ)
+name_of number = name_among rows number
+
+-- the effects of the row of a number, none past the table
+abbrev pub effects_among : List Row → ℕ → List Effect
+effects_among [] n = []
+effects_among (r ∷ rest) zero = r.effects
+effects_among (r ∷ rest) (suc n) = effects_among rest n
+
+-- what a call of the library function of a number does to sets
+unfoldable pub effects_of : ℕ → List Effect
+effects_of number = effects_among rows number

@@ -5,4 +5,4 @@ mod row;
 mod table;
 
 pub use row::Summary;
-pub use table::summary;
+pub use table::{effects, name_at, summary};

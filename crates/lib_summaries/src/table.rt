@@ -1,7 +1,8 @@
 // The library functions and objects that a program may name.
 
 ghost use Rattle.std.specs.Prelude.{◌≡◌, ◌<◌, ◌^◌, MatchOption, Some, None, map, length};
-ghost use Rattle.lib_summaries.specs.Table.{find_from, row, summary_of};
+ghost use Rattle.std.specs.Option.{option_map};
+ghost use Rattle.lib_summaries.specs.Table.{find_from, row, summary_of, name_among, name_of, effects_among, effects_of};
 ghost use Rattle.lib_summaries.specs.Shown.{shown};
 
 use crate::row::Summary;
@@ -316,6 +317,24 @@ pub fn summary(name: &str) -> Option<Summary>
     find_in(&ROWS, name)
 }
 
+/// The name of that number; None exactly past the table. It takes no memory.
+pub fn name_at(number: u32) -> Option<&'static str>
+    ensures { option_map (λ name. name.now) result ≡ name_of number }
+{
+    name_in(&ROWS, number as usize)
+}
+
+// The name of the row in that position.
+fn name_in(rows: &'static [Row], number: usize) -> Option<&'static str>
+    ensures { option_map (λ name. name.now) result ≡ name_among (map shown rows.now) number }
+{
+    if number < rows.len() {
+        Some(rows[number].name)
+    } else {
+        None
+    }
+}
+
 // The first row with that name.
 fn find_in(rows: &'static [Row], name: &str) -> Option<Summary>
     requires { length rows.now < 2 ^ 32 }
@@ -334,6 +353,24 @@ fn find_in(rows: &'static [Row], name: &str) -> Option<Summary>
         }
     }
     None
+}
+
+/// What a call of the library function of that number does to sets; the empty list past the table. It takes no memory.
+pub fn effects(number: u32) -> &'static [Effect]
+    ensures { result.now ≡ effects_of number }
+{
+    effects_in(&ROWS, number as usize)
+}
+
+// The effects of one row.
+fn effects_in(rows: &'static [Row], number: usize) -> &'static [Effect]
+    ensures { result.now ≡ effects_among (map shown rows.now) number }
+{
+    if number < rows.len() {
+        rows[number].effects
+    } else {
+        &[]
+    }
 }
 
 #[cfg(test)]

@@ -3,6 +3,7 @@ use Rattle.c_consts.specs.Spine.{Leads, HeldAt, StartsBelow, IsClimbed, IsRest}
 use Rattle.c_consts.proofs.Spine.{leads_below, leads_rest, leads_front}
 use Rattle.c_consts.proofs.Climb.{climbed_none, climbed_rest, climbed_fails, climbed_twice, answered_fails, answered}
 use Rattle.c_consts.proofs.Rows.{last_held}
+use Rattle.c_consts.proofs.Under.{rows_leads, rows_two, rows_three}
 use Rattle.c_consts.proofs.Rest.{rest_two_fails}
 use Rattle.c_consts.proofs.Choice.{choice_fails, choice_other_fails, choice_chosen, choice_held}
 use Rattle.c_consts.proofs.Finish.{two_less, three_less, integer_here, two_are}
@@ -36,7 +37,7 @@ climb-climb-requires t c =
     (subst (λ (q : ℕ). Leads c.args.types.now c.args.nodes.now c.args.node q c.requires.start.below) (sym split) c.requires.start.leads) in (
       omega arith,
       (
-        c.requires.rows,
+        rows_leads c.args.types.now c.args.nodes.now (c.args.depth / 2) c.args.node c.descend-middle.result c.descend-middle.ensures c.requires.rows,
         (
           omega arith,
           subst (λ (z : ℤ). StartsBelow c.args.types.now c.args.nodes.now c.descend-middle.result (c.args.depth - c.args.depth / 2) z) (sym (to_z-of_z c.ranges.start))
@@ -68,7 +69,7 @@ evaluate-returns-in_err-start-clause-value t c =
 pub evaluate-climb-requires : goal.evaluate-climb-requires
 evaluate-climb-requires t c =
     let fits : FitsSigned w128 c.in_ok-start.start = search rules in
-    let held = last_held c.args.types.now c.args.nodes.now c.spine-depth.result.1 c.requires.rows c.in_ok-start.start (sym c.in_ok-start.ensures) in (
+    let held = last_held c.args.types.now c.args.nodes.now c.spine-depth.result.1 (rows_leads c.args.types.now c.args.nodes.now c.spine-depth.result.0 c.args.node c.spine-depth.result.1 c.spine-depth.ensures.leads c.requires.rows) c.in_ok-start.start (sym c.in_ok-start.ensures) in (
       omega (arith, c.spine-depth.ensures.range, c.ranges.node),
       (
         c.requires.rows,
@@ -89,12 +90,12 @@ evaluate-returns-clause-value t c =
 pub finish_choice-evaluate-requires : goal.finish_choice-evaluate-requires
 finish_choice-evaluate-requires t c =
     let less = three_less c.args.types.now c.args.nodes.now c.args.node c.branches-first.result.0 c.branches-first.result.1 c.requires.rows c.branches-first.ensures in
-    (omega (arith, less.0), (c.requires.rows, omega (arith, less.0)))
+    (omega (arith, less.0), ((rows_three c.args.types.now c.args.nodes.now c.args.node c.branches-first.result.0 c.branches-first.result.1 c.branches-first.ensures c.requires.rows).0, omega (arith, less.0)))
 
 pub finish_choice-evaluate-requires-2 : goal.finish_choice-evaluate-requires-2
 finish_choice-evaluate-requires-2 t c =
     let less = three_less c.args.types.now c.args.nodes.now c.args.node c.branches-first.result.0 c.branches-first.result.1 c.requires.rows c.branches-first.ensures in
-    (omega (arith, less.1), (c.requires.rows, omega (arith, less.1)))
+    (omega (arith, less.1), ((rows_three c.args.types.now c.args.nodes.now c.args.node c.branches-first.result.0 c.branches-first.result.1 c.branches-first.ensures c.requires.rows).1, omega (arith, less.1)))
 
 pub finish_choice-returns-in_err-one-clause-value : goal.finish_choice-returns-in_err-one-clause-value
 finish_choice-returns-in_err-one-clause-value t c =
@@ -139,7 +140,7 @@ finish_choice-returns-clause-holds t c =
 pub finish_operator-evaluate-requires : goal.finish_operator-evaluate-requires
 finish_operator-evaluate-requires t c =
     let less = two_less c.args.types.now c.args.nodes.now c.args.node c.in-Some.other c.requires.rows c.in-Some.ensures.two in
-    (omega (arith, less), (c.requires.rows, omega (arith, less)))
+    (omega (arith, less), (rows_two c.args.types.now c.args.nodes.now c.args.node c.in-Some.other c.in-Some.ensures.two c.requires.rows, omega (arith, less)))
 
 pub finish_operator-returns-in_err-second-in-Some-clause-value : goal.finish_operator-returns-in_err-second-in-Some-clause-value
 finish_operator-returns-in_err-second-in-Some-clause-value t c =

@@ -4,7 +4,7 @@ use Rattle.c_consts.proofs.steps.descend.Goals as goal
 
 pub first_operand-requires-clause-node : goal.first_operand-requires-clause-node
 first_operand-requires-clause-node c =
-    let below = leads_below c.args.types.now c.args.nodes.now c.requires.rows.order c.loop-step._step c.args.node c.loop-step.at c.loop-step.invariant in
+    let below = leads_below c.args.types.now c.args.nodes.now c.requires.order c.loop-step._step c.args.node c.loop-step.at c.loop-step.invariant in
     omega arith
 
 pub returns-in-None : goal.returns-in-None

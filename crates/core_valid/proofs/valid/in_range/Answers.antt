@@ -1,5 +1,5 @@
 use Rattle.core_tree.specs.Seen.{core_of}
-use Rattle.core_valid.proofs.Whole.{range_from, range_entities, range_nodes}
+use Rattle.core_valid.proofs.Whole.{range_from, range_entities}
 use Rattle.core_valid.proofs.valid.in_range.Goals as goal
 
 pub returns-then-nodes_in_range : goal.returns-then-nodes_in_range
