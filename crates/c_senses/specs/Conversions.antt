@@ -138,19 +138,19 @@ abbrev pub null_value : Ctype → Core → Core
 null_value t v = leaf NullValue (place_of v) t
 
 -- the pointers on the way from a structure down to the first member's type, and so on, that is sought
-abbrev pub first_type : World → Ctype → Option Ctype
-first_type w (StructureOf tag) = elim (w.members tag) [ None ↦ None | Some members ↦ elim (slice_get members 0) [ None ↦ None | Some m ↦ Some m.type ] ]
-first_type w t = None
+abbrev pub first_member_type : World → Ctype → Option Ctype
+first_member_type w (StructureOf tag) = elim (w.members tag) [ None ↦ None | Some members ↦ elim (slice_get members 0) [ None ↦ None | Some m ↦ Some m.type ] ]
+first_member_type w t = None
 
 abbrev pub upcast_within : World → ℕ → Ctype → Option Ctype → Core → Option Core
 upcast_within w zero sought first v = None
 upcast_within w (suc depth) sought None v = None
 upcast_within w (suc depth) sought (Some t) v =
     let one = over Upcast (place_of v) (PointerTo t) v in
-    if same_type t sought then Some one else upcast_within w depth sought (first_type w t) one
+    if same_type t sought then Some one else upcast_within w depth sought (first_member_type w t) one
 
 abbrev pub upcast : World → Ctype → Ctype → Core → Option Core
-upcast w from to v = upcast_within w (suc w.tags) to (first_type w from) v
+upcast w from to v = upcast_within w (suc w.tags) to (first_member_type w from) v
 
 abbrev pub upcast_or : ℕ → Kind → Option Core → Given Core
 upcast_or at kind None = Refuses kind at
@@ -212,6 +212,3 @@ abbrev pub typed : ℕ → Ctype → Given Core → Given Core
 typed at FloatingType g = Refuses Floating at
 typed at VaListType g = Refuses Builtin at
 typed at t g = g
-
-abbrev pub judged : ℕ → Core → Given Core
-judged at c = typed at (ctype_of c) (Fits c)

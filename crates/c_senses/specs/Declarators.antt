@@ -71,8 +71,8 @@ module _ (w : World) (s : Source) (sense : ℕ → Sense) where
   specified_at (Some i) = elim (sense i) [ IsSpecified x ↦ Some x.type | _ ↦ None ]
 
   -- the type of the specifiers before a declarator
-  abbrev pub base_of : ℕ → Option Ctype
-  base_of i = specified_at (specs_of s i)
+  abbrev pub base_type : ℕ → Option Ctype
+  base_type i = specified_at (specs_of s i)
 
   -- the derivations and the name of a declarator's parts
   abbrev pub suffixes : List ℕ → List Derivation
@@ -211,7 +211,7 @@ module _ (w : World) (s : Source) (sense : ℕ → Sense) where
   type_fits base ds = all_derive w ds base && within_limits w (derived ds base)
 
   abbrev pub derives_well : ℕ → List Derivation → Bool
-  derives_well at ds = if is_outermost s at then (elim (base_of at) [ None ↦ false | Some base ↦ type_fits base ds ]) else true
+  derives_well at ds = if is_outermost s at then (elim (base_type at) [ None ↦ false | Some base ↦ type_fits base ds ]) else true
 
   abbrev pub plain_declarator_row : ℕ → List ℕ → Given Sense
   plain_declarator_row at children =

@@ -12,16 +12,17 @@ use Rattle.c_grammar.specs.Terminals.{contains}
 use Rattle.c_grammar.specs.Productions.{p_external, p_rest, p_asm_name, p_align, p_field, p_enumerator, p_declarator, p_suffix, p_parameter, p_init, p_designator, p_block, p_statement, p_unary, p_assert, p_struct, p_members}
 use Rattle.c_grammar.specs.Words.{word_extern, word_static, word_inline, word_sizeof, word_alignof, sign_assign}
 use Rattle.c_senses.specs.Tree.{Source, is_a, has_sign, has_word, children_at, paired, last_where, any_where, child_of, parent_of, nearest_above, all_nodes}
-use Rattle.c_scope.specs.Known.{Declared as Declaration}
+use Rattle.c_scope.specs.declared.kinds.Declared.{Declared as Declaration}
 use Rattle.c_senses.specs.Names.{has_linkage, names_type, made_before, linked_before, before_in_scope, typing_declarations, ordinary_at}
 use Rattle.c_senses.specs.Given.{Given, given_if}
 use Rattle.c_senses.specs.World.{World, Meaning, Object, Function, TypeName, Value, has_size, same_type}
-use Rattle.c_senses.specs.Limits.{is_function_type}
+use Rattle.c_senses.specs.Limits.{is_function_type, lacks_a_length}
 use Rattle.c_senses.specs.Declarators.{outermost_of, specs_of, declaration_around, derived, is_defined_list}
 use Rattle.c_senses.specs.Tags.{tag_of}
 use Rattle.c_senses.specs.Sense.{Sense, IsSpecified, IsDeclarator, IsParameter, IsValue, IsInitial, Specified}
 
--- 6.2.7: types agree at their top, and of two that agree the one with the list or the length is the type of both
+-- 6.2.7: types agree at their top, and of two that agree the one with the list or the length is the type of both; where they don't, a
+-- declaration has its own
 abbrev pub agree : Ctype → Ctype → Bool
 agree (FunctionFrom r ps Unspecified) (FunctionFrom q qs g) = same_type r q
 agree (FunctionFrom r ps f) (FunctionFrom q qs Unspecified) = same_type r q
@@ -29,11 +30,14 @@ agree (ArrayOf a None) (ArrayOf b n) = same_type a b
 agree (ArrayOf a n) (ArrayOf b None) = same_type a b
 agree a b = same_type a b
 
+abbrev pub fuller : Ctype → Ctype → Ctype
+fuller (FunctionFrom r ps Fixed) (FunctionFrom q qs Unspecified) = FunctionFrom r ps Fixed
+fuller (FunctionFrom r ps Variadic) (FunctionFrom q qs Unspecified) = FunctionFrom r ps Variadic
+fuller (ArrayOf a (Some n)) (ArrayOf b None) = ArrayOf a (Some n)
+fuller a b = b
+
 abbrev pub together : Ctype → Ctype → Ctype
-together (FunctionFrom r ps Fixed) (FunctionFrom q qs Unspecified) = FunctionFrom r ps Fixed
-together (FunctionFrom r ps Variadic) (FunctionFrom q qs Unspecified) = FunctionFrom r ps Variadic
-together (ArrayOf a (Some n)) (ArrayOf b None) = ArrayOf a (Some n)
-together a b = b
+together a b = if agree a b then fuller a b else b
 
 abbrev pub all_together : Option Ctype → List Ctype → Option Ctype
 all_together so_far [] = so_far
@@ -209,13 +213,29 @@ module _ (s : Source) (sense : ℕ → Sense) where
   abbrev pub type_behind : ℕ → Option Ctype
   type_behind leaf = all_together None (types_of (typing_declarations s (ordinary_at s leaf)))
 
+  -- an array that waits for its initialiser to give it a length has, in that initialiser, the length that the declarations before it give, if
+  -- they do; there the name is still the last one of them
+  abbrev pub is_open : Option Ctype → Bool
+  is_open None = false
+  is_open (Some t) = lacks_a_length t
+
+  abbrev pub has_earlier_length : ℕ → Bool
+  has_earlier_length leaf = is_some (initialiser_for leaf) && (is_open (own_type leaf) && not (is_open (type_behind leaf)))
+
+  abbrev pub last_of : ℕ → List Declaration → ℕ
+  last_of leaf [] = leaf
+  last_of leaf (d ∷ rest) = last_of d.node rest
+
+  abbrev pub named_by : ℕ → ℕ
+  named_by leaf = if has_earlier_length leaf then last_of leaf (linked_before s (ordinary_at s leaf)) else leaf
+
   -- what a use of a name means, by the leaf that declares it: an external name has the entity of that declaration, the latest one that is
   -- seen
   abbrev pub object_or_function : ℕ → Ctype → Meaning
   object_or_function entity t = if is_function_type t then Function entity t else Object entity t
 
   abbrev pub declared_meaning : ℕ → Option Meaning
-  declared_meaning leaf = if is_typedef leaf then option_map TypeName (own_type leaf) else option_map (object_or_function (entity_of leaf)) (type_behind leaf)
+  declared_meaning leaf = if is_typedef leaf then option_map TypeName (own_type leaf) else option_map (object_or_function (entity_of (named_by leaf))) (type_behind leaf)
 
   abbrev pub enumerated : ℕ → Option Meaning
   enumerated i = elim (sense i) [ IsValue n ↦ Some (Value n) | _ ↦ None ]
@@ -227,11 +247,11 @@ module _ (s : Source) (sense : ℕ → Sense) where
   meaning_at i = option_and_then meaning_of (paired s.uses i)
 
   -- the function in whose definition a node stands, by the leaf of its name
-  abbrev pub declared_name : ℕ → Option ℕ
-  declared_name p = option_and_then (λ d. elim (sense d) [ IsDeclarator name ds ↦ name | _ ↦ None ]) (child_of s p_declarator p)
+  abbrev pub defined_name : ℕ → Option ℕ
+  defined_name p = option_and_then (λ d. elim (sense d) [ IsDeclarator name ds ↦ name | _ ↦ None ]) (child_of s p_declarator p)
 
   abbrev pub function_around : ℕ → Option ℕ
-  function_around i = option_and_then declared_name (nearest_above s (λ p. is_a s p_external p && is_some (child_of s p_block p)) i)
+  function_around i = option_and_then defined_name (nearest_above s (λ p. is_a s p_external p && is_some (child_of s p_block p)) i)
 
   -- a node in the initialiser of an object that has its place for the whole run, and in no operand that isn't evaluated
   abbrev pub is_operand_word : ℕ → Bool
@@ -250,11 +270,6 @@ module _ (s : Source) (sense : ℕ → Sense) where
 
   abbrev pub is_in_static : ℕ → Bool
   is_in_static i = elim (nearest_above s is_boundary i) [ None ↦ false | Some b ↦ is_object_initialiser b && initialises_static b ]
-
--- the row of a declarator that declares a name: what its declaration may say of it, at the name
-abbrev pub refusal_at : Source → ℕ → Option ℕ → ℕ
-refusal_at s at None = at
-refusal_at s at (Some leaf) = leaf
 
 module _ (w : World) (s : Source) (sense : ℕ → Sense) where
   -- words that don't go with what is declared
@@ -308,9 +323,11 @@ module _ (w : World) (s : Source) (sense : ℕ → Sense) where
   abbrev pub one_definition : Bool → ℕ → Bool
   one_definition again leaf = not (again && some_such s sense (λ d. defines d.node) (internal_before leaf))
 
+  abbrev pub internal_agrees : Ctype → ℕ → Bool
+  internal_agrees t leaf = not (is_internal s sense leaf) || agrees_with t (all_together None (types_of s sense (internal_before leaf)))
+
   abbrev pub internal_fits : Bool → Ctype → ℕ → Bool
-  internal_fits defined t leaf =
-      not (is_internal s sense leaf) || (agrees_with t (all_together None (types_of s sense (internal_before leaf))) && one_definition defined leaf)
+  internal_fits defined t leaf = internal_agrees t leaf && (not (is_internal s sense leaf) || one_definition defined leaf)
 
   -- the type of an object is complete at the unit's end: it has a size, or will have one, or the object is only declared
   abbrev pub is_completed_somewhere : ℕ → Bool

@@ -25,7 +25,7 @@ use Rattle.c_senses.specs.Objects.{part_at}
 use Rattle.c_senses.specs.Constants.{constant_in}
 use Rattle.c_senses.specs.Limits.{within_limits, lacks_a_length}
 use Rattle.c_senses.specs.Places.{own_place}
-use Rattle.c_senses.specs.Entities.{with_length, initialised_by, derived_type, specified_of, entity_of, is_static_object, is_in_static, is_automatic_storage, storage_of}
+use Rattle.c_senses.specs.Entities.{with_length, internal_agrees, initialised_by, derived_type, specified_of, entity_of, is_static_object, is_in_static, is_automatic_storage, storage_of}
 use Rattle.c_senses.specs.Sense.{Sense, Nothing, IsCore, IsType, IsDeclarator, IsInitial, IsValue, value_in, fits}
 
 -- a number, a place or a pointer that is fixed before the program runs: what a static object's initialiser may hold
@@ -121,6 +121,10 @@ type_along w (Some t) (step ∷ path) = type_along w (type_below w t step) path
 abbrev pub most_elements : ℕ
 most_elements = 9223372036854775808
 
+-- an index that no array has: a written length is below it
+abbrev pub past_every_array : ℕ
+past_every_array = 18446744073709551616
+
 module _ (w : World) (s : Source) (sense : ℕ → Sense) where
   -- the expression of an initialiser
   abbrev pub expression_of : ℕ → Sense
@@ -140,7 +144,7 @@ module _ (w : World) (s : Source) (sense : ℕ → Sense) where
 
   -- a negative index is past every array
   abbrev pub index_of : Sense → Option ℕ
-  index_of (IsValue n) = elim n [ pos k ↦ Some k | _ ↦ Some most_elements ]
+  index_of (IsValue n) = elim n [ pos k ↦ Some k | _ ↦ Some past_every_array ]
   index_of x = None
 
   abbrev pub name_behind_dot : ℕ → List ℕ
@@ -224,12 +228,16 @@ module _ (w : World) (s : Source) (sense : ℕ → Sense) where
   outcome_of at shape None = Refuses Operand at
   outcome_of at (Some shape) (Some init) = Fits (initial shape init)
 
-  -- an object's initialiser; a type past the limits is refused at the declarator
+  -- an object's initialiser; a length that makes its type one past the limits, or one that doesn't agree with an earlier declaration of an
+  -- internal name, is refused at the declarator
+  abbrev pub initialised_fits : Ctype → ℕ → Bool
+  initialised_fits t leaf = within_limits w t && internal_agrees w s sense t leaf
+
   abbrev pub object_initialiser : ℕ → ℕ → ℕ → Ctype → Given Sense
   object_initialiser at declarator leaf t =
       outcome_of at (shape_for w.fillable most_elements t) (view.init_at seen s.nodes at) >>= (λ outcome.
       made_of (is_static_object s sense leaf) (entity_of s sense leaf) (own_place s at) t outcome >>= (λ made.
-      given_if (within_limits w (with_length made.length t)) Operand leaf (Fits (IsInitial made.initial made.length))))
+      given_if (initialised_fits (with_length made.length t) leaf) Operand leaf (Fits (IsInitial made.initial made.length))))
 
   abbrev pub name_of_declarator : Sense → Option ℕ
   name_of_declarator (IsDeclarator name ds) = name

@@ -2,7 +2,8 @@
 use Rattle.std.specs.Prelude.{ℕ, zero, suc, ◌+◌, ◌==◌, Bool, false, ◌&&◌, ◌||◌, nat_lt, List, [], ◌∷◌, ◌++◌, length, codes, decimal, Option, Some, None, is_some, is_none, option_and_then, option_map, if◌then◌else◌}
 use Rattle.std.specs.Str.{bytes_eq}
 use Rattle.c_grammar.specs.Productions.{p_external, p_rest, p_specs, p_struct, p_member, p_declarator, p_suffix, p_block}
-use Rattle.c_senses.specs.Tree.{Source, is_a, spelling_at, children_at, any_where, parent_of, nearest_above, numbers_from}
+use Rattle.c_grammar.specs.Words.{sign_left_parenthesis}
+use Rattle.c_senses.specs.Tree.{Source, is_a, has_sign, spelling_at, children_at, any_where, parent_of, nearest_above, numbers_from}
 use Rattle.c_senses.specs.Tags.{tag_leaf, is_union}
 use Rattle.c_senses.specs.Sense.{Sense, IsDeclarator, IsMembers}
 
@@ -11,9 +12,12 @@ abbrev pub word_of_key : Source → ℕ → List ℕ
 word_of_key s i = if is_union s i then codes "union " else codes "struct "
 
 module _ (s : Source) (sense : ℕ → Sense) where
-  -- a specifier that stands in a block or a parameter list has no key
+  -- a specifier that stands in a block or a parameter list has no key; one in the brackets of an array may have one
+  abbrev pub is_parameter_list : ℕ → Bool
+  is_parameter_list i = is_a s p_suffix i && any_where (has_sign s sign_left_parenthesis) (children_at s i)
+
   abbrev pub is_inner : ℕ → Bool
-  is_inner i = is_some (nearest_above s (λ p. is_a s p_block p || is_a s p_suffix p) i)
+  is_inner i = is_some (nearest_above s (λ p. is_a s p_block p || is_parameter_list p) i)
 
   -- the specifiers, and what is declared, around a structure's specifier
   abbrev pub specs_around : ℕ → Option ℕ

@@ -9,7 +9,8 @@ use Rattle.c_mentions.specs.Syntax.{nodes_of}
 use Rattle.c_mentions.specs.Settings.{standings}
 use Rattle.c_scope.specs.declared.kinds.Kind.{Kind}
 use Rattle.c_scope.specs.declared.kinds.Kind.TheVariants.{Linked, Typedef}
-use Rattle.c_scope.specs.Known.{Declared, those_at}
+use Rattle.c_scope.specs.declared.kinds.Declared.{Declared}
+use Rattle.c_scope.specs.Known.{those_at}
 use Rattle.c_scope.specs.Resolves.{bindings}
 use Rattle.c_senses.specs.Tree.{Source, Names, paired}
 
@@ -21,7 +22,7 @@ names_of text tokens nodes = record {
   scopes = map (λ s. s.scopes) (standings tokens (nodes_of nodes) 0 (nodes_of nodes));
 }
 
--- the source that the rows see, by the pairs of uses and declarations
+-- the source that the rows see, by the pairs of uses and declarations; a tag has its node's number
 abbrev pub source_with : Tokens → Tree → List (ℕ × ℕ) → Source
 source_with tokens tree uses = record {
   unit = tree.unit;
@@ -30,11 +31,16 @@ source_with tokens tree uses = record {
   nodes = tree.nodes.items;
   uses = uses;
   declared = names_of tokens.text.now tokens.list.items tree.nodes.items;
+  tag_number = λ node. node;
 }
 
 -- the source of a unit
 unfoldable pub source_of : Tokens → Tree → Source
 source_of tokens tree = source_with tokens tree (bindings tokens.text.now tokens.list.items (nodes_of tree.nodes.items)).uses
+
+-- the same source with other numbers of tags
+abbrev pub numbered : (ℕ → ℕ) → Source → Source
+numbered tag_number s = record s { tag_number = tag_number }
 
 -- a declaration of a name with linkage, and one of a typedef name
 abbrev pub is_linked_kind : Kind → Bool

@@ -12,10 +12,6 @@ pub data Own : Type 0 where
   At : (leaf : ℕ) → Own
   OfPart : (part : ℕ) → Own
 
-abbrev pub part_or_first : Option ℕ → Own
-part_or_first None = First
-part_or_first (Some c) = OfPart c
-
 abbrev pub leaf_or_first : Option ℕ → Own
 leaf_or_first None = First
 leaf_or_first (Some c) = At c

@@ -1,9 +1,8 @@
--- What it is that a unit is what its syntax tree says, up to the numbers of entities, tags and nodes.
+-- What it is that a unit is what its syntax tree says, up to the numbers of entities and nodes; those of tags are the source's.
 use Rattle.std.specs.Prelude.{⊤, ℕ, ◌==◌, ◌≡◌, ◌<◌, Bool, true, false, ◌&&◌, ◌||◌, not, List, [], ◌∷◌, length, Option, Some, None, slice_get, is_some, option_and_then, option_map, ◌⊎◌, if◌then◌else◌}
 use Rattle.pta_base.specs.declared.place.Place.{Place}
-use Rattle.c_types.specs.Trees.{Ctype, Ctypes, NoTypes, MoreTypes, VoidType, BoolType, IntegerType, FloatingType, VaListType, PointerTo, ArrayOf, FunctionFrom, StructureOf, UnionOf}
-use Rattle.c_types.specs.Table.{Table, type_of, members_in}
-use Rattle.c_types.specs.declared.term.MemberTerm.{MemberTerm}
+use Rattle.c_types.specs.Trees.{Ctype}
+use Rattle.c_types.specs.Table.{type_of, members_in}
 use Rattle.core_tree.specs.declared.node.NodeKind.{NodeKind}
 use Rattle.core_tree.specs.declared.node.NodeKind.TheVariants.{Named, Literal, FunctionName, Block, For, Initialise}
 use Rattle.core_tree.specs.declared.node.Node.{Node}
@@ -14,69 +13,49 @@ use Rattle.core_tree.specs.declared.node.Storage.{Storage}
 use Rattle.core_tree.specs.declared.node.Storage.TheVariants.{Static, Automatic, Declared as DeclaredStorage}
 use Rattle.core_tree.specs.declared.node.Unit.{Unit}
 use Rattle.core_tree.specs.Typed.{trees_of}
+use Rattle.core_tree.specs.Rows.{Initialises}
 use Rattle.core_tree.specs.Valid.{ValidUnit, IsChild, entity_at}
 use Rattle.c_grammar.specs.Productions.{p_external, p_declaration, p_struct, p_parameter, p_block}
 use Rattle.c_grammar.specs.Words.{word_extern}
 use Rattle.c_consts.specs.Core.{Core, Cores, Of, NoCores, MoreCores, kind_of, ctype_of, cores_under, core_in}
-use Rattle.c_inits.specs.Made.{Part}
-use Rattle.c_scope.specs.Known.{Declared as Declaration}
+use Rattle.c_inits.specs.Tables.{parts_in}
+use Rattle.c_scope.specs.declared.kinds.Declared.{Declared as Declaration}
 use Rattle.c_senses.specs.Names.{ordinary_at}
-use Rattle.c_senses.specs.Tree.{Source, is_a, is_name, place_at, spelling_at, all_where, any_where, child_of, parent_of, all_nodes}
+use Rattle.c_senses.specs.Tree.{Source, is_a, is_name, place_at, spelling_at, any_where, child_of, parent_of, all_nodes}
 use Rattle.c_senses.specs.World.{same_length}
 use Rattle.c_senses.specs.Declarators.{outermost_of, is_defined_list}
-use Rattle.c_senses.specs.Tags.{tag_of, completed_from, members_under}
+use Rattle.c_senses.specs.Tags.{tag_declared, declaring_specifier, completed_from, members_under}
 use Rattle.c_senses.specs.Limits.{lacks_a_length}
 use Rattle.c_senses.specs.Entities.{own_type, all_together, types_of, keep, first_of, internal_among, declares_function, is_typedef, is_defined, linkage_of, entity_of, storage_of, function_around, initialiser_for, has_storage, declaration_of, with_length}
 use Rattle.c_senses.specs.Keys.{key_of}
 use Rattle.c_senses.specs.Rows.{AreSenses, world_at}
 use Rattle.c_senses.specs.Sense.{Sense, IsCore, IsDeclarator, IsInitial, sense_in}
 
--- the number of each entity and of each tag, by the syntax nodes by which they are known
-pub record Numbering : Type 0 where
-  pub entity : ℕ → Option ℕ
-  pub tag : ℕ → Option ℕ
-
--- one type, but for the numbers of tags
-abbrev mutual
-  pub SameType : Numbering → Ctype → Ctype → Type 0
-  SameType n (StructureOf a) (StructureOf b) = n.tag a ≡ Some b
-  SameType n (UnionOf a) (UnionOf b) = n.tag a ≡ Some b
-  SameType n (PointerTo a) (PointerTo b) = SameType n a b
-  SameType n (ArrayOf a k) (ArrayOf b l) = (k ≡ l) × SameType n a b
-  SameType n (FunctionFrom r ps f) (FunctionFrom q qs g) = (f ≡ g) × SameType n r q × SameTypes n ps qs
-  SameType n (IntegerType size rank signed) b = b ≡ IntegerType size rank signed
-  SameType n VoidType b = b ≡ VoidType
-  SameType n BoolType b = b ≡ BoolType
-  SameType n FloatingType b = b ≡ FloatingType
-  SameType n VaListType b = b ≡ VaListType
-  SameType n a b = ⊥
-
-  pub SameTypes : Numbering → Ctypes → Ctypes → Type 0
-  SameTypes n NoTypes NoTypes = ⊤
-  SameTypes n (MoreTypes a as') (MoreTypes b bs) = SameType n a b × SameTypes n as' bs
-  SameTypes n a b = ⊥
+-- the number of each entity, by the leaf by which it is known
+abbrev pub Numbering : Type 0
+Numbering = ℕ → Option ℕ
 
 -- the entities of a list, in order
 abbrev pub SameEntities : Numbering → List ℕ → List ℕ → Type 0
 SameEntities n [] [] = ⊤
-SameEntities n (d ∷ ds) (e ∷ es) = (n.entity d ≡ Some e) × SameEntities n ds es
+SameEntities n (d ∷ ds) (e ∷ es) = (n d ≡ Some e) × SameEntities n ds es
 SameEntities n ds es = ⊥
 
 -- one kind, but for the numbers of entities
 abbrev pub SameKind : Numbering → NodeKind → NodeKind → Type 0
-SameKind n (Named d) (Named e) = n.entity d ≡ Some e
-SameKind n (FunctionName d) (FunctionName e) = n.entity d ≡ Some e
-SameKind n (Literal d) (Literal e) = n.entity d ≡ Some e
-SameKind n (Initialise d paths) (Initialise e others) = (n.entity d ≡ Some e) × (paths ≡ others)
+SameKind n (Named d) (Named e) = n d ≡ Some e
+SameKind n (FunctionName d) (FunctionName e) = n d ≡ Some e
+SameKind n (Literal d) (Literal e) = n d ≡ Some e
+SameKind n (Initialise d paths) (Initialise e others) = (n d ≡ Some e) × (paths ≡ others)
 SameKind n (Block ds) (Block es) = SameEntities n ds es
 SameKind n (For ds c a) (For es d b) = SameEntities n ds es × (c ≡ d) × (a ≡ b)
 SameKind n a b = a ≡ b
 
--- the node of that number, and what is under it, are that tree up to numbering
+-- the node of that number, and what is under it, are that tree, up to the numbers of entities
 abbrev mutual
   pub StandsBy : Numbering → Unit → ℕ → Core → Type 0
   StandsBy m u i (Of kind place type under) =
-      (node : Node) × (slice_get u.nodes.items i ≡ Some node) × SameKind m kind node.kind × (node.place ≡ place) × SameType m type (type_of u.types node.ty.0) × AllStandBy m u node.children under
+      (node : Node) × (slice_get u.nodes.items i ≡ Some node) × SameKind m kind node.kind × (node.place ≡ place) × (type_of u.types node.ty.0 ≡ type) × AllStandBy m u node.children under
 
   pub AllStandBy : Numbering → Unit → List ℕ → Cores → Type 0
   AllStandBy m u is NoCores = is ≡ []
@@ -121,12 +100,6 @@ module _ (s : Source) (senses : List Sense) where
   abbrev pub with_one : Ctype → Ctype
   with_one t = if lacks_a_length t then with_length (Some 1) t else t
 
-  abbrev pub internal_type : ℕ → Option Ctype
-  internal_type i = option_map with_one (all_together None (types_of s sense_of (of_internal i)))
-
-  abbrev pub entity_type : ℕ → Option Ctype
-  entity_type i = elim (linkage_of s sense_of i) [ Internal ↦ internal_type i | _ ↦ own_type s sense_of i ]
-
   -- an internal name has its place at its definition, else at its first tentative definition, else at its first declaration
   abbrev pub is_definition_at : Declaration → Bool
   is_definition_at d = is_defined s sense_of d.node || is_some (initialiser_for s sense_of d.node)
@@ -140,6 +113,15 @@ module _ (s : Source) (senses : List Sense) where
         | Internal ↦ first_of s sense_of (first_of s sense_of i (keep s sense_of is_tentative (of_internal i))) (keep s sense_of is_definition_at (of_internal i))
         | _ ↦ i
       ]
+
+  -- the type of an internal name is that of all its declarations; of a function it is the definition's, where there is one
+  abbrev pub internal_type : ℕ → Option Ctype
+  internal_type i =
+      if is_defined s sense_of (representative i) then own_type s sense_of (representative i)
+      else option_map with_one (all_together None (types_of s sense_of (of_internal i)))
+
+  abbrev pub entity_type : ℕ → Option Ctype
+  entity_type i = elim (linkage_of s sense_of i) [ Internal ↦ internal_type i | _ ↦ own_type s sense_of i ]
 
   abbrev pub storage_at : ℕ → Storage
   storage_at i = elim (linkage_of s sense_of i) [ Internal ↦ (elim (storage_of s sense_of (representative i)) [ DeclaredStorage ↦ if declares_function s sense_of i then DeclaredStorage else Static | other ↦ other ]) | _ ↦ storage_of s sense_of i ]
@@ -207,7 +189,7 @@ module _ (s : Source) (senses : List Sense) where
 
 abbrev pub SameOwner : Numbering → Option ℕ → Option ℕ → Type 0
 SameOwner n None None = ⊤
-SameOwner n (Some d) (Some e) = n.entity d ≡ Some e
+SameOwner n (Some d) (Some e) = n d ≡ Some e
 SameOwner n a b = ⊥
 
 abbrev pub SameBody : Numbering → Unit → Option Core → Option ℕ → Type 0
@@ -220,38 +202,32 @@ pub record IsEntityOf (n : Numbering) (u : Unit) (unit : ℕ) (what : Declared) 
   pub name : e.name ≡ what.name
   pub unit_is : e.unit ≡ unit
   pub place : e.place ≡ what.place
-  pub type : SameType n what.type (type_of u.types e.ty.0)
+  pub type : type_of u.types e.ty.0 ≡ what.type
   pub linkage : e.linkage ≡ what.linkage
   pub storage : e.storage ≡ what.storage
   pub owner : SameOwner n what.owner e.owner
   pub body : SameBody n u what.body e.body
 
--- the members of a tag, in order: names, widths and types
-abbrev pub SameMembers : Numbering → Table → List Part → List MemberTerm → Type 0
-SameMembers n table [] [] = ⊤
-SameMembers n table (p ∷ ps) (m ∷ ms) = (m.name ≡ p.name) × (m.bits ≡ p.bits) × SameType n p.type (type_of table m.ty.0) × SameMembers n table ps ms
-SameMembers n table ps ms = ⊥
-
-abbrev pub SameList : Numbering → Table → Option (List Part) → Option (List MemberTerm) → Type 0
-SameList n table None None = ⊤
-SameList n table (Some ps) (Some ms) = SameMembers n table ps ms
-SameList n table a b = ⊥
-
 -- a tag is known by its first declaration; one of a structure or union has a number
 abbrev pub is_tag : Source → ℕ → Bool
-is_tag s d = any_where (λ i. is_a s p_struct i && (tag_of s i == d)) (all_nodes s)
+is_tag s d = any_where (λ i. is_a s p_struct i && (tag_declared s i == d)) (all_nodes s)
 
--- the first specifier of a tag, whose place decides its key; a key that an earlier tag has is none
-abbrev pub specifiers_of : Source → ℕ → List ℕ
-specifiers_of s d = all_where (λ i. is_a s p_struct i && (tag_of s i == d)) (all_nodes s)
+-- different tags have different numbers
+abbrev pub TagsDiffer : Source → Type 0
+TagsDiffer s = (c d : ℕ) → is_tag s c ≡ true → is_tag s d ≡ true → s.tag_number c ≡ s.tag_number d → c ≡ d
 
+-- the place of the specifier that declares a tag decides its key; a key that an earlier tag has is none
 abbrev pub key_of_tag : Source → (ℕ → Sense) → ℕ → Option (List ℕ)
-key_of_tag s sense d = elim (specifiers_of s d) [ [] ↦ None | i ∷ rest ↦ key_of s sense i ]
+key_of_tag s sense d = option_and_then (key_of s sense) (declaring_specifier s d)
 
-pub record KeysRight (n : Numbering) (s : Source) (sense : ℕ → Sense) (keys : List (Option (List ℕ))) : Type 0 where
-  pub none : (d t : ℕ) → n.tag d ≡ Some t → key_of_tag s sense d ≡ None → slice_get keys t ≡ Some None
-  pub first : (d t : ℕ) (key : List ℕ) → n.tag d ≡ Some t → key_of_tag s sense d ≡ Some key → ((c : ℕ) → c < d → is_tag s c ≡ true → key_of_tag s sense c ≡ Some key → ⊥) → slice_get keys t ≡ Some (Some key)
-  pub again : (c d t : ℕ) (key : List ℕ) → n.tag d ≡ Some t → key_of_tag s sense d ≡ Some key → c < d → is_tag s c ≡ true → key_of_tag s sense c ≡ Some key → slice_get keys t ≡ Some None
+pub record KeysRight (s : Source) (sense : ℕ → Sense) (keys : List (Option (List ℕ))) : Type 0 where
+  pub none : (d : ℕ) → is_tag s d ≡ true → key_of_tag s sense d ≡ None → slice_get keys (s.tag_number d) ≡ Some None
+  pub first : (d : ℕ) (key : List ℕ) → is_tag s d ≡ true → key_of_tag s sense d ≡ Some key → ((c : ℕ) → c < d → is_tag s c ≡ true → key_of_tag s sense c ≡ Some key → ⊥) → slice_get keys (s.tag_number d) ≡ Some (Some key)
+  pub again : (c d : ℕ) (key : List ℕ) → is_tag s d ≡ true → key_of_tag s sense d ≡ Some key → c < d → is_tag s c ≡ true → key_of_tag s sense c ≡ Some key → slice_get keys (s.tag_number d) ≡ Some None
+
+-- each Initialise is its entity's body
+abbrev pub InitialisesOnce : Unit → Type 0
+InitialisesOnce u = (i e : ℕ) → Initialises (trees_of u) i e → (entity : Entity) × (entity_at (trees_of u) e ≡ Some entity) × (entity.body ≡ Some i)
 
 -- a node is a body or a child
 abbrev pub IsBody : Unit → ℕ → Type 0
@@ -266,14 +242,15 @@ pub record Right (s : Source) (name : List ℕ) (u : Unit) : Type 0 where
   pub whole : length senses ≡ length s.nodes
   pub numbering : Numbering
   -- entities: each thing that is declared has one, and there are no others
-  pub entity_once : (c d e : ℕ) → numbering.entity c ≡ Some e → numbering.entity d ≡ Some e → c ≡ d
-  pub each_declared : (d : ℕ) (what : Declared) → IsDeclaredAt s senses d what → (e : ℕ) × (entity : Entity) × (numbering.entity d ≡ Some e) × (entity_at (trees_of u) e ≡ Some entity) × IsEntityOf numbering u s.unit what entity
-  pub no_other_entity : (e : ℕ) → e < length u.entities.items → (d : ℕ) × (what : Declared) × IsDeclaredAt s senses d what × (numbering.entity d ≡ Some e)
-  -- tags: each one has a number, with its members and its key, and there are no others
-  pub tag_once : (c d t : ℕ) → numbering.tag c ≡ Some t → numbering.tag d ≡ Some t → c ≡ d
-  pub each_tag : (d : ℕ) → is_tag s d ≡ true → (t : ℕ) × (numbering.tag d ≡ Some t) × (t < u.types.tags)
-  pub no_other_tag : (t : ℕ) → t < u.types.tags → (d : ℕ) × (is_tag s d ≡ true) × (numbering.tag d ≡ Some t)
-  pub members : (d t : ℕ) → numbering.tag d ≡ Some t → SameList numbering u.types (members_under (completed_from s senses (sense_in senses) 0) d) (members_in u.types t)
-  pub keys : KeysRight numbering s (sense_in senses) u.tags.items
-  -- nodes: each one is a body or stands under one
+  pub entity_once : (c d e : ℕ) → numbering c ≡ Some e → numbering d ≡ Some e → c ≡ d
+  pub each_declared : (d : ℕ) (what : Declared) → IsDeclaredAt s senses d what → (e : ℕ) × (entity : Entity) × (numbering d ≡ Some e) × (entity_at (trees_of u) e ≡ Some entity) × IsEntityOf numbering u s.unit what entity
+  pub no_other_entity : (e : ℕ) → e < length u.entities.items → (d : ℕ) × (what : Declared) × IsDeclaredAt s senses d what × (numbering d ≡ Some e)
+  -- tags: each one has a number of its own, with its members and its key, and there are no others
+  pub tag_once : TagsDiffer s
+  pub each_tag : (d : ℕ) → is_tag s d ≡ true → s.tag_number d < u.types.tags
+  pub no_other_tag : (t : ℕ) → t < u.types.tags → (d : ℕ) × (is_tag s d ≡ true) × (s.tag_number d ≡ t)
+  pub members : (d : ℕ) → is_tag s d ≡ true → parts_in u.types (members_in u.types (s.tag_number d)) ≡ members_under (completed_from s senses (sense_in senses) 0) (s.tag_number d)
+  pub keys : KeysRight s (sense_in senses) u.tags.items
+  -- nodes: each one is a body or stands under one, and each initialiser is a body
+  pub initialises_once : InitialisesOnce u
   pub no_other_node : (i : ℕ) → i < length u.nodes.items → IsBody u i ⊎ ((p : ℕ) × IsChild (trees_of u) p i)

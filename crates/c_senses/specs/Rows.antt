@@ -1,5 +1,5 @@
 -- One row for each production, over what the nodes before stand for.
-use Rattle.std.specs.Prelude.{ℕ, ◌==◌, true, false, ◌&&◌, ◌||◌, nat_le, List, [], length, take, Option, Some, option_map, slice_get, ◌≡◌, ◌≤◌, if◌then◌else◌}
+use Rattle.std.specs.Prelude.{ℕ, ◌==◌, ◌&&◌, ◌||◌, not, nat_le, List, [], length, take, Option, Some, option_map, slice_get, ◌≡◌, ◌≤◌, if◌then◌else◌}
 use Rattle.pta_base.specs.declared.kind.Kind.{Kind}
 use Rattle.c_types.specs.Trees.{Ctype}
 use Rattle.c_grammar.specs.declared.trees.SyntaxNode.{SyntaxNode}
@@ -11,7 +11,7 @@ use Rattle.c_senses.specs.Given.{Given, Fits, Refuses, ◌>>=◌}
 use Rattle.c_senses.specs.World.{World}
 use Rattle.c_senses.specs.Expressions.{expression_row}
 use Rattle.c_senses.specs.Specifiers.{align_specifier, type_row, specs_row}
-use Rattle.c_senses.specs.Declarators.{plain_declarator_row, suffix_row, parameter_row, type_name_row, is_outermost, base_of, derived, adjusted}
+use Rattle.c_senses.specs.Declarators.{plain_declarator_row, suffix_row, parameter_row, type_name_row, is_outermost, base_type, derived, adjusted}
 use Rattle.c_senses.specs.Tags.{struct_row, enum_row, members_row, member_declaration, field_row, enumerator_row, completed_from, members_under, look_of}
 use Rattle.c_senses.specs.Entities.{meaning_at, storage_of, is_automatic_storage, is_in_static, function_around, by_place}
 use Rattle.c_senses.specs.Initialised.{designator_row, init_row, items_row}
@@ -26,8 +26,8 @@ world_over s senses sense completed i = record {
   look = look_of completed;
   fillable = looked_up (laid_out [] completed);
   tags = length completed;
-  may_name = λ e. if is_in_static s sense i then (if is_automatic_storage s sense (storage_of s sense e) then false else true) else true;
-  may_call = if is_in_static s sense i then false else true;
+  may_name = λ e. not (is_in_static s sense i && is_automatic_storage s sense (storage_of s sense e));
+  may_call = not (is_in_static s sense i);
   own_name = option_map (spelling_at s) (function_around s sense i);
 }
 
@@ -41,7 +41,7 @@ module _ (w : World) (s : Source) (sense : ℕ → Sense) where
   at_its_name at g base x = g
 
   abbrev pub declarator_row : ℕ → List ℕ → Given Sense
-  declarator_row at children = plain_declarator_row w s sense at children >>= (λ x. at_its_name at (Fits x) (base_of w s sense at) x)
+  declarator_row at children = plain_declarator_row w s sense at children >>= (λ x. at_its_name at (Fits x) (base_type w s sense at) x)
 
   abbrev pub declaring_row : ℕ → ℕ → List ℕ → Given Sense
   declaring_row production at children =

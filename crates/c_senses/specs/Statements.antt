@@ -17,7 +17,7 @@ use Rattle.c_senses.specs.World.{World}
 use Rattle.c_senses.specs.Conversions.{operand_of, is_scalar, promotion, conversion}
 use Rattle.c_senses.specs.Constants.{constant_in, is_whole}
 use Rattle.c_senses.specs.Places.{own_place}
-use Rattle.c_senses.specs.Entities.{function_around, own_type, storage_of, initialised_by, result_of}
+use Rattle.c_senses.specs.Entities.{is_typedef, function_around, own_type, storage_of, initialised_by, result_of}
 use Rattle.c_senses.specs.Sense.{Sense, Nothing, IsCore, IsDeclarator, IsRun, IsInitial, core_of, value_in, fits}
 
 abbrev pub statement : NodeKind → Place → Cores → Core
@@ -44,9 +44,9 @@ pub record ForParts : Type 0 where
   pub after : Option ℕ
 
 module _ (w : World) (s : Source) (sense : ℕ → Sense) where
-  -- the automatic objects whose declarators are among some nodes
+  -- the automatic objects whose declarators are among some nodes; a typedef name is no object
   abbrev pub is_automatic_object : ℕ → Bool
-  is_automatic_object leaf = elim (storage_of s sense leaf) [ Automatic ↦ true | _ ↦ false ]
+  is_automatic_object leaf = not (is_typedef s sense leaf) && elim (storage_of s sense leaf) [ Automatic ↦ true | _ ↦ false ]
 
   abbrev pub automatic_name : Sense → List ℕ
   automatic_name (IsDeclarator (Some leaf) ds) = if is_automatic_object leaf then leaf ∷ [] else []
@@ -149,11 +149,15 @@ module _ (w : World) (s : Source) (sense : ℕ → Sense) where
   abbrev pub is_default_again : ℕ → ℕ → Bool
   is_default_again switch i = is_statement_of word_default i && (in_switch switch i && is_default (sense i))
 
+  -- a case has the type of its switch's value and a number of its own; a switch whose value is no integer is itself refused
   abbrev pub case_in : ℕ → ℕ → Core → ℤ → Given Core
   case_in at switch body n =
-      switched at (expression_in (children_at s switch)) >>= (λ v.
-      let m = converted (ctype_of v) n in
-      given_if (not (any_where (is_case_again switch m) (numbers_from 0 at))) Operand at (Fits (statement (Case m) (place_at s at) (one body))))
+      elim (switched switch (expression_in (children_at s switch))) [
+        | Refuses kind node ↦ Fits (statement (Case n) (place_at s at) (one body))
+        | Fits v ↦
+            let m = converted (ctype_of v) n in
+            given_if (not (any_where (is_case_again switch m) (numbers_from 0 at))) Operand at (Fits (statement (Case m) (place_at s at) (one body)))
+      ]
 
   abbrev pub case_row : ℕ → List ℕ → Given Core
   case_row at children =
@@ -255,9 +259,9 @@ module _ (w : World) (s : Source) (sense : ℕ → Sense) where
       given_some (returned_type at) Operand at >>= (λ t.
       value_in w at (sense c) >>= (λ v. conversion w false at v t >>= (λ x. Fits (statement Return (place_at s at) (one x)))))
 
-  abbrev pub worded : ℕ → List ℕ → Option ℕ → Given Core
-  worded at children None = Refuses Operand at
-  worded at children (Some word) =
+  abbrev pub of_word : ℕ → List ℕ → Option ℕ → Given Core
+  of_word at children None = Refuses Operand at
+  of_word at children (Some word) =
       if word == word_case then case_row at children
       else if word == word_default then default_row at children
       else if word == word_if then if_row at children
@@ -275,7 +279,7 @@ module _ (w : World) (s : Source) (sense : ℕ → Sense) where
   leaf_statement at first children =
       if has_sign s sign_semicolon first then Fits (statement Skip (place_at s at) NoCores)
       else if is_name s first then labelled at first children
-      else worded at children (word_at s first)
+      else of_word at children (word_at s first)
 
   abbrev pub statement_of : ℕ → ℕ → List ℕ → Given Sense
   statement_of at first children =

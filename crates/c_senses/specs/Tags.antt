@@ -8,7 +8,7 @@ use Rattle.core_tree.specs.Rows.{int}
 use Rattle.c_grammar.specs.Productions.{p_specs, p_struct, p_members, p_field, p_enum, p_enumerators, p_enumerator, p_declarator, p_conditional}
 use Rattle.c_grammar.specs.Words.{word_union, sign_colon}
 use Rattle.c_inits.specs.Made.{Part, TagParts}
-use Rattle.c_senses.specs.Tree.{Source, is_a, is_name, has_sign, has_word, children_at, spelling_at, word_at, first_where, last_where, all_where, any_where, child_of, parent_of, numbers_from}
+use Rattle.c_senses.specs.Tree.{Source, is_a, is_leaf, is_name, has_sign, has_word, children_at, spelling_at, word_at, first_where, last_where, all_where, any_where, child_of, parent_of, numbers_from}
 use Rattle.c_senses.specs.Names.{tag_of_leaf}
 use Rattle.c_senses.specs.Given.{Given, Fits, Refuses, ◌>>=◌, given_if, given_some}
 use Rattle.c_senses.specs.World.{World, has_size, has_name, same_length}
@@ -30,13 +30,21 @@ has_list s i = is_some (child_of s p_members i) || is_some (child_of s p_enumera
 abbrev pub is_union : Source → ℕ → Bool
 is_union s i = any_where (has_word s word_union) (children_at s i)
 
--- the word of a specifier
-abbrev pub keyword_of : Source → ℕ → Option ℕ
-keyword_of s i = word_at s i
+-- the node of the first declaration of a specifier's tag; an untagged one is known by its specifier
+abbrev pub tag_declared : Source → ℕ → ℕ
+tag_declared s i = elim (tag_leaf s i) [ None ↦ i | Some leaf ↦ tag_of_leaf s leaf ]
 
--- the tag of a specifier, by the node of its first declaration; an untagged one is known by its specifier
+-- the number of a specifier's tag
 abbrev pub tag_of : Source → ℕ → ℕ
-tag_of s i = elim (tag_leaf s i) [ None ↦ i | Some leaf ↦ tag_of_leaf s leaf ]
+tag_of s i = s.tag_number (tag_declared s i)
+
+-- the specifier that declares a tag, around its leaf; another one that stands in its list ends before it
+abbrev pub declaring_specifier : Source → ℕ → Option ℕ
+declaring_specifier s tag = if is_leaf s tag then parent_of s tag else Some tag
+
+-- the word of a tag's declaration
+abbrev pub keyword_of : Source → ℕ → Option ℕ
+keyword_of s tag = option_and_then (word_at s) (declaring_specifier s tag)
 
 -- the specifiers before a node
 abbrev pub specifiers_before : Source → ℕ → List ℕ
@@ -44,10 +52,10 @@ specifiers_before s i = all_where (is_tag_specifier s) (numbers_from 0 i)
 
 -- 6.7.2.3: one list, and one keyword, for each tag
 abbrev pub is_listed_before : Source → ℕ → Bool
-is_listed_before s i = any_where (λ j. has_list s j && (tag_of s j == tag_of s i)) (specifiers_before s i)
+is_listed_before s i = any_where (λ j. has_list s j && (tag_declared s j == tag_declared s i)) (specifiers_before s i)
 
 abbrev pub has_other_keyword : Source → ℕ → Bool
-has_other_keyword s i = any_where (λ j. (tag_of s j == tag_of s i) && not (same_length (keyword_of s j) (keyword_of s i))) (specifiers_before s i)
+has_other_keyword s i = not (same_length (keyword_of s (tag_declared s i)) (word_at s i))
 
 abbrev pub tag_fits : Source → ℕ → Bool
 tag_fits s i = not ((has_list s i && is_listed_before s i) || has_other_keyword s i)

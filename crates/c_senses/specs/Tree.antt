@@ -7,7 +7,7 @@ use Rattle.c_lexer.specs.declared.TokenKind.TheVariants.{Identifier, Keyword, Pu
 use Rattle.c_grammar.specs.declared.trees.SyntaxNode.{SyntaxNode}
 use Rattle.c_grammar.specs.Reads.{leaf}
 use Rattle.c_grammar.specs.Terminals.{spelled, contains}
-use Rattle.c_scope.specs.Known.{Declared}
+use Rattle.c_scope.specs.declared.kinds.Declared.{Declared}
 
 -- what is found of a unit's names: the declarations of ordinary names and those of tags (C11 6.2.3), each in the order in which they are
 -- made, and for each node the scopes around it, the innermost first
@@ -16,7 +16,8 @@ pub record Names : Type 0 where
   pub tags : List Declared
   pub scopes : List (List ℕ)
 
--- `uses` pairs the leaf of each use of a name with the leaf, or the specifier, that declares it
+-- `uses` pairs the leaf of each use of a name with the leaf, or the specifier, that declares it; `tag_number` gives a tag, by the node of its
+-- first declaration, the number by which types name it
 pub record Source : Type 0 where
   pub unit : ℕ
   pub text : List ℕ
@@ -24,6 +25,7 @@ pub record Source : Type 0 where
   pub nodes : List SyntaxNode
   pub uses : List (ℕ × ℕ)
   pub declared : Names
+  pub tag_number : ℕ → ℕ
 
 abbrev pub production_of : Option SyntaxNode → ℕ
 production_of None = leaf
@@ -154,10 +156,6 @@ above_within s test (suc n) (Some p) = if test p then Some p else above_within s
 
 abbrev pub nearest_above : Source → (ℕ → Bool) → ℕ → Option ℕ
 nearest_above s test i = above_within s test (length s.nodes) (parent_of s i)
-
--- whether node p stands above node i
-abbrev pub is_above : Source → ℕ → ℕ → Bool
-is_above s p i = elim (nearest_above s (λ q. q == p) i) [ None ↦ false | Some q ↦ true ]
 
 -- the declaration that a use is paired with
 abbrev pub paired : List (ℕ × ℕ) → ℕ → Option ℕ

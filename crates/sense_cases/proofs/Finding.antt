@@ -7,7 +7,8 @@ use Rattle.c_mentions.specs.declared.mentions.Mention.{Mention}
 use Rattle.c_mentions.specs.declared.mentions.Mention.TheVariants as mention
 use Rattle.c_mentions.specs.declared.roles.TagUse.{TagUse}
 use Rattle.c_mentions.specs.declared.roles.TagUse.TheVariants.{Declares, Refers, Uses}
-use Rattle.c_scope.specs.Known.{Happening, Declared, Known, known, nothing_known, after, after_use, after_tag_use, after_tag_reference, after_tag, after_label, after_goto, after_declaration, with_tag, tag_declared, declared_by, first_scope, innermost, latest, last_of, or_else, those_at, is_at, is_first}
+use Rattle.c_scope.specs.declared.kinds.Declared.{Declared}
+use Rattle.c_scope.specs.Known.{Happening, Known, known, nothing_known, after, after_use, after_tag_use, after_tag_reference, after_tag, after_label, after_goto, after_declaration, with_tag, tag_declared, declared_by, first_scope, innermost, latest, last_of, or_else, those_at, is_at, is_first}
 use Rattle.c_senses.specs.Names.{entry_of}
 
 abbrev pub has : List Declared → ℕ → Bool

@@ -177,6 +177,7 @@ module _ (any : Vec ℕ) where
     nodes = w.nodes;
     uses = (bindings w.bytes w.tokens (nodes_of w.nodes)).uses;
     declared = names_of w.bytes w.tokens w.nodes;
+    tag_number = λ node. node;
   }
 
   -- the source that a tree is, by name resolution

@@ -9,12 +9,12 @@ use Rattle.core_tree.specs.declared.node.NodeKind.TheVariants.{Named, FunctionNa
 use Rattle.core_tree.specs.declared.node.NodeKind.{NodeKind}
 use Rattle.c_inits.specs.Shapes.{Path}
 use Rattle.core_tree.specs.Rows.{int, character}
-use Rattle.c_grammar.specs.Productions.{p_block}
+use Rattle.c_grammar.specs.Productions.{p_init, p_primary, p_block}
 use Rattle.c_consts.specs.Core.{Core, Cores, Of, NoCores, MoreCores, place_of, ctype_of, leaf, over, over_two, over_three}
 use Rattle.c_senses.specs.Sense.{IsCore}
 use Rattle.sense_cases.specs.Branches.{Branch}
 use Rattle.sense_cases.specs.Columns.{at}
-use Rattle.sense_cases.specs.Run.{outcome, Stands, Refused}
+use Rattle.sense_cases.specs.Run.{outcome, outcome_before, Stands, Refused}
 
 abbrev pub short : Ctype
 short = IntegerType 2 3 true
@@ -155,3 +155,7 @@ HasBody b c = (any : Vec ℕ) → outcome any b p_block ≡ Stands (IsCore c)
 
 abbrev pub IsRefused : Branch → Kind → ℕ → Type 0
 IsRefused b kind column = (any : Vec ℕ) → outcome any b p_block ≡ Refused kind column
+
+-- the last operand in a unit's last initialiser is this, before that initialiser is judged as a whole
+abbrev pub HasOperand : Branch → Core → Type 0
+HasOperand b c = (any : Vec ℕ) → outcome_before any b p_init p_primary ≡ Stands (IsCore c)

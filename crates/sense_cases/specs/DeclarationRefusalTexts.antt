@@ -76,6 +76,10 @@ structure_again = Node p_unit ((Node p_external ((Node p_specs ((Node p_type ((N
 abbrev pub other_keyword : Branch
 other_keyword = Node p_unit ((Node p_external ((Node p_specs ((Node p_type ((Node p_struct (word word_struct ▸ name (codes "s") ▸ (Node p_members (open_brace ▸ (Node p_member ((of_word word_int) ▸ (Node p_field ((plain (codes "n")) ▸ Done)) ▸ semicolon ▸ Done)) ▸ shut_brace ▸ Done)) ▸ Done)) ▸ Done)) ▸ Done)) ▸ semicolon ▸ Done)) ▸ (Node p_external ((tag_words word_union (codes "s")) ▸ (Node p_declarator (star ▸ name (codes "p") ▸ Done)) ▸ ending ▸ Done)) ▸ unit_end ▸ Done)
 
+-- union s{int(*f)(struct s*);}v;
+abbrev pub other_keyword_inside : Branch
+other_keyword_inside = Node p_unit ((Node p_external ((Node p_specs ((Node p_type ((Node p_struct (word word_union ▸ name (codes "s") ▸ (Node p_members (open_brace ▸ (Node p_member ((of_word word_int) ▸ (Node p_field ((Node p_declarator (opening ▸ (Node p_declarator (star ▸ name (codes "f") ▸ Done)) ▸ closing ▸ (Node p_suffix (opening ▸ (Node p_parameter ((tag_words word_struct (codes "s")) ▸ (Node p_either (star ▸ Done)) ▸ Done)) ▸ closing ▸ Done)) ▸ Done)) ▸ Done)) ▸ semicolon ▸ Done)) ▸ shut_brace ▸ Done)) ▸ Done)) ▸ Done)) ▸ Done)) ▸ (plain (codes "v")) ▸ ending ▸ Done)) ▸ unit_end ▸ Done)
+
 -- struct s{int n;char n;};
 abbrev pub member_again : Branch
 member_again = Node p_unit ((Node p_external ((Node p_specs ((Node p_type ((Node p_struct (word word_struct ▸ name (codes "s") ▸ (Node p_members (open_brace ▸ (Node p_member ((of_word word_int) ▸ (Node p_field ((plain (codes "n")) ▸ Done)) ▸ semicolon ▸ Done)) ▸ (Node p_member ((of_word word_char) ▸ (Node p_field ((plain (codes "n")) ▸ Done)) ▸ semicolon ▸ Done)) ▸ shut_brace ▸ Done)) ▸ Done)) ▸ Done)) ▸ Done)) ▸ semicolon ▸ Done)) ▸ unit_end ▸ Done)

@@ -26,6 +26,7 @@ pub record LengthFaults : Type 0 where
 pub record TagFaults : Type 0 where
   pub structure_again : IsRefused text.structure_again Operand 10
   pub other_keyword : IsRefused text.other_keyword Operand 10
+  pub other_keyword_inside : IsRefused text.other_keyword_inside Operand 11
   pub member_again : IsRefused text.member_again Operand 8
   pub wide_field : IsRefused text.wide_field Operand 5
   pub wide_unnamed : IsRefused text.wide_unnamed Operand 5

@@ -8,8 +8,9 @@ use Rattle.core_tree.specs.declared.node.Linkage.TheVariants.{External, Internal
 use Rattle.core_tree.specs.declared.node.Storage.{Storage}
 use Rattle.core_tree.specs.declared.node.Storage.TheVariants.{Static, Automatic, FunctionBody, Parameter, Declared as DeclaredStorage}
 use Rattle.c_consts.specs.Core.{Core}
-use Rattle.c_inits.specs.Made.{Part}
+use Rattle.c_inits.specs.Made.{Part, TagParts}
 use Rattle.c_senses.specs.Tree.{Source, all_nodes}
+use Rattle.c_senses.specs.Names.{numbered}
 use Rattle.c_senses.specs.Given.{Given, Fits, Refuses}
 use Rattle.c_senses.specs.Sense.{Sense, sense_in}
 use Rattle.c_senses.specs.Tags.{completed_from, members_under}
@@ -69,7 +70,7 @@ all_told s senses (i ∷ rest) = one_told s i (declared_name s senses i) ++ all_
 abbrev pub tagged : Source → List Sense → ℕ → TaggedAs
 tagged s senses i = record {
   known_at = column_of s i;
-  members = option_map (parts_by s) (members_under (completed_from s senses (sense_in senses) 0) i);
+  members = option_map (parts_by s) (members_under (completed_from s senses (sense_in senses) 0) (s.tag_number i));
   key = key_of_tag s (sense_in senses) i;
 }
 
@@ -86,6 +87,17 @@ declared_in any b = let s = source any b in unit_of s (all_senses s)
 
 abbrev pub IsUnit : Branch → List Told → List TaggedAs → Type 0
 IsUnit b entities tags = (any : Vec ℕ) → declared_in any b ≡ Declares entities tags
+
+-- the structures and unions that a unit completes, where tags have other numbers
+abbrev pub completed_in : Source → Given (List Sense) → List TagParts
+completed_in s (Fits senses) = completed_from s senses (sense_in senses) 0
+completed_in s (Refuses kind node) = []
+
+abbrev pub completed_by : (ℕ → ℕ) → Source → List TagParts
+completed_by number s = completed_in (numbered number s) (all_senses (numbered number s))
+
+abbrev pub HasTags : Branch → (ℕ → ℕ) → List TagParts → Type 0
+HasTags b number tags = (any : Vec ℕ) → completed_by number (source any b) ≡ tags
 
 -- an object at file scope, a function that is only declared, one that is defined, a local object of a function, its parameter, and an
 -- internal object with the column of its place

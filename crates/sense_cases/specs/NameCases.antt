@@ -6,8 +6,8 @@ use Rattle.c_types.specs.Trees.{NoTypes, VoidType, PointerTo, ArrayOf, FunctionF
 use Rattle.core_tree.specs.declared.node.Op.TheVariants.{Plus}
 use Rattle.core_tree.specs.declared.node.NodeKind.TheVariants.{For, Skip}
 use Rattle.core_tree.specs.declared.node.Storage.TheVariants.{Static, FunctionBody, Declared}
-use Rattle.core_tree.specs.Rows.{int, long}
-use Rattle.sense_cases.specs.Cores.{unsigned_long, ints, of_void, of_one, takes_nothing, takes_one, object, function, deref, read, decayed, number, changed, addressed, moved, assigned, updated, called, expression, returned, block, initialised, statement, HasBody}
+use Rattle.core_tree.specs.Rows.{int, long, character}
+use Rattle.sense_cases.specs.Cores.{unsigned_long, ints, of_void, of_one, takes_nothing, takes_one, object, function, deref, read, decayed, number, changed, addressed, moved, assigned, updated, called, expression, returned, block, initialised, statement, HasBody, HasOperand, takes_any}
 use Rattle.sense_cases.specs.Declared.{file_object, only_declared, defined, local, parameter, internal, whole, IsUnit}
 use Rattle.sense_cases.specs.NameTexts as text
 
@@ -166,6 +166,49 @@ SizeInInitialiser = IsUnit text.size_in_initialiser (file_object 2 int (whole (c
 abbrev pub ItselfInInitialiser : Type 0
 ItselfInInitialiser = HasBody text.itself_in_initialiser (block (8 ∷ []) 6 (initialised 8 10 ([] ∷ []) (read (object 8 10 int) ∷ []) ∷ []))
 
+-- an array's own initialiser sees the length of an earlier declaration, if its elements agree, and that declaration's object
+abbrev pub LengthInInitialiser : Type 0
+LengthInInitialiser = HasOperand text.length_in_initialiser (object 3 15 (ArrayOf (PointerTo VoidType) (Some 2)))
+
+abbrev pub OtherInInitialiser : Type 0
+OtherInInitialiser = HasOperand text.other_in_initialiser (object 10 15 (ArrayOf (PointerTo VoidType) None))
+
+-- where the declarations of an external name don't agree, a use has the latest one's type
+abbrev pub DifferentElements : Type 0
+DifferentElements = IsUnit text.different_elements (
+    file_object 2 (ArrayOf long (Some 3)) None
+    ∷ only_declared 9 (ArrayOf int None)
+    ∷ defined 14 (of_void int) (block [] 18 (returned 19 (read (deref 21 int (moved false 21 (decayed ints (object 9 20 (ArrayOf int None))) (number 0 22 int)))) ∷ []))
+    ∷ []) []
+
+abbrev pub DifferentResults : Type 0
+DifferentResults = IsUnit text.different_results (
+    only_declared 2 (of_one long int)
+    ∷ only_declared 8 takes_any
+    ∷ defined 13 (of_void long) (block [] 17 (returned 18 (changed long (called 20 int (decayed (PointerTo takes_any) (function 8 19 takes_any)) (number 1 21 int ∷ []))) ∷ []))
+    ∷ []) []
+
+abbrev pub LengthOfLatest : Type 0
+LengthOfLatest = IsUnit text.length_of_latest (
+    file_object 2 (ArrayOf character (Some 2)) None
+    ∷ file_object 8 (ArrayOf character (Some 3)) (Some (initialised 8 12 ((Index 0 ∷ []) ∷ (Index 1 ∷ []) ∷ (Index 2 ∷ []) ∷ []) (number 97 12 character ∷ number 98 12 character ∷ number 0 12 character ∷ [])))
+    ∷ defined 15 (of_void int) (block [] 19 (returned 20 (changed int (number 3 21 unsigned_long)) ∷ []))
+    ∷ []) []
+
+-- a function that is defined with `()` has that type, also where a call goes by the list of another declaration
+abbrev pub DefinedWithoutList : Type 0
+DefinedWithoutList = IsUnit text.defined_without_list (
+    record (internal 3 10 takes_any (Some (block [] 13 (
+    returned 14 (called 16 int (decayed takes_one (function 3 15 (of_one int int))) (changed int (number 1 17 long) ∷ [])) ∷ [])))) { storage = FunctionBody }
+    ∷ []) []
+
+-- 6.7.8p3: a typedef name is no object of its block
+abbrev pub TypedefInBlock : Type 0
+TypedefInBlock = IsUnit text.typedef_in_block (
+    defined 2 (of_void int) (block (12 ∷ []) 6 (initialised 12 14 ([] ∷ []) (number 3 14 int ∷ []) ∷ returned 16 (read (object 12 17 int)) ∷ []))
+    ∷ local 2 12 int (whole (number 3 14 int ∷ []) 12 14)
+    ∷ []) []
+
 -- all of these
 pub record NamesStand : Type 0 where
   pub internal_object : InternalObject
@@ -195,3 +238,10 @@ pub record NamesStand : Type 0 where
   pub outer_in_its_length : OuterInItsLength
   pub size_in_initialiser : SizeInInitialiser
   pub itself_in_initialiser : ItselfInInitialiser
+  pub length_in_initialiser : LengthInInitialiser
+  pub other_in_initialiser : OtherInInitialiser
+  pub different_elements : DifferentElements
+  pub different_results : DifferentResults
+  pub length_of_latest : LengthOfLatest
+  pub defined_without_list : DefinedWithoutList
+  pub typedef_in_block : TypedefInBlock

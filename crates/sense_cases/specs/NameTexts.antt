@@ -1,8 +1,8 @@
 -- Units of the cases on names.
 use Rattle.std.specs.Prelude.{codes}
-use Rattle.c_grammar.specs.Productions.{p_assignment, p_block, p_conditional, p_declaration, p_declarator, p_either, p_enum, p_enumerator, p_enumerators, p_expression, p_external, p_init, p_item, p_items, p_parameter, p_post, p_rest, p_specs, p_statement, p_storage, p_struct, p_suffix, p_type, p_unary, p_unit}
+use Rattle.c_grammar.specs.Productions.{p_assignment, p_block, p_conditional, p_declaration, p_declarator, p_either, p_enum, p_enumerator, p_enumerators, p_expression, p_external, p_init, p_item, p_items, p_parameter, p_post, p_primary, p_rest, p_specs, p_statement, p_storage, p_struct, p_suffix, p_type, p_unary, p_unit}
 use Rattle.c_grammar.specs.Words.{sign_ampersand, sign_increment, word_char, word_enum, word_extern, word_for, word_int, word_long, word_sizeof, word_static, word_struct, word_typedef, word_unsigned, word_void}
-use Rattle.sense_cases.specs.Branches.{Branch, Node, Done, ◌▸◌, name, word, sign, unit_end, of_word, named, counted, semicolon, comma, opening, closing, open_bracket, shut_bracket, open_brace, shut_brace, star, equals, tag_words, plain, parameter_name, void_list, ending, evaluates, returns}
+use Rattle.sense_cases.specs.Branches.{Branch, Node, Done, ◌▸◌, name, word, sign, unit_end, of_word, named, counted, semicolon, comma, opening, closing, open_bracket, shut_bracket, open_brace, shut_brace, star, equals, tag_words, plain, parameter_name, void_list, ending, evaluates, returns, text}
 
 -- static int n;extern int n;int f(void){return n;}
 abbrev pub internal_object : Branch
@@ -40,6 +40,22 @@ parameter_of_its_own_name = Node p_unit ((Node p_external ((of_word word_int) �
 abbrev pub composite_type : Branch
 composite_type = Node p_unit ((Node p_external ((of_word word_void) ▸ (Node p_declarator (name (codes "g") ▸ (Node p_suffix (opening ▸ (Node p_parameter ((of_word word_int) ▸ (Node p_either Done) ▸ Done)) ▸ closing ▸ Done)) ▸ Done)) ▸ ending ▸ Done)) ▸ (Node p_external ((of_word word_void) ▸ (Node p_declarator (name (codes "g") ▸ (Node p_suffix (opening ▸ closing ▸ Done)) ▸ Done)) ▸ ending ▸ Done)) ▸ (Node p_external ((of_word word_void) ▸ (Node p_declarator (name (codes "f") ▸ void_list ▸ Done)) ▸ (Node p_block (open_brace ▸ (evaluates (Node p_unary ((named (codes "g")) ▸ (Node p_post (opening ▸ (counted (codes "1L")) ▸ closing ▸ Done)) ▸ Done))) ▸ shut_brace ▸ Done)) ▸ Done)) ▸ unit_end ▸ Done)
 
+-- long a[3];extern int a[];int f(void){return a[0];}
+abbrev pub different_elements : Branch
+different_elements = Node p_unit ((Node p_external ((of_word word_long) ▸ (Node p_declarator (name (codes "a") ▸ (Node p_suffix (open_bracket ▸ (Node p_assignment ((counted (codes "3")) ▸ Done)) ▸ shut_bracket ▸ Done)) ▸ Done)) ▸ ending ▸ Done)) ▸ (Node p_external ((Node p_specs ((Node p_storage (word word_extern ▸ Done)) ▸ (Node p_type (word word_int ▸ Done)) ▸ Done)) ▸ (Node p_declarator (name (codes "a") ▸ (Node p_suffix (open_bracket ▸ shut_bracket ▸ Done)) ▸ Done)) ▸ ending ▸ Done)) ▸ (Node p_external ((of_word word_int) ▸ (Node p_declarator (name (codes "f") ▸ void_list ▸ Done)) ▸ (Node p_block (open_brace ▸ (returns (Node p_unary ((named (codes "a")) ▸ (Node p_post (open_bracket ▸ (counted (codes "0")) ▸ shut_bracket ▸ Done)) ▸ Done))) ▸ shut_brace ▸ Done)) ▸ Done)) ▸ unit_end ▸ Done)
+
+-- long f(int);int f();long g(void){return f(1);}
+abbrev pub different_results : Branch
+different_results = Node p_unit ((Node p_external ((of_word word_long) ▸ (Node p_declarator (name (codes "f") ▸ (Node p_suffix (opening ▸ (Node p_parameter ((of_word word_int) ▸ (Node p_either Done) ▸ Done)) ▸ closing ▸ Done)) ▸ Done)) ▸ ending ▸ Done)) ▸ (Node p_external ((of_word word_int) ▸ (Node p_declarator (name (codes "f") ▸ (Node p_suffix (opening ▸ closing ▸ Done)) ▸ Done)) ▸ ending ▸ Done)) ▸ (Node p_external ((of_word word_long) ▸ (Node p_declarator (name (codes "g") ▸ void_list ▸ Done)) ▸ (Node p_block (open_brace ▸ (returns (Node p_unary ((named (codes "f")) ▸ (Node p_post (opening ▸ (counted (codes "1")) ▸ closing ▸ Done)) ▸ Done))) ▸ shut_brace ▸ Done)) ▸ Done)) ▸ unit_end ▸ Done)
+
+-- char a[2];char a[]="ab";int f(void){return sizeof a;}
+abbrev pub length_of_latest : Branch
+length_of_latest = Node p_unit ((Node p_external ((of_word word_char) ▸ (Node p_declarator (name (codes "a") ▸ (Node p_suffix (open_bracket ▸ (Node p_assignment ((counted (codes "2")) ▸ Done)) ▸ shut_bracket ▸ Done)) ▸ Done)) ▸ ending ▸ Done)) ▸ (Node p_external ((of_word word_char) ▸ (Node p_declarator (name (codes "a") ▸ (Node p_suffix (open_bracket ▸ shut_bracket ▸ Done)) ▸ Done)) ▸ (Node p_rest (equals ▸ (Node p_init ((Node p_assignment ((Node p_primary (text (codes "\"ab\"") ▸ Done)) ▸ Done)) ▸ Done)) ▸ semicolon ▸ Done)) ▸ Done)) ▸ (Node p_external ((of_word word_int) ▸ (Node p_declarator (name (codes "f") ▸ void_list ▸ Done)) ▸ (Node p_block (open_brace ▸ (returns (Node p_unary (word word_sizeof ▸ (named (codes "a")) ▸ Done))) ▸ shut_brace ▸ Done)) ▸ Done)) ▸ unit_end ▸ Done)
+
+-- static int f(int);static int f(){return f(1L);}
+abbrev pub defined_without_list : Branch
+defined_without_list = Node p_unit ((Node p_external ((Node p_specs ((Node p_storage (word word_static ▸ Done)) ▸ (Node p_type (word word_int ▸ Done)) ▸ Done)) ▸ (Node p_declarator (name (codes "f") ▸ (Node p_suffix (opening ▸ (Node p_parameter ((of_word word_int) ▸ (Node p_either Done) ▸ Done)) ▸ closing ▸ Done)) ▸ Done)) ▸ ending ▸ Done)) ▸ (Node p_external ((Node p_specs ((Node p_storage (word word_static ▸ Done)) ▸ (Node p_type (word word_int ▸ Done)) ▸ Done)) ▸ (Node p_declarator (name (codes "f") ▸ (Node p_suffix (opening ▸ closing ▸ Done)) ▸ Done)) ▸ (Node p_block (open_brace ▸ (returns (Node p_unary ((named (codes "f")) ▸ (Node p_post (opening ▸ (counted (codes "1L")) ▸ closing ▸ Done)) ▸ Done))) ▸ shut_brace ▸ Done)) ▸ Done)) ▸ unit_end ▸ Done)
+
 -- int a[3];unsigned long f(void){extern int a[];return sizeof a;}
 abbrev pub seen_length : Branch
 seen_length = Node p_unit ((Node p_external ((of_word word_int) ▸ (Node p_declarator (name (codes "a") ▸ (Node p_suffix (open_bracket ▸ (Node p_assignment ((counted (codes "3")) ▸ Done)) ▸ shut_bracket ▸ Done)) ▸ Done)) ▸ ending ▸ Done)) ▸ (Node p_external ((Node p_specs ((Node p_type (word word_unsigned ▸ Done)) ▸ (Node p_type (word word_long ▸ Done)) ▸ Done)) ▸ (Node p_declarator (name (codes "f") ▸ void_list ▸ Done)) ▸ (Node p_block (open_brace ▸ (Node p_declaration ((Node p_specs ((Node p_storage (word word_extern ▸ Done)) ▸ (Node p_type (word word_int ▸ Done)) ▸ Done)) ▸ (Node p_declarator (name (codes "a") ▸ (Node p_suffix (open_bracket ▸ shut_bracket ▸ Done)) ▸ Done)) ▸ ending ▸ Done)) ▸ (returns (Node p_unary (word word_sizeof ▸ (named (codes "a")) ▸ Done))) ▸ shut_brace ▸ Done)) ▸ Done)) ▸ unit_end ▸ Done)
@@ -55,6 +71,10 @@ block_objects = Node p_unit ((Node p_external ((of_word word_void) ▸ (Node p_d
 -- void f(void){for(int i=0;i;i++);}
 abbrev pub for_objects : Branch
 for_objects = Node p_unit ((Node p_external ((of_word word_void) ▸ (Node p_declarator (name (codes "f") ▸ void_list ▸ Done)) ▸ (Node p_block (open_brace ▸ (Node p_statement (word word_for ▸ opening ▸ (Node p_declaration ((of_word word_int) ▸ (plain (codes "i")) ▸ (Node p_rest (equals ▸ (Node p_init ((Node p_assignment ((counted (codes "0")) ▸ Done)) ▸ Done)) ▸ semicolon ▸ Done)) ▸ Done)) ▸ (Node p_expression ((named (codes "i")) ▸ Done)) ▸ semicolon ▸ (Node p_expression ((Node p_unary ((named (codes "i")) ▸ (Node p_post (sign sign_increment ▸ Done)) ▸ Done)) ▸ Done)) ▸ closing ▸ (Node p_statement (semicolon ▸ Done)) ▸ Done)) ▸ shut_brace ▸ Done)) ▸ Done)) ▸ unit_end ▸ Done)
+
+-- int f(void){typedef int T;T x=3;return x;}
+abbrev pub typedef_in_block : Branch
+typedef_in_block = Node p_unit ((Node p_external ((of_word word_int) ▸ (Node p_declarator (name (codes "f") ▸ void_list ▸ Done)) ▸ (Node p_block (open_brace ▸ (Node p_declaration ((Node p_specs ((Node p_storage (word word_typedef ▸ Done)) ▸ (Node p_type (word word_int ▸ Done)) ▸ Done)) ▸ (plain (codes "T")) ▸ ending ▸ Done)) ▸ (Node p_declaration ((Node p_specs ((Node p_type (name (codes "T") ▸ Done)) ▸ Done)) ▸ (plain (codes "x")) ▸ (Node p_rest (equals ▸ (Node p_init ((Node p_assignment ((counted (codes "3")) ▸ Done)) ▸ Done)) ▸ semicolon ▸ Done)) ▸ Done)) ▸ (returns (named (codes "x"))) ▸ shut_brace ▸ Done)) ▸ Done)) ▸ unit_end ▸ Done)
 
 -- typedef int T;void f(void){int T=1;T;}
 abbrev pub hidden_typedef : Branch
@@ -111,3 +131,11 @@ size_in_initialiser = Node p_unit ((Node p_external ((of_word word_int) ▸ (pla
 -- void f(void){int n=n;}
 abbrev pub itself_in_initialiser : Branch
 itself_in_initialiser = Node p_unit ((Node p_external ((of_word word_void) ▸ (Node p_declarator (name (codes "f") ▸ void_list ▸ Done)) ▸ (Node p_block (open_brace ▸ (Node p_declaration ((of_word word_int) ▸ (plain (codes "n")) ▸ (Node p_rest (equals ▸ (Node p_init ((Node p_assignment ((named (codes "n")) ▸ Done)) ▸ Done)) ▸ semicolon ▸ Done)) ▸ Done)) ▸ shut_brace ▸ Done)) ▸ Done)) ▸ unit_end ▸ Done)
+
+-- void*a[2];void*a[]={a};
+abbrev pub length_in_initialiser : Branch
+length_in_initialiser = Node p_unit ((Node p_external ((of_word word_void) ▸ (Node p_declarator (star ▸ name (codes "a") ▸ (Node p_suffix (open_bracket ▸ (Node p_assignment ((counted (codes "2")) ▸ Done)) ▸ shut_bracket ▸ Done)) ▸ Done)) ▸ ending ▸ Done)) ▸ (Node p_external ((of_word word_void) ▸ (Node p_declarator (star ▸ name (codes "a") ▸ (Node p_suffix (open_bracket ▸ shut_bracket ▸ Done)) ▸ Done)) ▸ (Node p_rest (equals ▸ (Node p_init (open_brace ▸ (Node p_items ((Node p_item ((Node p_init ((Node p_assignment ((named (codes "a")) ▸ Done)) ▸ Done)) ▸ Done)) ▸ Done)) ▸ shut_brace ▸ Done)) ▸ semicolon ▸ Done)) ▸ Done)) ▸ unit_end ▸ Done)
+
+-- int*a[2];void*a[]={a};
+abbrev pub other_in_initialiser : Branch
+other_in_initialiser = Node p_unit ((Node p_external ((of_word word_int) ▸ (Node p_declarator (star ▸ name (codes "a") ▸ (Node p_suffix (open_bracket ▸ (Node p_assignment ((counted (codes "2")) ▸ Done)) ▸ shut_bracket ▸ Done)) ▸ Done)) ▸ ending ▸ Done)) ▸ (Node p_external ((of_word word_void) ▸ (Node p_declarator (star ▸ name (codes "a") ▸ (Node p_suffix (open_bracket ▸ shut_bracket ▸ Done)) ▸ Done)) ▸ (Node p_rest (equals ▸ (Node p_init (open_brace ▸ (Node p_items ((Node p_item ((Node p_init ((Node p_assignment ((named (codes "a")) ▸ Done)) ▸ Done)) ▸ Done)) ▸ Done)) ▸ shut_brace ▸ Done)) ▸ semicolon ▸ Done)) ▸ Done)) ▸ unit_end ▸ Done)

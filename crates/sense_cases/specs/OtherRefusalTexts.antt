@@ -80,6 +80,10 @@ both_linkages = Node p_unit ((Node p_external ((of_word word_int) ▸ (plain (co
 abbrev pub internal_differs : Branch
 internal_differs = Node p_unit ((Node p_external ((Node p_specs ((Node p_storage (word word_static ▸ Done)) ▸ (Node p_type (word word_int ▸ Done)) ▸ Done)) ▸ (Node p_declarator (name (codes "f") ▸ (Node p_suffix (opening ▸ (Node p_parameter ((of_word word_int) ▸ (Node p_either Done) ▸ Done)) ▸ closing ▸ Done)) ▸ Done)) ▸ ending ▸ Done)) ▸ (Node p_external ((Node p_specs ((Node p_storage (word word_static ▸ Done)) ▸ (Node p_type (word word_int ▸ Done)) ▸ Done)) ▸ (Node p_declarator (name (codes "f") ▸ (Node p_suffix (opening ▸ (Node p_parameter ((of_word word_long) ▸ (Node p_either Done) ▸ Done)) ▸ closing ▸ Done)) ▸ Done)) ▸ ending ▸ Done)) ▸ unit_end ▸ Done)
 
+-- static char a[2];static char a[]="ab";
+abbrev pub length_differs : Branch
+length_differs = Node p_unit ((Node p_external ((Node p_specs ((Node p_storage (word word_static ▸ Done)) ▸ (Node p_type (word word_char ▸ Done)) ▸ Done)) ▸ (Node p_declarator (name (codes "a") ▸ (Node p_suffix (open_bracket ▸ (Node p_assignment ((counted (codes "2")) ▸ Done)) ▸ shut_bracket ▸ Done)) ▸ Done)) ▸ ending ▸ Done)) ▸ (Node p_external ((Node p_specs ((Node p_storage (word word_static ▸ Done)) ▸ (Node p_type (word word_char ▸ Done)) ▸ Done)) ▸ (Node p_declarator (name (codes "a") ▸ (Node p_suffix (open_bracket ▸ shut_bracket ▸ Done)) ▸ Done)) ▸ (Node p_rest (equals ▸ (Node p_init ((Node p_assignment ((Node p_primary (text (codes "\"ab\"") ▸ Done)) ▸ Done)) ▸ Done)) ▸ semicolon ▸ Done)) ▸ Done)) ▸ unit_end ▸ Done)
+
 -- static int n=1;static int n=2;
 abbrev pub internal_again : Branch
 internal_again = Node p_unit ((Node p_external ((Node p_specs ((Node p_storage (word word_static ▸ Done)) ▸ (Node p_type (word word_int ▸ Done)) ▸ Done)) ▸ (plain (codes "n")) ▸ (Node p_rest (equals ▸ (Node p_init ((Node p_assignment ((counted (codes "1")) ▸ Done)) ▸ Done)) ▸ semicolon ▸ Done)) ▸ Done)) ▸ (Node p_external ((Node p_specs ((Node p_storage (word word_static ▸ Done)) ▸ (Node p_type (word word_int ▸ Done)) ▸ Done)) ▸ (plain (codes "n")) ▸ (Node p_rest (equals ▸ (Node p_init ((Node p_assignment ((counted (codes "2")) ▸ Done)) ▸ Done)) ▸ semicolon ▸ Done)) ▸ Done)) ▸ unit_end ▸ Done)
@@ -135,6 +139,10 @@ designated_in_scalar = Node p_unit ((Node p_external ((of_word word_int) ▸ (pl
 -- int a[2]={[-1]=1};
 abbrev pub negative_index : Branch
 negative_index = Node p_unit ((Node p_external ((of_word word_int) ▸ (Node p_declarator (name (codes "a") ▸ (Node p_suffix (open_bracket ▸ (Node p_assignment ((counted (codes "2")) ▸ Done)) ▸ shut_bracket ▸ Done)) ▸ Done)) ▸ (Node p_rest (equals ▸ (Node p_init (open_brace ▸ (Node p_items ((Node p_item ((Node p_designator (open_bracket ▸ (Node p_conditional ((Node p_unary (sign sign_minus ▸ (counted (codes "1")) ▸ Done)) ▸ Done)) ▸ shut_bracket ▸ Done)) ▸ equals ▸ (Node p_init ((Node p_assignment ((counted (codes "1")) ▸ Done)) ▸ Done)) ▸ Done)) ▸ Done)) ▸ shut_brace ▸ Done)) ▸ semicolon ▸ Done)) ▸ Done)) ▸ unit_end ▸ Done)
+
+-- struct e{;};struct e a[18446744073709551615u]={[-1]={}};
+abbrev pub negative_in_largest : Branch
+negative_in_largest = Node p_unit ((Node p_external ((Node p_specs ((Node p_type ((Node p_struct (word word_struct ▸ name (codes "e") ▸ (Node p_members (open_brace ▸ (Node p_member (semicolon ▸ Done)) ▸ shut_brace ▸ Done)) ▸ Done)) ▸ Done)) ▸ Done)) ▸ semicolon ▸ Done)) ▸ (Node p_external ((tag_words word_struct (codes "e")) ▸ (Node p_declarator (name (codes "a") ▸ (Node p_suffix (open_bracket ▸ (Node p_assignment ((counted (codes "18446744073709551615u")) ▸ Done)) ▸ shut_bracket ▸ Done)) ▸ Done)) ▸ (Node p_rest (equals ▸ (Node p_init (open_brace ▸ (Node p_items ((Node p_item ((Node p_designator (open_bracket ▸ (Node p_conditional ((Node p_unary (sign sign_minus ▸ (counted (codes "1")) ▸ Done)) ▸ Done)) ▸ shut_bracket ▸ Done)) ▸ equals ▸ (Node p_init (open_brace ▸ (Node p_items Done) ▸ shut_brace ▸ Done)) ▸ Done)) ▸ Done)) ▸ shut_brace ▸ Done)) ▸ semicolon ▸ Done)) ▸ Done)) ▸ unit_end ▸ Done)
 
 -- struct s v={1};struct s{int n;};
 abbrev pub incomplete_initial : Branch
@@ -207,6 +215,14 @@ default_again = Node p_unit ((Node p_external ((of_word word_void) ▸ (Node p_d
 -- void f(int*p){switch(p);}
 abbrev pub pointer_switched : Branch
 pointer_switched = Node p_unit ((Node p_external ((of_word word_void) ▸ (Node p_declarator (name (codes "f") ▸ (Node p_suffix (opening ▸ (Node p_parameter ((of_word word_int) ▸ (Node p_either (star ▸ name (codes "p") ▸ Done)) ▸ Done)) ▸ closing ▸ Done)) ▸ Done)) ▸ (Node p_block (open_brace ▸ (Node p_statement (word word_switch ▸ opening ▸ (Node p_expression ((named (codes "p")) ▸ Done)) ▸ closing ▸ (Node p_statement (semicolon ▸ Done)) ▸ Done)) ▸ shut_brace ▸ Done)) ▸ Done)) ▸ unit_end ▸ Done)
+
+-- void f(int*p){switch(p){case 1:;}}
+abbrev pub pointer_with_case : Branch
+pointer_with_case = Node p_unit ((Node p_external ((of_word word_void) ▸ (Node p_declarator (name (codes "f") ▸ (Node p_suffix (opening ▸ (Node p_parameter ((of_word word_int) ▸ (Node p_either (star ▸ name (codes "p") ▸ Done)) ▸ Done)) ▸ closing ▸ Done)) ▸ Done)) ▸ (Node p_block (open_brace ▸ (Node p_statement (word word_switch ▸ opening ▸ (Node p_expression ((named (codes "p")) ▸ Done)) ▸ closing ▸ (Node p_statement ((Node p_block (open_brace ▸ (Node p_statement (word word_case ▸ (Node p_conditional ((counted (codes "1")) ▸ Done)) ▸ sign sign_colon ▸ (Node p_statement (semicolon ▸ Done)) ▸ Done)) ▸ shut_brace ▸ Done)) ▸ Done)) ▸ Done)) ▸ shut_brace ▸ Done)) ▸ Done)) ▸ unit_end ▸ Done)
+
+-- void f(int*p){switch(p){case 1:;case 1:;}}
+abbrev pub pointer_with_cases : Branch
+pointer_with_cases = Node p_unit ((Node p_external ((of_word word_void) ▸ (Node p_declarator (name (codes "f") ▸ (Node p_suffix (opening ▸ (Node p_parameter ((of_word word_int) ▸ (Node p_either (star ▸ name (codes "p") ▸ Done)) ▸ Done)) ▸ closing ▸ Done)) ▸ Done)) ▸ (Node p_block (open_brace ▸ (Node p_statement (word word_switch ▸ opening ▸ (Node p_expression ((named (codes "p")) ▸ Done)) ▸ closing ▸ (Node p_statement ((Node p_block (open_brace ▸ (Node p_statement (word word_case ▸ (Node p_conditional ((counted (codes "1")) ▸ Done)) ▸ sign sign_colon ▸ (Node p_statement (semicolon ▸ Done)) ▸ Done)) ▸ (Node p_statement (word word_case ▸ (Node p_conditional ((counted (codes "1")) ▸ Done)) ▸ sign sign_colon ▸ (Node p_statement (semicolon ▸ Done)) ▸ Done)) ▸ shut_brace ▸ Done)) ▸ Done)) ▸ Done)) ▸ shut_brace ▸ Done)) ▸ Done)) ▸ unit_end ▸ Done)
 
 -- struct s{int n;};void f(struct s v){if(v);}
 abbrev pub scalar_condition : Branch

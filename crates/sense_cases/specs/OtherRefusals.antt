@@ -27,6 +27,7 @@ pub record WordFaults : Type 0 where
 pub record LinkageFaults : Type 0 where
   pub both_linkages : IsRefused text.both_linkages Operand 6
   pub internal_differs : IsRefused text.internal_differs Operand 10
+  pub length_differs : IsRefused text.length_differs Operand 10
   pub internal_again : IsRefused text.internal_again Operand 9
   pub typedef_differs : IsRefused text.typedef_differs Operand 7
 
@@ -44,6 +45,7 @@ pub record InitialiserFaults : Type 0 where
   pub value_in_elided : IsRefused text.value_in_elided Initialiser 23
   pub designated_in_scalar : IsRefused text.designated_in_scalar Initialiser 5
   pub negative_index : IsRefused text.negative_index Initialiser 8
+  pub negative_in_largest : IsRefused text.negative_in_largest Initialiser 15
   pub incomplete_initial : IsRefused text.incomplete_initial Initialiser 5
   pub static_structure : IsRefused text.static_structure Operand 14
   pub past_designator : IsRefused text.past_designator Initialiser 18
@@ -68,6 +70,8 @@ pub record StatementFaults : Type 0 where
   pub case_before : IsRefused text.case_before Operand 12
   pub default_again : IsRefused text.default_again Operand 16
   pub pointer_switched : IsRefused text.pointer_switched Operand 9
+  pub pointer_with_case : IsRefused text.pointer_with_case Operand 9
+  pub pointer_with_cases : IsRefused text.pointer_with_cases Operand 9
   pub scalar_condition : IsRefused text.scalar_condition Operand 17
   pub void_condition : IsRefused text.void_condition Operand 7
   pub case_wraps : IsRefused text.case_wraps Operand 17

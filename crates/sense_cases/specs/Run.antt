@@ -1,5 +1,5 @@
 -- All rows of a tree in order.
-use Rattle.std.specs.Prelude.{◌≡◌, ℕ, List, [], ◌∷◌, ◌++◌, length, Some, None, ◌⊎◌, All, true, is_some}
+use Rattle.std.specs.Prelude.{◌≡◌, ℕ, List, [], ◌∷◌, ◌++◌, length, take, Some, None, ◌⊎◌, All, true, is_some}
 use Rattle.std.specs.Global.{Vec}
 use Rattle.pta_base.specs.declared.kind.Kind.{Kind}
 use Rattle.c_lexer.specs.declared.Tokens.{Tokens}
@@ -62,3 +62,10 @@ come_of s production (Refuses kind node) = Refused kind (own_place s node).colum
 
 abbrev pub outcome : Vec ℕ → Branch → ℕ → Outcome
 outcome any b production = let s = source any b in come_of s production (all_senses s)
+
+-- what it comes to before the row of the last node of another production
+abbrev pub nodes_before : Source → ℕ → List SyntaxNode
+nodes_before s production = elim (last_where (is_a s production) (all_nodes s)) [ None ↦ s.nodes | Some i ↦ take i s.nodes ]
+
+abbrev pub outcome_before : Vec ℕ → Branch → (stop production : ℕ) → Outcome
+outcome_before any b stop production = let s = source any b in come_of s production (run s [] (nodes_before s stop))

@@ -1,11 +1,11 @@
 -- What specifiers and declarators make, and what tags have, written by hand from C11.
-use Rattle.std.specs.Prelude.{false, true, [], ◌∷◌, Some, None, codes}
+use Rattle.std.specs.Prelude.{◌+◌, false, true, [], ◌∷◌, Some, None, codes}
 use Rattle.c_types.specs.declared.term.Form.TheVariants.{Fixed, Unspecified}
 use Rattle.c_types.specs.Trees.{NoTypes, MoreTypes, VoidType, BoolType, IntegerType, FloatingType, PointerTo, ArrayOf, FunctionFrom, StructureOf, UnionOf}
 use Rattle.core_tree.specs.declared.node.NodeKind.TheVariants.{Skip}
 use Rattle.core_tree.specs.Rows.{int, long, character}
 use Rattle.sense_cases.specs.Cores.{short, unsigned, unsigned_long, ints, three_ints, S, of_void, of_one, takes_nothing, takes_one, object, deref, member, read, number, null, moved, called, expression, returned, block, statement, HasBody}
-use Rattle.sense_cases.specs.Declared.{file_object, only_declared, defined, local, parameter, whole, part, unnamed, tag, IsUnit}
+use Rattle.sense_cases.specs.Declared.{file_object, only_declared, defined, local, parameter, whole, part, unnamed, tag, IsUnit, HasTags}
 use Rattle.sense_cases.specs.TypeTexts as text
 
 -- 6.7.2p2: type words in any order
@@ -134,6 +134,10 @@ InnerUnion = IsUnit text.inner_union (
 abbrev pub TagOfItself : Type 0
 TagOfItself = IsUnit text.tag_of_itself (file_object 10 (StructureOf 2) None ∷ []) (tag 2 (part (codes "next") (PointerTo (StructureOf 2)) ∷ []) (Some (codes "struct t")) ∷ [])
 
+-- types name a tag by the number that the source gives to its first declaration, here the tree's second node
+abbrev pub NumberedTag : Type 0
+NumberedTag = HasTags text.tag_of_itself (λ node. node + 4) (record { tag = 5; members = part (codes "next") (PointerTo (StructureOf 5)) ∷ [] } ∷ [])
+
 -- a tag that an operand of sizeof declares
 abbrev pub TagInExpression : Type 0
 TagInExpression = IsUnit text.tag_in_expression (file_object 3 unsigned_long (whole (number 4 5 unsigned_long ∷ []) 3 5) ∷ file_object 18 (StructureOf 8) None ∷ []) (
@@ -187,6 +191,14 @@ abbrev pub ExternalKey : Type 0
 ExternalKey = IsUnit text.external_key (file_object 7 (StructureOf 1) None ∷ file_object 10 (PointerTo (StructureOf 1)) None ∷ file_object 19 (PointerTo (StructureOf 12)) None ∷ []) (
     tag 1 (part (codes "a") int ∷ []) (Some (codes "struct :x")) ∷ tag 12 (part (codes "b") int ∷ []) (Some (codes "struct :z")) ∷ [])
 
+-- a tag's key is that of the specifier that declares it, not of one in its list; brackets take no key away
+abbrev pub MentionsItself : Type 0
+MentionsItself = IsUnit text.mentions_itself (file_object 16 S None ∷ []) (tag 2 (part (codes "f") (PointerTo (of_one int (PointerTo S))) ∷ []) (Some (codes "struct s")) ∷ [])
+
+abbrev pub InBrackets : Type 0
+InBrackets = IsUnit text.in_brackets (file_object 2 (ArrayOf int (Some 4)) None ∷ file_object 18 (StructureOf 7) None ∷ []) (
+    tag 7 (part (codes "x") int ∷ []) (Some (codes "struct t")) ∷ [])
+
 -- all of these
 pub record TypesStand : Type 0 where
   pub word_types : WordTypes
@@ -212,6 +224,7 @@ pub record TypesStand : Type 0 where
   pub parameter_tag : ParameterTag
   pub inner_union : InnerUnion
   pub tag_of_itself : TagOfItself
+  pub numbered_tag : NumberedTag
   pub tag_in_expression : TagInExpression
   pub union_tag : UnionTag
   pub later_tag : LaterTag
@@ -221,3 +234,5 @@ pub record TypesStand : Type 0 where
   pub flexible_before_nothing : FlexibleBeforeNothing
   pub keys : Keys
   pub external_key : ExternalKey
+  pub mentions_itself : MentionsItself
+  pub in_brackets : InBrackets

@@ -128,6 +128,14 @@ flexible_before_nothing = Node p_unit ((Node p_external ((Node p_specs ((Node p_
 abbrev pub keys : Branch
 keys = Node p_unit ((Node p_external ((Node p_specs ((Node p_storage (word word_typedef ▸ Done)) ▸ (Node p_type ((Node p_struct (word word_struct ▸ (Node p_members (open_brace ▸ (Node p_member ((of_word word_int) ▸ (Node p_field ((plain (codes "n")) ▸ Done)) ▸ semicolon ▸ Done)) ▸ shut_brace ▸ Done)) ▸ Done)) ▸ Done)) ▸ Done)) ▸ (plain (codes "T")) ▸ (Node p_rest (comma ▸ (plain (codes "V")) ▸ semicolon ▸ Done)) ▸ Done)) ▸ (Node p_external ((Node p_specs ((Node p_type ((Node p_struct (word word_struct ▸ (Node p_members (open_brace ▸ (Node p_member ((Node p_specs ((Node p_type ((Node p_struct (word word_struct ▸ (Node p_members (open_brace ▸ (Node p_member ((of_word word_int) ▸ (Node p_field ((plain (codes "k")) ▸ Done)) ▸ semicolon ▸ Done)) ▸ shut_brace ▸ Done)) ▸ Done)) ▸ Done)) ▸ Done)) ▸ (Node p_field ((plain (codes "m")) ▸ Done)) ▸ semicolon ▸ Done)) ▸ shut_brace ▸ Done)) ▸ Done)) ▸ Done)) ▸ Done)) ▸ (plain (codes "w")) ▸ ending ▸ Done)) ▸ (Node p_external ((Node p_specs ((Node p_type ((Node p_struct (word word_struct ▸ name (codes "K") ▸ (Node p_members (open_brace ▸ (Node p_member ((Node p_specs ((Node p_type ((Node p_struct (word word_union ▸ (Node p_members (open_brace ▸ (Node p_member ((of_word word_int) ▸ (Node p_field ((plain (codes "a")) ▸ Done)) ▸ semicolon ▸ Done)) ▸ shut_brace ▸ Done)) ▸ Done)) ▸ Done)) ▸ Done)) ▸ semicolon ▸ Done)) ▸ shut_brace ▸ Done)) ▸ Done)) ▸ Done)) ▸ Done)) ▸ semicolon ▸ Done)) ▸ (Node p_external ((of_word word_void) ▸ (Node p_declarator (name (codes "f") ▸ void_list ▸ Done)) ▸ (Node p_block (open_brace ▸ (Node p_declaration ((Node p_specs ((Node p_type ((Node p_struct (word word_struct ▸ name (codes "L") ▸ (Node p_members (open_brace ▸ (Node p_member ((of_word word_int) ▸ (Node p_field ((plain (codes "n")) ▸ Done)) ▸ semicolon ▸ Done)) ▸ shut_brace ▸ Done)) ▸ Done)) ▸ Done)) ▸ Done)) ▸ semicolon ▸ Done)) ▸ shut_brace ▸ Done)) ▸ Done)) ▸ unit_end ▸ Done)
 
+-- struct s{int(*f)(struct s*);}v;
+abbrev pub mentions_itself : Branch
+mentions_itself = Node p_unit ((Node p_external ((Node p_specs ((Node p_type ((Node p_struct (word word_struct ▸ name (codes "s") ▸ (Node p_members (open_brace ▸ (Node p_member ((of_word word_int) ▸ (Node p_field ((Node p_declarator (opening ▸ (Node p_declarator (star ▸ name (codes "f") ▸ Done)) ▸ closing ▸ (Node p_suffix (opening ▸ (Node p_parameter ((tag_words word_struct (codes "s")) ▸ (Node p_either (star ▸ Done)) ▸ Done)) ▸ closing ▸ Done)) ▸ Done)) ▸ Done)) ▸ semicolon ▸ Done)) ▸ shut_brace ▸ Done)) ▸ Done)) ▸ Done)) ▸ Done)) ▸ (plain (codes "v")) ▸ ending ▸ Done)) ▸ unit_end ▸ Done)
+
+-- int a[sizeof(struct t{int x;})];struct t v;
+abbrev pub in_brackets : Branch
+in_brackets = Node p_unit ((Node p_external ((of_word word_int) ▸ (Node p_declarator (name (codes "a") ▸ (Node p_suffix (open_bracket ▸ (Node p_assignment ((Node p_unary (word word_sizeof ▸ opening ▸ (Node p_type_name ((Node p_specs ((Node p_type ((Node p_struct (word word_struct ▸ name (codes "t") ▸ (Node p_members (open_brace ▸ (Node p_member ((of_word word_int) ▸ (Node p_field ((plain (codes "x")) ▸ Done)) ▸ semicolon ▸ Done)) ▸ shut_brace ▸ Done)) ▸ Done)) ▸ Done)) ▸ Done)) ▸ (Node p_abstract Done) ▸ Done)) ▸ closing ▸ Done)) ▸ Done)) ▸ shut_bracket ▸ Done)) ▸ Done)) ▸ ending ▸ Done)) ▸ (Node p_external ((tag_words word_struct (codes "t")) ▸ (plain (codes "v")) ▸ ending ▸ Done)) ▸ unit_end ▸ Done)
+
 -- struct{int a;}x,*y;struct{int b;}*z;
 abbrev pub external_key : Branch
 external_key = Node p_unit ((Node p_external ((Node p_specs ((Node p_type ((Node p_struct (word word_struct ▸ (Node p_members (open_brace ▸ (Node p_member ((of_word word_int) ▸ (Node p_field ((plain (codes "a")) ▸ Done)) ▸ semicolon ▸ Done)) ▸ shut_brace ▸ Done)) ▸ Done)) ▸ Done)) ▸ Done)) ▸ (plain (codes "x")) ▸ (Node p_rest (comma ▸ (Node p_declarator (star ▸ name (codes "y") ▸ Done)) ▸ semicolon ▸ Done)) ▸ Done)) ▸ (Node p_external ((Node p_specs ((Node p_type ((Node p_struct (word word_struct ▸ (Node p_members (open_brace ▸ (Node p_member ((of_word word_int) ▸ (Node p_field ((plain (codes "b")) ▸ Done)) ▸ semicolon ▸ Done)) ▸ shut_brace ▸ Done)) ▸ Done)) ▸ Done)) ▸ Done)) ▸ (Node p_declarator (star ▸ name (codes "z") ▸ Done)) ▸ ending ▸ Done)) ▸ unit_end ▸ Done)

@@ -32,4 +32,11 @@ returns c = record {
   outer_in_its_length = λ any. refl;
   size_in_initialiser = λ any. refl;
   itself_in_initialiser = λ any. refl;
+  length_in_initialiser = λ any. refl;
+  other_in_initialiser = λ any. refl;
+  different_elements = λ any. refl;
+  different_results = λ any. refl;
+  length_of_latest = λ any. refl;
+  defined_without_list = λ any. refl;
+  typedef_in_block = λ any. refl;
 }

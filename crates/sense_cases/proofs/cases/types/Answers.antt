@@ -28,6 +28,7 @@ returns c = record {
   parameter_tag = λ any. refl;
   inner_union = λ any. refl;
   tag_of_itself = λ any. refl;
+  numbered_tag = λ any. refl;
   tag_in_expression = λ any. refl;
   union_tag = λ any. refl;
   later_tag = λ any. refl;
@@ -37,4 +38,6 @@ returns c = record {
   flexible_before_nothing = λ any. refl;
   keys = λ any. refl;
   external_key = λ any. refl;
+  mentions_itself = λ any. refl;
+  in_brackets = λ any. refl;
 }

@@ -17,6 +17,7 @@ returns c = record {
   value_in_elided = λ any. refl;
   designated_in_scalar = λ any. refl;
   negative_index = λ any. refl;
+  negative_in_largest = λ any. refl;
   incomplete_initial = λ any. refl;
   static_structure = λ any. refl;
   past_designator = λ any. refl;

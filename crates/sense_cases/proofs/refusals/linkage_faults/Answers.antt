@@ -7,6 +7,7 @@ unfolding computing
 returns c = record {
   both_linkages = λ any. refl;
   internal_differs = λ any. refl;
+  length_differs = λ any. refl;
   internal_again = λ any. refl;
   typedef_differs = λ any. refl;
 }

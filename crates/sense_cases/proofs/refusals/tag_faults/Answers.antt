@@ -7,6 +7,7 @@ unfolding computing
 returns c = record {
   structure_again = λ any. refl;
   other_keyword = λ any. refl;
+  other_keyword_inside = λ any. refl;
   member_again = λ any. refl;
   wide_field = λ any. refl;
   wide_unnamed = λ any. refl;

@@ -1,0 +1,4 @@
+//! What the grammar says of statements and blocks, in the words of the laws on senses.
+#![tactic(auto)]
+
+pub mod laws;
