@@ -1,0 +1,20 @@
+-- The nodes of a tree's list.
+use Rattle.std.specs.Prelude.{ℕ, Bool, ◌&&◌, eqb, nat_lt, List, [], ◌∷◌, Option, Some, None, slice_get, if◌then◌else◌}
+use Rattle.c_grammar.specs.declared.trees.SyntaxNode.{SyntaxNode}
+use Rattle.c_grammar.specs.Reads.{leaf}
+
+abbrev pub production_of : Option SyntaxNode → ℕ
+production_of None = leaf
+production_of (Some n) = n.production
+
+abbrev pub children_of : Option SyntaxNode → List ℕ
+children_of None = []
+children_of (Some n) = n.children.items
+
+-- a node of that production that stands before another
+abbrev pub is_before : List SyntaxNode → (production before i : ℕ) → Bool
+is_before nodes production before i = nat_lt i before && eqb (production_of (slice_get nodes i)) production
+
+abbrev pub first_such : (ℕ → Bool) → List ℕ → Option ℕ
+first_such test [] = None
+first_such test (x ∷ xs) = if test x then Some x else first_such test xs

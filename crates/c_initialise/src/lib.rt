@@ -1,0 +1,9 @@
+//! The initialiser that the nodes of a syntax tree are (C11 6.7.9): what the rest of the unit says of them (`facts`), the tree's nodes
+//! by their production (`nodes`), and the initialisers, each behind those within it (`reading`), and
+//! what they give an object (`whole`).
+#![tactic(auto)]
+
+pub mod facts;
+mod nodes;
+pub mod reading;
+pub mod whole;

@@ -1,0 +1,142 @@
+//! The initialisers of a tree (C11 6.7.9p1), each behind those within it.
+
+ghost use Rattle.std.specs.Prelude.{◌≡◌, ◌<◌, ◌++◌, ◌∷◌, [], Some, length, slice_get, map, List, IfOk, OnOk};
+ghost use Rattle.c_grammar.specs.Productions.{p_init, p_items, p_item};
+ghost use Rattle.c_inits.specs.View.{AnInit, AList, all_designators};
+ghost use Rattle.c_inits.specs.Designated.{designator_of};
+ghost use Rattle.c_braces.specs.Tree.{AreInits, ItemsBefore, Grows, init_at, items_over};
+ghost use Rattle.c_initialise.specs.Facts.{AreKnown, told};
+ghost use Rattle.c_initialise.specs.Nodes.{production_of, children_of};
+ghost use Rattle.c_initialise.specs.Read.{part_at, before, IsItem};
+
+use crate::facts::{Source, designator_at, expression_at};
+use crate::nodes::{child_of, children_at, is_child};
+use c_braces::growing::{push_braces, push_value};
+use c_braces::tree::{InitEntry, InitNode};
+use c_grammar::productions::{DESIGNATOR, INIT, ITEM, ITEMS};
+use c_inits::designators::Designator;
+use c_types::term::OutOfMemory;
+use std::alloc::Global;
+
+fn push_designator(
+    designators: &mut Vec<Designator>,
+    designator: Designator,
+) -> Result<(), OutOfMemory>
+    ensures { OnOk result (designators.new.items ≡ designators.old.items ++ designator ∷ []) }
+{
+    match designators.push(designator) {
+        Ok(()) => Ok(()),
+        Err(_) => Err(OutOfMemory),
+    }
+}
+
+fn push_entry(entries: &mut Vec<InitEntry>, entry: InitEntry) -> Result<(), OutOfMemory>
+    ensures { OnOk result (entries.new.items ≡ entries.old.items ++ entry ∷ []) }
+{
+    match entries.push(entry) {
+        Ok(()) => Ok(()),
+        Err(_) => Err(OutOfMemory),
+    }
+}
+
+/// The designators of an item.
+fn designators_of(alloc: Global, source: &Source, item: u32) -> Result<Vec<Designator>, OutOfMemory>
+    ensures { let s = told source.now.types.now source.now.facts.now in
+        let part = part_at s source.now.nodes.now in
+        IfOk result (λ list.
+        map designator_of list.items ≡ all_designators (before item part) (children_of (slice_get source.now.nodes.now item))) }
+{
+    let mut designators = Vec::new(alloc);
+    for child in children_at(source.nodes, item) {
+        if is_child(source.nodes, DESIGNATOR, item, *child) {
+            let designator = designator_at(alloc, source, *child)?;
+            push_designator(&mut designators, designator)?;
+        }
+    }
+    Ok(designators)
+}
+
+/// Puts the initialiser that a node is behind the others, with those within it before it, and gives its position. One of 2^32 or more
+/// counts as want of memory. Each node is below its parent, and the calls nest as deep as braces: the parser takes 256 levels of them.
+#[cycle(reading)]
+pub fn read_init(
+    alloc: Global,
+    source: &Source,
+    node: u32,
+    inits: &mut Vec<InitNode>,
+) -> Result<u32, OutOfMemory>
+    requires known { AreKnown source.now }
+    requires inits { AreInits source.now.types.now inits.old.items }
+    requires node { production_of (slice_get source.now.nodes.now node) ≡ p_init }
+    ensures at { IfOk result (λ at. at < length inits.new.items) }
+    ensures init { let s = told source.now.types.now source.now.facts.now in
+        IfOk result (λ at. part_at s source.now.nodes.now node ≡ AnInit (init_at source.now.types.now inits.new.items at)) }
+    ensures grows { OnOk result (Grows source.now.types.now inits.old.items inits.new.items) }
+{
+    match child_of(source.nodes, ITEMS, node) {
+        Some(list) => {
+            let entries = read_items(alloc, source, list, inits)?;
+            let at = push_braces(source.types, inits, node, entries)?;
+            Ok(at)
+        }
+        None => {
+            let value = expression_at(source, node);
+            let at = push_value(source.types, inits, node, value)?;
+            Ok(at)
+        }
+    }
+}
+
+/// Puts the initialisers of a list's items behind the others, and gives the items.
+#[cycle(reading)]
+pub fn read_items(
+    alloc: Global,
+    source: &Source,
+    list: u32,
+    inits: &mut Vec<InitNode>,
+) -> Result<Vec<InitEntry>, OutOfMemory>
+    requires known { AreKnown source.now }
+    requires inits { AreInits source.now.types.now inits.old.items }
+    requires list { production_of (slice_get source.now.nodes.now list) ≡ p_items }
+    ensures within { IfOk result (λ entries. ItemsBefore (length inits.new.items) entries.items) }
+    ensures items { let s = told source.now.types.now source.now.facts.now in
+        IfOk result (λ entries.
+        part_at s source.now.nodes.now list ≡ AList (items_over (init_at source.now.types.now inits.new.items) entries.items)) }
+    ensures grows { OnOk result (Grows source.now.types.now inits.old.items inits.new.items) }
+{
+    let mut entries = Vec::new(alloc);
+    for child in children_at(source.nodes, list) {
+        if is_child(source.nodes, ITEM, list, *child) {
+            match read_item(alloc, source, *child, inits)? {
+                Some(entry) => push_entry(&mut entries, entry)?,
+                None => {}
+            }
+        }
+    }
+    Ok(entries)
+}
+
+/// The same for an item; None where it has no initialiser, which no parsed tree has.
+#[cycle(reading)]
+fn read_item(
+    alloc: Global,
+    source: &Source,
+    item: u32,
+    inits: &mut Vec<InitNode>,
+) -> Result<Option<InitEntry>, OutOfMemory>
+    requires known { AreKnown source.now }
+    requires inits { AreInits source.now.types.now inits.old.items }
+    requires item { production_of (slice_get source.now.nodes.now item) ≡ p_item }
+    ensures item { let s = told source.now.types.now source.now.facts.now in
+        IfOk result (λ entry. IsItem source.now.types.now inits.new.items (part_at s source.now.nodes.now item) entry) }
+    ensures grows { OnOk result (Grows source.now.types.now inits.old.items inits.new.items) }
+{
+    match child_of(source.nodes, INIT, item) {
+        Some(child) => {
+            let designators = designators_of(alloc, source, item)?;
+            let init = read_init(alloc, source, child, inits)?;
+            Ok(Some(InitEntry { designators, init }))
+        }
+        None => Ok(None),
+    }
+}
