@@ -1,15 +1,16 @@
 -- What is answered of a whole expression.
-use Rattle.std.proofs.Common.{arith, ◌≡◌, ◌∙◌, ℕ, ◌+◌, inl, inr, length, Result, Ok, Err, IfOk, IsOkUnless, refl, sym, subst}
+use Rattle.std.proofs.Common.{arith, ◌≡◌, ◌∙◌, ℕ, ◌+◌, inl, inr, length, Some, None, Result, Ok, Err, IfOk, IsOkUnless, refl, sym, ap, subst}
 use Rattle.core_tree.specs.declared.node.Unit.{Unit}
 use Rattle.core_nodes.specs.declared.fault.CheckFault.{CheckFault}
 use Rattle.core_nodes.specs.declared.fault.CheckFault.TheVariants.{BadOperand, Unsupported, OutOfMemory}
 use Rattle.core_nodes.specs.Standing.{core_at, Builds}
 use Rattle.c_consts.specs.Core.{Core}
 use Rattle.c_senses.specs.Tree.{Source}
-use Rattle.c_senses.specs.Sense.{Nothing, IsCore}
+use Rattle.c_senses.specs.Sense.{Sense, IsCore}
 use Rattle.kept_nodes.specs.Keeps.{Keeps}
 use Rattle.c_check.specs.Built.{Scene}
-use Rattle.c_check.specs.Runs.{FitsTo, Answered}
+use Rattle.c_results.specs.Parts.{core_in}
+use Rattle.c_check.specs.Runs.{FitsTo, EndsWith, Answered}
 use Rattle.c_check.specs.Expressed.{ExpressedFrom}
 
 -- what was built on a unit is still built
@@ -32,8 +33,16 @@ expressed_kept scene s start node end u v found (Err OutOfMemory) e fits same me
 expressed_kept scene s start node end u v found (Err (BadOperand n)) e fits same memory = let no : BadOperand n ≡ OutOfMemory = memory (BadOperand n) refl in cc
 expressed_kept scene s start node end u v found (Err (Unsupported k n)) e fits same memory = let no : Unsupported k n ≡ OutOfMemory = memory (Unsupported k n) refl in cc
 
-pub expressed_none : (scene : Scene) (s : Source) (start node end : ℕ) (u : Unit) → end ≡ node + 1 → FitsTo scene s start end Nothing → ExpressedFrom scene s start node u (Err (BadOperand node))
-expressed_none scene s start node end u e fits = inr (refl, subst (λ (n : ℕ). FitsTo scene s start n Nothing) e fits)
+core_is : (x : Sense) (c : Core) → core_in x ≡ Some c → x ≡ IsCore c
+core_is (IsCore d) c e = let same : d ≡ c = cc in ap IsCore same
+core_is x c e = cc
+
+pub ends_core : (scene : Scene) (s : Source) (start end : ℕ) (u : Unit) (found : ℕ) → EndsWith scene s start end u (Some found) → FitsTo scene s start end (IsCore (core_at u found))
+ends_core scene s start end u found ends = subst (FitsTo scene s start end) (core_is ends.sense (core_at u found) ends.seen) ends.fits
+
+pub expressed_none : (scene : Scene) (s : Source) (start node end : ℕ) (u : Unit) → end ≡ node + 1 → EndsWith scene s start end u None → ExpressedFrom scene s start node u (Err (BadOperand node))
+expressed_none scene s start node end u e ends =
+    inr (refl, record { sense = ends.sense; fits = subst (λ (n : ℕ). FitsTo scene s start n ends.sense) e ends.fits; none = ends.seen })
 
 pub expressed_fault : (scene : Scene) (s : Source) (start node end : ℕ) (u : Unit) (f : CheckFault) → Answered scene s start end u (Err f) → ExpressedFrom scene s start node u (Err f)
 expressed_fault scene s start node end u (BadOperand n) h = inl h

@@ -1,7 +1,7 @@
-pub mod Lefts
-pub mod Keeping
-pub mod Walking
-pub mod Scenes
 pub mod Parts
-pub mod Bytes
+pub mod Productions
+pub mod Primaries
+pub mod Walking
 pub mod Expressing
+pub mod Found
+pub mod Keeping

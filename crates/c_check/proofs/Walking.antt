@@ -1,57 +1,94 @@
 -- Rows one after another.
-use Rattle.std.proofs.Common.{arith, ◌≡◌, ℕ, ◌+◌, ◌<◌, ◌≤◌, List, [], ◌∷◌, ◌++◌, Option, Some, None, IfSome, All, false, cond, length, get_or, take, slice_get, inl, inr, refl, sym, ap, ◌∙◌, subst}
-use Rattle.std.proofs.lemmas.List.Elements.{All-weaker, All-push, All-same}
+use Rattle.std.proofs.Common.{arith, ◌≡◌, ℕ, zero, suc, ◌+◌, ◌<◌, ◌≤◌, List, [], ◌∷◌, ◌++◌, Option, Some, None, IfSome, All, Err, false, cond, length, get_or, take, slice_get, inl, inr, refl, sym, ap, ◌∙◌, subst}
+use Rattle.std.proofs.lemmas.List.Elements.{All-head, All-tail, All-weaker, All-push, All-same}
 use Rattle.std.proofs.lemmas.Bool.Decides.{eqb_tells}
 use Rattle.std.proofs.lemmas.Option.{slice_get_within, get_or_from_slice_get, slice_get-get_or}
-use Rattle.std.proofs.lemmas.List.{take-append-le, get_or_append_left}
+use Rattle.std.proofs.lemmas.List.{take-append-le, get_or_append_left, map-append, length-append, length-map}
 use Rattle.std.proofs.Math.Seq.{take-append_seam, get_or-append_seam}
+use Rattle.std.specs.Prelude.{option_and_then}
 use Rattle.core_tree.specs.declared.node.Unit.{Unit}
 use Rattle.core_tree.specs.declared.node.Entity.{Entity}
 use Rattle.c_types.specs.Trees.{Ctype}
 use Rattle.c_grammar.specs.declared.trees.SyntaxNode.{SyntaxNode}
 use Rattle.c_senses.specs.World as world
-use Rattle.c_senses.specs.Given.{Fits}
-use Rattle.c_senses.specs.Tree.{Source, paired}
-use Rattle.c_senses.specs.Sense.{Sense, Nothing}
-use Rattle.c_check.specs.declared.known.Meaning.{Meaning}
-use Rattle.c_check.specs.declared.known.Meaning.TheVariants.{Entity as EntityMeant, TypeName, Tag, Value}
+use Rattle.c_senses.specs.Given.{Given, Fits}
+use Rattle.c_senses.specs.Tree.{Source, paired, production_of, children_of, production_at, children_at}
+use Rattle.c_senses.specs.Sense.{Sense, Nothing, sense_in}
 use Rattle.core_nodes.specs.Standing.{Builds}
-use Rattle.c_check.specs.Built.{Scene, built_row, sense_from, AreBuilt}
-use Rattle.c_check.specs.Around.{IsMeant, IsKnown, Fitting, meant, meaning_seen, entity_meaning, object_or_function, is_open, is_open_entity, is_open_type, is_local, may_name_entity}
-use Rattle.core_nodes.proofs.Growing.{knows_on}
-use Rattle.c_check.proofs.Keeping.{use_meant, senses_kept}
-use Rattle.std.proofs.Common.{Err}
-use Rattle.std.proofs.lemmas.List.{map-append, length-append}
 use Rattle.core_nodes.specs.declared.fault.CheckFault.{CheckFault}
 use Rattle.core_nodes.specs.declared.fault.CheckFault.TheVariants.{BadOperand, Unsupported, OutOfMemory}
-use Rattle.c_check.specs.Answers.{Rowed, sense_at, senses_at}
+use Rattle.core_nodes.proofs.Growing.{knows_on}
+use Rattle.c_results.specs.declared.made.Made.{Made}
+use Rattle.c_results.specs.declared.made.Made.TheVariants as made
+use Rattle.c_results.specs.Standing.{sense_made, senses_made, IsWithin, Rowed}
+use Rattle.c_results.proofs.Keeping.{mades_kept, withins_kept}
+use Rattle.c_check.specs.declared.known.Meaning.{Meaning}
+use Rattle.c_check.specs.declared.known.Meaning.TheVariants.{Entity as EntityMeant, TypeName, Tag, Value}
+use Rattle.c_check.specs.Around.{IsMeant, IsKnown, Fitting, known_at, meant, meaning_seen, entity_meaning, object_or_function, is_open, is_open_entity, is_open_type, is_local, may_name_entity, own_name_in, name_of, scene_of}
+use Rattle.c_check.specs.Built.{Scene, checked_row, AreChecked}
+use Rattle.c_check.specs.Nothings.{AreNothing}
 use Rattle.c_check.specs.Runs.{Answered}
 
--- one node more
-module _ (scene : Scene) (s : Source) (start : ℕ) (senses : List Sense) (n : SyntaxNode) (x : Sense) (before : AreBuilt scene s start senses) (there : slice_get s.nodes (start + length senses) ≡ Some n) (row : built_row scene s (sense_from start senses) n.production (start + length senses) n.children.items ≡ Fits x) where
-  abbrev IsRow : List Sense → SyntaxNode → ℕ → Sense → Type 0
-  IsRow t m i y = built_row scene s (sense_from start t) m.production (start + i) m.children.items ≡ Fits y
+-- what is known of a use has its entity and its type in range
+known_meant : (u : Unit) (list : List (ℕ × Meaning)) (node : ℕ) (m : Meaning) → All (λ k. IsMeant u k.1) list → known_at list node ≡ Some m → IsMeant u m
+known_meant u [] node m all e = cc
+known_meant u (k ∷ rest) node m all e =
+    elim (eqb_tells k.0 node) [
+      | inl p ↦
+          let here : known_at (k ∷ rest) node ≡ Some k.1 = ap (λ b. cond b (Some k.1) (known_at rest node)) p.0 in
+          let both : Some k.1 ≡ Some m = sym here ∙ e in
+          let same : k.1 ≡ m = cc in
+          subst (IsMeant u) same (All-head (λ j. IsMeant u j.1) k rest all)
+      | inr p ↦
+          let behind : known_at (k ∷ rest) node ≡ known_at rest node = ap (λ b. cond b (Some k.1) (known_at rest node)) p.0 in
+          known_meant u rest node m (All-tail (λ j. IsMeant u j.1) k rest all) (sym behind ∙ e)
+    ]
 
-  last_row : (i : ℕ) (m : SyntaxNode) (y : Sense) → i ≡ length senses → slice_get s.nodes (start + i) ≡ Some m → slice_get (senses ++ x ∷ []) i ≡ Some y → IsRow (take i (senses ++ x ∷ [])) m i y
+use_meant : (u : Unit) (list : List (ℕ × Meaning)) (r : Option ℕ) (m : Meaning) → All (λ k. IsMeant u k.1) list → option_and_then (known_at list) r ≡ Some m → IsMeant u m
+use_meant u list None m all e = cc
+use_meant u list (Some node) m all e = known_meant u list node m all e
+
+pub builds_same : (u : Unit) → Builds u u
+builds_same u = record {
+  more = omega arith;
+  cores = λ i h. refl;
+  terms = omega arith;
+  types = λ id h. refl;
+  tags = refl;
+  parts = λ tag. refl;
+  extents = λ t. refl;
+  entities = refl;
+}
+
+-- one node more
+module _ (scene : Scene) (s : Source) (start : ℕ) (senses : List Sense) (x : Sense) (before : AreChecked scene s start senses) (begun : start ≤ length senses) (row : checked_row scene s (sense_in senses) (production_at s (length senses)) (length senses) (children_at s (length senses)) ≡ Fits x) where
+  abbrev IsRow : List Sense → SyntaxNode → ℕ → Sense → Type 0
+  IsRow t m i y = checked_row scene s (sense_in t) m.production i m.children.items ≡ Fits y
+
+  row_at : (m : SyntaxNode) → slice_get s.nodes (length senses) ≡ Some m → IsRow senses m (length senses) x
+  row_at m there =
+      sym (ap (λ (p : ℕ). checked_row scene s (sense_in senses) p (length senses) (children_at s (length senses))) (ap production_of there) ∙ ap (checked_row scene s (sense_in senses) m.production (length senses)) (ap children_of there)) ∙ row
+
+  last_row : (i : ℕ) (m : SyntaxNode) (y : Sense) → i ≡ length senses → slice_get s.nodes i ≡ Some m → slice_get (senses ++ x ∷ []) i ≡ Some y → IsRow (take i (senses ++ x ∷ [])) m i y
   last_row i m y e em ey =
       let e1 : get_or (senses ++ x ∷ []) i Nothing ≡ y = get_or_from_slice_get (senses ++ x ∷ []) i y Nothing ey in
       let e2 : x ≡ y = sym (get_or-append_seam senses x [] Nothing) ∙ (ap (λ (j : ℕ). get_or (senses ++ x ∷ []) j Nothing) (sym e) ∙ e1) in
-      let both : Some n ≡ Some m = sym there ∙ (ap (λ (j : ℕ). slice_get s.nodes (start + j)) (sym e) ∙ em) in
-      let e3 : n ≡ m = cc in
+      let there : slice_get s.nodes (length senses) ≡ Some m = ap (slice_get s.nodes) (sym e) ∙ em in
       let e4 : senses ≡ take i (senses ++ x ∷ []) = sym (take-append_seam senses (x ∷ [])) ∙ ap (λ (j : ℕ). take j (senses ++ x ∷ [])) (sym e) in
-      subst (λ (t : List Sense). IsRow t m i y) e4 (subst (λ (k : SyntaxNode). IsRow senses k i y) e3 (subst (λ (j : ℕ). IsRow senses n j y) (sym e) (subst (λ (z : Sense). IsRow senses n (length senses) z) e2 row)))
+      subst (λ (t : List Sense). IsRow t m i y) e4 (subst (λ (j : ℕ). IsRow senses m j y) (sym e) (subst (λ (z : Sense). IsRow senses m (length senses) z) e2 (row_at m there)))
 
-  earlier_row : (i : ℕ) (m : SyntaxNode) (y : Sense) → i < length senses → slice_get s.nodes (start + i) ≡ Some m → slice_get (senses ++ x ∷ []) i ≡ Some y → IsRow (take i (senses ++ x ∷ [])) m i y
-  earlier_row i m y lt em ey =
+  earlier_row : (i : ℕ) (m : SyntaxNode) (y : Sense) → i < length senses → start ≤ i → slice_get s.nodes i ≡ Some m → slice_get (senses ++ x ∷ []) i ≡ Some y → IsRow (take i (senses ++ x ∷ [])) m i y
+  earlier_row i m y lt from em ey =
       let e1 : get_or (senses ++ x ∷ []) i Nothing ≡ y = get_or_from_slice_get (senses ++ x ∷ []) i y Nothing ey in
       let e2 : slice_get senses i ≡ Some y = slice_get-get_or senses i Nothing lt ∙ ap Some (sym (get_or_append_left senses (x ∷ []) Nothing i lt) ∙ e1) in
-      subst (λ (t : List Sense). IsRow t m i y) (sym (take-append-le i senses (x ∷ []) (omega (arith, lt)))) (before.each i m y em e2)
+      subst (λ (t : List Sense). IsRow t m i y) (sym (take-append-le i senses (x ∷ []) (omega (arith, lt)))) (before.each i m y from em e2)
 
-  pub one_more : AreBuilt scene s start (senses ++ x ∷ [])
+  pub one_more : AreChecked scene s start (senses ++ x ∷ [])
   one_more = record {
-    each = λ i m y em ey. elim (eqb_tells i (length senses)) [
+    nothing = λ i lt. get_or_append_left senses (x ∷ []) Nothing i (omega (arith, lt, begun)) ∙ before.nothing i lt;
+    each = λ i m y from em ey. elim (eqb_tells i (length senses)) [
       | inl p ↦ last_row i m y p.1 em ey
-      | inr p ↦ let longer : length (senses ++ x ∷ []) ≡ length senses + 1 = length-append senses (x ∷ []) in earlier_row i m y (omega (arith, p.1, slice_get_within (senses ++ x ∷ []) i y ey, longer)) em ey
+      | inr p ↦ let longer : length (senses ++ x ∷ []) ≡ length senses + 1 = length-append senses (x ∷ []) in earlier_row i m y (omega (arith, p.1, slice_get_within (senses ++ x ∷ []) i y ey, longer)) from em ey
     ];
   }
 
@@ -90,7 +127,7 @@ module _ (u v : Unit) (b : Builds u v) where
   meant_on (EntityMeant e) h = subst (λ (l : List Entity). e < length l) (sym b.entities) h
   meant_on (TypeName t) h = let le : length u.types.terms ≤ length v.types.terms = b.terms in omega (arith, h)
   meant_on (Tag t) h = subst (λ (k : ℕ). t < k) (sym b.tags) h
-  meant_on (Value n) h = tt
+  meant_on (Value n) h = h
 
   entries_on : (list : List (ℕ × Meaning)) → All (λ k. IsMeant u k.1) list → All (λ k. IsMeant v k.1) list
   entries_on list h = All-weaker (λ k. IsMeant u k.1) (λ k. IsMeant v k.1) (λ k. meant_on k.1) list h
@@ -107,39 +144,74 @@ module _ (u v : Unit) (b : Builds u v) where
   meant_if o None e h = tt
   meant_if o (Some x) e h = h x e
 
+  own_kept : (owner : Option ℕ) → own_name_in v owner ≡ own_name_in u owner
+  own_kept None = refl
+  own_kept (Some e) = ap (λ (l : List Entity). name_of (slice_get l e)) b.entities
+
+  pub own_on : (owner : Option ℕ) (name : Option (List ℕ)) → name ≡ own_name_in u owner → name ≡ own_name_in v owner
+  own_on owner name e = e ∙ sym (own_kept owner)
+
   pub fitting_on : (scene : Scene) (owner : Option ℕ) (list : List (ℕ × Meaning)) (uses : List (ℕ × ℕ)) → IsKnown u list → Fitting scene u owner list uses → Fitting scene v owner list uses
   fitting_on scene owner list uses k f = record {
     knows = knows_on scene.world u v b f.knows;
     meaning = λ i. f.meaning i ∙ sym (meaning_kept k.entities (meant list uses i) (meant_if (meant list uses i) (meant list uses i) refl (λ x e. use_meant u list (paired uses i) x k.entries e)));
     unfinished = λ i. f.unfinished i ∙ sym (unfinished_kept k.entities (meant list uses i));
     may_name = λ e. f.may_name e ∙ ap (λ (l : List Entity). may_name_entity owner (slice_get l e)) (sym b.entities);
+    own_name = own_on owner scene.world.own_name f.own_name;
   }
 
 -- a row that refuses stops the run
-pub refused : (scene : Scene) (s : Source) (start end : ℕ) (u v : Unit) (f : CheckFault) (senses : List Sense) (n : SyntaxNode) → slice_get s.nodes (start + length senses) ≡ Some n → AreBuilt scene s start senses → Rowed u (Err f) (built_row scene s (sense_from start senses) n.production (start + length senses) n.children.items) → Answered scene s start end v (Err f)
-refused scene s start end u v (BadOperand k) senses n there built m = record { senses = senses; built = built; node = n; there = there; refuses = m }
-refused scene s start end u v (Unsupported kind k) senses n there built m = record { senses = senses; built = built; node = n; there = there; refuses = m }
-refused scene s start end u v OutOfMemory senses n there built m = tt
+there_is : (nodes : List SyntaxNode) (i : ℕ) → i < length nodes → (n : SyntaxNode) × (slice_get nodes i ≡ Some n)
+there_is [] i h = absurd (omega arith)
+there_is (n ∷ rest) i h = let lt : i < length (n ∷ rest) = h in (get_or (n ∷ rest) i n, slice_get-get_or (n ∷ rest) i n lt)
 
--- what a row is said of, by equal parts
-pub row_same : (scene : Scene) (s : Source) (start : ℕ) (xs ys : List Sense) (p at to : ℕ) (cs ds : List ℕ) → xs ≡ ys → at ≡ to → cs ≡ ds → built_row scene s (sense_from start xs) p at cs ≡ built_row scene s (sense_from start ys) p to ds
-row_same scene s start xs ys p at to cs ds ex ea ec =
-    ap (λ (t : List Sense). built_row scene s (sense_from start t) p at cs) ex
-    ∙ (ap (λ (i : ℕ). built_row scene s (sense_from start ys) p i cs) ea ∙ ap (built_row scene s (sense_from start ys) p to) ec)
+module _ (scene : Scene) (s : Source) (start end at : ℕ) (u v : Unit) (results : List Made) (long : length results ≡ at) (begun : start ≤ at) (parsed : at < length s.nodes) (built : AreChecked scene s start (senses_made u results)) where
+  so_many : length (senses_made u results) ≡ at
+  so_many = length-map results (sense_made u) ∙ long
 
-pub pushed : (u v : Unit) (b : Builds u v) (rs more : List (Option ℕ)) (r : Option ℕ) → more ≡ rs ++ r ∷ [] → All (λ q. IfSome q (λ k. k < length u.nodes.items)) rs → senses_at v more ≡ senses_at u rs ++ sense_at v r ∷ []
-pushed u v b rs more r e h =
-    ap (senses_at v) e ∙ (map-append (sense_at v) rs (r ∷ []) ∙ ap (λ (t : List Sense). t ++ sense_at v r ∷ []) (senses_kept u v b rs h))
+  here : (g : Given Sense) → checked_row scene s (sense_in (senses_made u results)) (production_at s at) at (children_at s at) ≡ g → (n : SyntaxNode) × (slice_get s.nodes (length (senses_made u results)) ≡ Some n) × (checked_row scene s (sense_in (senses_made u results)) n.production (length (senses_made u results)) n.children.items ≡ g)
+  here g e =
+      let found = there_is s.nodes at parsed in
+      let n = found.0 in
+      let there : slice_get s.nodes at ≡ Some n = found.1 in
+      let row : checked_row scene s (sense_in (senses_made u results)) n.production at n.children.items ≡ g =
+      sym (ap (λ (p : ℕ). checked_row scene s (sense_in (senses_made u results)) p at (children_at s at)) (ap production_of there) ∙ ap (checked_row scene s (sense_in (senses_made u results)) n.production at) (ap children_of there)) ∙ e in
+      (n, ap (slice_get s.nodes) so_many ∙ there, ap (λ (i : ℕ). checked_row scene s (sense_in (senses_made u results)) n.production i n.children.items) so_many ∙ row)
 
-if_on : (u v : Unit) (b : Builds u v) (q : Option ℕ) → IfSome q (λ k. k < length u.nodes.items) → IfSome q (λ k. k < length v.nodes.items)
-if_on u v b None h = tt
-if_on u v b (Some k) h = let le : length u.nodes.items ≤ length v.nodes.items = b.more in omega (arith, h, le)
+  pub refused : (f : CheckFault) → Rowed v (Err f) (checked_row scene s (sense_in (senses_made u results)) (production_at s at) at (children_at s at)) → Answered scene s start end v (Err f)
+  refused (BadOperand k) m = let found = here _ m in record { senses = senses_made u results; checked = built; begun = omega (arith, so_many, begun); node = found.0; there = found.1; refuses = found.2 }
+  refused (Unsupported kind k) m = let found = here _ m in record { senses = senses_made u results; checked = built; begun = omega (arith, so_many, begun); node = found.0; there = found.1; refuses = found.2 }
+  refused OutOfMemory m = tt
 
-pub within_on : (u v : Unit) (b : Builds u v) (rs more : List (Option ℕ)) (r : Option ℕ) → more ≡ rs ++ r ∷ [] → All (λ q. IfSome q (λ k. k < length u.nodes.items)) rs → IfSome r (λ k. k < length v.nodes.items) → All (λ q. IfSome q (λ k. k < length v.nodes.items)) more
-within_on u v b rs more r e h here =
-    All-same (λ q. IfSome q (λ k. k < length v.nodes.items)) more (rs ++ r ∷ []) e
-    (All-push (λ q. IfSome q (λ k. k < length v.nodes.items)) rs r
-    (All-weaker (λ q. IfSome q (λ k. k < length u.nodes.items)) (λ q. IfSome q (λ k. k < length v.nodes.items)) (if_on u v b) rs h) here)
+-- one result more
+module _ (u v : Unit) (b : Builds u v) (rs more : List Made) (r : Made) (e : more ≡ rs ++ r ∷ []) (h : All (IsWithin u) rs) where
+  pub pushed : senses_made v more ≡ senses_made u rs ++ sense_made v r ∷ []
+  pushed = ap (senses_made v) e ∙ (map-append (sense_made v) rs (r ∷ []) ∙ ap (λ (t : List Sense). t ++ sense_made v r ∷ []) (mades_kept u v b rs h))
 
-pub longer : (rs more : List (Option ℕ)) (r : Option ℕ) → more ≡ rs ++ r ∷ [] → length more ≡ length rs + 1
-longer rs more r e = ap length e ∙ length-append rs (r ∷ [])
+  pub within_on : IsWithin v r → All (IsWithin v) more
+  within_on here = All-same (IsWithin v) more (rs ++ r ∷ []) e (All-push (IsWithin v) rs r (withins_kept u v b rs h) here)
+
+  pub longer : length more ≡ length rs + 1
+  longer = ap length e ∙ length-append rs (r ∷ [])
+
+-- before the first row
+nothing_senses : (u : Unit) (rs : List Made) → All (λ m. m ≡ made.Nothing) rs → (i : ℕ) → sense_in (senses_made u rs) i ≡ Nothing
+nothing_senses u [] all i = refl
+nothing_senses u (r ∷ rs) all zero = ap (sense_made u) (All-head (λ m. m ≡ made.Nothing) r rs all)
+nothing_senses u (r ∷ rs) all (suc i) = nothing_senses u rs (All-tail (λ m. m ≡ made.Nothing) r rs all) i
+
+pub none_yet : (scene : Scene) (s : Source) (start : ℕ) (u : Unit) (rs : List Made) → AreNothing rs start → AreChecked scene s start (senses_made u rs)
+none_yet scene s start u rs n = record {
+  nothing = λ i lt. nothing_senses u rs n.nothing i;
+  each = λ i m y from em ey. absurd (let long : length (senses_made u rs) ≡ length rs = length-map rs (sense_made u) in omega (arith, from, long, n.long, slice_get_within (senses_made u rs) i y ey));
+}
+
+-- a unit's own scene fits it
+pub fits_itself : (u : Unit) (owner : Option ℕ) (list : List (ℕ × Meaning)) (uses : List (ℕ × ℕ)) → Fitting (scene_of u owner list uses) u owner list uses
+fits_itself u owner list uses = record {
+  knows = record { members = λ tag. refl; extents = λ t. refl; tags = refl };
+  meaning = λ i. refl;
+  unfinished = λ i. refl;
+  may_name = λ e. refl;
+  own_name = refl;
+}

@@ -1,5 +1,5 @@
 -- What the known declarations of a unit give around an expression.
-use Rattle.std.specs.Prelude.{ℕ, ◌≡◌, ◌<◌, ◌==◌, Bool, true, false, List, [], ◌∷◌, length, Option, Some, None, slice_get, map, option_and_then, All, ⊤, if◌then◌else◌}
+use Rattle.std.specs.Prelude.{ℕ, ◌≡◌, ◌<◌, ◌==◌, Bool, true, false, List, [], ◌∷◌, length, Option, Some, None, slice_get, map, option_and_then, All, if◌then◌else◌}
 use Rattle.c_types.specs.declared.term.Form.TheVariants.{Unspecified}
 use Rattle.c_types.specs.Trees.{Ctype, FunctionFrom, ArrayOf}
 use Rattle.c_types.specs.Table.{Table, type_of, members_in, look_in}
@@ -9,6 +9,8 @@ use Rattle.core_tree.specs.declared.node.Linkage.TheVariants.{Local}
 use Rattle.core_tree.specs.declared.node.Storage.{Storage}
 use Rattle.core_tree.specs.declared.node.Storage.TheVariants.{Automatic, Parameter}
 use Rattle.core_tree.specs.declared.node.Unit.{Unit}
+use Rattle.core_tree.specs.Typed.{Holds}
+use Rattle.core_tree.specs.Rows.{int}
 use Rattle.c_inits.specs.Made.{looked_up, laid_out}
 use Rattle.c_inits.specs.Tables.{tag_parts}
 use Rattle.c_senses.specs.Tree.{paired}
@@ -74,6 +76,15 @@ may_name_entity owner (Some entity) = if is_automatic entity.storage then same_l
 abbrev pub may_name_in : Unit → Option ℕ → ℕ → Bool
 may_name_in u owner e = may_name_entity owner (slice_get u.entities.items e)
 
+-- the name of the function whose body is read
+abbrev pub name_of : Option Entity → Option (List ℕ)
+name_of None = None
+name_of (Some entity) = Some entity.name
+
+abbrev pub own_name_in : Unit → Option ℕ → Option (List ℕ)
+own_name_in u None = None
+own_name_in u (Some e) = name_of (slice_get u.entities.items e)
+
 -- what is around an expression of that unit
 abbrev pub world_of : Unit → Option ℕ → List (ℕ × Meaning) → List (ℕ × ℕ) → World
 world_of u owner list uses = record {
@@ -84,7 +95,7 @@ world_of u owner list uses = record {
   tags = u.types.tags;
   may_name = may_name_in u owner;
   may_call = true;
-  own_name = None;
+  own_name = own_name_in u owner;
 }
 
 abbrev pub scene_of : Unit → Option ℕ → List (ℕ × Meaning) → List (ℕ × ℕ) → Scene
@@ -96,13 +107,14 @@ pub record Fitting (scene : Scene) (u : Unit) (owner : Option ℕ) (list : List 
   pub meaning : (i : ℕ) → scene.world.meaning i ≡ meaning_seen u (meant list uses i)
   pub unfinished : (i : ℕ) → scene.unfinished i ≡ is_open u (meant list uses i)
   pub may_name : (e : ℕ) → scene.world.may_name e ≡ may_name_in u owner e
+  pub own_name : scene.world.own_name ≡ own_name_in u owner
 
--- what is known is the unit's: its entities and types are in range
+-- what is known is the unit's: its entities and types are in range; and an enumerator's value is in that of int (6.7.2.2)
 abbrev pub IsMeant : Unit → Meaning → Type 0
 IsMeant u (EntityMeant e) = e < length u.entities.items
 IsMeant u (TypeName t) = t.0 < length u.types.terms
 IsMeant u (Tag t) = t < u.types.tags
-IsMeant u (Value n) = ⊤
+IsMeant u (Value n) = Holds int n
 
 pub record IsKnown (u : Unit) (list : List (ℕ × Meaning)) : Type 0 where
   pub entries : All (λ k. IsMeant u k.1) list

@@ -1,10 +1,8 @@
-pub mod Literals
 pub mod Built
 pub mod Around
-pub mod Answers
+pub mod Lookups
 pub mod Runs
+pub mod Nothings
 pub mod Whole
 pub mod Begins
 pub mod Expressed
-pub mod Postfix
-pub mod Pieces

@@ -6,12 +6,12 @@ ghost use Rattle.c_check.specs.Around.{IsKnown, scene_of};
 ghost use Rattle.c_check.specs.Begins as spec;
 ghost use Rattle.c_check.specs.Begins.{BeginsAt};
 ghost use Rattle.c_check.specs.Expressed.{Expressed};
-ghost use Rattle.c_check.specs.Answers.{source_in};
+ghost use Rattle.c_senses.specs.Names.{source_with};
 ghost use Rattle.core_nodes.specs.Standing.{IsReady, Builds};
 ghost use Rattle.kept_nodes.specs.Keeps.{AllUnder};
 
 use crate::known::Known;
-use crate::walk::check_nodes;
+use crate::walk::walked;
 use c_grammar::Tree;
 use c_lexer::Tokens;
 use c_scope::Bound;
@@ -49,7 +49,10 @@ fn first_node(tree: &Tree, node: u32) -> u32
 /// first node that its row refuses, and the kind of the refusal; a row that isn't built yet is `Unsupported` with `NotBuilt`. A node
 /// that is none of an expression's is `BadOperand`. All that stood in the unit goes on standing, and of the nodes that were added none is
 /// left but those of the expression's tree. The rows that are built declare nothing, so `known` stays as it was. Want of memory, a
-/// node of the number 2^32 - 1 and a unit of 2^32 nodes are `OutOfMemory`.
+/// node of the number 2^32 - 1, and a unit, a tree or a list of 2^32 nodes or declarations are `OutOfMemory`.
+///
+/// A call takes time for the tree's nodes, since each node's parent is found in one pass; the rows themselves take no more than the
+/// logarithm of what is known and bound, beside the bytes and the types that they read.
 pub fn check_expression(
     alloc: Global,
     tokens: &Tokens,
@@ -68,7 +71,7 @@ pub fn check_expression(
     ensures within { IfOk result (λ i. i < length unit.new.nodes.items) }
     ensures only { IfOk result (λ i. AllUnder unit.new (length unit.old.nodes.items) i) }
     ensures answer { Expressed (scene_of unit.old known.old.owner known.old.list.items bound.now.uses.items)
-        (source_in tokens.now tree.now bound.now.uses.items) node unit.new result }
+        (source_with tokens.now tree.now bound.now.uses.items) node unit.new result }
 {
     let start = first_node(tree, node);
     let Some(end) = node.checked_add(1) else {
@@ -77,16 +80,7 @@ pub fn check_expression(
     let Ok(from) = u32::try_from(unit.nodes.len()) else {
         return Err(CheckFault::OutOfMemory);
     };
-    match check_nodes(
-        alloc,
-        unit,
-        tokens,
-        tree,
-        bound.uses.as_slice(),
-        known,
-        start,
-        end,
-    ) {
+    match walked(alloc, tokens, tree, bound, known, unit, start, end) {
         Ok(Some(found)) => keep_under(alloc, unit, from, found),
         Ok(None) => Err(CheckFault::BadOperand(node)),
         Err(fault) => Err(fault),

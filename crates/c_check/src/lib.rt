@@ -1,15 +1,12 @@
 //! From expressions of C11 to typed core trees.
 #![tactic(auto)]
 
-mod check;
 mod expression;
 mod known;
 pub mod laws;
-mod literals;
+mod lookups;
 mod names;
-mod postfix;
 mod rows;
-mod syntax;
 #[cfg(test)]
 mod tests;
 mod walk;
@@ -17,4 +14,3 @@ mod walk;
 pub use core_nodes::CheckFault;
 pub use expression::check_expression;
 pub use known::{Known, Meaning};
-pub use walk::check_nodes;

@@ -1,26 +1,18 @@
-// Names by what they mean (C11 6.5.1).
-#![tactic(auto, using(core_nodes::proofs::IntegerTypes::integers))]
+// What names mean (C11 6.5.1, 6.4.2.2).
+#![tactic(auto)]
 
-ghost use Rattle.std.specs.Prelude.{◌≡◌, ◌<◌, length, slice_get, IfOk, Some, None, All, List, ℕ, Bool, Option};
+ghost use Rattle.std.specs.Prelude.{◌≡◌, ℕ, ◌<◌, length, slice_get, IfSome, IfOk, IsOkUnless, Some};
 ghost use Rattle.core_tree.specs.declared.node.Entity.{Entity};
-ghost use Rattle.core_tree.specs.declared.node.NodeKind.TheVariants.{Named, Number};
-ghost use Rattle.core_tree.specs.Rows.{int};
-ghost use Rattle.c_types.specs.Table.{type_of};
-ghost use Rattle.pta_base.specs.declared.kind.Kind.TheVariants.{Operand};
-ghost use Rattle.c_consts.specs.Core.{leaf};
-ghost use Rattle.c_senses.specs.Given.{Fits, given_if};
 ghost use Rattle.c_senses.specs.World.{World};
-ghost use Rattle.c_senses.specs.Objects.{name_row};
-ghost use Rattle.c_check.specs.Around.{object_or_function, meaning_seen, is_open, is_open_entity, is_automatic as automatic_spec, may_name_in, IsMeant};
-ghost use Rattle.c_check.specs.Built.{by_meaning};
-ghost use Rattle.core_nodes.specs.Standing.{core_at, IsReady, Builds, Made};
+ghost use Rattle.c_rows.specs.Named.{IsNamed, IsNamedWithin};
+ghost use Rattle.c_check.specs.Around.{entity_meaning, meaning_seen, is_open, is_open_entity, is_automatic as automatic_spec, may_name_in, IsMeant, own_name_in};
 
-use crate::known::{Known, Meaning, meaning_of};
-use c_types::term::{Form, Term, TypeId};
+use crate::known::Meaning;
+use c_rows::Named;
+use c_types::term::{Form, Term};
 use core_nodes::CheckFault;
-use core_nodes::trees::{int_type, push_leaf};
-use core_tree::node::{Linkage, NodeKind, Storage, Unit};
-use pta_base::{Kind, Place};
+use core_tree::node::{Linkage, Storage, Unit};
+use pta_base::Listing;
 use std::alloc::Global;
 
 // Whether a storage ends with its block or function.
@@ -67,107 +59,118 @@ fn is_unfinished(unit: &Unit, e: u32) -> bool
     }
 }
 
-// The name of an object whose type is no floating type and no variadic list.
-fn plain_object(
-    alloc: Global,
-    unit: &mut Unit,
-    place: Place,
-    at: u32,
-    e: u32,
-    ty: TypeId,
-    allowed: bool,
-) -> Result<u32, CheckFault>
-    requires ready { IsReady unit.old }
-    requires ty { ty.0 < length unit.old.types.terms }
-    ensures ready { IsReady unit.new }
-    ensures builds { Builds unit.old unit.new }
-    ensures within { IfOk result (λ i. i < length unit.new.nodes.items) }
-    ensures made { Made unit.new result
-        (given_if allowed Operand at (Fits (leaf (Named e) place (type_of unit.old.types ty.0)))) }
+/// Whether another declaration may complete the type of a name that means this.
+pub fn is_unfinished_meaning(unit: &Unit, meaning: Option<Meaning>) -> bool
+    requires typed { (e : ℕ) (entity : Entity) →
+        slice_get unit.now.entities.items e ≡ Some entity → entity.ty.0 < length unit.now.types.terms }
+    ensures { result ≡ is_open unit.now meaning }
 {
-    if !allowed {
-        return Err(CheckFault::BadOperand(at));
+    match meaning {
+        Some(Meaning::Entity(e)) => is_unfinished(unit, e),
+        Some(Meaning::TypeName(_)) => false,
+        Some(Meaning::Tag(_)) => false,
+        Some(Meaning::Value(_)) => false,
+        None => false,
     }
-    push_leaf(alloc, unit, NodeKind::Named(e), place, ty)
 }
 
 // The name of an entity.
-fn entity_name(
-    alloc: Global,
-    unit: &mut Unit,
-    place: Place,
-    at: u32,
-    e: u32,
-    ty: TypeId,
-    allowed: bool,
-) -> Result<u32, CheckFault>
-    requires ready { IsReady unit.old }
-    requires ty { ty.0 < length unit.old.types.terms }
-    ensures ready { IsReady unit.new }
-    ensures builds { Builds unit.old unit.new }
-    ensures within { IfOk result (λ i. i < length unit.new.nodes.items) }
-    ensures made { (w : World) →
-        w.may_name e ≡ allowed →
-        Made unit.new result (name_row w place at (Some (object_or_function e (type_of unit.old.types ty.0)))) }
+fn named_entity(unit: &Unit, owner: Option<u32>, e: u32) -> Named
+    requires entity { e < length unit.now.entities.items }
+    requires typed { (e : ℕ) (entity : Entity) →
+        slice_get unit.now.entities.items e ≡ Some entity → entity.ty.0 < length unit.now.types.terms }
+    ensures within { IsNamedWithin unit.now result }
+    ensures named { (w : World) →
+        ((e : ℕ) → w.may_name e ≡ may_name_in unit.now owner e) →
+        IsNamed w unit.now result (entity_meaning unit.now.types e (slice_get unit.now.entities.items e)) }
 {
+    let ty = unit.entities[e as usize].ty;
+    let allowed = may_name(unit, owner, e);
     match unit.types.term(ty) {
-        Term::Floating => Err(CheckFault::Unsupported(Kind::Floating, at)),
-        Term::VaList => Err(CheckFault::Unsupported(Kind::Builtin, at)),
-        Term::Function { .. } => push_leaf(alloc, unit, NodeKind::FunctionName(e), place, ty),
-        Term::Void => plain_object(alloc, unit, place, at, e, ty, allowed),
-        Term::Bool => plain_object(alloc, unit, place, at, e, ty, allowed),
-        Term::Integer { .. } => plain_object(alloc, unit, place, at, e, ty, allowed),
-        Term::Pointer(_) => plain_object(alloc, unit, place, at, e, ty, allowed),
-        Term::Array { .. } => plain_object(alloc, unit, place, at, e, ty, allowed),
-        Term::Structure(_) => plain_object(alloc, unit, place, at, e, ty, allowed),
-        Term::Union(_) => plain_object(alloc, unit, place, at, e, ty, allowed),
+        Term::Function { .. } => Named::Function { entity: e, ty },
+        Term::Void => Named::Object {
+            entity: e,
+            ty,
+            allowed,
+        },
+        Term::Bool => Named::Object {
+            entity: e,
+            ty,
+            allowed,
+        },
+        Term::Integer { .. } => Named::Object {
+            entity: e,
+            ty,
+            allowed,
+        },
+        Term::Floating => Named::Object {
+            entity: e,
+            ty,
+            allowed,
+        },
+        Term::VaList => Named::Object {
+            entity: e,
+            ty,
+            allowed,
+        },
+        Term::Pointer(_) => Named::Object {
+            entity: e,
+            ty,
+            allowed,
+        },
+        Term::Array { .. } => Named::Object {
+            entity: e,
+            ty,
+            allowed,
+        },
+        Term::Structure(_) => Named::Object {
+            entity: e,
+            ty,
+            allowed,
+        },
+        Term::Union(_) => Named::Object {
+            entity: e,
+            ty,
+            allowed,
+        },
     }
 }
 
-// The number of an enumerator.
-fn enumerator(alloc: Global, unit: &mut Unit, place: Place, value: i128) -> Result<u32, CheckFault>
-    requires ready { IsReady unit.old }
-    ensures ready { IsReady unit.new }
-    ensures builds { Builds unit.old unit.new }
-    ensures within { IfOk result (λ i. i < length unit.new.nodes.items) }
-    ensures made { Made unit.new result (Fits (leaf (Number value) place int)) }
-{
-    let int = int_type(unit)?;
-    push_leaf(alloc, unit, NodeKind::Number(value), place, int)
-}
-
-// A name by what it means, unless another declaration may complete its type.
-pub fn meant_name(
-    alloc: Global,
-    unit: &mut Unit,
-    owner: Option<u32>,
-    place: Place,
-    at: u32,
-    meaning: Meaning,
-) -> Result<u32, CheckFault>
-    requires ready { IsReady unit.old }
-    requires meaning { IsMeant unit.old meaning }
+/// The name that means this, in the body of a function or outside of one.
+pub fn named_of(unit: &Unit, owner: Option<u32>, meaning: Option<Meaning>) -> Named
+    requires meaning { IfSome meaning (IsMeant unit.now) }
     requires typed { (e : ℕ) (entity : Entity) →
-        slice_get unit.old.entities.items e ≡ Some entity → entity.ty.0 < length unit.old.types.terms }
-    ensures ready { IsReady unit.new }
-    ensures builds { Builds unit.old unit.new }
-    ensures within { IfOk result (λ i. i < length unit.new.nodes.items) }
-    ensures made { (w : World) →
-        ((e : ℕ) → w.may_name e ≡ may_name_in unit.old owner e) →
-        Made unit.new result
-        (by_meaning w place at (meaning_seen unit.old (Some meaning)) (is_open unit.old (Some meaning))) }
+        slice_get unit.now.entities.items e ≡ Some entity → entity.ty.0 < length unit.now.types.terms }
+    ensures within { IsNamedWithin unit.now result }
+    ensures named { (w : World) →
+        ((e : ℕ) → w.may_name e ≡ may_name_in unit.now owner e) → IsNamed w unit.now result (meaning_seen unit.now meaning) }
 {
     match meaning {
-        Meaning::Entity(e) => {
-            if is_unfinished(unit, e) {
-                return Err(CheckFault::Unsupported(Kind::NotBuilt, at));
-            }
-            let ty = unit.entities[e as usize].ty;
-            let allowed = may_name(unit, owner, e);
-            entity_name(alloc, unit, place, at, e, ty, allowed)
+        Some(Meaning::Entity(e)) => named_entity(unit, owner, e),
+        Some(Meaning::TypeName(_)) => Named::NoValue,
+        Some(Meaning::Tag(_)) => Named::NoValue,
+        Some(Meaning::Value(value)) => Named::Value(value),
+        None => Named::Undeclared,
+    }
+}
+
+/// The own name of the function whose body is read.
+pub fn own_name(
+    alloc: Global,
+    unit: &Unit,
+    owner: Option<u32>,
+) -> Result<Option<Listing<u8>>, CheckFault>
+    ensures name { IfOk result (λ name. name ≡ own_name_in unit.now owner) }
+    ensures memory { IsOkUnless result CheckFault.OutOfMemory }
+{
+    let Some(e) = owner else {
+        return Ok(None);
+    };
+    match unit.entities.get(e as usize) {
+        Some(entity) => {
+            let bytes = Vec::from_slice(alloc, entity.name.as_str().as_bytes())?;
+            Ok(Some(Listing::of(bytes)))
         }
-        Meaning::TypeName(_) => Err(CheckFault::BadOperand(at)),
-        Meaning::Tag(_) => Err(CheckFault::BadOperand(at)),
-        Meaning::Value(value) => enumerator(alloc, unit, place, value),
+        None => Ok(None),
     }
 }

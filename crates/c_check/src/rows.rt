@@ -1,337 +1,225 @@
-// One row for each production, over what the nodes before stand for.
-#![tactic(auto, using(core_nodes::proofs::IntegerTypes::integers))]
+// The row of a node, by its production.
+#![tactic(auto)]
 
-ghost use Rattle.std.specs.Prelude.{◌≡◌, ◌<◌, if◌then◌else◌, drop, length, IfOk, IfSome, All, List, ℕ, Bool};
+ghost use Rattle.std.specs.Prelude.{◌≡◌, ◌<◌, ◌≤◌, ℕ, List, None, length, get_or, IfOk, IfSome, All};
 ghost use Rattle.core_tree.specs.declared.node.Unit.{Unit as UnitSpec};
-ghost use Rattle.c_consts.specs.Core.{Core};
-ghost use Rattle.c_senses.specs.Given.{Given};
+ghost use Rattle.std.specs.Option.{option_copied};
+ghost use Rattle.c_lexer.specs.declared.TokenKind.TheVariants.{Identifier};
+ghost use Rattle.c_senses.specs.Tree.{production_at, children_at, kind_at};
 ghost use Rattle.c_senses.specs.World.{World};
-ghost use Rattle.c_senses.specs.Sense.{Sense, value_in};
-ghost use Rattle.c_senses.specs.Expressions.{indexed_core, operator_core, value_core, as_sense};
-ghost use Rattle.c_senses.specs.Expressions.{chained as chained_spec, binary_row};
-ghost use Rattle.c_operators.specs.Between.{built_between};
-ghost use Rattle.c_check.specs.Built.{sense_from, joined_values as joined_spec, linked as linked_spec};
-ghost use Rattle.c_operators.specs.Seen.{operator_seen};
-ghost use Rattle.core_nodes.specs.Standing.{core_at, IsReady, Builds, Made, Knows};
-ghost use Rattle.c_check.specs.Answers.{sense_at, senses_at, source_in, Rowed};
+ghost use Rattle.c_senses.specs.Sense.{sense_in};
+ghost use Rattle.c_check.specs.Around.{Fitting, IsKnown, IsMeant, meant, own_name_in};
+ghost use Rattle.c_check.specs.Built as spec;
+ghost use Rattle.c_check.specs.Built.{Scene, built_row};
+ghost use Rattle.c_check.specs.Lookups.{AreLookups};
+ghost use Rattle.core_nodes.specs.Standing.{IsReady, Builds, Knows};
+ghost use Rattle.c_results.specs.Standing.{sense_made, senses_made, IsWithin, Rowed};
+ghost use Rattle.tree_reads.specs.Sources.{source_read};
+ghost use Rattle.whole_rows.specs.Constants.{SenseHasRows, HaveRowsMade};
 
-use crate::syntax::{place_of, sign_of};
-use c_grammar::Tree;
-use c_lexer::Tokens;
-use c_operators::objects::{address_row, index_row, indirection_row, not_row, promoted_row};
-use c_operators::operators::{Operator, between, operator_of, sort_of_node};
+use crate::known::{Known, Meaning};
+use crate::lookups::{Lookups, meaning_of};
+use crate::names::{is_unfinished_meaning, named_of};
+use c_lexer::TokenKind;
+use c_results::Made;
+use c_rows::{post_row, primary_row, unary_row};
 use core_nodes::CheckFault;
-use core_nodes::values::value;
-use core_tree::node::{Op, Unit};
-use pta_base::Place;
+use core_tree::node::Unit;
+use pta_base::{Kind, Listing};
 use std::alloc::Global;
+use tree_reads::{Syntax, children_of, kind_of, production_of};
+use whole_rows::{assignment_row, binary_row, cast_row, conditional_row};
 
-const SIGN_AMPERSAND: u8 = 10;
+const LEAF: u32 = 4294967295;
 
-const SIGN_STAR: u8 = 11;
+const P_EXPRESSION: u32 = 31;
 
-const SIGN_PLUS: u8 = 12;
+const P_ASSIGNMENT: u32 = 32;
 
-const SIGN_MINUS: u8 = 13;
+const P_CONDITIONAL: u32 = 33;
 
-const SIGN_TILDE: u8 = 14;
+const P_CAST: u32 = 44;
 
-// The core node that was made for a syntax node of the run that begins at a start.
-pub fn result_of(results: &[Option<u32>], start: u32, node: u32) -> Option<u32>
-    ensures sense { (u : UnitSpec) → sense_at u result ≡ sense_from start (senses_at u results.now) node }
-    ensures within { (n : ℕ) → All (λ r. IfSome r (λ k. k < n)) results.now → IfSome result (λ k. k < n) }
+const P_UNARY: u32 = 45;
+
+const P_POST: u32 = 46;
+
+const P_PRIMARY: u32 = 47;
+
+/// What is known around an expression: where declarations are found, and the own name of the function whose body is read.
+#[derive(Drop)]
+pub struct Around {
+    pub found: Lookups,
+    pub own_name: Option<Listing<u8>>,
+}
+
+// What the first leaf of a primary means, where that is an identifier.
+fn meaning_of_first(syntax: &Syntax, around: &Around, known: &Known, first: u32) -> Option<Meaning>
+    ensures meant { (uses : List (ℕ × ℕ)) →
+        AreLookups around.now.found known.now.list.items uses →
+        kind_at (source_read syntax.now) first ≡ Identifier → result ≡ meant known.now.list.items uses first }
+    ensures among { (u : UnitSpec) → All (λ k. IsMeant u k.1) known.now.list.items → IfSome result (IsMeant u) }
+    ensures other { (kind_at (source_read syntax.now) first ≡ Identifier → ⊥) → result ≡ None }
 {
-    if node < start {
-        return None;
+    match kind_of(syntax, first) {
+        TokenKind::Identifier => meaning_of(&around.found, known.list.as_slice(), first),
+        TokenKind::Keyword(_) | TokenKind::Punctuator(_) | TokenKind::Integer => None,
+        TokenKind::Floating | TokenKind::Character | TokenKind::Text | TokenKind::End => None,
     }
-    match results.get((node - start) as usize) {
-        Some(result) => *result,
+}
+
+// The own name of the function whose body is read, as bytes.
+fn own_name_of(around: &Around) -> Option<&[u8]>
+    ensures { option_copied result ≡ around.now.own_name }
+{
+    match &around.own_name {
+        Some(name) => Some(name.as_slice()),
         None => None,
     }
 }
 
-// The value of what a syntax node stands for.
-pub fn value_of(
-    alloc: Global,
-    unit: &mut Unit,
-    at: u32,
-    operand: Option<u32>,
-) -> Result<u32, CheckFault>
-    requires ready { IsReady unit.old }
-    requires operand { IfSome operand (λ k. k < length unit.old.nodes.items) }
-    ensures ready { IsReady unit.new }
-    ensures builds { Builds unit.old unit.new }
-    ensures within { IfOk result (λ i. i < length unit.new.nodes.items) }
-    ensures made { (w : World) → Knows w unit.old → Made unit.new result (value_in w at (sense_at unit.old operand)) }
-{
-    match operand {
-        Some(node) => value(alloc, unit, at, node),
-        None => Err(CheckFault::BadOperand(at)),
-    }
-}
-
-// An index over what stands to its left and within its brackets.
-pub fn indexed(
-    alloc: Global,
-    unit: &mut Unit,
-    place: Place,
-    at: u32,
-    left: Option<u32>,
-    right: Option<u32>,
-) -> Result<u32, CheckFault>
-    requires ready { IsReady unit.old }
-    requires left { IfSome left (λ k. k < length unit.old.nodes.items) }
-    requires right { IfSome right (λ k. k < length unit.old.nodes.items) }
-    ensures ready { IsReady unit.new }
-    ensures builds { Builds unit.old unit.new }
-    ensures within { IfOk result (λ i. i < length unit.new.nodes.items) }
-    ensures made { (w : World) →
-        Knows w unit.old →
-        Made unit.new result (indexed_core w place at (sense_at unit.old left) (sense_at unit.old right)) }
-{
-    let a = match value_of(alloc, unit, at, left) {
-        Ok(node) => node,
-        Err(fault) => return Err(fault),
-    };
-    let b = match value_of(alloc, unit, at, right) {
-        Ok(node) => node,
-        Err(fault) => return Err(fault),
-    };
-    let x = sort_of_node(unit, a);
-    let y = sort_of_node(unit, b);
-    index_row(alloc, unit, place, at, a, b, x, y)
-}
-
-// An operator over the value of its operand.
-fn value_row(
-    alloc: Global,
-    unit: &mut Unit,
-    place: Place,
-    at: u32,
-    v: u32,
-    sign: u8,
-) -> Result<u32, CheckFault>
-    requires ready { IsReady unit.old }
-    requires v { v < length unit.old.nodes.items }
-    ensures ready { IsReady unit.new }
-    ensures builds { Builds unit.old unit.new }
-    ensures within { IfOk result (λ i. i < length unit.new.nodes.items) }
-    ensures made { (w : World) → Knows w unit.old → Made unit.new result (value_core w place at (core_at unit.old v) sign) }
-{
-    let x = sort_of_node(unit, v);
-    if sign == SIGN_STAR {
-        return indirection_row(alloc, unit, place, at, v, x);
-    }
-    if sign == SIGN_PLUS {
-        return promoted_row(alloc, unit, Op::Plus, place, at, v, x);
-    }
-    if sign == SIGN_MINUS {
-        return promoted_row(alloc, unit, Op::Minus, place, at, v, x);
-    }
-    if sign == SIGN_TILDE {
-        return promoted_row(alloc, unit, Op::Complement, place, at, v, x);
-    }
-    not_row(alloc, unit, place, at, v)
-}
-
-// An operator before its operand.
-pub fn operator_row(
-    alloc: Global,
-    unit: &mut Unit,
-    place: Place,
-    at: u32,
-    operand: u32,
-    sign: u8,
-) -> Result<u32, CheckFault>
-    requires ready { IsReady unit.old }
-    requires operand { operand < length unit.old.nodes.items }
-    ensures ready { IsReady unit.new }
-    ensures builds { Builds unit.old unit.new }
-    ensures within { IfOk result (λ i. i < length unit.new.nodes.items) }
-    ensures made { (w : World) →
-        Knows w unit.old → Made unit.new result (operator_core w place at (core_at unit.old operand) sign) }
-{
-    if sign == SIGN_AMPERSAND {
-        return address_row(alloc, unit, place, at, operand);
-    }
-    match value(alloc, unit, at, operand) {
-        Ok(v) => value_row(alloc, unit, place, at, v, sign),
-        Err(fault) => Err(fault),
-    }
-}
-
-// What is made of a core node, as what a syntax node stands for.
-pub fn sensed(made: Result<u32, CheckFault>) -> Result<Option<u32>, CheckFault>
-    ensures row { (u : UnitSpec) (g : Given Core) → Made u made g → Rowed u result (as_sense g) }
-    ensures within { (n : ℕ) → IfOk made (λ k. k < n) → IfOk result (λ r. IfSome r (λ k. k < n)) }
-{
-    match made {
-        Ok(node) => Ok(Some(node)),
-        Err(fault) => Err(fault),
-    }
-}
-
-// An operator over the values of two operands.
-fn joined_values(
-    alloc: Global,
-    unit: &mut Unit,
-    operator: Operator,
-    place: Place,
-    named: u32,
-    a: u32,
-    b: u32,
-) -> Result<u32, CheckFault>
-    requires ready { IsReady unit.old }
-    requires a { a < length unit.old.nodes.items }
-    requires b { b < length unit.old.nodes.items }
-    ensures ready { IsReady unit.new }
-    ensures builds { Builds unit.old unit.new }
-    ensures within { IfOk result (λ i. i < length unit.new.nodes.items) }
-    ensures made { (w : World) →
-        Knows w unit.old →
-        Made unit.new result
-        (joined_spec w (operator_seen operator) place named (core_at unit.old a) (core_at unit.old b)) }
-{
-    let x = match value(alloc, unit, named, a) {
-        Ok(node) => node,
-        Err(fault) => return Err(fault),
-    };
-    let y = match value(alloc, unit, named, b) {
-        Ok(node) => node,
-        Err(fault) => return Err(fault),
-    };
-    between(alloc, unit, operator, place, named, x, y)
-}
-
-// An operator over what stands to its left and its right operand.
-fn linked(
-    alloc: Global,
-    unit: &mut Unit,
-    tokens: &Tokens,
-    tree: &Tree,
-    named: u32,
-    operator: u32,
-    left: u32,
-    right: Option<u32>,
-) -> Result<u32, CheckFault>
-    requires ready { IsReady unit.old }
-    requires left { left < length unit.old.nodes.items }
-    requires right { IfSome right (λ k. k < length unit.old.nodes.items) }
-    ensures ready { IsReady unit.new }
-    ensures builds { Builds unit.old unit.new }
-    ensures within { IfOk result (λ i. i < length unit.new.nodes.items) }
-    ensures made { (w : World) (uses : List (ℕ × ℕ)) (sense : ℕ → Sense) →
-        Knows w unit.old →
-        Made unit.new result
-        (linked_spec w (source_in tokens.now tree.now uses) sense named operator (core_at unit.old left)
-        (sense_at unit.old right)) }
-{
-    let Some(b) = right else {
-        return Err(CheckFault::BadOperand(named));
-    };
-    let place = place_of(tokens, tree, operator);
-    match sign_of(tokens, tree, operator) {
-        Some(sign) => joined_values(alloc, unit, operator_of(sign), place, named, left, b),
-        None => Err(CheckFault::BadOperand(named)),
-    }
-}
-
-// The node that is named where an operator doesn't fit.
-fn named_of(at: u32, operator: u32, single: bool) -> u32
-    ensures { result ≡ (if single then at else operator) }
-{
-    if single { at } else { operator }
-}
-
-// Operators between operands, from the left.
-fn chained(
-    alloc: Global,
-    unit: &mut Unit,
-    tokens: &Tokens,
-    tree: &Tree,
-    results: &[Option<u32>],
-    start: u32,
-    at: u32,
-    single: bool,
-    first: u32,
+// What the first leaf of some children means.
+fn first_meaning(
+    syntax: &Syntax,
+    around: &Around,
+    known: &Known,
     children: &[u32],
-) -> Result<u32, CheckFault>
-    requires ready { IsReady unit.old }
-    requires first { first < length unit.old.nodes.items }
-    requires results { All (λ r. IfSome r (λ k. k < length unit.old.nodes.items)) results.now }
-    ensures ready { IsReady unit.new }
-    ensures builds { Builds unit.old unit.new }
-    ensures within { IfOk result (λ i. i < length unit.new.nodes.items) }
-    ensures made { (w : World) (uses : List (ℕ × ℕ)) →
-        Knows w unit.old →
-        Made unit.new result
-        (chained_spec w (source_in tokens.now tree.now uses) (sense_from start (senses_at unit.old results.now))
-        (built_between w) at single (core_at unit.old first) children.now) }
-{
-    let mut left = first;
-    let mut i = 0;
-    while i + 1 < children.len() {
-        let operator = children[i];
-        let operand = children[i + 1];
-        let named = named_of(at, operator, single);
-        let right = result_of(results, start, operand);
-        match linked(alloc, unit, tokens, tree, named, operator, left, right) {
-            Ok(node) => left = node,
-            Err(fault) => return Err(fault),
-        }
-        i += 2;
-    }
-    if i == children.len() {
-        Ok(left)
-    } else {
-        Err(CheckFault::BadOperand(at))
-    }
-}
-
-// What stands behind the first number of a list.
-pub fn behind_first(children: &[u32]) -> &[u32]
-    requires { 0 < length children.now }
-    ensures { result.now ≡ drop 1 children.now }
-{
-    let (_, rest) = children.split_at(1);
-    rest
-}
-
-// Operands with operators between them; or one operand, which is passed on.
-pub fn binary(
-    alloc: Global,
-    unit: &mut Unit,
-    tokens: &Tokens,
-    tree: &Tree,
-    results: &[Option<u32>],
-    start: u32,
-    at: u32,
-    children: &[u32],
-) -> Result<Option<u32>, CheckFault>
-    requires ready { IsReady unit.old }
-    requires results { All (λ r. IfSome r (λ k. k < length unit.old.nodes.items)) results.now }
-    ensures ready { IsReady unit.new }
-    ensures builds { Builds unit.old unit.new }
-    ensures within { IfOk result (λ r. IfSome r (λ k. k < length unit.new.nodes.items)) }
-    ensures row { (w : World) (uses : List (ℕ × ℕ)) →
-        Knows w unit.old →
-        Rowed unit.new result
-        (binary_row w (source_in tokens.now tree.now uses) (sense_from start (senses_at unit.old results.now))
-        (built_between w) at children.now) }
+) -> Option<Meaning>
+    ensures meant { (uses : List (ℕ × ℕ)) →
+        let first = get_or children.now 0 0 in
+        AreLookups around.now.found known.now.list.items uses →
+        0 < length children.now →
+        kind_at (source_read syntax.now) first ≡ Identifier → result ≡ meant known.now.list.items uses first }
+    ensures among { (u : UnitSpec) → All (λ k. IsMeant u k.1) known.now.list.items → IfSome result (IsMeant u) }
+    ensures other { (kind_at (source_read syntax.now) (get_or children.now 0 0) ≡ Identifier → ⊥) → result ≡ None }
+    ensures nothing { length children.now ≡ 0 → result ≡ None }
 {
     if children.is_empty() {
-        return Err(CheckFault::BadOperand(at));
+        return None;
     }
-    let first = result_of(results, start, children[0]);
-    let rest = behind_first(children);
-    if rest.is_empty() {
-        return Ok(first);
+    meaning_of_first(syntax, around, known, children[0])
+}
+
+// A primary; a name whose type other declarations may complete isn't built.
+fn primary(
+    alloc: Global,
+    unit: &mut Unit,
+    syntax: &Syntax,
+    results: &[Made],
+    around: &Around,
+    known: &Known,
+    at: u32,
+    children: &[u32],
+) -> Result<Made, CheckFault>
+    requires ready { IsReady unit.old }
+    requires results { All (IsWithin unit.old) results.now }
+    requires rows { HaveRowsMade unit.old results.now }
+    requires known { IsKnown unit.old known.now.list.items }
+    ensures ready { IsReady unit.new }
+    ensures builds { Builds unit.old unit.new }
+    ensures within { IfOk result (IsWithin unit.new) }
+    ensures rows { IfOk result (λ m. SenseHasRows (sense_made unit.new m)) }
+    ensures row { (scene : Scene) (uses : List (ℕ × ℕ)) →
+        AreLookups around.now.found known.now.list.items uses →
+        around.now.own_name ≡ own_name_in unit.old known.now.owner →
+        Fitting scene unit.old known.now.owner known.now.list.items uses →
+        let sense = sense_in (senses_made unit.old results.now) in
+        Rowed unit.new result (spec.checked_primary scene (source_read syntax.now) sense at children.now) }
+{
+    let meaning = first_meaning(syntax, around, known, children);
+    if is_unfinished_meaning(unit, meaning) {
+        return Err(CheckFault::Unsupported(Kind::NotBuilt, at));
     }
-    let Some(left) = first else {
-        return Err(CheckFault::BadOperand(at));
-    };
-    let single = rest.len() == 2;
-    sensed(chained(
-        alloc, unit, tokens, tree, results, start, at, single, left, rest,
-    ))
+    let named = named_of(unit, known.owner, meaning);
+    primary_row(
+        alloc,
+        unit,
+        syntax,
+        results,
+        at,
+        children,
+        named,
+        own_name_of(around),
+    )
+}
+
+// A part of an expression that is no primary.
+fn part(
+    alloc: Global,
+    unit: &mut Unit,
+    syntax: &Syntax,
+    results: &[Made],
+    production: u32,
+    at: u32,
+    children: &[u32],
+) -> Result<Made, CheckFault>
+    requires ready { IsReady unit.old }
+    requires results { All (IsWithin unit.old) results.now }
+    requires rows { HaveRowsMade unit.old results.now }
+    requires low { 31 ≤ production }
+    requires high { production < 47 }
+    ensures ready { IsReady unit.new }
+    ensures builds { Builds unit.old unit.new }
+    ensures within { IfOk result (IsWithin unit.new) }
+    ensures row { (w : World) →
+        Knows w unit.old →
+        let sense = sense_in (senses_made unit.old results.now) in
+        Rowed unit.new result (built_row w (source_read syntax.now) sense production at children.now) }
+{
+    if production == P_POST {
+        return post_row(alloc, unit, syntax, results, at, children);
+    }
+    if production == P_UNARY {
+        return unary_row(alloc, unit, syntax, results, at, children);
+    }
+    if production == P_CAST {
+        return cast_row(alloc, unit, syntax, results, at, children);
+    }
+    if production == P_CONDITIONAL {
+        return conditional_row(alloc, unit, syntax, results, at, children);
+    }
+    if production == P_ASSIGNMENT {
+        return assignment_row(alloc, unit, syntax, results, at, children);
+    }
+    binary_row(alloc, unit, syntax, results, at, children)
+}
+
+/// What a node stands for, by its production (C11 6.5); a production that is none of an expression's isn't built.
+pub fn row(
+    alloc: Global,
+    unit: &mut Unit,
+    syntax: &Syntax,
+    results: &[Made],
+    around: &Around,
+    known: &Known,
+    at: u32,
+) -> Result<Made, CheckFault>
+    requires ready { IsReady unit.old }
+    requires results { All (IsWithin unit.old) results.now }
+    requires rows { HaveRowsMade unit.old results.now }
+    requires known { IsKnown unit.old known.now.list.items }
+    ensures ready { IsReady unit.new }
+    ensures builds { Builds unit.old unit.new }
+    ensures within { IfOk result (IsWithin unit.new) }
+    ensures rows { IfOk result (λ m. SenseHasRows (sense_made unit.new m)) }
+    ensures row { (scene : Scene) (uses : List (ℕ × ℕ)) →
+        AreLookups around.now.found known.now.list.items uses →
+        around.now.own_name ≡ own_name_in unit.old known.now.owner →
+        Fitting scene unit.old known.now.owner known.now.list.items uses →
+        let s = source_read syntax.now in
+        let sense = sense_in (senses_made unit.old results.now) in
+        Rowed unit.new result (spec.checked_row scene s sense (production_at s at) at (children_at s at)) }
+{
+    let production = production_of(syntax, at);
+    let children = children_of(syntax, at);
+    if production == LEAF {
+        return Ok(Made::Nothing);
+    }
+    if production == P_PRIMARY {
+        return primary(alloc, unit, syntax, results, around, known, at, children);
+    }
+    if P_EXPRESSION <= production && production < P_PRIMARY {
+        return part(alloc, unit, syntax, results, production, at, children);
+    }
+    Err(CheckFault::Unsupported(Kind::NotBuilt, at))
 }

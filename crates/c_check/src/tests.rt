@@ -14,7 +14,7 @@ use c_scope::Bound;
 use c_types::table::TypeTable;
 use c_types::term::{Term, TypeId};
 use core_tree::node::{Entity, Linkage, NodeKind, Op, Storage, Unit};
-use pta_base::{Kind, Place, Text};
+use pta_base::{Place, Text};
 use std::alloc::Global;
 use std::test::Fail;
 
@@ -176,6 +176,8 @@ fn answer(alloc: Global, case: &Case<'_>) -> Result<(Unit, Result<u32, CheckFaul
     let bound = Bound {
         uses: Vec::from_slice(alloc, case.uses)?,
         labels: Vec::new(alloc),
+        names: Vec::new(alloc),
+        tags: Vec::new(alloc),
     };
     let count = tree.nodes.len();
     if count == 0 || count > u32::MAX as usize {
@@ -516,19 +518,22 @@ fn bad_operands(rt: HostRuntime) -> Result<(), Fail> {
     Ok(())
 }
 
-// A cast isn't built, and its node is named.
+// What stands behind a cast's parenthesis is its type; where it stands for none, the cast's node is named.
 #[test]
 fn cast(rt: HostRuntime) -> Result<(), Fail> {
     let alloc = rt.alloc();
-    let rows: [Row<'_>; 2] = [(LEAF, 0, &[]), (CAST, 0, &[0])];
+    let rows: [Row<'_>; 5] = [
+        (LEAF, 0, &[]),
+        (LEAF, 1, &[]),
+        (PRIMARY, 1, &[1]),
+        (CAST, 1, &[2]),
+        (CAST, 0, &[0, 3]),
+    ];
     let case = Case {
-        text: b"(",
+        text: b"(1",
         rows: &rows,
         uses: &[],
     };
-    assert_eq!(rt;
-        refusal(alloc, &case)?,
-        Some(CheckFault::Unsupported(Kind::NotBuilt, 1))
-    );
+    assert_eq!(rt; refusal(alloc, &case)?, Some(CheckFault::BadOperand(4)));
     Ok(())
 }

@@ -1,29 +1,48 @@
 // The nodes of an expression, one after another.
-#![tactic(auto, using(core_nodes::proofs::IntegerTypes::integers))]
+#![tactic(auto)]
 
-ghost use Rattle.std.specs.Prelude.{◌≡◌, ◌<◌, ◌≤◌, length, IfOk, IfSome, List, ℕ};
-ghost use Rattle.c_check.specs.Around.{Fitting, IsKnown, scene_of};
+ghost use Rattle.std.specs.Prelude.{◌≡◌, ◌<◌, ◌≤◌, length, IfOk, IfSome, IsOkUnless, List, ℕ};
+ghost use Rattle.c_check.specs.Around.{Fitting, IsKnown, scene_of, own_name_in};
+ghost use Rattle.c_senses.specs.Names.{source_with};
 ghost use Rattle.c_check.specs.Built.{Scene};
-ghost use Rattle.core_nodes.specs.Standing.{IsReady, Builds};
-ghost use Rattle.c_check.specs.Answers.{source_in};
+ghost use Rattle.c_check.specs.Lookups.{AreLookups};
 ghost use Rattle.c_check.specs.Runs.{Answered};
+ghost use Rattle.c_check.specs.Nothings.{AreNothing};
+ghost use Rattle.core_nodes.specs.Standing.{IsReady, Builds};
+ghost use Rattle.c_results.specs.Standing.{IsWithin};
+ghost use Rattle.tree_reads.specs.Sources.{source_in};
 
-use crate::check::row;
 use crate::known::Known;
-use crate::rows::result_of;
+use crate::lookups::lookups_of;
+use crate::names::own_name;
+use crate::rows::{Around, row};
 use c_grammar::Tree;
 use c_lexer::Tokens;
+use c_results::{Made, node_at};
+use c_scope::Bound;
 use core_nodes::CheckFault;
 use core_tree::node::Unit;
-use std::alloc::Global;
+use std::alloc::{AllocError, Global};
+use tree_reads::Syntax;
 
-// What the last node of an expression stands for, in each scene that fits the unit.
+// So many nodes that stand for nothing.
+fn nothings(alloc: Global, count: u32) -> Result<Vec<Made>, AllocError>
+    ensures { IfOk result (λ list. AreNothing list.items count) }
+{
+    let mut list = Vec::new(alloc);
+    for _added in 0..count {
+        list.push(Made::Nothing)?;
+    }
+    Ok(list)
+}
+
+// The core node of an expression's last node, in each scene that fits the unit. The nodes are those from a start up to an end,
+// in the order in which productions end.
 fn walk_nodes(
     alloc: Global,
     unit: &mut Unit,
-    tokens: &Tokens,
-    tree: &Tree,
-    uses: &[(u32, u32)],
+    syntax: &Syntax,
+    around: &Around,
     known: &Known,
     start: u32,
     end: u32,
@@ -31,53 +50,45 @@ fn walk_nodes(
     requires ready { IsReady unit.old }
     requires known { IsKnown unit.old known.now.list.items }
     requires some { start < end }
-    requires parsed { end ≤ length tree.now.nodes.items }
+    requires parsed { end ≤ length syntax.now.tree.now.nodes.items }
     ensures ready { IsReady unit.new }
     ensures builds { Builds unit.old unit.new }
     ensures within { IfOk result (λ r. IfSome r (λ k. k < length unit.new.nodes.items)) }
-    ensures answer { (scene : Scene) →
-        Fitting scene unit.old known.now.owner known.now.list.items uses.now →
-        Answered scene (source_in tokens.now tree.now uses.now) start end unit.new result }
+    ensures answer { (scene : Scene) (uses : List (ℕ × ℕ)) →
+        AreLookups around.now.found known.now.list.items uses →
+        around.now.own_name ≡ own_name_in unit.old known.now.owner →
+        Fitting scene unit.old known.now.owner known.now.list.items uses →
+        Answered scene (source_in syntax.now uses) start end unit.new result }
 {
-    let mut results: Vec<Option<u32>> = Vec::new(alloc);
-    let mut at = start;
-    while at < end {
-        let node = &tree.nodes[at as usize];
-        let children = node.children.as_slice();
-        let made = match row(
-            alloc,
-            unit,
-            tokens,
-            tree,
-            uses,
-            known,
-            results.as_slice(),
-            start,
-            at,
-            node.production,
-            children,
-        ) {
-            Ok(made) => made,
+    let mut results = nothings(alloc, start)?;
+    for at in start..end {
+        match row(alloc, unit, syntax, results.as_slice(), around, known, at) {
+            Ok(made) => results.push(made)?,
             Err(fault) => return Err(fault),
-        };
-        results.push(made)?;
-        at += 1;
+        }
     }
-    Ok(result_of(results.as_slice(), start, end - 1))
+    Ok(node_at(results.as_slice(), end - 1))
 }
 
-/// Turns the syntax nodes of an expression into core nodes of a unit (C11 6.5): what the last of them stands for, or None
-/// where it has no core node of its own. The nodes are those from a start up to an end, in the order in which productions
-/// end; `uses` pairs each use of a name with its declaration, and `known` says what a declaration declares. `BadOperand` and
-/// `Unsupported` hold the first node in order that its row refuses; a row that isn't built is `Unsupported` with `NotBuilt`.
-/// All that stood in the unit goes on standing.
-pub fn check_nodes(
+// What is known around an expression.
+fn around(alloc: Global, unit: &Unit, bound: &Bound, known: &Known) -> Result<Around, CheckFault>
+    ensures found { IfOk result (λ around. AreLookups around.found known.now.list.items bound.now.uses.items) }
+    ensures own { IfOk result (λ around. around.own_name ≡ own_name_in unit.now known.now.owner) }
+    ensures memory { IsOkUnless result CheckFault.OutOfMemory }
+{
+    let found = lookups_of(alloc, bound.uses.as_slice(), known.list.as_slice())?;
+    let own_name = own_name(alloc, unit, known.owner)?;
+    Ok(Around { found, own_name })
+}
+
+/// The core node of an expression's last node, if it has one, over the nodes from a start up to an end.
+pub fn walked(
     alloc: Global,
-    unit: &mut Unit,
     tokens: &Tokens,
     tree: &Tree,
-    uses: &[(u32, u32)],
+    bound: &Bound,
     known: &Known,
+    unit: &mut Unit,
     start: u32,
     end: u32,
 ) -> Result<Option<u32>, CheckFault>
@@ -88,7 +99,12 @@ pub fn check_nodes(
     ensures ready { IsReady unit.new }
     ensures builds { Builds unit.old unit.new }
     ensures within { IfOk result (λ r. IfSome r (λ k. k < length unit.new.nodes.items)) }
-    ensures answer { Answered (scene_of unit.old known.now.owner known.now.list.items uses.now) (source_in tokens.now tree.now uses.now) start end unit.new result }
+    ensures answer { Answered (scene_of unit.old known.now.owner known.now.list.items bound.now.uses.items)
+        (source_with tokens.now tree.now bound.now.uses.items) start end unit.new result }
 {
-    walk_nodes(alloc, unit, tokens, tree, uses, known, start, end)
+    let Ok(syntax) = Syntax::new(alloc, tokens, tree) else {
+        return Err(CheckFault::OutOfMemory);
+    };
+    let around = around(alloc, unit, bound, known)?;
+    walk_nodes(alloc, unit, &syntax, &around, known, start, end)
 }

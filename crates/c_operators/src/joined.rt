@@ -115,8 +115,8 @@ pub fn converted(alloc: Global, unit: &mut Unit, ty: TypeId, node: u32) -> Resul
     push_over(alloc, unit, NodeKind::Convert, place, ty, node)
 }
 
-// The second value as a null value of the type of the first.
-fn null_second(alloc: Global, unit: &mut Unit, a: u32, b: u32) -> Result<(u32, u32), CheckFault>
+/// The second value as a null value of the type of the first.
+pub fn null_second(alloc: Global, unit: &mut Unit, a: u32, b: u32) -> Result<(u32, u32), CheckFault>
     requires ready { IsReady unit.old }
     requires a { a < length unit.old.nodes.items }
     requires b { b < length unit.old.nodes.items }
@@ -130,8 +130,8 @@ fn null_second(alloc: Global, unit: &mut Unit, a: u32, b: u32) -> Result<(u32, u
     Ok((a, right))
 }
 
-// The first value as a null value of the type of the second.
-fn null_first(alloc: Global, unit: &mut Unit, a: u32, b: u32) -> Result<(u32, u32), CheckFault>
+/// The first value as a null value of the type of the second.
+pub fn null_first(alloc: Global, unit: &mut Unit, a: u32, b: u32) -> Result<(u32, u32), CheckFault>
     requires ready { IsReady unit.old }
     requires a { a < length unit.old.nodes.items }
     requires b { b < length unit.old.nodes.items }
@@ -180,8 +180,8 @@ fn converted_first(alloc: Global, unit: &mut Unit, a: u32, b: u32) -> Result<(u3
     Ok((left, b))
 }
 
-// Two pointers of types that differ, neither of which is a null constant.
-fn void_joined(
+/// Two pointers of types that differ, neither of which is a null constant.
+pub fn void_joined(
     alloc: Global,
     unit: &mut Unit,
     at: u32,

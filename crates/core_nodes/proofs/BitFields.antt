@@ -9,6 +9,7 @@ use Rattle.c_consts.specs.Core.{Core, Cores, Of, NoCores, MoreCores, kind_of, co
 use Rattle.c_inits.specs.Made.{Part}
 use Rattle.c_senses.specs.World.{World, members_of}
 use Rattle.c_senses.specs.Conversions.{place_width, read_width, width_in}
+use Rattle.c_senses.specs.Objects.{named_width}
 use Rattle.core_nodes.specs.Standing.{part_of}
 use Rattle.core_nodes.specs.Sorts.{bits_of}
 
@@ -52,4 +53,20 @@ read_other w (Of Fetch place type under) h g = absurd (h refl)
 read_other w (Of (MemberOfValue k) place type under) h g = absurd (g k refl)
 read_other w (Of kind place type under) h g = refl
 
-pub ruleset widths = (place_member, place_no_child, place_no_member, read_fetch, read_member, read_no_child, read_other, width_listed)
+pub named_place : (w : World) (c d : Core) (k : ℕ) → kind_of c ≡ Member k → cores_under c ≡ MoreCores d NoCores → named_width w c ≡ width_in (members_of w (ctype_of d)) k
+named_place w (Of kind place type under) d k e h = ap (λ (x : NodeKind). named_width w (Of x place type under)) e ∙ ap (λ (x : Cores). named_width w (Of (Member k) place type x)) h
+
+pub named_value : (w : World) (c d : Core) (k : ℕ) → kind_of c ≡ MemberOfValue k → cores_under c ≡ MoreCores d NoCores → named_width w c ≡ width_in (members_of w (ctype_of d)) k
+named_value w (Of kind place type under) d k e h = ap (λ (x : NodeKind). named_width w (Of x place type under)) e ∙ ap (λ (x : Cores). named_width w (Of (MemberOfValue k) place type x)) h
+
+pub named_no_child : (w : World) (c : Core) → ((d : Core) → cores_under c ≡ MoreCores d NoCores → ⊥) → named_width w c ≡ None
+named_no_child w (Of (Member k) place type (MoreCores d NoCores)) h = absurd (h d refl)
+named_no_child w (Of (MemberOfValue k) place type (MoreCores d NoCores)) h = absurd (h d refl)
+named_no_child w (Of kind place type under) h = refl
+
+pub named_other : (w : World) (c : Core) → ((k : ℕ) → kind_of c ≡ Member k → ⊥) → ((k : ℕ) → kind_of c ≡ MemberOfValue k → ⊥) → named_width w c ≡ None
+named_other w (Of (Member k) place type under) h g = absurd (h k refl)
+named_other w (Of (MemberOfValue k) place type under) h g = absurd (g k refl)
+named_other w (Of kind place type under) h g = refl
+
+pub ruleset widths = (place_member, place_no_child, place_no_member, read_fetch, read_member, read_no_child, read_other, named_place, named_value, named_no_child, named_other, width_listed)

@@ -212,8 +212,8 @@ fn both_as_type(
     Ok((first, second))
 }
 
-// Two integers, promoted and converted to their common type.
-fn in_common(alloc: Global, unit: &mut Unit, a: u32, b: u32) -> Result<Pair, CheckFault>
+/// Two integers, promoted and converted to their common type.
+pub fn in_common(alloc: Global, unit: &mut Unit, a: u32, b: u32) -> Result<Pair, CheckFault>
     requires ready { IsReady unit.old }
     requires a { a < length unit.old.nodes.items }
     requires b { b < length unit.old.nodes.items }

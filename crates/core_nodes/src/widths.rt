@@ -6,6 +6,7 @@ ghost use Rattle.c_types.specs.Table.{type_of};
 ghost use Rattle.c_consts.specs.Core.{Core, MoreCores, NoCores, kind_of, cores_under, ctype_of};
 ghost use Rattle.c_senses.specs.World.{World, members_of};
 ghost use Rattle.c_senses.specs.Conversions.{place_width, read_width, width_in, is_narrow};
+ghost use Rattle.c_senses.specs.Objects as objects;
 ghost use Rattle.core_nodes.specs.Standing.{core_at, IsReady, Knows};
 ghost use Rattle.core_nodes.specs.Sorts.{bits_of};
 
@@ -93,5 +94,24 @@ pub fn is_narrow(unit: &Unit, node: u32) -> bool
     match read_width(unit, node) {
         Some(bits) => bits < 32,
         None => false,
+    }
+}
+
+/// The width of the bit-field that an expression names, as a member of a place or of a value (C11 6.5.3.4p1).
+pub fn named_width(unit: &Unit, node: u32) -> Option<u8>
+    requires ready { IsReady unit.now }
+    requires node { node < length unit.now.nodes.items }
+    ensures { (w : World) → Knows w unit.now → result ≡ objects.named_width w (core_at unit.now node) }
+{
+    match kind_of_node(unit, node) {
+        NodeKind::Member(k) => match only_child(unit, node) {
+            Some(whole) => member_width(unit, type_of_node(unit, whole), *k),
+            None => None,
+        },
+        NodeKind::MemberOfValue(k) => match only_child(unit, node) {
+            Some(whole) => member_width(unit, type_of_node(unit, whole), *k),
+            None => None,
+        },
+        _ => None,
     }
 }

@@ -1,33 +1,33 @@
-use Rattle.std.proofs.Common.{arith, ◌≡◌, ◌∙◌, ◌+◌, ℕ, Some, Err, length, sym, ap, subst, slice_get}
+use Rattle.std.proofs.Common.{arith, ◌≡◌, ◌∙◌, ◌+◌, ◌-◌, ℕ, List, Err, length, All, refl, sym, ap, subst}
 use Rattle.std.proofs.lemmas.List.{length-map}
-use Rattle.std.proofs.lemmas.Option.{slice_get-get_or}
-use Rattle.c_grammar.specs.declared.trees.SyntaxNode.{SyntaxNode}
-use Rattle.c_senses.specs.Given.{Given}
-use Rattle.c_senses.specs.Sense.{Sense}
-use Rattle.c_check.specs.Built.{AreBuilt}
-use Rattle.c_check.specs.Answers.{source_in, sense_at, senses_at, Rowed}
+use Rattle.std.proofs.lemmas.List.Elements.{All-weaker}
+use Rattle.c_results.specs.declared.made.Made.{Made}
+use Rattle.c_results.specs.declared.made.Made.TheVariants as made
+use Rattle.c_senses.specs.Given.{Fits}
+use Rattle.c_senses.specs.Sense.{sense_in}
+use Rattle.c_senses.specs.Tree.{production_at, children_at}
 use Rattle.core_nodes.proofs.Growing.{builds_on}
-use Rattle.c_check.proofs.Walking.{fitting_on, one_more, refused, row_same, pushed, within_on, longer}
+use Rattle.c_results.specs.Standing.{sense_made, senses_made, IsWithin, Rowed}
+use Rattle.c_results.specs.Parts.{core_in, NodeSeen}
+use Rattle.tree_reads.specs.Sources.{source_in}
+use Rattle.c_check.specs.Built.{AreChecked, checked_row}
+use Rattle.c_check.proofs.Walking.{builds_same, fitting_on, own_on, one_more, refused, pushed, within_on, longer, none_yet}
+use Rattle.whole_rows.specs.Constants.{SenseHasRows}
+use Rattle.c_check.proofs.Keeping.{rows_pushed}
 use Rattle.c_check.proofs.walk.walk_nodes.Goals as goal
 
-pub returns-in-Err-clause-answer : goal.returns-in-Err-clause-answer
-returns-in-Err-clause-answer c scene fit =
-    let u0 = c.args.unit.now in
-    let u = c.loop-at.unit in
-    let list = c.args.known.now.list.items in
-    let uses = c.args.uses.now in
-    let s = source_in c.args.tokens.now c.args.tree.now uses in
-    let start = c.args.start in
-    let senses = senses_at u c.loop-at.results.items in
-    let node : SyntaxNode = c.index-node.result.now in
-    let fit1 = fitting_on u0 u c.loop-at.invariant.builds scene c.args.known.now.owner list uses c.requires.known fit in
-    let long : length senses ≡ length c.loop-at.results.items = length-map c.loop-at.results.items (sense_at u) in
-    let inv = c.loop-at.invariant.long in
-    let here : c.loop-at.at ≡ start + length senses = omega (arith, long, inv) in
-    let there : slice_get s.nodes (start + length senses) ≡ Some node = subst (λ (i : ℕ). slice_get s.nodes i ≡ Some node) here (slice_get-get_or s.nodes c.loop-at.at node (omega arith) ∙ ap Some (sym c.index-node.ensures)) in
-    let same = row_same scene s start (senses_at u c.as_slice.result.now) senses node.production c.loop-at.at (start + length senses) c.as_slice-children.result.now node.children.items (ap (senses_at u) c.as_slice.ensures.value) here c.as_slice-children.ensures.value in
-    let m = subst (λ (g : Given Sense). Rowed c.row.new.unit (Err c.in-Err.fault) g) same (c.in-Err.ensures.row scene fit1) in
-    refused scene s start c.args.end c.row.new.unit c.row.new.unit c.in-Err.fault senses node there (c.loop-at.invariant.built scene fit) m
+pub loop-at-init : goal.loop-at-init
+loop-at-init c =
+    let u = c.args.unit.now in
+    let rs = c.in_ok-results.results.items in
+    record {
+      ready = c.requires.ready;
+      builds = builds_same u;
+      long = c.in_ok-results.ensures.long;
+      within = All-weaker (λ (m : Made). m ≡ made.Nothing) (IsWithin u) (λ m e. subst (IsWithin u) (sym e) tt) rs c.in_ok-results.ensures.nothing;
+      rows = All-weaker (λ (m : Made). m ≡ made.Nothing) (λ (m : Made). SenseHasRows (sense_made u m)) (λ m e. subst (λ (m : Made). SenseHasRows (sense_made u m)) (sym e) tt) rs c.in_ok-results.ensures.nothing;
+      checked = λ scene uses found own fit. none_yet scene (source_in c.args.syntax.now uses) c.args.start u rs c.in_ok-results.ensures;
+    }
 
 pub loop-at-preserved : goal.loop-at-preserved
 loop-at-preserved c =
@@ -35,27 +35,66 @@ loop-at-preserved c =
     let u = c.loop-at.unit in
     let u1 = c.row.new.unit in
     let list = c.args.known.now.list.items in
-    let uses = c.args.uses.now in
-    let s = source_in c.args.tokens.now c.args.tree.now uses in
+    let owner = c.args.known.now.owner in
+    let s = source_in c.args.syntax.now in
     let start = c.args.start in
-    let items = c.loop-at.results.items in
-    let senses = senses_at u items in
-    let node : SyntaxNode = c.index-node.result.now in
-    let long : length senses ≡ length items = length-map items (sense_at u) in
-    let inv = c.loop-at.invariant.long in
-    let here : c.loop-at.at ≡ start + length senses = omega (arith, long, inv) in
-    let more : length c.push.new.self.items ≡ length items + 1 = longer items c.push.new.self.items c.in-Ok.made c.in_ok-push.ensures.items in
+    let at = c.loop-at.at in
+    let rs = c.loop-at.results.items in
+    let senses = senses_made u rs in
+    let inv = c.loop-at.invariant in
+    let ok = c.in-Ok.ensures in
+    let items = c.in_ok-push-in-Ok.ensures.items in
+    let many : length senses ≡ at = length-map rs (sense_made u) ∙ inv.long in
     record {
-      ready = c.in-Ok.ensures.ready;
-      builds = builds_on u0 u u1 c.loop-at.invariant.builds c.in-Ok.ensures.builds;
-      long = omega (arith, more, inv);
-      most = omega arith;
-      within = within_on u u1 c.in-Ok.ensures.builds items c.push.new.self.items c.in-Ok.made c.in_ok-push.ensures.items c.loop-at.invariant.within c.in-Ok.ensures.within;
-      built = λ scene fit.
-          let fit1 = fitting_on u0 u c.loop-at.invariant.builds scene c.args.known.now.owner list uses c.requires.known fit in
-          let there : slice_get s.nodes (start + length senses) ≡ Some node = subst (λ (i : ℕ). slice_get s.nodes i ≡ Some node) here (slice_get-get_or s.nodes c.loop-at.at node (omega arith) ∙ ap Some (sym c.index-node.ensures)) in
-          let same = row_same scene s start (senses_at u c.as_slice.result.now) senses node.production c.loop-at.at (start + length senses) c.as_slice-children.result.now node.children.items (ap (senses_at u) c.as_slice.ensures.value) here c.as_slice-children.ensures.value in
-          let m = sym same ∙ c.in-Ok.ensures.row scene fit1 in
-          subst (AreBuilt scene s start) (sym (pushed u u1 c.in-Ok.ensures.builds items c.push.new.self.items c.in-Ok.made c.in_ok-push.ensures.items c.loop-at.invariant.within))
-          (one_more scene s start senses node (sense_at u1 c.in-Ok.made) (c.loop-at.invariant.built scene fit) there m);
+      ready = ok.ready;
+      builds = builds_on u0 u u1 inv.builds ok.builds;
+      long = longer u u1 ok.builds rs c.push.new.self.items c.in-Ok.made items inv.within ∙ ap (λ (n : ℕ). n + 1) inv.long;
+      within = within_on u u1 ok.builds rs c.push.new.self.items c.in-Ok.made items inv.within ok.within;
+      rows = rows_pushed u u1 ok.builds rs c.push.new.self.items c.in-Ok.made items inv.within inv.rows ok.rows;
+      checked = λ scene uses found own fit.
+          let fit1 = fitting_on u0 u inv.builds scene owner list uses c.requires.known fit in
+          let own1 = own_on u0 u inv.builds owner c.args.around.now.own_name own in
+          let row = subst (λ (l : List Made). checked_row scene (s uses) (sense_in (senses_made u l)) (production_at (s uses) at) at (children_at (s uses) at) ≡ Fits (sense_made u1 c.in-Ok.made)) c.as_slice.ensures.value (ok.row scene uses found own1 fit1) in
+          let row1 = subst (λ (i : ℕ). checked_row scene (s uses) (sense_in senses) (production_at (s uses) i) i (children_at (s uses) i) ≡ Fits (sense_made u1 c.in-Ok.made)) (sym many) row in
+          subst (AreChecked scene (s uses) start) (sym (pushed u u1 ok.builds rs c.push.new.self.items c.in-Ok.made items inv.within))
+          (one_more scene (s uses) start senses (sense_made u1 c.in-Ok.made) (inv.checked scene uses found own fit) (omega (arith, many, c.loop-at.auto.at)) row1);
     }
+
+pub returns-in-Err-clause-answer : goal.returns-in-Err-clause-answer
+returns-in-Err-clause-answer c scene uses found own fit =
+    let u0 = c.args.unit.now in
+    let u = c.loop-at.unit in
+    let u1 = c.row.new.unit in
+    let list = c.args.known.now.list.items in
+    let owner = c.args.known.now.owner in
+    let s = source_in c.args.syntax.now in
+    let at = c.loop-at.at in
+    let rs = c.loop-at.results.items in
+    let inv = c.loop-at.invariant in
+    let fit1 = fitting_on u0 u inv.builds scene owner list uses c.requires.known fit in
+    let own1 = own_on u0 u inv.builds owner c.args.around.now.own_name own in
+    let row = subst (λ (l : List Made). Rowed u1 (Err c.in-Err.fault) (checked_row scene (s uses) (sense_in (senses_made u l)) (production_at (s uses) at) at (children_at (s uses) at))) c.as_slice.ensures.value (c.in-Err.ensures.row scene uses found own1 fit1) in
+    refused scene (s uses) c.args.start c.args.end at u u1 rs inv.long c.loop-at.auto.at (omega (arith, c.loop-at-test.true, c.requires.parsed)) (inv.checked scene uses found own fit) c.in-Err.fault row
+
+pub returns-clause-answer : goal.returns-clause-answer
+returns-clause-answer c scene uses found own fit =
+    let u = c.loop-at.unit in
+    let rs = c.loop-at.results.items in
+    let inv = c.loop-at.invariant in
+    let ends : c.loop-at.at ≡ c.args.end = omega (arith, c.loop-at.auto.at-end, c.loop-at-test.false, c.requires.some) in
+    let S = senses_made u rs in
+    let seen = c.node_at.ensures.seen u in
+    record {
+      sense = sense_in S (c.args.end - 1);
+      fits = record { senses = S; checked = inv.checked scene uses found own fit; long = length-map rs (sense_made u) ∙ (inv.long ∙ ends); last = refl };
+      seen = subst (λ (l : List Made). NodeSeen u c.node_at.result (core_in (sense_in (senses_made u l) (c.args.end - 1)))) c.as_slice-2.ensures.value seen;
+    }
+
+pub returns-in_err-push-in-Ok-clause-builds : goal.returns-in_err-push-in-Ok-clause-builds
+returns-in_err-push-in-Ok-clause-builds c = builds_on c.args.unit.now c.loop-at.unit c.row.new.unit c.loop-at.invariant.builds c.in-Ok.ensures.builds
+
+pub returns-in-Err-clause-builds : goal.returns-in-Err-clause-builds
+returns-in-Err-clause-builds c = builds_on c.args.unit.now c.loop-at.unit c.row.new.unit c.loop-at.invariant.builds c.in-Err.ensures.builds
+
+pub returns-clause-within : goal.returns-clause-within
+returns-clause-within c = c.node_at.ensures.within c.loop-at.unit (subst (λ (l : List Made). All (IsWithin c.loop-at.unit) l) (sym c.as_slice-2.ensures.value) c.loop-at.invariant.within)

@@ -1,0 +1,4 @@
+pub mod Constants
+pub mod FirstMembers
+pub mod Failing
+pub mod ValueRows

@@ -1,0 +1,8 @@
+//! The table of conversions over core nodes: null constants, and what a value of one type is as a value of another (C11 6.3).
+#![tactic(auto)]
+
+pub mod nulls;
+pub mod table;
+mod targets;
+mod upcasts;
+pub mod values;

@@ -1,0 +1,16 @@
+//! What has been made for the nodes of a syntax tree, by node number.
+#![tactic(auto)]
+
+mod copies;
+mod derivation;
+mod made;
+mod members;
+mod parts;
+#[cfg(test)]
+mod tests;
+
+pub use copies::{copied_at, copied_member};
+pub use derivation::Derivation;
+pub use made::{Made, made_at};
+pub use members::{members_at, value_at};
+pub use parts::{declarator_at, derivation_at, node_at, parameter_at, specified_at, type_at};

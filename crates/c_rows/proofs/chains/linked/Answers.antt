@@ -1,0 +1,26 @@
+use Rattle.std.proofs.Common.{◌≡◌, ◌∙◌, Some, sym}
+use Rattle.c_senses.specs.Sense.{sense_in, core_of}
+use Rattle.c_senses.specs.Tree.{sign_at}
+use Rattle.c_senses.specs.Expressions.{step}
+use Rattle.core_nodes.specs.Standing.{core_at}
+use Rattle.core_nodes.proofs.Failing.{follows, made_same}
+use Rattle.c_operators.specs.Between.{built_between}
+use Rattle.c_operators.specs.Seen.{operator_seen}
+use Rattle.c_results.specs.Standing.{senses_made}
+use Rattle.tree_reads.specs.Sources.{source_read}
+use Rattle.c_rows.proofs.Steps.{link_same}
+use Rattle.c_rows.proofs.chains.linked.Goals as goal
+
+pub returns-in-Some-clause-made : goal.returns-in-Some-clause-made
+returns-in-Some-clause-made c w k =
+    let u = c.args.unit.now in
+    let u1 = c.joined_values.new.unit in
+    let s = source_read c.args.syntax.now in
+    let sense = sense_in (senses_made u c.args.results.now) in
+    let a = core_at u c.args.left in
+    let b = core_at u c.in-Ok.node in
+    let sign : Some c.in-Some.sign ≡ sign_at s c.args.operator = sym c.in-Some.is ∙ c.sign_of.ensures in
+    let same = link_same w s sense c.args.named c.args.operator a b c.in-Some.sign (operator_seen c.operator_of.result) c.place_of-place.result sign c.operator_of.ensures c.place_of-place.ensures in
+    follows u u1 c.in-Ok.node c.joined_values.result (core_of c.args.named (sense c.args.right))
+    (λ x. step w s sense (built_between w) c.args.named c.args.operator a x (sign_at s c.args.operator))
+    c.in-Ok.ensures.made (made_same u1 c.joined_values.result _ _ same (c.joined_values.ensures.made w k))

@@ -1,0 +1,6 @@
+pub mod Literals
+pub mod Pieces
+pub mod Named
+pub mod Parts
+pub mod Postfix
+pub mod Built

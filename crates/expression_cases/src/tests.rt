@@ -1,0 +1,392 @@
+// Expressions from their texts to their core nodes, through the parser.
+
+ghost use Rattle.std.specs.Prelude.{◌≡◌, ◌<◌, ◌+◌, [], IfOk, length};
+ghost use Rattle.c_check.specs.Around.{IsKnown};
+ghost use Rattle.core_nodes.specs.Standing.{IsReady};
+
+use c_check::{CheckFault, Known, Meaning, check_expression};
+use c_grammar::{Scopes, Tree};
+use c_lexer::lexer::tokens;
+use c_lexer::{TokenKind, Tokens};
+use c_parser::parse_expression;
+use c_scope::Bound;
+use c_types::table::TypeTable;
+use c_types::term::{Term, TypeId};
+use core_tree::node::{Entity, Linkage, NodeKind, Op, Storage, Unit};
+use pta_base::{Kind, Place, Text};
+use std::alloc::Global;
+use std::test::Fail;
+
+// The number of the text's unit.
+const UNIT: u32 = 3;
+
+// The production of a leaf.
+const LEAF: u32 = 4294967295;
+
+// A place in the first line.
+fn place_at(column: u32) -> Place {
+    Place {
+        unit: UNIT,
+        line: 1,
+        column,
+    }
+}
+
+// The types of the objects.
+#[derive(Clone, Copy)]
+struct ObjectTypes {
+    int: TypeId,
+    pointer: TypeId,
+    void_pointer: TypeId,
+    array: TypeId,
+}
+
+// The unit that has these types and neither nodes nor entities.
+fn bare_unit(alloc: Global) -> Result<(Unit, ObjectTypes), Fail>
+    ensures ready { IfOk result (λ made. IsReady made.0) }
+    ensures known { IfOk result (λ made. IsKnown made.0 []) }
+    ensures none { IfOk result (λ made. length made.0.entities.items ≡ 0) }
+    ensures types { IfOk result (λ made. (made.1.int.0 < length made.0.types.terms)
+        × (made.1.pointer.0 < length made.0.types.terms) × (made.1.void_pointer.0 < length made.0.types.terms)
+        × (made.1.array.0 < length made.0.types.terms)) }
+{
+    let name = Text::copy_of(alloc, "sum.c")?;
+    let mut types = TypeTable::new(alloc);
+    let int = types.add(Term::Integer {
+        size: 4,
+        rank: 4,
+        signed: true,
+    })?;
+    let pointer = types.add(Term::Pointer(int))?;
+    let void = types.add(Term::Void)?;
+    let void_pointer = types.add(Term::Pointer(void))?;
+    let array = types.add(Term::Array {
+        of: int,
+        length: Some(1),
+    })?;
+    let unit = Unit {
+        name,
+        types,
+        tags: Vec::new(alloc),
+        nodes: Vec::new(alloc),
+        entities: Vec::new(alloc),
+    };
+    Ok((
+        unit,
+        ObjectTypes {
+            int,
+            pointer,
+            void_pointer,
+            array,
+        },
+    ))
+}
+
+// One entity more.
+fn add_entity(unit: Unit, entity: Entity) -> Result<Unit, Fail>
+    requires ready { IsReady unit }
+    requires known { IsKnown unit [] }
+    requires ty { entity.ty.0 < length unit.types.terms }
+    ensures ready { IfOk result (λ more. IsReady more) }
+    ensures known { IfOk result (λ more. IsKnown more []) }
+    ensures types { IfOk result (λ more. more.types ≡ unit.types) }
+    ensures count { IfOk result (λ more. length more.entities.items ≡ length unit.entities.items + 1) }
+{
+    let mut unit = unit;
+    unit.entities.push(entity)?;
+    Ok(unit)
+}
+
+// An object with external linkage.
+fn object(alloc: Global, name: &str, ty: TypeId) -> Result<Entity, Fail>
+    ensures { IfOk result (λ entity. entity.ty ≡ ty) }
+{
+    Ok(Entity {
+        name: Text::copy_of(alloc, name)?,
+        unit: UNIT,
+        place: place_at(1),
+        ty,
+        linkage: Linkage::External,
+        storage: Storage::Static,
+        owner: None,
+        body: None,
+        used: None,
+    })
+}
+
+// The unit of the objects a and b of type int, p of type int *, v of type void * and e of type int[1].
+fn unit_of_five(alloc: Global) -> Result<Unit, Fail>
+    ensures ready { IfOk result (λ unit. IsReady unit) }
+    ensures known { IfOk result (λ unit. IsKnown unit []) }
+    ensures count { IfOk result (λ unit. length unit.entities.items ≡ 5) }
+{
+    let (bare, types) = bare_unit(alloc)?;
+    let one = add_entity(bare, object(alloc, "a", types.int)?)?;
+    let two = add_entity(one, object(alloc, "b", types.int)?)?;
+    let three = add_entity(two, object(alloc, "p", types.pointer)?)?;
+    let four = add_entity(three, object(alloc, "v", types.void_pointer)?)?;
+    add_entity(four, object(alloc, "e", types.array)?)
+}
+
+// The objects of a unit, which the syntax nodes 1000 to 1004 declare.
+fn known_objects(alloc: Global, unit: &Unit) -> Result<Known, Fail>
+    requires known { IsKnown unit.now [] }
+    requires count { length unit.now.entities.items ≡ 5 }
+    ensures { IfOk result (λ known. IsKnown unit.now known.list.items) }
+{
+    let entries = [
+        (1000, Meaning::Entity(0)),
+        (1001, Meaning::Entity(1)),
+        (1002, Meaning::Entity(2)),
+        (1003, Meaning::Entity(3)),
+        (1004, Meaning::Entity(4)),
+    ];
+    Ok(Known {
+        owner: None,
+        list: entries.to_vec(alloc)?,
+    })
+}
+
+// The syntax node that declares a name.
+fn declaring(name: &[u8]) -> u32 {
+    match name {
+        b"a" => 1000,
+        b"b" => 1001,
+        b"p" => 1002,
+        b"v" => 1003,
+        b"e" => 1004,
+        _ => 0,
+    }
+}
+
+// The first token of a node.
+fn token_text<'a>(found: &Tokens<'a>, token: u32) -> &'a [u8] {
+    match found.list.get(token as usize) {
+        Some(there) => {
+            let start = (there.start as usize).min(found.text.len());
+            let end = (there.end as usize).clamp(start, found.text.len());
+            &found.text[start..end]
+        }
+        None => &[],
+    }
+}
+
+// Whether a token is a name.
+fn is_identifier(found: &Tokens<'_>, token: u32) -> bool {
+    match found.list.get(token as usize) {
+        Some(there) => there.kind == TokenKind::Identifier,
+        None => false,
+    }
+}
+
+// Each name with the node that declares it.
+fn bound_of(alloc: Global, found: &Tokens<'_>, tree: &Tree) -> Result<Bound, Fail> {
+    let mut uses = Vec::new(alloc);
+    for (i, node) in tree.nodes.iter().enumerate() {
+        if node.production == LEAF && is_identifier(found, node.token) && i < 1000 {
+            let declaration = declaring(token_text(found, node.token));
+            if declaration > 0 {
+                uses.push((i as u32, declaration))?;
+            }
+        }
+    }
+    Ok(Bound {
+        uses,
+        labels: Vec::new(alloc),
+        names: Vec::new(alloc),
+        tags: Vec::new(alloc),
+    })
+}
+
+// The tree of an expression.
+fn parsed(alloc: Global, found: &Tokens<'_>) -> Result<Tree, Fail> {
+    let mut scopes = Scopes::new(alloc);
+    let mut tree = Tree {
+        unit: UNIT,
+        nodes: Vec::new(alloc),
+        root: 0,
+    };
+    if found.list.len() > u32::MAX as usize {
+        return Err(Fail::new("too long"));
+    }
+    match parse_expression(alloc, found, 0, 0, &mut scopes, &mut tree) {
+        Ok(_) => Ok(tree),
+        Err(_) => Err(Fail::new("no expression")),
+    }
+}
+
+// The column of a node's first token.
+fn column_of(found: &Tokens<'_>, tree: &Tree, node: u32) -> u32 {
+    match tree.nodes.get(node as usize) {
+        Some(there) => match found.list.get(there.token as usize) {
+            Some(token) => token.column,
+            None => 0,
+        },
+        None => 0,
+    }
+}
+
+// What a refusal says: its kind, and the column of the first token of the node that it names.
+type Refusal = (Kind, u32);
+
+// The unit with the core nodes of a text, and a refusal where there is one.
+fn answer(alloc: Global, text: &[u8]) -> Result<(Unit, Option<Refusal>), Fail> {
+    let mut unit = unit_of_five(alloc)?;
+    let mut known = known_objects(alloc, &unit)?;
+    let found = tokens(alloc, text)?;
+    let tree = parsed(alloc, &found)?;
+    let bound = bound_of(alloc, &found, &tree)?;
+    let count = tree.nodes.len();
+    if count == 0 || count > u32::MAX as usize {
+        return Err(Fail::new("no tree"));
+    }
+    let node = (count - 1) as u32;
+    let result = check_expression(alloc, &found, &tree, &bound, node, &mut known, &mut unit);
+    match result {
+        Ok(_) => Ok((unit, None)),
+        Err(CheckFault::BadOperand(at)) => {
+            let column = column_of(&found, &tree, at);
+            Ok((unit, Some((Kind::Operand, column))))
+        }
+        Err(CheckFault::Unsupported(kind, at)) => {
+            let column = column_of(&found, &tree, at);
+            Ok((unit, Some((kind, column))))
+        }
+        Err(CheckFault::OutOfMemory) => Err(Fail::new("out of memory")),
+    }
+}
+
+// What a core node is: a letter for its kind, its column, and its children.
+type Shape<'a> = (u8, u32, &'a [u32]);
+
+// A letter for an operator.
+fn letter_of_operator(op: Op) -> u8 {
+    match op {
+        Op::Plus => b'+',
+        Op::Multiply => b'x',
+        Op::Minus => b'-',
+        Op::Less => b'<',
+        Op::Equal => b'=',
+        _ => b'o',
+    }
+}
+
+// A letter for a kind of core node.
+fn letter_of(kind: &NodeKind) -> u8 {
+    match kind {
+        NodeKind::Named(e) => b'a' + (*e).min(25) as u8,
+        NodeKind::Number(n) => b'0' + (*n).clamp(0, 9) as u8,
+        NodeKind::Text(_) => b'T',
+        NodeKind::Fetch => b'F',
+        NodeKind::NullValue => b'N',
+        NodeKind::Convert => b'C',
+        NodeKind::Decay => b'D',
+        NodeKind::AddressOf => b'&',
+        NodeKind::Deref => b'*',
+        NodeKind::PointerAdd { minus: false } => b'P',
+        NodeKind::Update { post: true, .. } => b'U',
+        NodeKind::Update { post: false, .. } => b'u',
+        NodeKind::Choose => b'?',
+        NodeKind::Sequence => b',',
+        NodeKind::Arith(op) => letter_of_operator(*op),
+        _ => b'.',
+    }
+}
+
+// Whether the nodes of a unit are these, in order.
+fn has_shapes(unit: &Unit, shapes: &[Shape<'_>]) -> bool {
+    if unit.nodes.len() != shapes.len() {
+        return false;
+    }
+    for (node, shape) in unit.nodes.iter().zip(shapes) {
+        if letter_of(&node.kind) != shape.0
+            || node.place != place_at(shape.1)
+            || node.children.as_slice() != shape.2
+        {
+            return false;
+        }
+    }
+    true
+}
+
+// Whether a text gives these core nodes and no others.
+fn gives(alloc: Global, text: &[u8], shapes: &[Shape<'_>]) -> Result<bool, Fail> {
+    let (unit, refusal) = answer(alloc, text)?;
+    Ok(refusal.is_none() && has_shapes(&unit, shapes))
+}
+
+// What refuses a text.
+fn refusal(alloc: Global, text: &[u8]) -> Result<Option<Refusal>, Fail> {
+    let (_unit, refusal) = answer(alloc, text)?;
+    Ok(refusal)
+}
+
+// A size leaves nothing but its number: the operand isn't evaluated, and an array stays one (C11 6.5.3.4p2, 6.3.2.1p3).
+#[test]
+fn sizes(rt: HostRuntime) -> Result<(), Fail> {
+    let alloc = rt.alloc();
+    assert!(rt; gives(alloc, b"sizeof a", &[(b'4', 1, &[])])?);
+    assert!(rt; gives(alloc, b"sizeof e", &[(b'4', 1, &[])])?);
+    assert!(rt; gives(alloc, b"sizeof(a+b)", &[(b'4', 1, &[])])?);
+    assert!(rt; gives(alloc, b"sizeof \"abc\"", &[(b'4', 1, &[])])?);
+    assert!(rt; gives(alloc, b"sizeof p", &[(b'8', 1, &[])])?);
+    Ok(())
+}
+
+// A product is made before the sum that it is part of (C11 6.5.5, 6.5.6).
+#[test]
+fn sums_and_products(rt: HostRuntime) -> Result<(), Fail> {
+    let alloc = rt.alloc();
+    let shapes: [Shape<'_>; 7] = [
+        (b'a', 1, &[]),
+        (b'b', 3, &[]),
+        (b'2', 5, &[]),
+        (b'F', 3, &[1]),
+        (b'x', 4, &[3, 2]),
+        (b'F', 1, &[0]),
+        (b'+', 2, &[5, 4]),
+    ];
+    assert!(rt; gives(alloc, b"a+b*2", &shapes)?);
+    Ok(())
+}
+
+// An assignment that computes takes the place itself and the right operand's value (C11 6.5.16.2).
+#[test]
+fn assignment_that_adds(rt: HostRuntime) -> Result<(), Fail> {
+    let alloc = rt.alloc();
+    let shapes: [Shape<'_>; 4] = [
+        (b'a', 1, &[]),
+        (b'b', 4, &[]),
+        (b'F', 4, &[1]),
+        (b'u', 2, &[0, 2]),
+    ];
+    assert!(rt; gives(alloc, b"a+=b", &shapes)?);
+    Ok(())
+}
+
+// What counts up a pointer is under the star, and a string in parentheses is a string (C11 6.5.2.4, 6.5.3.2, 6.5.1p5).
+#[test]
+fn stars_and_strings(rt: HostRuntime) -> Result<(), Fail> {
+    let alloc = rt.alloc();
+    let shapes: [Shape<'_>; 4] = [
+        (b'c', 2, &[]),
+        (b'1', 3, &[]),
+        (b'U', 3, &[0, 1]),
+        (b'*', 1, &[2]),
+    ];
+    assert!(rt; gives(alloc, b"*p++", &shapes)?);
+    assert!(rt; gives(alloc, b"(\"xy\")", &[(b'T', 2, &[])])?);
+    assert!(rt; gives(alloc, b"&e", &[(b'e', 2, &[]), (b'&', 1, &[0])])?);
+    Ok(())
+}
+
+// The first node in the tree's order that doesn't fit is named (C11 6.5.3.2p1, p2, 6.5.3.4p1, 6.5.5p2).
+#[test]
+fn refusals(rt: HostRuntime) -> Result<(), Fail> {
+    let alloc = rt.alloc();
+    assert_eq!(rt; refusal(alloc, b"&1")?, Some((Kind::Operand, 1)));
+    assert_eq!(rt; refusal(alloc, b"a+sizeof *v")?, Some((Kind::Operand, 10)));
+    assert_eq!(rt; refusal(alloc, b"p*a+&2")?, Some((Kind::Operand, 1)));
+    assert_eq!(rt; refusal(alloc, b"a=p")?, Some((Kind::Operand, 1)));
+    Ok(())
+}

@@ -1,0 +1,18 @@
+//! Reads of a unit's tokens and its syntax tree, with the parent of each node found once.
+#![tactic(auto)]
+
+mod above;
+mod lists;
+mod parents;
+mod reads;
+mod syntax;
+#[cfg(test)]
+mod tests;
+
+pub use above::{Above, is_outermost, nearest_above};
+pub use lists::{Test, any_where, child_of, count_where, first_where, last_where};
+pub use reads::{
+    children_of, has_sign, has_word, is_a, is_leaf, is_name, kind_of, left_of, place_of,
+    production_of, sign_of, spelling_of, word_of,
+};
+pub use syntax::Syntax;

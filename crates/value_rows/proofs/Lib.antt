@@ -1,0 +1,4 @@
+pub mod Pairs
+pub mod Parameters
+pub mod Arguments
+pub mod Called

@@ -1,0 +1,4 @@
+pub mod Equality
+pub mod Choices
+pub mod Assignments
+pub mod Calls

@@ -1,0 +1,4 @@
+pub mod Keeping
+pub mod Parts
+pub mod Linking
+pub mod Worlds
