@@ -1,0 +1,11 @@
+use Rattle.std.proofs.Common.{ℕ, Bool, false, Option, Some, None, ap, ◌∙◌}
+use Rattle.c_grammar.specs.Productions.{p_external}
+use Rattle.c_senses.specs.Tree.{is_a}
+use Rattle.tree_reads.specs.Sources.{source_read}
+use Rattle.c_entities.proofs.declaring.is_at_file.Goals as goal
+
+pub returns-in-Some : goal.returns-in-Some
+returns-in-Some c = λ sense. c.is_a.ensures ∙ ap (λ (o : Option ℕ). elim o as (λ x. Bool) [ None ↦ false | Some p ↦ is_a (source_read c.args.syntax.now) p_external p ]) (c.in-Some.ensures.declaration sense)
+
+pub returns-in-None : goal.returns-in-None
+returns-in-None c = λ sense. ap (λ (o : Option ℕ). elim o as (λ x. Bool) [ None ↦ false | Some p ↦ is_a (source_read c.args.syntax.now) p_external p ]) (c.in-None.ensures.declaration sense)

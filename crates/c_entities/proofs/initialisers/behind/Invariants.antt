@@ -1,0 +1,7 @@
+use Rattle.std.proofs.Common.{◌≡◌, drop}
+use Rattle.c_senses.specs.Entities.{behind}
+use Rattle.c_entities.proofs.initialisers.behind.Given as goal
+
+-- what stands behind the node in the rest stands behind it in the list
+abbrev pub invariant-loop-at : goal.invariant-loop-at
+invariant-loop-at l = behind l.node (drop l.at l.list) ≡ behind l.node l.list

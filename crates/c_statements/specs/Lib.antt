@@ -1,0 +1,4 @@
+pub mod Labels
+pub mod Others
+pub mod Owning
+pub mod Parts
