@@ -1,0 +1,5 @@
+pub mod TypeLemmas
+pub mod ListLemmas
+pub mod Demanded
+pub mod Laws
+pub mod OwnedLemmas

@@ -1,0 +1,3 @@
+pub mod EachLemmas
+pub mod InitialLemmas
+pub mod WholeLemmas

@@ -1,0 +1,4 @@
+pub mod Each
+pub mod Assignments
+pub mod Facts
+pub mod SystemOf

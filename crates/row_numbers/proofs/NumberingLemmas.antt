@@ -1,0 +1,74 @@
+-- Numbers that begin one after another.
+use Rattle.std.proofs.Common.{arith, ◌≡◌, ℕ, zero, suc, ◌+◌, ◌<◌, ◌≤◌, ◌^◌, List, [], ◌∷◌, ◌++◌, Bool, true, false, cond, Option, Some, None, length, length-append, take, get_or, map, sum, refl, ap, ◌∙◌}
+use Rattle.std.specs.Option.{is_some}
+use Rattle.std.specs.List.{All, filter_map, range_with_len}
+use Rattle.std.proofs.lemmas.List.{take_more}
+use Rattle.std.proofs.lemmas.List.Elements.{filter_map-append}
+use Rattle.std.proofs.lemmas.List.FromFn.{map-range_with_len_more}
+use Rattle.c_types.specs.declared.key.ObjectKey.{ObjectKey}
+use Rattle.std.specs.Prelude.{nat_lt}
+use borrow.Author.Tests.{ltb-true}
+use Rattle.std.proofs.lemmas.List.Sums.{sum_by-take-le}
+use Rattle.c_types.specs.Trees.{Ctype}
+use Rattle.c_types.specs.Layout.{Extent}
+use Rattle.c_types.specs.Table.{Table, type_of, extent_in}
+use Rattle.type_rules.specs.Conversions.{result_of}
+use Rattle.core_tree.specs.declared.node.Node.{Node}
+use Rattle.core_tree.specs.Typed.{CoreTrees, Sort, NoNode, PlaceNode, ValueNode, StatementNode, sort_of}
+use Rattle.row_numbers.specs.Kept.{nodes_in, nodes_of, kept_count}
+use Rattle.row_numbers.specs.Functions.{key_type}
+use Rattle.row_numbers.proofs.KeptLemmas.{kept_length}
+use Rattle.row_numbers.specs.Setting.{start_at, width_by, width, result_nodes}
+use Rattle.row_numbers.specs.Numbering.{present_before}
+
+present_one : (o : Option ObjectKey) → length (filter_map (λ (found : Option ObjectKey). found) (o ∷ [])) ≡ cond (is_some o) 1 0
+present_one None = refl
+present_one (Some x) = refl
+
+pub present_more : (at : List (Option ObjectKey)) (i : ℕ) (d : Option ObjectKey) → i < length at → present_before at (i + 1) ≡ present_before at i + cond (is_some (get_or at i d)) 1 0
+present_more at i d lt =
+    ap (λ (xs : List (Option ObjectKey)). length (filter_map (λ (found : Option ObjectKey). found) xs)) (take_more at i d lt)
+    ∙ (ap length (filter_map-append (λ (found : Option ObjectKey). found) (take i at) (get_or at i d ∷ []))
+    ∙ (length-append (filter_map (λ (found : Option ObjectKey). found) (take i at)) (filter_map (λ (found : Option ObjectKey). found) (get_or at i d ∷ []))
+    ∙ ap (λ (n : ℕ). present_before at i + n) (present_one (get_or at i d))))
+
+pub map_more : (f : ℕ → ℕ) (i value : ℕ) → value ≡ f i → map f (range_with_len 0 (i + 1)) ≡ map f (range_with_len 0 i) ++ value ∷ []
+map_more f i value e = map-range_with_len_more f 0 i i (omega arith) ∙ rw e refl
+
+one_most : (b : Bool) → cond b 1 0 ≤ 1
+one_most true = omega arith
+one_most false = omega arith
+
+pub one_at_most : (o : Option ObjectKey) → cond (is_some o) 1 0 ≤ 1
+one_at_most o = one_most (is_some o)
+
+-- every row is at most the last one
+pub starts_within : (first : ℕ) (widths : List ℕ) (k : ℕ) → start_at first widths k ≤ first + sum widths
+starts_within first widths k = omega (arith, sum_by-take-le (λ (x : ℕ). x) widths k)
+
+pub all_small : {X : Type 0} (f : X → ℕ) (xs : List X) (most : ℕ) → ((x : X) → f x ≤ most) → All (λ y. y ≤ most) (map f xs)
+all_small f [] most h k d lt = absurd (omega arith)
+all_small f (x ∷ xs) most h zero d lt = h x
+all_small f (x ∷ xs) most h (suc k) d lt = all_small f xs most h k d (omega arith)
+
+pub nodes_few : (o : Option Extent) → length (nodes_in o) ≤ 2 ^ 24
+nodes_few None = omega arith
+nodes_few (Some e) = by (nat_lt (length e.nodes) (2 ^ 24 + 1)) refl where
+  by : (b : Bool) → nat_lt (length e.nodes) (2 ^ 24 + 1) ≡ b → length (cond (nat_lt (length e.nodes) (2 ^ 24 + 1)) e.nodes []) ≤ 2 ^ 24
+  by true h = rw h (omega (arith, ltb-true (length e.nodes) (2 ^ 24 + 1) h))
+  by false h = rw h (omega arith)
+
+pub kept_few : (table : Table) (t : Ctype) → kept_count (nodes_of table t) ≤ 2 ^ 24
+kept_few table t = omega (arith, kept_length (nodes_of table t), nodes_few (extent_in table t))
+
+width_few : (sort : Sort) (kept : ℕ) → kept ≤ 2 ^ 24 → width_by sort kept ≤ 2 ^ 24
+width_few NoNode kept h = omega arith
+width_few PlaceNode kept h = omega arith
+width_few ValueNode kept h = h
+width_few StatementNode kept h = omega arith
+
+pub widths_few : (table : Table) (nodes : List Node) → All (λ y. y ≤ 2 ^ 24) (map (width table) nodes)
+widths_few table nodes = all_small (width table) nodes (2 ^ 24) (λ node. width_few (sort_of node.kind) _ (kept_few table (type_of table node.ty.0)))
+
+pub result_widths_few : (u : CoreTrees) (keys : List ObjectKey) → All (λ y. y ≤ 2 ^ 24) (map (λ key. kept_count (result_nodes u key)) keys)
+result_widths_few u keys = all_small (λ key. kept_count (result_nodes u key)) keys (2 ^ 24) (λ key. kept_few u.types (result_of (key_type u key)))

@@ -1,0 +1,9 @@
+pub mod Kept
+pub mod Numbers
+pub mod Objects
+pub mod Functions
+pub mod Around
+pub mod Setting
+pub mod Numbering
+pub mod Frame
+pub mod Results
