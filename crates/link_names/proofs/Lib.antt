@@ -1,0 +1,7 @@
+pub mod Declaring
+pub mod FirstLemmas
+pub mod Gathering
+pub mod Saying
+pub mod Missing
+pub mod Making
+pub mod Ordering

@@ -1,0 +1,7 @@
+// Linking units into a program: definitions, nodes and signatures.
+#![tactic(auto)]
+
+pub mod nodes;
+pub mod signatures;
+#[cfg(test)]
+mod tests;
