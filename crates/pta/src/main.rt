@@ -43,6 +43,7 @@ fn main(rt: HostRuntime) -> ExitCode {
     let mut units = FileUnits::new(&rt);
     let mut out = StreamSink::new(rt.stdout());
     let mut err = StreamSink::new(rt.stderr());
+    let mut kept = None;
     let status = analyse(
         &rt,
         rt.alloc(),
@@ -51,6 +52,7 @@ fn main(rt: HostRuntime) -> ExitCode {
         &mut out,
         &mut err,
         &OpenGate,
+        &mut kept,
     );
     ExitCode::from(status)
 }

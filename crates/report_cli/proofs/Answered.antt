@@ -1,10 +1,14 @@
 -- From what was read to what is told.
-use Rattle.std.proofs.Common.{◌≡◌, ℕ, ◌<◌, inl, inr, List, [], Option, Some, None, IfSome, length, slice_get, get_or, string_bytes, String, sym, ◌∙◌, ap, arith, rules, append-nil}
-use Rattle.std.specs.declared.alloc.Global.{Global}
+use Rattle.std.proofs.Common.{◌≡◌, ℕ, ◌<◌, inl, inr, ◌≤◌, List, [], Option, Some, None, IfSome, length, slice_get, get_or, sym, ◌∙◌, ap, arith, rules, append-nil}
+use Rattle.std.specs.Borrow.{Bor}
+use Rattle.std.specs.Option.{option_map_or}
+use Rattle.std.specs.Str.Parse.{digits_value}
+use Rattle.std.proofs.lemmas.List.{length-map}
+use Rattle.command_line.specs.Rules.{IsNumberIn}
 use Rattle.pta_base.specs.Outside.{HasRisen, IsSteady}
-use Rattle.report_cli.specs.Words.{texts_of}
+use Rattle.report_cli.specs.Words.{names_of}
 use Rattle.report_cli.specs.Outside.{Grows, Receives}
-use Rattle.report_cli.proofs.Texts.{text_at}
+use Rattle.report_cli.proofs.Texts.{some_same}
 
 -- nothing was written
 pub grows_nothing : (before after : Option (List ℕ)) → after ≡ before → Grows before after []
@@ -21,14 +25,9 @@ pub always : {X : Type 0} (o : Option X) (Q : X → Type 0) → ((x : X) → Q x
 always None Q h = tt
 always (Some x) Q h = h x
 
-some_same : (a b : List ℕ) → Some a ≡ Some b → a ≡ b
-some_same a b same = search rules
-
--- the name that a word gives is its text
-pub name_of_word : (words : List (String Global)) (number : ℕ) (word : String Global) (name text : List ℕ) → number < length words
-    → slice_get (texts_of words) number ≡ Some name → word ≡ get_or words number word → text ≡ string_bytes word → text ≡ name
-name_of_word words number word name text within at is text_is =
-    text_is ∙ ap string_bytes is ∙ some_same _ _ (sym (text_at words number word within) ∙ at)
+-- a name of a number
+pub same_name : (names : List (List ℕ)) (number : ℕ) (name text : List ℕ) → slice_get names number ≡ Some name → slice_get names number ≡ Some text → text ≡ name
+same_name names number name text one other = some_same text name (sym other ∙ one)
 
 -- a count that is steady has not risen
 pub not_risen : (before now : ℕ) → IsSteady before now → HasRisen before now → ⊥
@@ -36,3 +35,12 @@ not_risen before now steady risen = elim risen [
   | inl more ↦ let same = steady.same in omega arith
   | inr last ↦ let below = steady.below in omega arith
 ]
+
+-- the number of workers
+pub number_of_workers : (text : Option (List ℕ)) (n : ℕ) → IsNumberIn 1 64 text → n ≡ option_map_or (digits_value 10) text 1 → (0 < n) × (n ≤ 64)
+number_of_workers None n right is = (omega arith, omega arith)
+number_of_workers (Some text) n right is = let least = right.at_least in let most = right.at_most in (omega arith, omega arith)
+
+-- right words name a unit
+pub some_names : (items : List (Bor (List ℕ))) (names : List (List ℕ)) → names_of items ≡ names → 1 ≤ length names → 0 < length items
+some_names items names is some = let same = length-map items (λ (b : Bor (List ℕ)). b.now) in let long = ap length is in omega arith

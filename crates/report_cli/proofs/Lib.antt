@@ -6,3 +6,4 @@ pub mod Lifted
 pub mod Answered
 pub mod OneAnswer
 pub mod Feeds
+pub mod Pieces

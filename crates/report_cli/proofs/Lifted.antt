@@ -23,7 +23,7 @@ named_first name names None told h = tt
 named_first name names (Some text) None h = tt
 named_first name names (Some text) (Some units) h = ap (λ (rest : List (List ℕ)). name ∷ rest) h
 
-pub names_told : (text_of : List ℕ → Option (List ℕ)) (names : List (List ℕ)) → IfSome (told_units text_of names) (λ units. names ≡ map (λ (unit : NamedText). unit.0) units)
+names_told : (text_of : List ℕ → Option (List ℕ)) (names : List (List ℕ)) → IfSome (told_units text_of names) (λ units. names ≡ map (λ (unit : NamedText). unit.0) units)
 names_told text_of [] = refl
 names_told text_of (name ∷ names) = named_first name names (text_of name) (told_units text_of names) (names_told text_of names)
 
@@ -115,10 +115,19 @@ refuses_told names texts told answer read refused =
     let P : List NamedText → Type 0 = λ units. Refuses units answer in refuses_whole told answer (subst P (units_read names texts told read) refused)
 
 -- what follows from the told texts and what was read of them
-pub with_told : (told : Option (List NamedText)) (names texts : List (List ℕ)) (Q : List NamedText → Type 0) → IfSome told (λ units. names ≡ map (λ (unit : NamedText). unit.0) units)
+with_told : (told : Option (List NamedText)) (names texts : List (List ℕ)) (Q : List NamedText → Type 0) → IfSome told (λ units. names ≡ map (λ (unit : NamedText). unit.0) units)
     → IfSome told (λ units. texts ≡ map (λ (unit : NamedText). take 16777217 unit.1) units) → ((units : List NamedText) → AreReadUnits names texts units → Q units) → IfSome told Q
 with_told None names texts Q named read follows = tt
 with_told (Some units) names texts Q named read follows = follows units (named, read)
+
+-- the same of names that are equal, and of what is equal to what was read
+pub with_names : (text_of : List ℕ → Option (List ℕ)) (sliced own names : List (List ℕ)) (texts slice : List (List ℕ)) (Q : List NamedText → Type 0) → sliced ≡ own → own ≡ names → slice ≡ texts
+    → IfSome (told_units text_of sliced) (λ units. texts ≡ map (λ (unit : NamedText). take 16777217 unit.1) units) → ((units : List NamedText) → AreReadUnits own slice units → Q units) → IfSome (told_units text_of names) Q
+with_names text_of sliced own names texts slice Q sliced_is same slice_is read follows =
+    let P : List (List ℕ) → Type 0 = λ n. IfSome (told_units text_of n) Q in
+    let N : List (List ℕ) → Type 0 = λ n. IfSome (told_units text_of n) (λ units. texts ≡ map (λ (unit : NamedText). take 16777217 unit.1) units) in
+    let R : List (List ℕ) → Type 0 = λ t. IfSome (told_units text_of own) (λ units. t ≡ map (λ (unit : NamedText). take 16777217 unit.1) units) in
+    subst P same (with_told (told_units text_of own) own slice Q (names_told text_of own) (subst R (sym slice_is) (subst N sliced_is read)) follows)
 
 -- the statuses of refusals
 abbrev pub IsStatus : ℕ → Type 0

@@ -1,5 +1,5 @@
 -- Words and texts have one answer at most.
-use Rattle.std.proofs.Common.{◌≡◌, ℕ, ◌+◌, inl, inr, List, [], ◌∷◌, ◌++◌, flat_map, length, Bool, if◌then◌else◌, refl, sym, ◌∙◌, ap, subst, codes, Ok, Err, Option, Some, None}
+use Rattle.std.proofs.Common.{◌≡◌, ℕ, ◌+◌, inl, inr, List, [], ◌∷◌, ◌++◌, flat_map, length, Bool, if◌then◌else◌, refl, sym, ◌∙◌, ap, subst, codes, Ok, Err, Option, Some}
 use Rattle.std.specs.List.{range_with_len}
 use Rattle.sol_model.specs.Families.{Family}
 use Rattle.sol_model.proofs.Monotone.{same_least}

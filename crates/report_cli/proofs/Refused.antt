@@ -1,7 +1,7 @@
 -- The units of words and texts, and their refusals.
-use Rattle.std.proofs.Common.{◌≡◌, Option, Some, Ok, ℕ, zero, suc, ◌<◌, ◌≤◌, List, [], ◌∷◌, length, get_or, drop, string_bytes, String, inl, inr, refl, sym, ◌∙◌, ap, subst, arith}
+use Rattle.std.proofs.Common.{◌≡◌, Some, Ok, ℕ, zero, suc, ◌<◌, ◌≤◌, List, [], ◌∷◌, length, get_or, slice_get, drop, inl, inr, refl, sym, ◌∙◌, ap, subst, arith}
 use Rattle.std.specs.Prelude.{zip}
-use Rattle.std.specs.declared.alloc.Global.{Global}
+use Rattle.std.specs.Borrow.{Bor}
 use Rattle.c_lexer.specs.declared.Token.{Token}
 use Rattle.c_lexer.specs.declared.LexFault.{LexFault}
 use Rattle.c_lexer.specs.declared.LexFault.TheVariants.{BadByte, Unended, BadNumber, TooLong}
@@ -17,7 +17,8 @@ use Rattle.c_parser.specs.Parse.{Faults}
 use Rattle.pointer_units.specs.Refusals.{IsRefusedAt}
 use Rattle.report_cli.specs.declared.fault.UnitsFault.{UnitsFault}
 use Rattle.report_cli.specs.declared.fault.UnitsFault.TheVariants.{Refused, Memory}
-use Rattle.report_cli.specs.Words.{texts_of}
+use Rattle.report_cli.specs.Words.{names_of}
+use Rattle.report_cli.proofs.Texts.{some_same}
 use Rattle.report_cli.specs.Answers.{NamedText, Answer}
 use Rattle.report_cli.specs.Alone.{Reading, IsReadAs, IsReadAlone, IsRefusedAlone, FirstAlone, AreReadAlone, lexical_refusal, syntax_refusal, name_refusal}
 use Rattle.report_cli.specs.Outcome.{Refuses, not_built}
@@ -76,44 +77,44 @@ unit_refused name text list line column fault is read refused =
     subst P (sym is) (inr (list, read, (line, column, refused, refl)))
 
 -- a second unit
-pub second_refused : (words : List (String Global)) (texts : List (List ℕ)) (word : String Global) (name : List ℕ) (fault : UnitsFault) → length texts ≡ length words → 1 < length words
-    → word ≡ get_or words 1 word → name ≡ string_bytes word → AreReadAlone (zip (texts_of words) texts) → fault ≡ fault_of (not_built name 1 1) → IsFaultOf (zip (texts_of words) texts) fault
+pub second_refused : (words : List (Bor (List ℕ))) (texts : List (List ℕ)) (name : List ℕ) (fault : UnitsFault) → length texts ≡ length words → 1 < length words
+    → slice_get (names_of words) 1 ≡ Some name → AreReadAlone (zip (names_of words) texts) → fault ≡ fault_of (not_built name 1 1) → IsFaultOf (zip (names_of words) texts) fault
 unfolding Refuses
-second_refused [] texts word name fault count more at name_is read is = absurd (omega arith)
-second_refused (first ∷ []) texts word name fault count more at name_is read is = absurd (omega arith)
-second_refused (first ∷ second ∷ words) [] word name fault count more at name_is read is = absurd (omega arith)
-second_refused (first ∷ second ∷ words) (text ∷ []) word name fault count more at name_is read is = absurd (omega arith)
-second_refused (first ∷ second ∷ words) (text ∷ other ∷ texts) word name fault count more at name_is read is =
-    let same : name ≡ string_bytes second = name_is ∙ ap string_bytes at in
-    let P : UnitsFault → Type 0 = λ f. IsFaultOf (zip (texts_of (first ∷ second ∷ words)) (text ∷ other ∷ texts)) f in
+second_refused [] texts name fault count more at read is = absurd (omega arith)
+second_refused (first ∷ []) texts name fault count more at read is = absurd (omega arith)
+second_refused (first ∷ second ∷ words) [] name fault count more at read is = absurd (omega arith)
+second_refused (first ∷ second ∷ words) (text ∷ []) name fault count more at read is = absurd (omega arith)
+second_refused (first ∷ second ∷ words) (text ∷ other ∷ texts) name fault count more at read is =
+    let same : name ≡ second.now = some_same _ _ (sym at) in
+    let P : UnitsFault → Type 0 = λ f. IsFaultOf (zip (names_of (first ∷ second ∷ words)) (text ∷ other ∷ texts)) f in
     subst P (sym (is ∙ ap (λ (n : List ℕ). fault_of (not_built n 1 1)) same)) (inr (read, refl))
 
 -- a unit alone
-pub one_unit : (words : List (String Global)) (texts : List (List ℕ)) (word : String Global) (name text : List ℕ) → length texts ≡ length words → 0 < length words → length words ≤ 1
-    → word ≡ get_or words 0 word → name ≡ string_bytes word → text ≡ get_or texts 0 text → zip (texts_of words) texts ≡ (name, text) ∷ []
+pub one_unit : (words : List (Bor (List ℕ))) (texts : List (List ℕ)) (word : Bor (List ℕ)) (name text : List ℕ) → length texts ≡ length words → 0 < length words → length words ≤ 1
+    → word ≡ get_or words 0 word → name ≡ word.now → text ≡ get_or texts 0 text → zip (names_of words) texts ≡ (name, text) ∷ []
 one_unit [] texts word name text count some few at name_is text_is = absurd (omega arith)
 one_unit (first ∷ second ∷ words) texts word name text count some few at name_is text_is = absurd (omega arith)
 one_unit (first ∷ []) [] word name text count some few at name_is text_is = absurd (omega arith)
 one_unit (first ∷ []) (alone ∷ other ∷ texts) word name text count some few at name_is text_is = absurd (omega arith)
 one_unit (first ∷ []) (alone ∷ []) word name text count some few at name_is text_is =
-    let name_same : string_bytes first ≡ name = sym (name_is ∙ ap string_bytes at) in
+    let name_same : first.now ≡ name = sym (name_is ∙ ap (λ (b : Bor (List ℕ)). b.now) at) in
     let text_same : alone ≡ text = sym text_is in
     ap (λ (n : List ℕ). (n, alone) ∷ []) name_same ∙ ap (λ (t : List ℕ). (name, t) ∷ []) text_same
 
 -- the unit of a number, and those behind it
-pub unit_at : (words : List (String Global)) (texts : List (List ℕ)) (number : ℕ) (word : String Global) (own name text : List ℕ) → length texts ≡ length words → number < length words
-    → word ≡ get_or words number word → name ≡ string_bytes word → own ≡ get_or texts number own → text ≡ own → drop number (zip (texts_of words) texts) ≡ (name, text) ∷ drop (suc number) (zip (texts_of words) texts)
-unit_at [] texts number word own name text count within at name_is text_at text_is = absurd (omega arith)
-unit_at (first ∷ words) [] number word own name text count within at name_is text_at text_is = absurd (omega arith)
-unit_at (first ∷ words) (own_text ∷ texts) zero word own name text count within at name_is text_at text_is =
-    let name_same : string_bytes first ≡ name = sym (name_is ∙ ap string_bytes at) in
+pub unit_at : (words : List (Bor (List ℕ))) (texts : List (List ℕ)) (number : ℕ) (own name text : List ℕ) → length texts ≡ length words → number < length words
+    → slice_get (names_of words) number ≡ Some name → own ≡ get_or texts number own → text ≡ own → drop number (zip (names_of words) texts) ≡ (name, text) ∷ drop (suc number) (zip (names_of words) texts)
+unit_at [] texts number own name text count within at text_at text_is = absurd (omega arith)
+unit_at (first ∷ words) [] number own name text count within at text_at text_is = absurd (omega arith)
+unit_at (first ∷ words) (own_text ∷ texts) zero own name text count within at text_at text_is =
+    let name_same : first.now ≡ name = some_same _ _ at in
     let text_same : own_text ≡ text = sym (text_is ∙ text_at) in
-    ap (λ (n : List ℕ). (n, own_text) ∷ zip (texts_of words) texts) name_same ∙ ap (λ (t : List ℕ). (name, t) ∷ zip (texts_of words) texts) text_same
-unit_at (first ∷ words) (own_text ∷ texts) (suc number) word own name text count within at name_is text_at text_is =
-    unit_at words texts number word own name text (omega arith) (omega arith) at name_is text_at text_is
+    ap (λ (n : List ℕ). (n, own_text) ∷ zip (names_of words) texts) name_same ∙ ap (λ (t : List ℕ). (name, t) ∷ zip (names_of words) texts) text_same
+unit_at (first ∷ words) (own_text ∷ texts) (suc number) own name text count within at text_at text_is =
+    unit_at words texts number own name text (omega arith) (omega arith) at text_at text_is
 
 -- behind the last word there is no unit
-pub no_unit_left : (words : List (String Global)) (texts : List (List ℕ)) (number : ℕ) → length words ≤ number → drop number (zip (texts_of words) texts) ≡ []
+pub no_unit_left : (words : List (Bor (List ℕ))) (texts : List (List ℕ)) (number : ℕ) → length words ≤ number → drop number (zip (names_of words) texts) ≡ []
 no_unit_left [] texts zero h = refl
 no_unit_left [] texts (suc number) h = refl
 no_unit_left (first ∷ words) texts zero h = absurd (omega arith)

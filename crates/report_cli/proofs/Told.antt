@@ -1,9 +1,11 @@
 -- Units whose texts are told, one after the other.
-use Rattle.std.proofs.Common.{◌≡◌, ℕ, ◌+◌, ◌<◌, List, [], ◌∷◌, ◌++◌, Option, Some, None, option_map, IfSome, map, take, length, refl, sym, ◌∙◌, ap, subst, get_or, string_bytes, String}
+use Rattle.std.proofs.Common.{◌≡◌, ℕ, ◌+◌, ◌<◌, List, [], ◌∷◌, ◌++◌, Option, Some, None, option_map, IfSome, map, take, length, refl, sym, ◌∙◌, ap, subst, get_or, slice_get}
 use Rattle.std.specs.Prelude.{option_and_then}
-use Rattle.std.specs.declared.alloc.Global.{Global}
-use Rattle.std.proofs.lemmas.List.{map-append, take_more, get_or-map, length-map}
-use Rattle.report_cli.specs.Words.{texts_of}
+use Rattle.std.specs.Borrow.{Bor}
+use Rattle.std.proofs.lemmas.List.{map-append, take_more, length-map}
+use Rattle.std.proofs.lemmas.Option.{slice_get-get_or}
+use Rattle.report_cli.proofs.Texts.{some_same}
+use Rattle.report_cli.specs.Words.{names_of}
 use Rattle.report_cli.specs.Answers.{NamedText, told_units}
 
 with_last : List ℕ → Option (List NamedText) → Option (List ℕ) → Option (List NamedText)
@@ -42,12 +44,12 @@ read_last limit name texts text (Some units) (Some whole) read end =
     ∙ sym (map-append (λ (unit : NamedText). take limit unit.1) units ((name, whole) ∷ []))
 
 -- the text of one word more
-pub read_more : (limit : ℕ) (text_of : List ℕ → Option (List ℕ)) (words : List (String Global)) (i : ℕ) (d : String Global) (name : List ℕ) (texts : List (List ℕ)) (text : List ℕ) → i < length words
-    → d ≡ get_or words i d → name ≡ string_bytes d → AreRead limit texts (told_units text_of (take i (texts_of words))) → IfSome (text_of name) (λ whole. text ≡ take limit whole)
-    → AreRead limit (texts ++ text ∷ []) (told_units text_of (take (i + 1) (texts_of words)))
-read_more limit text_of words i d name texts text within is name_is read last =
-    let at : name ≡ get_or (texts_of words) i name = name_is ∙ ap string_bytes is ∙ sym (get_or-map string_bytes words i d name within) in
-    let within' : i < length (texts_of words) = rw (length-map words string_bytes) within in
-    let e : take (i + 1) (texts_of words) ≡ take i (texts_of words) ++ name ∷ [] = take_more (texts_of words) i name within' ∙ ap (λ (n : List ℕ). take i (texts_of words) ++ n ∷ []) (sym at) in
-    subst (λ (told : Option (List NamedText)). AreRead limit (texts ++ text ∷ []) told) (sym (ap (told_units text_of) e ∙ told_units-append text_of (take i (texts_of words)) name))
-    (read_last limit name texts text (told_units text_of (take i (texts_of words))) (text_of name) read last)
+pub read_more : (limit : ℕ) (text_of : List ℕ → Option (List ℕ)) (words : List (Bor (List ℕ))) (i : ℕ) (name : List ℕ) (texts : List (List ℕ)) (text : List ℕ) → i < length words
+    → slice_get (names_of words) i ≡ Some name → AreRead limit texts (told_units text_of (take i (names_of words))) → IfSome (text_of name) (λ whole. text ≡ take limit whole)
+    → AreRead limit (texts ++ text ∷ []) (told_units text_of (take (i + 1) (names_of words)))
+read_more limit text_of words i name texts text within is read last =
+    let at : name ≡ get_or (names_of words) i name = some_same _ _ (sym is ∙ slice_get-get_or (names_of words) i name (rw (length-map words (λ (b : Bor (List ℕ)). b.now)) within)) in
+    let within' : i < length (names_of words) = rw (length-map words (λ (b : Bor (List ℕ)). b.now)) within in
+    let e : take (i + 1) (names_of words) ≡ take i (names_of words) ++ name ∷ [] = take_more (names_of words) i name within' ∙ ap (λ (n : List ℕ). take i (names_of words) ++ n ∷ []) (sym at) in
+    subst (λ (told : Option (List NamedText)). AreRead limit (texts ++ text ∷ []) told) (sym (ap (told_units text_of) e ∙ told_units-append text_of (take i (names_of words)) name))
+    (read_last limit name texts text (told_units text_of (take i (names_of words))) (text_of name) read last)

@@ -1,5 +1,5 @@
 -- What is asked of each unit alone: its tokens, its syntax and its names.
-use Rattle.std.specs.Prelude.{◌≡◌, ◌⊎◌, ℕ, List, [], ◌∷◌, ◌++◌, Option, Some, None, Result, Ok, Err, slice_get, codes}
+use Rattle.std.specs.Prelude.{◌≡◌, ◌⊎◌, ℕ, List, [], ◌∷◌, ◌++◌, Some, None, Result, Ok, Err, slice_get, codes}
 use Rattle.std.specs.Option.{option_map_or}
 use Rattle.pta_base.specs.Kind.{name_of}
 use Rattle.pta_base.specs.declared.kind.Kind.TheVariants as kind

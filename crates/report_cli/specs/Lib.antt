@@ -5,3 +5,4 @@ pub mod Outcome
 pub mod Outside
 pub mod Faults
 pub mod Laws
+pub mod Solved

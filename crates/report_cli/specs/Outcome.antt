@@ -8,7 +8,7 @@ use Rattle.pointer_units.specs.Units.{Accepts}
 use Rattle.pointer_units.specs.Refusals.{IsRefusedAt}
 use Rattle.pointer_units.specs.Constraints.{system_of}
 use Rattle.pointer_units.specs.Report.{report_of}
-use Rattle.report_cli.specs.Words.{AreUnitWords}
+use Rattle.command_line.specs.Rules.{AreRight}
 use Rattle.report_cli.specs.Answers.{NamedText, Answer, refusal, place_text}
 use Rattle.report_cli.specs.Alone.{IsReadAs, FirstAlone, AreReadAlone}
 
@@ -44,11 +44,11 @@ OutcomeOf units answer =
     ((program : PointerUnit) × Denotes units program × IsReport program answer.out × (answer.status ≡ 0) × (answer.err ≡ []))
     ⊎ Refuses units answer
 
--- the answer of words and units: where the words aren't right, how the program is used
+-- the answer of words and of the units that they name: where the words aren't right, how the program is used
 abbrev pub Outcome : List (List ℕ) → List NamedText → Answer → Type 0
 Outcome words units answer =
-    ((AreUnitWords words → ⊥) × (answer ≡ refusal 2 (codes "usage")))
-    ⊎ (AreUnitWords words × OutcomeOf units answer)
+    ((AreRight words → ⊥) × (answer ≡ refusal 2 (codes "usage")))
+    ⊎ (AreRight words × OutcomeOf units answer)
 
 -- a refusal by its status and its line
 abbrev pub IsRefusedBy : List NamedText → ℕ → List ℕ → Type 0

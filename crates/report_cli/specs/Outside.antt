@@ -24,3 +24,6 @@ sink_fault = codes "sink fault\n"
 
 abbrev pub out_of_memory : List ℕ
 out_of_memory = codes "out of memory\n"
+
+abbrev pub usage_line : List ℕ
+usage_line = codes "usage\n"

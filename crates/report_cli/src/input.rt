@@ -22,13 +22,15 @@ impl From<AllocError> for ReadFault {
     }
 }
 
-/// Reads the text of a name, at most so many bytes.
+/// Reads the text of a name, at most so many bytes, through a buffer that isn't empty.
 pub fn read_text<U: Units>(
     alloc: Global,
     units: &mut U,
     name: &str,
     limit: usize,
+    piece: &mut [u8],
 ) -> Result<Vec<u8>, ReadFault>
+    requires { 0 < length piece.old }
     ensures text { IfOk result (λ text. IfSome (U.text units.old name.now) (λ told. text.items ≡ take limit told)) }
     ensures texts { (other : List ℕ) → U.text units.new other ≡ U.text units.old other }
     ensures cause { IsErrOf result ReadFault.Source → HasRisen (U.faults units.old name.now) (U.faults units.new name.now) }
@@ -36,9 +38,8 @@ pub fn read_text<U: Units>(
     ensures rises { (other : List ℕ) → U.faults units.old other ≤ U.faults units.new other }
 {
     let mut text = Vec::new(alloc);
-    let mut piece = [0u8; 512];
     while text.len() < limit {
-        let room = (limit - text.len()).min(512);
+        let room = (limit - text.len()).min(piece.len());
         let Ok(count) = units.read(name, text.len() as u64, &mut piece[..room]) else {
             return Err(ReadFault::Source);
         };

@@ -11,9 +11,12 @@ mod output;
 mod places;
 mod reading;
 mod solved;
+mod solving;
 #[cfg(test)]
 mod tests;
 mod top;
-mod words;
+#[cfg(test)]
+mod worker_tests;
 
+pub use solving::Solved;
 pub use top::analyse;

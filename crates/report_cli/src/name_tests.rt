@@ -69,6 +69,37 @@ fn binds(
     }
 }
 
+// The enumerators of a parameter list are in the scope of the function's body, as the parameters are (C11 6.2.1p4): `T*y` is a
+// product.
+#[test]
+fn enumerators_of_a_parameter_list(rt: HostRuntime) -> Result<(), Fail> {
+    assert!(rt;
+        binds(
+            rt.alloc(),
+            "typedef int T;int f(enum{T}x){T*x;return 0;}",
+            &[(31, 26), (33, 28)],
+            &[],
+        )?
+    );
+    assert!(rt;
+        binds(
+            rt.alloc(),
+            "typedef int T;int g();int f(enum{T}x){return g(T,(T));}",
+            &[(46, 19), (48, 34), (51, 34)],
+            &[],
+        )?
+    );
+    assert!(rt;
+        binds(
+            rt.alloc(),
+            "typedef int T;int y;int f(enum{T}x){T*y;int y;return 0;}",
+            &[(37, 32), (39, 19)],
+            &[],
+        )?
+    );
+    Ok(())
+}
+
 #[test]
 fn innermost_declarations(rt: HostRuntime) -> Result<(), Fail> {
     let shadows =

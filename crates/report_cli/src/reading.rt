@@ -1,18 +1,28 @@
 // Reading the texts of all units.
-ghost use Rattle.std.specs.Prelude.{◌≡◌, ℕ, ◌≤◌, List, Some, Err, ◌+◌, map, take, length, slice_get, IfOk, IfSome, OnOk};
+ghost use Rattle.std.specs.Prelude.{◌≡◌, ℕ, ◌<◌, ◌≤◌, List, Some, Err, ◌+◌, map, take, length, slice_get, IfOk, IfSome, OnOk};
 ghost use Rattle.pta_base.specs.Outside.{HasRisen};
-ghost use Rattle.report_cli.specs.Words.{texts_of};
+ghost use Rattle.report_cli.specs.Words.{names_of};
 ghost use Rattle.report_cli.specs.Answers.{told_units};
 
 use crate::input::{ReadFault, read_text};
 use pta_base::{Listing, Units};
-use std::alloc::{AllocFailed, Global};
+use std::alloc::{AllocError, AllocFailed, Global};
 
-/// Why the texts of units could not be read: the outside failed under the word of this number, or memory wanted.
+/// Why the texts of units could not be read: the outside failed under the name of this number, or memory wanted.
 #[derive(Clone, Copy, Debug, PartialEq, Eq)]
 pub(crate) enum ReadingFault {
     Source(usize),
     Memory,
+}
+
+impl From<AllocError> for ReadingFault {
+    ghost use Rattle.report_cli.specs.declared.reading.ReadingFault.TheVariants.{Memory};
+
+    ghost from_gives = { λ _ e. e ≡ Memory };
+
+    fn from(_: AllocError) -> Self {
+        ReadingFault::Memory
+    }
 }
 
 impl<T: Drop> From<AllocFailed<T>> for ReadingFault {
@@ -25,23 +35,44 @@ impl<T: Drop> From<AllocFailed<T>> for ReadingFault {
     }
 }
 
-/// Reads the texts of the words in order, of each at most so many bytes.
+/// A text is read in pieces of so many bytes.
+const PIECE: usize = 65536;
+
+/// A buffer of so many bytes.
+fn buffer(alloc: Global, size: usize) -> Result<Vec<u8>, AllocError>
+    requires { 0 < size }
+    ensures { IfOk result (λ buffer. 0 < length buffer.items) }
+{
+    vec![in alloc; 0u8; size]
+}
+
+/// The name of a number.
+#[tactic(auto, using(crate::proofs::Texts::text_at))]
+pub(crate) fn name_at<'a>(names: &[&'a str], number: usize) -> &'a str
+    requires { number < length names.now }
+    ensures { slice_get (names_of names.now) number ≡ Some result.now }
+{
+    names[number]
+}
+
+/// Reads the texts of the names in order, of each at most so many bytes.
 pub(crate) fn read_units<U: Units>(
     alloc: Global,
-    words: &[String],
+    names: &[&str],
     units: &mut U,
     limit: usize,
 ) -> Result<Vec<Listing<u8>>, ReadingFault>
-    ensures texts { IfOk result (λ texts. IfSome (told_units (U.text units.old) (texts_of words.now)) (λ told. texts.items ≡ map (λ unit. take limit unit.1) told)) }
-    ensures count { IfOk result (λ texts. length texts.items ≡ length words.now) }
+    ensures texts { IfOk result (λ texts. IfSome (told_units (U.text units.old) (names_of names.now)) (λ told. texts.items ≡ map (λ unit. take limit unit.1) told)) }
+    ensures count { IfOk result (λ texts. length texts.items ≡ length names.now) }
     ensures cause { (number : ℕ) → result ≡ Err (ReadingFault.Source number)
-        → (name : List ℕ) × (slice_get (texts_of words.now) number ≡ Some name) × HasRisen (U.faults units.old name) (U.faults units.new name) }
-    ensures within { (number : ℕ) → result ≡ Err (ReadingFault.Source number) → number + 1 ≤ length words.now }
+        → (name : List ℕ) × (slice_get (names_of names.now) number ≡ Some name) × HasRisen (U.faults units.old name) (U.faults units.new name) }
+    ensures within { (number : ℕ) → result ≡ Err (ReadingFault.Source number) → number + 1 ≤ length names.now }
     ensures steady { OnOk result ((other : List ℕ) → U.faults units.new other ≡ U.faults units.old other) }
 {
     let mut texts = Vec::new(alloc);
-    for (number, word) in words.iter().enumerate() {
-        match read_text(alloc, units, word.as_str(), limit) {
+    let mut piece = buffer(alloc, PIECE)?;
+    for number in 0..names.len() {
+        match read_text(alloc, units, name_at(names, number), limit, &mut piece) {
             Ok(text) => texts.push(Listing::of(text))?,
             Err(ReadFault::Source) => return Err(ReadingFault::Source(number)),
             Err(ReadFault::Memory) => return Err(ReadingFault::Memory),

@@ -5,7 +5,7 @@ use pta_base::{Failed, Gate, MemorySink, MemoryUnits, Sink, Units};
 use std::test::Fail;
 use std::thread::Threads;
 
-struct OpenGate;
+pub(crate) struct OpenGate;
 
 impl Gate for OpenGate {
     fn pass(&self, _worker: u32, _turn: u32) {}
@@ -13,10 +13,10 @@ impl Gate for OpenGate {
 
 /// What a call answered, and what it wrote.
 #[derive(Drop)]
-struct Answered {
-    status: u8,
-    out: Vec<u8>,
-    err: Vec<u8>,
+pub(crate) struct Answered {
+    pub(crate) status: u8,
+    pub(crate) out: Vec<u8>,
+    pub(crate) err: Vec<u8>,
 }
 
 /// A call with these words, where each text stands under its name and some reads and writes fail.
@@ -26,6 +26,18 @@ fn answer_of<R: Threads + Sync + AllocGlobal>(
     texts: &[(&str, &str)],
     reads: &[u64],
     writes: &[u64],
+) -> Result<Answered, Fail> {
+    answer_at(rt, words, texts, reads, writes, &OpenGate)
+}
+
+/// The same, with a gate.
+pub(crate) fn answer_at<R: Threads + Sync + AllocGlobal, G: Gate + Sync>(
+    rt: &R,
+    words: &[&str],
+    texts: &[(&str, &str)],
+    reads: &[u64],
+    writes: &[u64],
+    gate: &G,
 ) -> Result<Answered, Fail> {
     let mut list = Vec::new(rt.alloc());
     for word in words {
@@ -45,6 +57,7 @@ fn answer_of<R: Threads + Sync + AllocGlobal>(
     let Ok(mut err) = MemorySink::new(rt.alloc(), 65536, Vec::new(rt.alloc())) else {
         return Err(Fail::from("no memory"));
     };
+    let mut kept = None;
     let status = analyse(
         rt,
         rt.alloc(),
@@ -52,13 +65,36 @@ fn answer_of<R: Threads + Sync + AllocGlobal>(
         &mut units,
         &mut out,
         &mut err,
-        &OpenGate,
+        gate,
+        &mut kept,
     );
     Ok(Answered {
         status,
         out: out.written().to_vec(rt.alloc())?,
         err: err.written().to_vec(rt.alloc())?,
     })
+}
+
+/// Many times the same text.
+fn repeated<R: AllocGlobal>(rt: &R, text: &str, times: usize) -> Result<String, Fail> {
+    let mut all = String::new(rt.alloc());
+    for _ in 0..times {
+        all.push_str(text)?;
+    }
+    Ok(all)
+}
+
+// What isn't counted as nesting is read as deep as memory goes; nothing recurses on it.
+#[test]
+fn alignments_within_alignments(rt: HostRuntime) -> Result<(), Fail> {
+    let text = repeated(&rt, "_Alignas(", 100_000)?;
+    let answered = answer_of(&rt, &["a.i"], &[("a.i", text.as_str())], &[], &[])?;
+    assert_eq!(rt; answered.status, 3);
+    assert_eq!(rt;
+        answered.err.as_slice(),
+        b"a.i:1:900001: malformed\n".as_slice()
+    );
+    Ok(())
 }
 
 const ROW_1: &str = "int x,*p; int main(void){p=&x;return 0;}";
@@ -134,6 +170,9 @@ fn words_that_are_not_right(rt: HostRuntime) -> Result<(), Fail> {
     assert!(rt; is_usage(&rt, &[])?);
     assert!(rt; is_usage(&rt, &["a.i", "a.i"])?);
     assert!(rt; is_usage(&rt, &["--workers", "0", "a.i"])?);
+    assert!(rt; is_usage(&rt, &["--workers", "65", "a.i"])?);
+    assert!(rt; is_usage(&rt, &["a.i", "--workers"])?);
+    assert!(rt; is_usage(&rt, &["--workers", "2", "a.i", "--workers", "2"])?);
     assert!(rt; is_usage(&rt, &["-x", "a.i"])?);
     assert!(rt; is_usage(&rt, &["a$i"])?);
     assert!(rt; is_usage(&rt, &[""])?);
@@ -179,26 +218,6 @@ fn a_write_that_fails(rt: HostRuntime) -> Result<(), Fail> {
     Ok(())
 }
 
-#[test]
-fn a_set_of_two_words(rt: HostRuntime) -> Result<(), Fail> {
-    let mut text = "int v0".to_string(rt.alloc())?;
-    let mut sets = "pta 1\nset p: v0".to_string(rt.alloc())?;
-    let mut stores = "p=&v0;".to_string(rt.alloc())?;
-    for number in 1..65u32 {
-        text.push_str(format!(in rt.alloc(); ",v{number}")?.as_str())?;
-        stores.push_str(format!(in rt.alloc(); "p=&v{number};")?.as_str())?;
-        sets.push_str(format!(in rt.alloc(); " v{number}")?.as_str())?;
-    }
-    text.push_str(",*p,*q; int main(void){")?;
-    text.push_str(stores.as_str())?;
-    text.push_str("q=&v64;return 0;}")?;
-    sets.push_str("\nset q: v64\nend\n")?;
-    let made = answer_of(&rt, &["a.i"], &[("a.i", text.as_str())], &[], &[])?;
-    assert_eq!(rt; made.status, 0);
-    assert_eq!(rt; made.out.as_slice(), sets.as_bytes());
-    Ok(())
-}
-
 /// Texts of which a read gives one byte at the most.
 #[derive(Drop)]
 struct ByteUnits(MemoryUnits);
@@ -241,6 +260,7 @@ fn bytes_one_at_a_time(rt: HostRuntime) -> Result<(), Fail> {
         return Err(Fail::from("no memory"));
     };
     let mut slow = ByteSink(out);
+    let mut kept = None;
     let status = analyse(
         &rt,
         rt.alloc(),
@@ -249,6 +269,7 @@ fn bytes_one_at_a_time(rt: HostRuntime) -> Result<(), Fail> {
         &mut slow,
         &mut err,
         &OpenGate,
+        &mut kept,
     );
     assert_eq!(rt; status, 0);
     assert_eq!(rt; slow.0.written(), b"pta 1\nset p: x\nend\n".as_slice());

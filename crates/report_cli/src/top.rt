@@ -1,17 +1,21 @@
 // The top call.
-ghost use Rattle.std.specs.Prelude.{◌≡◌, ◌≢◌, ◌⊎◌, ℕ, ◌<◌, List, length, zip, IfOk, IfSome, Contains};
+ghost use Rattle.std.specs.Prelude.{◌≡◌, ◌≢◌, ◌⊎◌, ℕ, ◌<◌, ◌≤◌, None, Some, List, length, zip, IfOk, IfSome, Contains};
 ghost use Rattle.pta_base.specs.Outside.{HasRisen, IsSteady};
 ghost use Rattle.pointer_units.specs.declared.unit.PointerUnit.{PointerUnit};
-ghost use Rattle.report_cli.specs.Words.{AreUnitWords, texts_of};
+ghost use Rattle.command_line.specs.Rules.{AreRight};
+ghost use Rattle.report_cli.specs.Words.{names_of, names_read, texts_of};
 ghost use Rattle.report_cli.specs.Answers.{told_units, Answer};
 ghost use Rattle.report_cli.specs.Outcome.{Denotes, IsReport, IsRefusedBy, Outcome};
-ghost use Rattle.report_cli.specs.Outside.{Grows, GrowsInPart, Receives, source_fault, sink_fault, out_of_memory};
+ghost use Rattle.report_cli.specs.Outside.{Grows, GrowsInPart, Receives, source_fault, sink_fault, out_of_memory, usage_line};
+ghost use Rattle.report_cli.specs.Solved.{IsKept};
+ghost use Rattle.pointer_units.specs.Constraints.{system_of};
 
 use crate::fault::UnitsFault;
 use crate::output::{say, write_text};
-use crate::reading::{ReadingFault, read_units};
+use crate::reading::{ReadingFault, name_at, read_units};
 use crate::solved::report_of_units;
-use crate::words::are_unit_words;
+use crate::solving::Solved;
+use command_line::{Command, WordsFault, parse_words};
 use pta_base::{Gate, Listing, Sink, Units};
 use std::alloc::{AllocError, Global};
 use std::thread::Threads;
@@ -70,31 +74,57 @@ fn deliver<O: Sink, E: Sink>(out: &mut O, err: &mut E, report: &[u8]) -> u8
     8
 }
 
-/// Answers units by the texts that were read of them, and answers the status.
-fn answer_units<O: Sink, E: Sink>(
+/// Keeps what was solved.
+fn keep(kept: &mut Option<Solved>, solved: Solved)
+    ensures { kept.new ≡ Some solved }
+{
+    *kept = Some(solved);
+}
+
+/// Answers a command by the texts that were read of its units, and answers the status. With status 0 it leaves what was solved.
+fn answer_units<R: Threads + Sync, O: Sink, E: Sink, G: Gate + Sync>(
+    rt: &R,
     alloc: Global,
-    words: &[String],
+    command: &Command<'_>,
     texts: &[Listing<u8>],
     out: &mut O,
     err: &mut E,
+    gate: &G,
+    kept: &mut Option<Solved>,
 ) -> u8
-    requires present { 0 < length words.now }
-    requires count { length texts.now ≡ length words.now }
+    requires present { 0 < length command.now.units.items }
+    requires workers { (0 < command.now.workers) × (command.now.workers ≤ 64) }
+    requires count { length texts.now ≡ length command.now.units.items }
     ensures listed { (result ≡ 0) ⊎ (((result ≡ 3) ⊎ ((result ≡ 4) ⊎ (result ≡ 6))) ⊎ ((result ≡ 8) ⊎ (result ≡ 9))) }
-    ensures delivered { result ≡ 0 → (program : PointerUnit) × (report : List ℕ) × Denotes (zip (texts_of words.now) texts.now) program × IsReport program report
-        × Grows (O.written out.old) (O.written out.new) report × (E.written err.new ≡ E.written err.old) }
-    ensures broken { result ≡ 8 → (program : PointerUnit) × (report : List ℕ) × Denotes (zip (texts_of words.now) texts.now) program × IsReport program report
+    ensures delivered { result ≡ 0 → (program : PointerUnit) × (report : List ℕ) × Denotes (zip (names_of command.now.units.items) texts.now) program × IsReport program report
+        × Grows (O.written out.old) (O.written out.new) report × (E.written err.new ≡ E.written err.old) × IsKept (system_of program) kept.new }
+    ensures unsolved { result ≢ 0 → kept.new ≡ kept.old }
+    ensures broken { result ≡ 8 → (program : PointerUnit) × (report : List ℕ) × Denotes (zip (names_of command.now.units.items) texts.now) program × IsReport program report
         × GrowsInPart (O.written out.old) (O.written out.new) report }
-    ensures refused { result ≢ 0 → result ≢ 8 → result ≢ 9 → (line : List ℕ) × IsRefusedBy (zip (texts_of words.now) texts.now) result line
+    ensures refused { result ≢ 0 → result ≢ 8 → result ≢ 9 → (line : List ℕ) × IsRefusedBy (zip (names_of command.now.units.items) texts.now) result line
         × Receives (E.written err.old) (E.written err.new) (E.faults err.old) (E.faults err.new) line }
-    ensures kept { result ≢ 0 → result ≢ 8 → O.written out.new ≡ O.written out.old }
+    ensures unwritten { result ≢ 0 → result ≢ 8 → O.written out.new ≡ O.written out.old }
     ensures cause { result ≡ 8 → HasRisen (O.faults out.old) (O.faults out.new) }
     ensures steady { result ≢ 8 → O.faults out.new ≡ O.faults out.old }
     ensures sink { result ≡ 8 → Receives (E.written err.old) (E.written err.new) (E.faults err.old) (E.faults err.new) sink_fault }
     ensures memory { result ≡ 9 → Receives (E.written err.old) (E.written err.new) (E.faults err.old) (E.faults err.new) out_of_memory }
 {
-    match report_of_units(alloc, words, texts) {
-        Ok(report) => deliver(out, err, report.as_slice()),
+    match report_of_units(
+        rt,
+        alloc,
+        command.units.as_slice(),
+        texts,
+        command.workers,
+        gate,
+    ) {
+        Ok((report, solved)) => {
+            let status = deliver(out, err, report.as_slice());
+            if status != 0 {
+                return status;
+            }
+            keep(kept, solved);
+            0
+        }
         Err(UnitsFault::Refused { status, line }) => {
             say(err, line.as_slice());
             status
@@ -103,64 +133,83 @@ fn answer_units<O: Sink, E: Sink>(
     }
 }
 
-/// Does all that the program does: reads the units that the words name, writes the report of their program to `out` or
-/// the line of a refusal to `err`, and answers the status. The statuses are 0 for a report that was written whole, 2 for words that
-/// aren't right, 3 for a text that has no tokens (C11 6.4) or whose tokens are no unit (C11 6.9), 4 for a construct that isn't
-/// accepted or a form of text that isn't built, 6 for a text of more than 2^24 bytes or more than 256 constructs that nest,
-/// each at its place, 7 for a unit that could not be read, 8 for a report that could not be written and 9 for want of memory. All memory is taken before the first byte is
-/// written. The runtime is there for threads, and the gate for their pieces of work; nothing calls them yet.
+/// Does all that the program does: reads the units that the words name, writes the report of their program to `out` or the line of
+/// a refusal to `err`, and answers the status. The words are `--workers N` and units, in any order (`command_line`). The statuses are
+/// 0 for a report that was written whole, 2 for words that aren't right, 3 for a text that has no tokens (C11 6.4) or whose tokens are
+/// no unit (C11 6.9), 4 for a construct that isn't accepted or a form of text that isn't built, 6 for a text of more than 2^24 bytes
+/// or more than 256 constructs that nest, each at its place, 7 for a unit that could not be read, 8 for a report that could not be
+/// written and 9 for want of memory. All memory is taken before the first byte is written. The system is solved on shared rows by as
+/// many workers as the words say, 1 where they don't; each passes the gate before each of its pieces. `kept` has to be None; with
+/// status 0 it holds the system, its table and the seat that solved it, and with any other status it stays None.
 pub fn analyse<R: Threads + Sync, U: Units, O: Sink, E: Sink, G: Gate + Sync>(
-    _rt: &R,
+    rt: &R,
     alloc: Global,
     words: &[String],
     units: &mut U,
     out: &mut O,
     err: &mut E,
-    _gate: &G,
+    gate: &G,
+    kept: &mut Option<Solved>,
 ) -> u8
+    requires none { kept.old ≡ None }
+
     // Status 0 means that the bytes written are the report of the least solution of the constraints of the program that
     // the units denote.
-    ensures headline { result ≡ 0 → IfSome (told_units (U.text units.old) (texts_of words.now)) (λ told.
+    ensures headline { result ≡ 0 → IfSome (told_units (U.text units.old) (names_read (texts_of words.now))) (λ told.
         (program : PointerUnit) × (report : List ℕ) × Denotes told program × IsReport program report
         × Grows (O.written out.old) (O.written out.new) report) }
 
     // Where neither the outside nor memory failed, the answer is that of the words and the texts.
-    ensures outcome { result ≢ 7 → result ≢ 8 → result ≢ 9 → IfSome (told_units (U.text units.old) (texts_of words.now)) (λ told.
+    ensures outcome { result ≢ 7 → result ≢ 8 → result ≢ 9 → IfSome (told_units (U.text units.old) (names_read (texts_of words.now))) (λ told.
         (answer : Answer) × Outcome (texts_of words.now) told answer × (result ≡ answer.status)
         × Grows (O.written out.old) (O.written out.new) answer.out
         × Receives (E.written err.old) (E.written err.new) (E.faults err.old) (E.faults err.new) answer.err) }
-    ensures usage { (result ≡ 2 → AreUnitWords (texts_of words.now) → ⊥) × ((AreUnitWords (texts_of words.now) → ⊥) → result ≡ 2) }
+    ensures said { result ≡ 2 → Receives (E.written err.old) (E.written err.new) (E.faults err.old) (E.faults err.new) usage_line }
+    ensures usage { (result ≡ 2 → AreRight (texts_of words.now) → ⊥) × (AreRight (texts_of words.now) ⊎ ((result ≡ 2) ⊎ (result ≡ 9))) }
     ensures listed { (result ≡ 0) ⊎ ((result ≡ 2) ⊎ (((result ≡ 3) ⊎ ((result ≡ 4) ⊎ (result ≡ 6))) ⊎ ((result ≡ 7) ⊎ ((result ≡ 8) ⊎ (result ≡ 9))))) }
-    ensures kept { result ≢ 0 → result ≢ 8 → O.written out.new ≡ O.written out.old }
+    ensures unwritten { result ≢ 0 → result ≢ 8 → O.written out.new ≡ O.written out.old }
+
+    // With status 0 the program's own system was solved on the table that is left, by its seat and those split from it, which were joined
+    // into it; with any other status nothing is left.
+    ensures solved { result ≡ 0 → IfSome (told_units (U.text units.old) (names_read (texts_of words.now))) (λ told.
+        (program : PointerUnit) × Denotes told program × IsKept (system_of program) kept.new) }
+    ensures unsolved { result ≢ 0 → kept.new ≡ None }
 
     // Where the words are right, the texts denote a program, and the outside doesn't fail, the report is written.
-    ensures complete { IfSome (told_units (U.text units.old) (texts_of words.now)) (λ told. AreUnitWords (texts_of words.now)
+    ensures complete { IfSome (told_units (U.text units.old) (names_read (texts_of words.now))) (λ told. AreRight (texts_of words.now)
         → (program : PointerUnit) → Denotes told program
-        → ((name : List ℕ) → Contains (texts_of words.now) name → IsSteady (U.faults units.old name) (U.faults units.new name))
+        → ((name : List ℕ) → Contains (names_read (texts_of words.now)) name → IsSteady (U.faults units.old name) (U.faults units.new name))
         → IsSteady (O.faults out.old) (O.faults out.new) → (result ≡ 0) ⊎ (result ≡ 9)) }
 
     // The outside: each of its statuses has its cause, and each of its faults its status.
-    ensures source { result ≡ 7 → (name : List ℕ) × Contains (texts_of words.now) name × HasRisen (U.faults units.old name) (U.faults units.new name)
+    ensures source { result ≡ 7 → (name : List ℕ) × Contains (names_read (texts_of words.now)) name × HasRisen (U.faults units.old name) (U.faults units.new name)
         × Receives (E.written err.old) (E.written err.new) (E.faults err.old) (E.faults err.new) (source_fault name) }
     ensures source_risen { (name : List ℕ) → U.faults units.old name < U.faults units.new name → (result ≡ 7) ⊎ (result ≡ 9) }
     ensures sink { result ≡ 8 → HasRisen (O.faults out.old) (O.faults out.new)
         × Receives (E.written err.old) (E.written err.new) (E.faults err.old) (E.faults err.new) sink_fault }
     ensures sink_risen { O.faults out.old < O.faults out.new → result ≡ 8 }
-    ensures broken { result ≡ 8 → IfSome (told_units (U.text units.old) (texts_of words.now)) (λ told.
+    ensures broken { result ≡ 8 → IfSome (told_units (U.text units.old) (names_read (texts_of words.now))) (λ told.
         (program : PointerUnit) × (report : List ℕ) × Denotes told program × IsReport program report
         × GrowsInPart (O.written out.old) (O.written out.new) report) }
     ensures memory { result ≡ 9 → Receives (E.written err.old) (E.written err.new) (E.faults err.old) (E.faults err.new) out_of_memory }
 {
-    if !are_unit_words(words) {
-        say(err, b"usage\n");
-        return 2;
-    }
-    let texts = match read_units(alloc, words, units, LIMIT) {
-        Ok(texts) => texts,
-        Err(ReadingFault::Source(number)) => {
-            return source_fault(alloc, words[number].as_str(), err);
+    let command = match parse_words(alloc, words) {
+        Ok(command) => command,
+        Err(WordsFault::Usage) => {
+            say(err, b"usage\n");
+            return 2;
         }
+        Err(WordsFault::OutOfMemory) => return out_of_memory(err),
+    };
+    let names = command.units.as_slice();
+    let texts = match read_units(alloc, names, units, LIMIT) {
+        Ok(texts) => texts,
+        Err(ReadingFault::Source(number)) => return source_fault(
+            alloc,
+            name_at(names, number),
+            err,
+        ),
         Err(ReadingFault::Memory) => return out_of_memory(err),
     };
-    answer_units(alloc, words, texts.as_slice(), out, err)
+    answer_units(rt, alloc, &command, texts.as_slice(), out, err, gate, kept)
 }

@@ -1,5 +1,9 @@
-use Rattle.std.proofs.Common.{◌≡◌, ◌⊎◌, ℕ, arith, inl, inr}
+use Rattle.std.proofs.Common.{◌≡◌, ◌⊎◌, ℕ, List, Option, arith, inl, inr, subst, sym}
 use Rattle.report_cli.proofs.Lifted.{refused_status, IsStatus}
+use Rattle.pointer_units.specs.Constraints.{system_of}
+use Rattle.report_cli.specs.declared.solving.Solved.{Solved}
+use Rattle.report_cli.specs.Outside.{Grows}
+use Rattle.report_cli.specs.Solved.{IsKept}
 use Rattle.report_cli.proofs.top.answer_units.Goals as goal
 
 -- the status of a refusal is that of no other answer

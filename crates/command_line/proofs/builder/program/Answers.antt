@@ -1,0 +1,10 @@
+use Rattle.std.proofs.Common.{codes}
+use Rattle.std.proofs.lemmas.Result.{IfOk-weaker}
+use Rattle.command_line.specs.Language.{positional_words, value_option}
+use Rattle.command_line.proofs.Program.{added}
+use Rattle.command_line.proofs.builder.program.Goals as goal
+
+pub returns : goal.returns
+returns c =
+    let one = added _ _ _ (value_option (codes "workers")) c.in_ok-command.ensures c.bare-command.ensures in
+    IfOk-weaker c.with_words.result _ _ (λ m h. added _ _ _ (positional_words (codes "unit")) h one) c.with_words.ensures

@@ -1,0 +1,4 @@
+pub mod Distinct
+pub mod Language
+pub mod Meaning
+pub mod Rules

@@ -1,0 +1,57 @@
+-- The rules for the words after clap's parse.
+use Rattle.std.specs.Prelude.{◌≡◌, ◌≢◌, ◌<◌, ◌≤◌, ◌||◌, ◌==◌, ℕ, Bool, List, [], Option, IfSome, length, true, slice_index, unwrap_or, codes}
+use Rattle.std.specs.Char.{is_ascii_alphanumeric}
+use Rattle.std.specs.List.{All}
+use Rattle.std.specs.Str.Parse.{IsNumeral, digits_value}
+use Rattle.clap.specs.Words.{Row, Text, all_of, first_of}
+use Rattle.command_line.specs.Distinct.{AreDistinct}
+use Rattle.command_line.specs.Language.{IsTaken, found_in}
+
+-- ---- one word
+
+-- 1 to 10 decimal digits, whose number lies in the range
+pub record IsDecimalIn (least most : ℕ) (text : Text) : Type 0 where
+  pub digits : IsNumeral 10 text
+  pub short : length text ≤ 10
+  pub at_least : least ≤ digits_value 10 text
+  pub at_most : digits_value 10 text ≤ most
+
+-- letters, digits, `.`, `_`, `-` and `/`
+abbrev pub is_unit_byte : ℕ → Bool
+is_unit_byte b = is_ascii_alphanumeric b || (b == 46 || (b == 95 || (b == 45 || b == 47)))
+
+-- a well-formed unit word
+pub record IsUnitWord (text : Text) : Type 0 where
+  pub present : 0 < length text
+  pub short : length text ≤ 255
+  pub start : slice_index text 0 ≢ 45
+  pub bytes : All (λ b. is_unit_byte b ≡ true) text
+
+-- ---- several words
+
+-- 1 to 256 well-formed unit words, none of them twice
+pub record AreUnits (units : List Text) : Type 0 where
+  pub present : 1 ≤ length units
+  pub few : length units ≤ 256
+  pub formed : All IsUnitWord units
+  pub distinct : AreDistinct units
+
+-- ---- what clap found
+
+-- the words that are no options, in order
+abbrev pub unit_words : List Row → List Text
+unit_words rows = unwrap_or (all_of (codes "unit") rows) []
+
+-- the option's number is well formed and in the range
+abbrev pub IsNumberIn : ℕ → ℕ → Option Text → Type 0
+IsNumberIn least most text = IfSome text (IsDecimalIn least most)
+
+-- what was found keeps the rules
+pub record KeepsRules (rows : List Row) : Type 0 where
+  pub workers : IsNumberIn 1 64 (first_of (codes "workers") rows)
+  pub units : AreUnits (unit_words rows)
+
+-- clap takes the words, and they keep the rules
+pub record AreRight (words : List Text) : Type 0 where
+  pub taken : IsTaken words
+  pub rules : KeepsRules (found_in words)

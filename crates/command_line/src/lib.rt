@@ -1,0 +1,20 @@
+//! The words of the command line: which of them are right, and the command that right words give. They are read as a simple
+//! command of `clap`, without help and version: `--workers N` and units, in any order.
+#![tactic(auto)]
+
+mod builder;
+mod command;
+mod fault;
+mod number;
+mod options;
+mod parse;
+mod reading;
+mod unit_word;
+mod values;
+
+pub use command::Command;
+pub use fault::WordsFault;
+pub use parse::parse_words;
+
+#[cfg(test)]
+mod tests;

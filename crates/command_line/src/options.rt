@@ -1,0 +1,30 @@
+//! The values of the options, by their names.
+ghost use Rattle.std.specs.Prelude.{◌≡◌, IfOk, IfErr};
+ghost use Rattle.clap.specs.Words.{first_of, found_of, rows_of};
+ghost use Rattle.command_line.specs.Meaning.{number_of};
+ghost use Rattle.command_line.specs.Rules.{IsNumberIn};
+
+use crate::fault::WordsFault;
+use crate::number::decimal_in;
+use crate::values::text_of;
+use clap::ArgMatches;
+
+/// The number of an option, where it stands.
+pub(crate) fn number(
+    matches: &ArgMatches<'_>,
+    name: &str,
+    least: u64,
+    most: u64,
+) -> Result<Option<u64>, WordsFault>
+    ensures right { IfOk result (λ n. IsNumberIn least most (first_of name.now (rows_of (found_of matches.now)))
+        × (n ≡ number_of name.now (rows_of (found_of matches.now)))) }
+    ensures wrong { IfErr result (λ fault. IsNumberIn least most (first_of name.now (rows_of (found_of matches.now))) → ⊥) }
+{
+    let Some(text) = text_of(matches, name) else {
+        return Ok(None);
+    };
+    match decimal_in(text, least, most) {
+        Some(number) => Ok(Some(number)),
+        None => Err(WordsFault::Usage),
+    }
+}

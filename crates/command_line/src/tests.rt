@@ -1,0 +1,51 @@
+use crate::{WordsFault, parse_words};
+use std::alloc::{AllocError, Global};
+
+fn words(alloc: Global, texts: &[&str]) -> Result<Vec<String>, AllocError> {
+    let mut words = Vec::new(alloc);
+    for text in texts {
+        words.push(String::from_str(alloc, text)?)?;
+    }
+    Ok(words)
+}
+
+fn is_refused(alloc: Global, texts: &[&str]) -> Result<bool, AllocError> {
+    let words = words(alloc, texts)?;
+    match parse_words(alloc, words.as_slice()) {
+        Ok(_) => Ok(false),
+        Err(WordsFault::Usage) => Ok(true),
+        Err(WordsFault::OutOfMemory) => Err(AllocError),
+    }
+}
+
+#[test]
+fn taken(rt: HostRuntime) {
+    let alloc = rt.alloc();
+    let words = words(alloc, &["b.i", "--workers=007", "dir/a-1_x.i"]).expect(&rt, "memory");
+    let Ok(command) = parse_words(alloc, words.as_slice()) else {
+        panic!(rt; "refused");
+    };
+    assert_eq!(rt; command.workers, 7);
+    assert!(rt; command.units.as_slice() == ["b.i", "dir/a-1_x.i"].as_slice());
+}
+
+#[test]
+fn refused(rt: HostRuntime) {
+    let alloc = rt.alloc();
+    assert!(rt; is_refused(alloc, &[]).expect(&rt, "memory"));
+    assert!(rt; is_refused(alloc, &["-"]).expect(&rt, "memory"));
+    assert!(rt; is_refused(alloc, &[""]).expect(&rt, "memory"));
+    assert!(rt; is_refused(alloc, &["--help"]).expect(&rt, "memory"));
+    assert!(rt; is_refused(alloc, &["--workers", "0", "a.i"]).expect(&rt, "memory"));
+    assert!(rt; is_refused(alloc, &["--workers", "65", "a.i"]).expect(&rt, "memory"));
+    assert!(rt; is_refused(alloc, &["--workers", "00000000001", "a.i"]).expect(&rt, "memory"));
+    assert!(rt; is_refused(alloc, &["--workers", "a.i"]).expect(&rt, "memory"));
+    assert!(rt; is_refused(alloc, &["a.i", "--work", "2"]).expect(&rt, "memory"));
+    assert!(rt;
+        is_refused(alloc, &["--workers", "2", "a.i", "--workers", "2"]).expect(&rt, "memory")
+    );
+    assert!(rt; is_refused(alloc, &["a.i", "a.i"]).expect(&rt, "memory"));
+    assert!(rt; is_refused(alloc, &["a.i", "b$.i"]).expect(&rt, "memory"));
+    assert!(rt; !is_refused(alloc, &["a.i", "--workers", "64"]).expect(&rt, "memory"));
+    assert!(rt; !is_refused(alloc, &["--", "a.i"]).expect(&rt, "memory"));
+}
