@@ -1,25 +1,43 @@
 -- Keys of paths.
-use Rattle.std.proofs.Common.{arith, ◌≡◌, ◌<◌, ◌≤◌, ℕ, zero, suc, Bool, true, false, ◌||◌, refl, ap, sym, ◌∙◌, subst, eq-eqb, List, [], ◌∷◌, map, length, take, Vec, Global}
+use Rattle.std.proofs.Common.{arith, ◌≡◌, ◌<◌, ◌≤◌, ℕ, zero, suc, Bool, true, false, ◌||◌, ◌&&◌, eqb, refl, ap, sym, ◌∙◌, subst, eq-eqb, List, [], ◌∷◌, map, length, take, Vec, Global}
 use Rattle.std.specs.List.{list_any}
-use Rattle.std.specs.HashSet.{HashSet, contains_by, UpdatesBy}
+use Rattle.std.specs.BTreeSet.{BTreeSet, contains_by, UpdatesBy}
+use Rattle.std.specs.BTreeMap.{is_at}
+use Rattle.std.specs.declared.cmp.Ordering.{Ordering}
+use Rattle.std.specs.declared.cmp.Ordering.TheVariants.{Less, Equal, Greater}
+use Rattle.std.specs.Ordering.{is_eq, nat_cmp, ordering_then, eq_by_cmp}
 use Rattle.std.specs.Set.{KeepsOthers}
 use Rattle.std.specs.Map.{IsKeyTest, AreApart}
-use Rattle.std.specs.Cmp.Lexicographic.{pointwise, pointwise_decides}
+use Rattle.std.specs.Cmp.Lexicographic.{pointwise, pointwise_decides, slice_cmp}
 use Rattle.std.proofs.lemmas.Bool.{eqb-true}
+use Rattle.std.proofs.lemmas.Bool.Decides.{nat_tests}
 use Rattle.c_inits.specs.declared.items.StepKey.{StepKey}
 use Rattle.c_inits.specs.declared.items.StepKey.TheVariants.{Index, Member}
-use Rattle.c_inits.specs.contracts.items.StepKeyPartialEq.TheImpl.{ghosts}
+use Rattle.c_inits.specs.contracts.items.StepKeyOrd.TheImpl.{ghosts}
 use Rattle.c_inits.specs.Items.{same_step_key, same_key, knows, has_prefix}
 
--- the derived test
-derived : (a b : StepKey) → ghosts.eq a b ≡ same_step_key a b
-derived (Index a) (Index b) = refl
-derived (Member a) (Member b) = refl
-derived (Index a) (Member b) = refl
-derived (Member a) (Index b) = refl
+-- two keys compare equal where they are the same
+number_same : (a b : ℕ) → is_eq (nat_cmp a b) ≡ eqb a b
+number_same a b = grind (arith, nat_tests)
 
-pub same_test : ghosts.eq ≡ same_step_key
-same_test = λ i a b. derived a b i
+then_same : (o p : Ordering) → is_eq (ordering_then o p) ≡ (is_eq o && is_eq p)
+then_same Less p = refl
+then_same Equal p = refl
+then_same Greater p = refl
+
+step_order : (a b : StepKey) → is_eq (ghosts.cmp a b) ≡ same_step_key a b
+step_order (Index a) (Index b) = number_same a b
+step_order (Member a) (Member b) = number_same a b
+step_order (Index a) (Member b) = refl
+step_order (Member a) (Index b) = refl
+
+key_order : (a b : List StepKey) → is_eq (slice_cmp ghosts.cmp a b) ≡ same_key a b
+key_order [] [] = refl
+key_order [] (y ∷ b) = refl
+key_order (x ∷ a) [] = refl
+key_order (x ∷ a) (y ∷ b) =
+    then_same (ghosts.cmp x y) (slice_cmp ghosts.cmp a b)
+    ∙ (ap (λ t. t && is_eq (slice_cmp ghosts.cmp a b)) (step_order x y) ∙ ap (λ t. same_step_key x y && t) (key_order a b))
 
 step_same : (a b : StepKey) → same_step_key a b ≡ true → a ≡ b
 step_same (Index a) (Index b) e = ap Index (eqb-true a b e)
@@ -53,14 +71,14 @@ unfolding KeepsOthers
 others test old new h = h
 
 -- a set with one key more
-pub added : {S : Type 0} (old new : HashSet (Vec StepKey Global) S) (key : Vec StepKey Global) → UpdatesBy (λ x y. same_key x.items y.items) (λ y. same_key key.items y.items) old new true → (p : List StepKey) →
+added : (old new : BTreeSet (Vec StepKey Global)) (key : Vec StepKey Global) → knows new key.items ≡ true → KeepsOthers (λ x y. same_key x.items y.items) (λ y. same_key key.items y.items) old.keys new.keys → (p : List StepKey) →
     knows new p ≡ (same_key key.items p || knows old p)
-added old new key h p =
+added old new key here keeps p =
     by_bool (same_key key.items p)
     (λ yes_here.
-    sym (ap (λ q. knows new q) (key_same key.items p yes_here)) ∙ h.1 ∙ sym (ap (λ b. b || knows old p) yes_here))
+    sym (ap (λ q. knows new q) (key_same key.items p yes_here)) ∙ here ∙ sym (ap (λ b. b || knows old p) yes_here))
     (λ not_here.
-    others (test_of key.items) old.keys new.keys h.3 (test_of p)
+    others (test_of key.items) old.keys new.keys keeps (test_of p)
     (λ x y e. sym (ap (λ q. same_key q y.items) (sym (key_same p x.items e))))
     (λ k e. by_bool (same_key p k.items) (λ t. no_both (same_key key.items p) (key_own key.items p (key_same key.items k.items e ∙ sym (key_same p k.items t))) not_here) (λ f. f))
     ∙ sym (ap (λ b. b || knows old p) not_here))
@@ -105,11 +123,14 @@ pub prefix_none : {A : Type 0} (xs : List A) → has_prefix (λ p. false) xs ≡
 prefix_none [] = refl
 prefix_none (x ∷ xs) = prefix_none xs
 
--- what the set's own test answers
-pub tested : {S : Type 0} (set : HashSet (Vec StepKey Global) S) (p : List StepKey) → contains_by (λ k. pointwise ghosts.eq p k.items) set ≡ knows set p
-tested set p = ap (λ e. contains_by (λ k. pointwise e p k.items) set) same_test
+-- what the set's own comparison finds
+pub tested : (set : BTreeSet (Vec StepKey Global)) (p : List StepKey) → contains_by (λ k. slice_cmp ghosts.cmp p k.items) set ≡ knows set p
+tested set p = ap (λ (test : Vec StepKey Global → Bool). list_any test set.keys) (λ i k. key_order p k.items i)
 
-pub updated : {S : Type 0} (old new : HashSet (Vec StepKey Global) S) (key : Vec StepKey Global) → UpdatesBy (λ x y. pointwise ghosts.eq x.items y.items) (λ y. pointwise ghosts.eq key.items y.items) old new true → (p : List StepKey) →
+pub updated : (old new : BTreeSet (Vec StepKey Global)) (key : Vec StepKey Global) → UpdatesBy (λ x y. slice_cmp ghosts.cmp x.items y.items) (λ y. slice_cmp ghosts.cmp key.items y.items) old new true → (p : List StepKey) →
     knows new p ≡ (same_key key.items p || knows old p)
 updated old new key h p =
-    added old new key (subst (λ (e : StepKey → StepKey → Bool). UpdatesBy (λ x y. pointwise e x.items y.items) (λ y. pointwise e key.items y.items) old new true) same_test h) p
+    let keeps : KeepsOthers (λ (x y : Vec StepKey Global). same_key x.items y.items) (is_at (λ (y : Vec StepKey Global). slice_cmp ghosts.cmp key.items y.items)) old.keys new.keys
+    = subst (λ (e : Vec StepKey Global → Vec StepKey Global → Bool). KeepsOthers e (is_at (λ (y : Vec StepKey Global). slice_cmp ghosts.cmp key.items y.items)) old.keys new.keys) (λ i x y. key_order x.items y.items i) h.3 in
+    added old new key (sym (tested new key.items) ∙ h.1)
+    (subst (λ (test : Vec StepKey Global → Bool). KeepsOthers (λ x y. same_key x.items y.items) test old.keys new.keys) (λ i y. key_order key.items y.items i) keeps) p

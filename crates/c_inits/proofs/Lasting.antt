@@ -1,6 +1,6 @@
 -- The items that last, from the last action back to the first.
 use Rattle.std.proofs.Common.{◌≡◌, Bool, true, false, ◌||◌, ◌&&◌, cond, refl, ap, sym, ◌∙◌, List, [], ◌∷◌, ◌++◌, append_assoc, append-nil, map, reverse, Vec, Global, if◌then◌else◌}
-use Rattle.std.specs.HashSet.{HashSet}
+use Rattle.std.specs.BTreeSet.{BTreeSet}
 use Rattle.std.proofs.lemmas.List.{map_push, reverse-append, reverse-reverse}
 use Rattle.c_types.specs.declared.term.PathStep.{PathStep}
 use Rattle.c_types.specs.declared.term.PathStep.TheVariants.{Index, Member}
@@ -111,21 +111,21 @@ keys_same (x ∷ a) [] = refl
 keys_same (x ∷ a) (y ∷ b) = ap (λ t. t && same_key (key_path a) (key_path b)) (step_keys x y) ∙ ap (λ t. same_step x y && t) (keys_same a b)
 
 -- what a set of keys knows after actions
-abbrev pub Knows : {S : Type 0} → HashSet (Vec StepKey Global) S → List Action → Type 0
+abbrev pub Knows : BTreeSet (Vec StepKey Global) → List Action → Type 0
 Knows set actions = (p : Path) → knows set (key_path p) ≡ clears actions p
 
-pub knows_more : {S : Type 0} (old new : HashSet (Vec StepKey Global) S) (a : InitAction) (actions : List Action) → ((p : List StepKey) → knows new p ≡ (clears_key a p || knows old p)) → Knows old actions →
+pub knows_more : (old new : BTreeSet (Vec StepKey Global)) (a : InitAction) (actions : List Action) → ((p : List StepKey) → knows new p ≡ (clears_key a p || knows old p)) → Knows old actions →
     Knows new (action_of a ∷ actions)
 knows_more old new (ClearsPath path) actions more h p =
     more (key_path p) ∙ ap (λ b. b || knows old (key_path p)) (keys_same path.items p) ∙ ap (λ b. same_path path.items p || b) (h p)
 knows_more old new (PutsItem item) actions more h p = more (key_path p) ∙ h p
 
-gone : {S : Type 0} (set : HashSet (Vec StepKey Global) S) (actions : List Action) → Knows set actions → (path : Path) → has_prefix (knows set) (key_path path) ≡ covers actions path
+gone : (set : BTreeSet (Vec StepKey Global)) (actions : List Action) → Knows set actions → (path : Path) → has_prefix (knows set) (key_path path) ≡ covers actions path
 gone set actions h path =
     prefix_map (knows set) key_step path ∙ prefix_same (λ p. knows set (key_path p)) (clears actions) path h ∙ sym (covers_prefix actions path)
 
 -- the survivors so far, backwards
-pub left_more : {S : Type 0} (set : HashSet (Vec StepKey Global) S) (a : InitAction) (actions : List Action) (old new : List InitItem) → Knows set actions →
+pub left_more : (set : BTreeSet (Vec StepKey Global)) (a : InitAction) (actions : List Action) (old new : List InitItem) → Knows set actions →
     new ≡ old ++ left_of (has_prefix (knows set)) a → map placed_of old ≡ reverse (survivors actions) → map placed_of new ≡ reverse (survivors (action_of a ∷ actions))
 left_more set (ClearsPath path) actions old new h e so_far = ap (map placed_of) (e ∙ append-nil old) ∙ so_far
 left_more set (PutsItem item) actions old new h e so_far = by (has_prefix (knows set) (key_path item.path.items)) (gone set actions h item.path.items) e

@@ -2,7 +2,8 @@
 use Rattle.std.specs.Prelude.{Bool, false, ◌||◌, eqb, List, [], ◌∷◌, map, Vec, if◌then◌else◌}
 use Rattle.std.specs.Global.{Global}
 use Rattle.std.specs.Cmp.Lexicographic.{pointwise}
-use Rattle.std.specs.HashSet.{HashSet, contains_by}
+use Rattle.std.specs.List.{list_any}
+use Rattle.std.specs.BTreeSet.{BTreeSet}
 use Rattle.c_types.specs.declared.term.PathStep.{PathStep}
 use Rattle.c_types.specs.declared.term.PathStep.TheVariants.{Index, Member}
 use Rattle.c_inits.specs.declared.items.InitItem.{InitItem}
@@ -40,8 +41,8 @@ abbrev pub same_key : List StepKey → List StepKey → Bool
 same_key a b = pointwise same_step_key a b
 
 -- whether a set has that key
-abbrev pub knows : {S : Type 0} → HashSet (Vec StepKey Global) S → List StepKey → Bool
-knows set p = contains_by (λ k. same_key p k.items) set
+abbrev pub knows : BTreeSet (Vec StepKey Global) → List StepKey → Bool
+knows set p = list_any (λ k. same_key p k.items) set.keys
 
 -- whether an action clears that path
 abbrev pub clears_key : InitAction → List StepKey → Bool

@@ -7,7 +7,7 @@ ghost use Rattle.c_inits.specs.declared.items.StepKey.{StepKey};
 
 use c_types::term::{OutOfMemory, PathStep};
 use std::alloc::Global;
-use std::collections::HashSet;
+use std::collections::BTreeSet;
 
 /// What an expression or a string gives a sub-object: the path of the sub-object, the syntax node of the expression, and of a string
 /// the position of the character.
@@ -26,7 +26,7 @@ pub enum InitAction {
 }
 
 /// A step as a part of a key.
-#[derive(Clone, Copy, PartialEq, Eq, Hash, Drop)]
+#[derive(Clone, Copy, PartialEq, Eq, PartialOrd, Ord, Drop)]
 enum StepKey {
     Index(u64),
     Member(u32),
@@ -56,7 +56,7 @@ fn path_key(alloc: Global, path: &[PathStep]) -> Result<Vec<StepKey>, OutOfMemor
 }
 
 /// Whether a path or a beginning of it is among the cleared ones.
-fn is_cleared(cleared: &HashSet<Vec<StepKey>>, path: &[StepKey]) -> bool
+fn is_cleared(cleared: &BTreeSet<Vec<StepKey>>, path: &[StepKey]) -> bool
     ensures { result ≡ has_prefix (knows cleared.now) path.now }
 {
     for end in 0..path.len() {
@@ -68,7 +68,7 @@ fn is_cleared(cleared: &HashSet<Vec<StepKey>>, path: &[StepKey]) -> bool
 }
 
 /// One more cleared path.
-fn note_cleared(cleared: &mut HashSet<Vec<StepKey>>, key: Vec<StepKey>) -> Result<(), OutOfMemory>
+fn note_cleared(cleared: &mut BTreeSet<Vec<StepKey>>, key: Vec<StepKey>) -> Result<(), OutOfMemory>
     ensures { OnOk result ((p : List StepKey) → knows cleared.new p ≡ (same_key key.items p || knows cleared.old p)) }
 {
     match cleared.insert(key) {
@@ -91,7 +91,7 @@ fn push_item(items: &mut Vec<InitItem>, item: InitItem) -> Result<(), OutOfMemor
 fn take_action(
     alloc: Global,
     action: InitAction,
-    cleared: &mut HashSet<Vec<StepKey>>,
+    cleared: &mut BTreeSet<Vec<StepKey>>,
     items: &mut Vec<InitItem>,
 ) -> Result<(), OutOfMemory>
     ensures cleared { OnOk result ((p : List StepKey) →
@@ -114,12 +114,12 @@ fn take_action(
 }
 
 /// The items that last, in order: those that no later action takes away (C11 6.7.9p19). Time in proportion to the actions and the
-/// lengths of their paths.
+/// lengths of their paths, but for look-ups in an ordered set of paths.
 pub fn lasting_items(alloc: Global, actions: Vec<InitAction>) -> Result<Vec<InitItem>, OutOfMemory>
     ensures { IfOk result (λ items. map placed_of items.items ≡ lasting [] (map action_of actions.items)) }
 {
     let mut rest = actions;
-    let mut cleared = HashSet::new(alloc);
+    let mut cleared = BTreeSet::new(alloc);
     let mut items = Vec::new(alloc);
     while let Some(action) = rest.pop() {
         take_action(alloc, action, &mut cleared, &mut items)?;
