@@ -42,7 +42,7 @@ fn integer_node(
     push_leaf(alloc, unit, NodeKind::Number(value), place, ty)
 }
 
-// An integer constant (C11 6.4.4.1). One of 2^64 or more isn't built.
+/// An integer constant (C11 6.4.4.1). One of 2^64 or more isn't built.
 pub fn integer(
     alloc: Global,
     unit: &mut Unit,
@@ -83,7 +83,7 @@ fn character_node(
     push_leaf(alloc, unit, NodeKind::Number(value), place, int)
 }
 
-// A character constant (C11 6.4.4.4).
+/// A character constant (C11 6.4.4.4).
 pub fn character(
     alloc: Global,
     unit: &mut Unit,
@@ -132,7 +132,7 @@ fn gathered(
     Ok(Listing::of(text))
 }
 
-// An array of bytes and a closing zero.
+/// An array of bytes and a closing zero.
 pub fn text_node(
     alloc: Global,
     unit: &mut Unit,
@@ -164,7 +164,7 @@ pub fn text_node(
     push_leaf(alloc, unit, NodeKind::Text(text), place, ty)
 }
 
-// String literals side by side (C11 6.4.5, 6.5.1). One with an escape of 256 or more isn't built.
+/// String literals side by side (C11 6.4.5, 6.5.1). One with an escape of 256 or more isn't built.
 pub fn string(
     alloc: Global,
     unit: &mut Unit,

@@ -132,7 +132,7 @@ fn own_name_row(
     }
 }
 
-// A name by what it means (C11 6.5.1, 6.4.2.2).
+/// A name by what it means (C11 6.5.1, 6.4.2.2).
 pub fn name_row(
     alloc: Global,
     unit: &mut Unit,

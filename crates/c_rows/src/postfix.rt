@@ -128,7 +128,7 @@ fn counting(down: bool) -> Op
     if down { Op::Minus } else { Op::Plus }
 }
 
-// A place that is counted up or down by 1; `post` says that its old value is the row's (C11 6.5.2.4, 6.5.3.1).
+/// A place that is counted up or down by 1; `post` says that its old value is the row's (C11 6.5.2.4, 6.5.3.1).
 pub fn counted(
     alloc: Global,
     unit: &mut Unit,

@@ -132,7 +132,7 @@ fn add_objects(
     Ok(())
 }
 
-// Adds the automatic objects that a declaration declares: by its first declarator, and by those in the rest of it.
+/// Adds the automatic objects that a declaration declares: by its first declarator, and by those in the rest of it.
 pub fn add_declared(
     list: &mut Vec<u32>,
     syntax: &Syntax,

@@ -64,7 +64,7 @@ const SIGN_COLON: u8 = 31;
 
 const SIGN_LEFT_PARENTHESIS: u8 = 2;
 
-// Where a node's own token is: its first one, a leaf among its children, or that of a part.
+/// Where a node's own token is: its first one, a leaf among its children, or that of a part.
 #[derive(Clone, Copy, Debug, PartialEq, Eq)]
 pub enum Own {
     First,

@@ -12,7 +12,7 @@ use crate::trees::Trees;
 use c_types::term::{Form, Term, TypeId};
 use type_rules::kinds::is_passed;
 
-// Whether a call of that type stands over a callee and its arguments.
+/// Whether a call of that type stands over a callee and its arguments.
 pub fn call_row(trees: &Trees<'_>, ty: TypeId, children: &[u32]) -> bool
     requires range { InRange (core_of trees.now) }
     requires ty { ty.0 < length trees.now.types.now.terms }

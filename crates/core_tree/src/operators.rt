@@ -22,7 +22,7 @@ fn is_update(op: Op) -> bool
     }
 }
 
-// Whether an Update by that operator may have that type.
+/// Whether an Update by that operator may have that type.
 pub fn updates(types: &TypeTable, op: Op, ty: TypeId) -> bool
     requires { ty.0 < length types.now.terms }
     ensures { IsTrue result ↔ Updates op (type_of types.now ty.0) }
@@ -31,7 +31,7 @@ pub fn updates(types: &TypeTable, op: Op, ty: TypeId) -> bool
         || (is_pointer(types, ty) && matches!(op, Op::Plus | Op::Minus))
 }
 
-// Whether an operator over one value gives that type (C11 6.5.3.3).
+/// Whether an operator over one value gives that type (C11 6.5.3.3).
 pub fn unary(types: &TypeTable, op: Op, a: TypeId, ty: TypeId) -> bool
     requires operand { a.0 < length types.now.terms }
     requires ty { ty.0 < length types.now.terms }
@@ -92,7 +92,7 @@ fn subtracts(types: &TypeTable, a: TypeId, b: TypeId, ty: TypeId) -> bool
     }
 }
 
-// Whether an operator over two values gives that type.
+/// Whether an operator over two values gives that type.
 pub fn binary(types: &TypeTable, op: Op, a: TypeId, b: TypeId, ty: TypeId) -> bool
     requires left { a.0 < length types.now.terms }
     requires right { b.0 < length types.now.terms }

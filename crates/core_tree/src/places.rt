@@ -15,7 +15,7 @@ use type_rules::conversions::agree;
 use type_rules::kinds::{is_function, is_text, is_void, lacks_length, points_to};
 use type_rules::members::{is_member, member_width};
 
-// Whether the name of an object may have that type (C11 6.5.1p2).
+/// Whether the name of an object may have that type (C11 6.5.1p2).
 pub fn named_row(trees: &Trees<'_>, e: u32, ty: TypeId, children: &[u32]) -> bool
     requires range { InRange (core_of trees.now) }
     requires ty { ty.0 < length trees.now.types.now.terms }
@@ -31,7 +31,7 @@ pub fn named_row(trees: &Trees<'_>, e: u32, ty: TypeId, children: &[u32]) -> boo
     }
 }
 
-// Whether a string literal may have that type: an array of `char`, one longer than its bytes (C11 6.4.5p6).
+/// Whether a string literal may have that type: an array of `char`, one longer than its bytes (C11 6.4.5p6).
 pub fn text_row(trees: &Trees<'_>, bytes: &Listing<u8>, ty: TypeId, children: &[u32]) -> bool
     requires { ty.0 < length trees.now.types.now.terms }
     ensures { IsTrue result ↔ TextRow bytes.now (type_of trees.now.types.now ty.0) children.now }
@@ -42,7 +42,7 @@ pub fn text_row(trees: &Trees<'_>, bytes: &Listing<u8>, ty: TypeId, children: &[
     }
 }
 
-// Whether a compound literal of that type stands over the initialiser of its entity (C11 6.5.2.5).
+/// Whether a compound literal of that type stands over the initialiser of its entity (C11 6.5.2.5).
 pub fn literal_row(trees: &Trees<'_>, e: u32, ty: TypeId, children: &[u32]) -> bool
     requires range { InRange (core_of trees.now) }
     requires ty { ty.0 < length trees.now.types.now.terms }
@@ -59,7 +59,7 @@ pub fn literal_row(trees: &Trees<'_>, e: u32, ty: TypeId, children: &[u32]) -> b
     }
 }
 
-// Whether the name of a function may have that type.
+/// Whether the name of a function may have that type.
 pub fn function_name_row(trees: &Trees<'_>, e: u32, ty: TypeId, children: &[u32]) -> bool
     requires range { InRange (core_of trees.now) }
     requires ty { ty.0 < length trees.now.types.now.terms }
@@ -75,7 +75,7 @@ pub fn function_name_row(trees: &Trees<'_>, e: u32, ty: TypeId, children: &[u32]
     }
 }
 
-// Whether a Deref of that type stands over a pointer to it (C11 6.5.3.2p4).
+/// Whether a Deref of that type stands over a pointer to it (C11 6.5.3.2p4).
 pub fn deref_row(trees: &Trees<'_>, ty: TypeId, children: &[u32]) -> bool
     requires range { InRange (core_of trees.now) }
     requires ty { ty.0 < length trees.now.types.now.terms }
@@ -93,7 +93,7 @@ pub fn deref_row(trees: &Trees<'_>, ty: TypeId, children: &[u32]) -> bool
     }
 }
 
-// Whether member `k` of a place has that type, and is no flexible array (C11 6.5.2.3).
+/// Whether member `k` of a place has that type, and is no flexible array (C11 6.5.2.3).
 pub fn member_row(trees: &Trees<'_>, k: u32, ty: TypeId, children: &[u32]) -> bool
     requires range { InRange (core_of trees.now) }
     requires ty { ty.0 < length trees.now.types.now.terms }
@@ -111,7 +111,7 @@ pub fn member_row(trees: &Trees<'_>, k: u32, ty: TypeId, children: &[u32]) -> bo
     }
 }
 
-// The width of a place, where it is a bit-field.
+/// The width of a place, where it is a bit-field.
 pub fn place_width(trees: &Trees<'_>, node: u32) -> Option<u8>
     requires range { InRange (core_of trees.now) }
     requires node { node < length trees.now.nodes.now }

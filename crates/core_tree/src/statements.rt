@@ -16,7 +16,7 @@ use c_types::term::{PathStep, TypeId};
 use pta_base::Listing;
 use type_rules::members::at_path;
 
-// Whether an expression statement stands over one value (C11 6.8.3).
+/// Whether an expression statement stands over one value (C11 6.8.3).
 pub fn expression_row(trees: &Trees<'_>, children: &[u32]) -> bool
     requires { All (λ c. c < length trees.now.nodes.now) children.now }
     ensures { IsTrue result ↔ ExpressionRow (core_of trees.now) children.now }
@@ -27,7 +27,7 @@ pub fn expression_row(trees: &Trees<'_>, children: &[u32]) -> bool
     }
 }
 
-// Whether each child is a statement, as in a block (C11 6.8.2).
+/// Whether each child is a statement, as in a block (C11 6.8.2).
 pub fn block_row(trees: &Trees<'_>, children: &[u32]) -> bool
     requires { All (λ c. c < length trees.now.nodes.now) children.now }
     ensures { IsTrue result ↔ BlockRow (core_of trees.now) children.now }
@@ -35,7 +35,7 @@ pub fn block_row(trees: &Trees<'_>, children: &[u32]) -> bool
     children.iter().all(|s| is_statement(trees, *s))
 }
 
-// Whether an If stands over a condition and one or two statements (C11 6.8.4.1).
+/// Whether an If stands over a condition and one or two statements (C11 6.8.4.1).
 pub fn if_row(trees: &Trees<'_>, children: &[u32]) -> bool
     requires range { InRange (core_of trees.now) }
     requires children { All (λ c. c < length trees.now.nodes.now) children.now }
@@ -50,7 +50,7 @@ pub fn if_row(trees: &Trees<'_>, children: &[u32]) -> bool
     }
 }
 
-// Whether a While stands over a condition and a statement (C11 6.8.5.1).
+/// Whether a While stands over a condition and a statement (C11 6.8.5.1).
 pub fn while_row(trees: &Trees<'_>, children: &[u32]) -> bool
     requires range { InRange (core_of trees.now) }
     requires children { All (λ c. c < length trees.now.nodes.now) children.now }
@@ -62,7 +62,7 @@ pub fn while_row(trees: &Trees<'_>, children: &[u32]) -> bool
     }
 }
 
-// Whether a DoWhile stands over a statement and a condition (C11 6.8.5.2).
+/// Whether a DoWhile stands over a statement and a condition (C11 6.8.5.2).
 pub fn do_while_row(trees: &Trees<'_>, children: &[u32]) -> bool
     requires range { InRange (core_of trees.now) }
     requires children { All (λ c. c < length trees.now.nodes.now) children.now }
@@ -74,7 +74,7 @@ pub fn do_while_row(trees: &Trees<'_>, children: &[u32]) -> bool
     }
 }
 
-// Whether a For stands over its first statements, its condition, what comes after a turn, and its body (C11 6.8.5.3).
+/// Whether a For stands over its first statements, its condition, what comes after a turn, and its body (C11 6.8.5.3).
 pub fn for_row(
     trees: &Trees<'_>,
     entities: &[u32],
@@ -165,7 +165,7 @@ fn is_one_expression(trees: &Trees<'_>, first: &[u32]) -> bool
     }
 }
 
-// Whether a Switch stands over an integer and a statement (C11 6.8.4.2).
+/// Whether a Switch stands over an integer and a statement (C11 6.8.4.2).
 pub fn switch_row(trees: &Trees<'_>, children: &[u32]) -> bool
     requires range { InRange (core_of trees.now) }
     requires children { All (λ c. c < length trees.now.nodes.now) children.now }
@@ -177,7 +177,7 @@ pub fn switch_row(trees: &Trees<'_>, children: &[u32]) -> bool
     }
 }
 
-// Whether a label stands over a statement (C11 6.8.1).
+/// Whether a label stands over a statement (C11 6.8.1).
 pub fn labelled_row(trees: &Trees<'_>, children: &[u32]) -> bool
     requires { All (λ c. c < length trees.now.nodes.now) children.now }
     ensures { IsTrue result ↔ LabelledRow (core_of trees.now) children.now }
@@ -188,7 +188,7 @@ pub fn labelled_row(trees: &Trees<'_>, children: &[u32]) -> bool
     }
 }
 
-// Whether a Return stands over a value or nothing (C11 6.8.6.4).
+/// Whether a Return stands over a value or nothing (C11 6.8.6.4).
 pub fn return_row(trees: &Trees<'_>, children: &[u32]) -> bool
     requires { All (λ c. c < length trees.now.nodes.now) children.now }
     ensures { IsTrue result ↔ ReturnRow (core_of trees.now) children.now }
@@ -200,7 +200,7 @@ pub fn return_row(trees: &Trees<'_>, children: &[u32]) -> bool
     }
 }
 
-// Whether there is a value for each path, of the type at that path (C11 6.7.9).
+/// Whether there is a value for each path, of the type at that path (C11 6.7.9).
 pub fn initial_values(
     trees: &Trees<'_>,
     ty: TypeId,

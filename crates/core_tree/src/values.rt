@@ -20,7 +20,7 @@ use type_rules::members::is_member;
 use type_rules::numbers::holds;
 use type_rules::sizes::points_to_object;
 
-// Whether a number stands alone, in the range of that type.
+/// Whether a number stands alone, in the range of that type.
 pub fn number_row(trees: &Trees<'_>, n: i128, ty: TypeId, children: &[u32]) -> bool
     requires { ty.0 < length trees.now.types.now.terms }
     ensures { IsTrue result ↔ NumberRow n (type_of trees.now.types.now ty.0) children.now }
@@ -31,7 +31,7 @@ pub fn number_row(trees: &Trees<'_>, n: i128, ty: TypeId, children: &[u32]) -> b
     }
 }
 
-// Whether a null value stands alone, of a pointer type.
+/// Whether a null value stands alone, of a pointer type.
 pub fn null_row(trees: &Trees<'_>, ty: TypeId, children: &[u32]) -> bool
     requires { ty.0 < length trees.now.types.now.terms }
     ensures { IsTrue result ↔ NullRow (type_of trees.now.types.now ty.0) children.now }
@@ -42,7 +42,7 @@ pub fn null_row(trees: &Trees<'_>, ty: TypeId, children: &[u32]) -> bool
     }
 }
 
-// Whether a Fetch of that type stands over a place of it (C11 6.3.2.1p2).
+/// Whether a Fetch of that type stands over a place of it (C11 6.3.2.1p2).
 pub fn fetch_row(trees: &Trees<'_>, ty: TypeId, children: &[u32]) -> bool
     requires range { InRange (core_of trees.now) }
     requires ty { ty.0 < length trees.now.types.now.terms }
@@ -55,7 +55,7 @@ pub fn fetch_row(trees: &Trees<'_>, ty: TypeId, children: &[u32]) -> bool
     }
 }
 
-// Whether an AddressOf of that type stands over a place that is no bit-field (C11 6.5.3.2).
+/// Whether an AddressOf of that type stands over a place that is no bit-field (C11 6.5.3.2).
 pub fn address_row(trees: &Trees<'_>, ty: TypeId, children: &[u32]) -> bool
     requires range { InRange (core_of trees.now) }
     requires ty { ty.0 < length trees.now.types.now.terms }
@@ -73,7 +73,7 @@ pub fn address_row(trees: &Trees<'_>, ty: TypeId, children: &[u32]) -> bool
     }
 }
 
-// Whether a Decay of that type stands over an array or a function (C11 6.3.2.1p3).
+/// Whether a Decay of that type stands over an array or a function (C11 6.3.2.1p3).
 pub fn decay_row(trees: &Trees<'_>, ty: TypeId, children: &[u32]) -> bool
     requires range { InRange (core_of trees.now) }
     requires ty { ty.0 < length trees.now.types.now.terms }
@@ -89,7 +89,7 @@ pub fn decay_row(trees: &Trees<'_>, ty: TypeId, children: &[u32]) -> bool
     }
 }
 
-// Whether a PointerAdd of that type stands over a pointer and an integer (C11 6.5.6).
+/// Whether a PointerAdd of that type stands over a pointer and an integer (C11 6.5.6).
 pub fn pointer_add_row(trees: &Trees<'_>, ty: TypeId, children: &[u32]) -> bool
     requires range { InRange (core_of trees.now) }
     requires ty { ty.0 < length trees.now.types.now.terms }
@@ -104,7 +104,7 @@ pub fn pointer_add_row(trees: &Trees<'_>, ty: TypeId, children: &[u32]) -> bool
     }
 }
 
-// Whether a Convert to that type stands over a value of another one (C11 6.3).
+/// Whether a Convert to that type stands over a value of another one (C11 6.3).
 pub fn convert_row(trees: &Trees<'_>, ty: TypeId, children: &[u32]) -> bool
     requires range { InRange (core_of trees.now) }
     requires ty { ty.0 < length trees.now.types.now.terms }
@@ -122,7 +122,7 @@ pub fn convert_row(trees: &Trees<'_>, ty: TypeId, children: &[u32]) -> bool
     }
 }
 
-// Whether an Upcast of that type stands over a pointer to a structure (C11 6.7.2.1p15).
+/// Whether an Upcast of that type stands over a pointer to a structure (C11 6.7.2.1p15).
 pub fn upcast_row(trees: &Trees<'_>, ty: TypeId, children: &[u32]) -> bool
     requires range { InRange (core_of trees.now) }
     requires ty { ty.0 < length trees.now.types.now.terms }
@@ -138,7 +138,7 @@ pub fn upcast_row(trees: &Trees<'_>, ty: TypeId, children: &[u32]) -> bool
     }
 }
 
-// Whether an Assign of that type stands over a place and a value of it (C11 6.5.16.1).
+/// Whether an Assign of that type stands over a place and a value of it (C11 6.5.16.1).
 pub fn assign_row(trees: &Trees<'_>, ty: TypeId, children: &[u32]) -> bool
     requires range { InRange (core_of trees.now) }
     requires ty { ty.0 < length trees.now.types.now.terms }
@@ -153,7 +153,7 @@ pub fn assign_row(trees: &Trees<'_>, ty: TypeId, children: &[u32]) -> bool
     }
 }
 
-// Whether an Update of that type stands over a place of it and an integer (C11 6.5.16.2).
+/// Whether an Update of that type stands over a place of it and an integer (C11 6.5.16.2).
 pub fn update_row(trees: &Trees<'_>, op: Op, ty: TypeId, children: &[u32]) -> bool
     requires range { InRange (core_of trees.now) }
     requires ty { ty.0 < length trees.now.types.now.terms }
@@ -168,7 +168,7 @@ pub fn update_row(trees: &Trees<'_>, op: Op, ty: TypeId, children: &[u32]) -> bo
     }
 }
 
-// Whether a Choose of that type stands over a condition and two values of it (C11 6.5.15).
+/// Whether a Choose of that type stands over a condition and two values of it (C11 6.5.15).
 pub fn choose_row(trees: &Trees<'_>, ty: TypeId, children: &[u32]) -> bool
     requires range { InRange (core_of trees.now) }
     requires ty { ty.0 < length trees.now.types.now.terms }
@@ -183,7 +183,7 @@ pub fn choose_row(trees: &Trees<'_>, ty: TypeId, children: &[u32]) -> bool
     }
 }
 
-// Whether a Sequence of that type stands over a value and a value of it (C11 6.5.17).
+/// Whether a Sequence of that type stands over a value and a value of it (C11 6.5.17).
 pub fn sequence_row(trees: &Trees<'_>, ty: TypeId, children: &[u32]) -> bool
     requires range { InRange (core_of trees.now) }
     requires ty { ty.0 < length trees.now.types.now.terms }
@@ -196,7 +196,7 @@ pub fn sequence_row(trees: &Trees<'_>, ty: TypeId, children: &[u32]) -> bool
     }
 }
 
-// Whether member `k` of a value has that type, and is no array (C11 6.5.2.3).
+/// Whether member `k` of a value has that type, and is no array (C11 6.5.2.3).
 pub fn member_of_value_row(trees: &Trees<'_>, k: u32, ty: TypeId, children: &[u32]) -> bool
     requires range { InRange (core_of trees.now) }
     requires ty { ty.0 < length trees.now.types.now.terms }
@@ -214,7 +214,7 @@ pub fn member_of_value_row(trees: &Trees<'_>, k: u32, ty: TypeId, children: &[u3
     }
 }
 
-// Whether an operator of that type stands over one or two values.
+/// Whether an operator of that type stands over one or two values.
 pub fn arith_row(trees: &Trees<'_>, op: Op, ty: TypeId, children: &[u32]) -> bool
     requires range { InRange (core_of trees.now) }
     requires ty { ty.0 < length trees.now.types.now.terms }

@@ -15,7 +15,7 @@ use core_nodes::CheckFault;
 use core_tree::node::Unit;
 use std::alloc::Global;
 
-// The core node of a part.
+/// The core node of a part.
 pub fn operand_of(unit: &Unit, results: &[Made], at: u32, part: u32) -> Result<u32, CheckFault>
     requires within { All (IsWithin unit.now) results.now }
     requires rows { HaveRowsMade unit.now results.now }
@@ -26,7 +26,7 @@ pub fn operand_of(unit: &Unit, results: &[Made], at: u32, part: u32) -> Result<u
     core_of(unit, results, at, part)
 }
 
-// The value of a part.
+/// The value of a part.
 pub fn value_of(
     alloc: Global,
     unit: &mut Unit,
