@@ -1,10 +1,6 @@
 // Whether a unit or a program is valid.
 #![tactic(auto)]
 
-mod bodies;
-mod cases;
-mod entities;
-mod fixed;
 mod linkages;
 #[cfg(test)]
 mod tests;

@@ -9,10 +9,10 @@ ghost use Rattle.core_tree.specs.declared.under.Group.TheVariants.{Children};
 ghost use Rattle.core_tree.specs.Valid.{ValueSized, EntitySized, ResultSized, Sized};
 ghost use Rattle.core_valid.specs.Each.{NodeInRange, EntityInRange, NodeStands, NodeHolds, NodeRightIn, EntityRight, EntityRightIn, NodesRight, EntitiesRight, Checked};
 
-use crate::bodies::{fits_functions, is_in_owner, may_stand};
-use crate::cases::case_differs;
-use crate::entities::{has_body, is_listed, is_literal, is_owned, is_used, lists_right};
-use crate::fixed::holds_fixed;
+use core_conditions::bodies::{fits_functions, is_in_owner, may_stand};
+use core_conditions::cases::case_differs;
+use core_conditions::entities::{has_body, is_listed, is_literal, is_owned, is_used, lists_right};
+use core_conditions::fixed::holds_fixed;
 use core_tree::kinds::is_value_kind;
 use core_tree::node::{Entity, Linkage, Node, NodeKind, Storage};
 use core_tree::rows::in_row;
@@ -242,7 +242,7 @@ fn entities_right(trees: &Trees<'_>) -> bool
     true
 }
 
-// Whether all holds that is asked of units and programs alike.
+/// Whether all holds that is asked of units and programs alike.
 pub fn checked(trees: &Trees<'_>) -> bool
     ensures { IsTrue result ↔ Checked (core_of trees.now) }
 {

@@ -9,7 +9,7 @@ use Rattle.core_tree.specs.declared.node.NodeKind.TheVariants.{Named, Text, Lite
 use Rattle.core_tree.specs.Typed.{CoreTrees, IsInteger, IsPointer, type_at}
 use Rattle.core_tree.specs.Range.{node_at}
 use Rattle.core_tree.specs.Valid.{FixedNumber, plain, made, FixedPlace, text, function, object, literal, member, target, FixedPointer, null, address, decay, upcast, converted, moved, IsNumber, MakesNumber, KindIs}
-use Rattle.core_valid.specs.Fixed.{NumberStep, NumberStepAt, PlaceStep, PlaceStepAt, PointerStep, PointerStepAt}
+use Rattle.core_conditions.specs.Fixed.{NumberStep, NumberStepAt, PlaceStep, PlaceStepAt, PointerStep, PointerStepAt}
 
 -- a node of that kind over those children takes the step of that kind
 place_here : (u : CoreTrees) (n : ℕ) (kind : NodeKind) (children : List ℕ) → KindIs u n kind children → PlaceStep u kind children → PlaceStepAt u (node_at u n)

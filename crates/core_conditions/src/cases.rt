@@ -74,7 +74,7 @@ fn differs_in(trees: &Trees<'_>, s: usize, kind: &NodeKind, a: usize, x: Option<
     !matches!(kind, NodeKind::Switch) || !is_case_of(trees, s, a) || only_case(trees, s, a, x)
 }
 
-// Whether a node, if it is a case, differs from the others of its switch.
+/// Whether a node, if it is a case, differs from the others of its switch.
 pub fn case_differs(trees: &Trees<'_>, a: usize, kind: &NodeKind) -> bool
     requires range { InRange (core_of trees.now) }
     requires once { ChildOnce (core_of trees.now) }

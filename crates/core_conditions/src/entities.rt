@@ -12,7 +12,7 @@ use core_tree::under::{Group, has, is_under, listed_by, once_held};
 use pta_base::Place;
 use type_rules::kinds::is_function;
 
-// Whether an owner is a function, and a local has one.
+/// Whether an owner is a function, and a local has one.
 pub fn is_owned(trees: &Trees<'_>, entity: &Entity) -> bool
     requires range { InRange (core_of trees.now) }
     requires owner { IfSome entity.now.owner (λ f. f < length trees.now.entities.now) }
@@ -71,7 +71,7 @@ fn is_object_body(trees: &Trees<'_>, e: usize, entity: &Entity, b: u32) -> bool
         && initialises(&trees.nodes[b as usize].kind, e)
 }
 
-// Whether an entity has the body that it may have.
+/// Whether an entity has the body that it may have.
 pub fn has_body(trees: &Trees<'_>, e: usize, entity: &Entity) -> bool
     requires ty { entity.now.ty.0 < length trees.now.types.now.terms }
     requires body { IfSome entity.now.body (λ b. b < length trees.now.nodes.now) }
@@ -115,7 +115,7 @@ fn only_literal(trees: &Trees<'_>, n: usize, e: u32) -> bool
         || m == n)
 }
 
-// Whether a node, if it is a compound literal, makes its entity alone (C11 6.5.2.5p5).
+/// Whether a node, if it is a compound literal, makes its entity alone (C11 6.5.2.5p5).
 pub fn is_literal(trees: &Trees<'_>, n: usize, kind: &NodeKind) -> bool
     requires { IfSome (named_by kind.now) (λ e. e < length trees.now.entities.now) }
     ensures { IsTrue result ↔ IsLiteral (core_of trees.now) n kind.now }
@@ -189,7 +189,7 @@ fn listed(trees: &Trees<'_>, e: usize, f: u32) -> bool
     has_lister(trees, e, f) && once_held(trees, Group::Entities, e)
 }
 
-// Whether an entity, if it is an automatic object that no literal makes, is listed.
+/// Whether an entity, if it is an automatic object that no literal makes, is listed.
 pub fn is_listed(trees: &Trees<'_>, e: usize, entity: &Entity) -> bool
     requires range { InRange (core_of trees.now) }
     requires once { ChildOnce (core_of trees.now) }
@@ -219,7 +219,7 @@ fn is_listable(trees: &Trees<'_>, n: usize, e: u32) -> bool
         && in_owners_body(trees, entity.owner, n)
 }
 
-// Whether a node may list what it lists.
+/// Whether a node may list what it lists.
 pub fn lists_right(trees: &Trees<'_>, n: usize, kind: &NodeKind) -> bool
     requires range { InRange (core_of trees.now) }
     requires once { ChildOnce (core_of trees.now) }
@@ -271,7 +271,7 @@ fn used_from(trees: &Trees<'_>, e: usize, p: Place) -> bool
         .all(|node| !is_use_of(&node.kind, e) || at_most(p, node.place))
 }
 
-// Whether an entity tells its first use.
+/// Whether an entity tells its first use.
 pub fn is_used(trees: &Trees<'_>, e: usize, used: Option<Place>) -> bool
     ensures { IsTrue result ↔ IsUsed (core_of trees.now) e used }
 {

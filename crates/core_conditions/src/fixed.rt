@@ -5,7 +5,7 @@ ghost use Rattle.c_types.specs.Table.{type_of};
 ghost use Rattle.core_tree.specs.Seen.{core_of};
 ghost use Rattle.core_tree.specs.Range.{InRange, named_by, entity_at};
 ghost use Rattle.core_tree.specs.Valid.{FixedNumber, FixedPlace, FixedPointer, IsFixed, IsStaticEntity, LivesForTheRun, HoldsFixed};
-ghost use Rattle.core_valid.specs.Fixed.{NumberStep, PlaceStep, PointerStep};
+ghost use Rattle.core_conditions.specs.Fixed.{NumberStep, PlaceStep, PointerStep};
 
 use crate::bodies::is_local;
 use core_tree::node::{Node, NodeKind, Storage};
@@ -161,7 +161,7 @@ fn lives_for_the_run(trees: &Trees<'_>, e: u32) -> bool
     matches!(trees.entities[e as usize].storage, Storage::Static)
 }
 
-// Whether a node, if it is the initialiser of an object that lives for the whole run, holds fixed values alone.
+/// Whether a node, if it is the initialiser of an object that lives for the whole run, holds fixed values alone.
 pub fn holds_fixed(trees: &Trees<'_>, node: &Node) -> bool
     requires range { InRange (core_of trees.now) }
     requires children { All (λ c. c < length trees.now.nodes.now) node.now.children }

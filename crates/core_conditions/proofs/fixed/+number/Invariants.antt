@@ -1,7 +1,7 @@
 use Rattle.std.proofs.Common.{ℕ, ◌<◌, ◌+◌, ◌*◌, get_or}
 use Rattle.core_tree.specs.Seen.{core_of}
 use Rattle.core_tree.specs.Valid.{FixedNumber}
-use Rattle.core_valid.proofs.fixed.+number.Given as goal
+use Rattle.core_conditions.proofs.fixed.+number.Given as goal
 
 abbrev pub decreases-fixed_number : goal.decreases-fixed_number
 decreases-fixed_number l = 3 * l.n + 2

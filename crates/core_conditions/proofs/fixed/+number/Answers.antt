@@ -1,7 +1,7 @@
 use Rattle.std.proofs.lemmas.Option.{slice_get-get_or}
 use Rattle.core_tree.specs.Seen.{core_of}
-use Rattle.core_valid.proofs.Steps.{number_iff}
-use Rattle.core_valid.proofs.fixed.+number.Goals as goal
+use Rattle.core_conditions.proofs.Steps.{number_iff}
+use Rattle.core_conditions.proofs.fixed.+number.Goals as goal
 
 pub fixed_number-returns : goal.fixed_number-returns
 fixed_number-returns t c =

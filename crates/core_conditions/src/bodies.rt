@@ -11,7 +11,7 @@ use pta_base::Text;
 use type_rules::conversions::is_result_of;
 use type_rules::kinds::is_function;
 
-// Whether an object is automatic or a parameter.
+/// Whether an object is automatic or a parameter.
 pub fn is_local(storage: Storage) -> bool
     ensures { IsTrue result ↔ IsLocal storage }
 {
@@ -30,7 +30,7 @@ fn under_body(trees: &Trees<'_>, body: Option<u32>, n: usize) -> bool
     }
 }
 
-// Whether a node stands in the body of a function.
+/// Whether a node stands in the body of a function.
 pub fn in_body(trees: &Trees<'_>, f: u32, n: usize) -> bool
     requires range { InRange (core_of trees.now) }
     requires once { ChildOnce (core_of trees.now) }
@@ -41,7 +41,7 @@ pub fn in_body(trees: &Trees<'_>, f: u32, n: usize) -> bool
     is_function(trees.types, entity.ty) && under_body(trees, entity.body, n)
 }
 
-// Whether a node stands in the body of a local's owner.
+/// Whether a node stands in the body of a local's owner.
 pub fn in_owners_body(trees: &Trees<'_>, owner: Option<u32>, n: usize) -> bool
     requires range { InRange (core_of trees.now) }
     requires once { ChildOnce (core_of trees.now) }
@@ -65,7 +65,7 @@ fn in_owner_of(trees: &Trees<'_>, e: u32, n: usize) -> bool
     !is_local(entity.storage) || in_owners_body(trees, entity.owner, n)
 }
 
-// Whether the name or literal of a local stands in its owner's body.
+/// Whether the name or literal of a local stands in its owner's body.
 pub fn is_in_owner(trees: &Trees<'_>, n: usize, kind: &NodeKind) -> bool
     requires range { InRange (core_of trees.now) }
     requires once { ChildOnce (core_of trees.now) }
@@ -131,7 +131,7 @@ fn within(trees: &Trees<'_>, switch: bool, n: usize) -> bool
     ))
 }
 
-// Whether a kind of node may stand where it does.
+/// Whether a kind of node may stand where it does.
 pub fn may_stand(trees: &Trees<'_>, n: usize, kind: &NodeKind) -> bool
     requires range { InRange (core_of trees.now) }
     requires once { ChildOnce (core_of trees.now) }
@@ -244,7 +244,7 @@ fn fits_function(trees: &Trees<'_>, n: usize, node: &Node, entity: &Entity) -> b
     }
 }
 
-// Whether a node fits each function in whose body it stands.
+/// Whether a node fits each function in whose body it stands.
 pub fn fits_functions(trees: &Trees<'_>, n: usize, node: &Node) -> bool
     requires range { InRange (core_of trees.now) }
     requires once { ChildOnce (core_of trees.now) }

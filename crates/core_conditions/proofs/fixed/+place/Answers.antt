@@ -1,7 +1,7 @@
 use Rattle.std.proofs.lemmas.Option.{slice_get-get_or}
 use Rattle.core_tree.specs.Seen.{core_of}
-use Rattle.core_valid.proofs.Steps.{place_iff, pointer_iff}
-use Rattle.core_valid.proofs.fixed.+place.Goals as goal
+use Rattle.core_conditions.proofs.Steps.{place_iff, pointer_iff}
+use Rattle.core_conditions.proofs.fixed.+place.Goals as goal
 
 pub fixed_place-returns : goal.fixed_place-returns
 fixed_place-returns t c =

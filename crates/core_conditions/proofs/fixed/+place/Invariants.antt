@@ -1,5 +1,5 @@
 use Rattle.std.proofs.Common.{◌+◌, ◌*◌}
-use Rattle.core_valid.proofs.fixed.+place.Given as goal
+use Rattle.core_conditions.proofs.fixed.+place.Given as goal
 
 abbrev pub decreases-fixed_place : goal.decreases-fixed_place
 decreases-fixed_place l = 2 * l.n + 1
