@@ -1,28 +1,72 @@
 -- Primaries by what their first leaves mean.
-use Rattle.std.proofs.Common.{arith, ◌≡◌, ◌<◌, ℕ, false, List, [], ◌∷◌, Option, None, length, get_or, refl, sym, ap, ◌∙◌}
+use Rattle.std.proofs.Common.{arith, ◌≡◌, ◌≢◌, ◌<◌, ℕ, ◌==◌, Bool, true, false, cond, List, [], ◌∷◌, Option, None, length, get_or, eqb, inl, inr, refl, sym, ap, ◌∙◌, subst}
 use Rattle.std.specs.Prelude.{◌&&◌}
+use Rattle.std.specs.Option.{option_copied}
+use Rattle.std.proofs.lemmas.Bool.Decides.{eqb_tells}
 use Rattle.c_lexer.specs.declared.TokenKind.{TokenKind}
 use Rattle.c_lexer.specs.declared.TokenKind.TheVariants.{Identifier, Keyword, Punctuator, Integer, Floating, Character, Text, End}
+use Rattle.c_grammar.specs.Productions.{p_primary}
 use Rattle.core_tree.specs.declared.node.Unit.{Unit}
 use Rattle.c_senses.specs.Tree.{Source, kind_at, is_identifier}
+use Rattle.c_senses.specs.World.{World}
+use Rattle.c_rows.specs.Named.{IsNamed}
+use Rattle.expression_rows.specs.declared.around.Around.{Around}
+use Rattle.expression_rows.specs.Fitting.{FirstFits}
 use Rattle.c_check.specs.declared.known.Meaning.{Meaning}
-use Rattle.c_check.specs.Around.{is_open}
+use Rattle.c_check.specs.Around.{is_open, first_meant, meaning_seen}
 use Rattle.c_check.specs.Built.{Scene, names_unfinished}
 
-module _ (scene : Scene) (s : Source) (u : Unit) (meaning : Option Meaning) (means : ℕ → Option Meaning) (unfinished : (i : ℕ) → scene.unfinished i ≡ is_open u (means i)) where
-  none_is : meaning ≡ None → false ≡ is_open u meaning
-  none_is e = sym (ap (is_open u) e)
+either_none : (u : Unit) (t : Bool) (lacks : Bool) (m : Option Meaning) → lacks ≡ is_open u m → (t && lacks) ≡ is_open u (cond t m None)
+either_none u true lacks m e = e
+either_none u false lacks m e = refl
 
-  of_kind : (kind : TokenKind) (first : ℕ) → (kind ≡ Identifier → meaning ≡ means first) → ((kind ≡ Identifier → ⊥) → meaning ≡ None) → (is_identifier kind && scene.unfinished first) ≡ is_open u meaning
-  of_kind Identifier first h other = unfinished first ∙ sym (ap (is_open u) (h refl))
-  of_kind (Keyword k) first h other = none_is (other (λ e. cc))
-  of_kind (Punctuator k) first h other = none_is (other (λ e. cc))
-  of_kind Integer first h other = none_is (other (λ e. cc))
-  of_kind Floating first h other = none_is (other (λ e. cc))
-  of_kind Character first h other = none_is (other (λ e. cc))
-  of_kind Text first h other = none_is (other (λ e. cc))
-  of_kind End first h other = none_is (other (λ e. cc))
+both_none : (a b : Bool) (m : Option Meaning) → cond (a && b) m None ≡ cond a (cond b m None) None
+both_none true b m = refl
+both_none false b m = refl
 
-  pub unfinished_is : (xs : List ℕ) → (0 < length xs → kind_at s (get_or xs 0 0) ≡ Identifier → meaning ≡ means (get_or xs 0 0)) → ((kind_at s (get_or xs 0 0) ≡ Identifier → ⊥) → meaning ≡ None) → (length xs ≡ 0 → meaning ≡ None) → names_unfinished scene s xs ≡ is_open u meaning
-  unfinished_is [] h other nothing = none_is (nothing refl)
-  unfinished_is (x ∷ xs) h other nothing = of_kind (kind_at s x) x (h (omega arith)) other
+never : (t : Bool) → (t && false) ≡ false
+never true = refl
+never false = refl
+
+-- a name whose type isn't finished
+pub unfinished_is : (scene : Scene) (s : Source) (u : Unit) (means : ℕ → Option Meaning) → ((i : ℕ) → scene.unfinished i ≡ is_open u (means i)) → (production : ℕ) (xs : List ℕ) → ((production == p_primary) && names_unfinished scene s xs) ≡ is_open u (first_meant means s production xs)
+unfinished_is scene s u means unfinished production [] = never (production == p_primary)
+unfinished_is scene s u means unfinished production (x ∷ xs) =
+    either_none u (production == p_primary) (is_identifier (kind_at s x) && scene.unfinished x) (cond (is_identifier (kind_at s x)) (means x) None) (either_none u (is_identifier (kind_at s x)) (scene.unfinished x) (means x) (unfinished x))
+    ∙ sym (ap (is_open u) (both_none (production == p_primary) (is_identifier (kind_at s x)) (means x)))
+
+module _ (means : ℕ → Option Meaning) (s : Source) (production : ℕ) where
+  -- what the first leaf of a primary means
+  of_kind : (r m : Option Meaning) (kind : TokenKind) → (kind ≡ Identifier → r ≡ m) → ((kind ≡ Identifier → ⊥) → r ≡ None) → r ≡ cond (is_identifier kind) m None
+  of_kind r m Identifier h other = h refl
+  of_kind r m (Keyword k) h other = other (λ e. cc)
+  of_kind r m (Punctuator k) h other = other (λ e. cc)
+  of_kind r m Integer h other = other (λ e. cc)
+  of_kind r m Floating h other = other (λ e. cc)
+  of_kind r m Character h other = other (λ e. cc)
+  of_kind r m Text h other = other (λ e. cc)
+  of_kind r m End h other = other (λ e. cc)
+
+  pub first_is : (xs : List ℕ) (r : Option Meaning) → 0 < length xs → production ≡ p_primary → (kind_at s (get_or xs 0 0) ≡ Identifier → r ≡ means (get_or xs 0 0)) → ((kind_at s (get_or xs 0 0) ≡ Identifier → ⊥) → r ≡ None) → r ≡ first_meant means s production xs
+  first_is [] r some e h other = absurd (omega arith)
+  first_is (x ∷ xs) r some e h other = of_kind r (means x) (kind_at s x) h other ∙ sym (ap (λ (p : ℕ). first_meant means s p (x ∷ xs)) e)
+
+  pub first_none : (xs : List ℕ) → length xs ≡ 0 → None ≡ first_meant means s production xs
+  first_none [] e = refl
+  first_none (x ∷ xs) e = absurd (omega (arith, e))
+
+  pub other_none : (xs : List ℕ) → production ≢ p_primary → None ≡ first_meant means s production xs
+  other_none [] ne = refl
+  other_none (x ∷ xs) ne =
+      let e : eqb production p_primary ≡ false = elim (eqb_tells production p_primary) [ inl p ↦ absurd (ne p.1) | inr p ↦ p.0 ] in
+      sym (ap (λ (t : Bool). cond (t && is_identifier (kind_at s x)) (means x) None) e)
+
+  primary_meant : (x : ℕ) (xs : List ℕ) → production ≡ p_primary → kind_at s x ≡ Identifier → first_meant means s production (x ∷ xs) ≡ means x
+  primary_meant x xs e k = ap (λ (p : ℕ). first_meant means s p (x ∷ xs)) e ∙ ap (λ (kind : TokenKind). cond (is_identifier kind) (means x) None) k
+
+  pub named_first : (w : World) (u : Unit) → ((i : ℕ) → w.meaning i ≡ meaning_seen u (means i)) → (xs : List ℕ) (around : Around) (m : Option Meaning) → m ≡ first_meant means s production xs → IsNamed w u around.first (meaning_seen u m) → w.own_name ≡ option_copied around.own_name → production ≡ p_primary → FirstFits w u s xs around
+  named_first w u meaning [] around m em named own e = tt
+  named_first w u meaning (x ∷ xs) around m em named own e = λ k. record {
+    meant = subst (IsNamed w u around.first) (ap (meaning_seen u) (em ∙ primary_meant x xs e k) ∙ sym (meaning x)) named;
+    own = λ none. own;
+  }

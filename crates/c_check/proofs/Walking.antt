@@ -158,6 +158,7 @@ module _ (u v : Unit) (b : Builds u v) where
     unfinished = λ i. f.unfinished i ∙ sym (unfinished_kept k.entities (meant list uses i));
     may_name = λ e. f.may_name e ∙ ap (λ (l : List Entity). may_name_entity owner (slice_get l e)) (sym b.entities);
     own_name = own_on owner scene.world.own_name f.own_name;
+    may_call = f.may_call;
   }
 
 -- a row that refuses stops the run
@@ -214,4 +215,5 @@ fits_itself u owner list uses = record {
   unfinished = λ i. refl;
   may_name = λ e. refl;
   own_name = refl;
+  may_call = refl;
 }

@@ -1,5 +1,5 @@
 -- What the known declarations of a unit give around an expression.
-use Rattle.std.specs.Prelude.{ℕ, ◌≡◌, ◌<◌, ◌==◌, Bool, true, false, List, [], ◌∷◌, length, Option, Some, None, slice_get, map, option_and_then, All, if◌then◌else◌}
+use Rattle.std.specs.Prelude.{ℕ, ◌≡◌, ◌<◌, ◌==◌, ◌&&◌, Bool, true, false, List, [], ◌∷◌, length, Option, Some, None, slice_get, map, option_and_then, All, if◌then◌else◌}
 use Rattle.c_types.specs.declared.term.Form.TheVariants.{Unspecified}
 use Rattle.c_types.specs.Trees.{Ctype, FunctionFrom, ArrayOf}
 use Rattle.c_types.specs.Table.{Table, type_of, members_in, look_in}
@@ -13,7 +13,8 @@ use Rattle.core_tree.specs.Typed.{Holds}
 use Rattle.core_tree.specs.Rows.{int}
 use Rattle.c_inits.specs.Made.{looked_up, laid_out}
 use Rattle.c_inits.specs.Tables.{tag_parts}
-use Rattle.c_senses.specs.Tree.{paired}
+use Rattle.c_grammar.specs.Productions.{p_primary}
+use Rattle.c_senses.specs.Tree.{Source, paired, is_identifier, kind_at}
 use Rattle.c_senses.specs.World.{World, same_length}
 use Rattle.c_senses.specs.World as world
 use Rattle.c_check.specs.declared.known.Meaning.{Meaning}
@@ -28,6 +29,11 @@ known_at (k ∷ rest) node = if k.0 == node then Some k.1 else known_at rest nod
 
 abbrev pub meant : List (ℕ × Meaning) → List (ℕ × ℕ) → ℕ → Option Meaning
 meant list uses i = option_and_then (known_at list) (paired uses i)
+
+-- what the first leaf of a primary means, where that is an identifier; of other nodes nothing is asked
+abbrev pub first_meant : (ℕ → Option Meaning) → Source → ℕ → List ℕ → Option Meaning
+first_meant means s production [] = None
+first_meant means s production (first ∷ rest) = if (production == p_primary) && is_identifier (kind_at s first) then means first else None
 
 -- what that is in a unit
 abbrev pub object_or_function : ℕ → Ctype → world.Meaning
@@ -85,7 +91,7 @@ abbrev pub own_name_in : Unit → Option ℕ → Option (List ℕ)
 own_name_in u None = None
 own_name_in u (Some e) = name_of (slice_get u.entities.items e)
 
--- what is around an expression of that unit
+-- what is around an expression of that unit, where calls may stand: in a function's body, or in an operand that isn't evaluated
 abbrev pub world_of : Unit → Option ℕ → List (ℕ × Meaning) → List (ℕ × ℕ) → World
 world_of u owner list uses = record {
   meaning = λ i. meaning_seen u (meant list uses i);
@@ -108,6 +114,7 @@ pub record Fitting (scene : Scene) (u : Unit) (owner : Option ℕ) (list : List 
   pub unfinished : (i : ℕ) → scene.unfinished i ≡ is_open u (meant list uses i)
   pub may_name : (e : ℕ) → scene.world.may_name e ≡ may_name_in u owner e
   pub own_name : scene.world.own_name ≡ own_name_in u owner
+  pub may_call : scene.world.may_call ≡ true
 
 -- what is known is the unit's: its entities and types are in range; and an enumerator's value is in that of int (6.7.2.2)
 abbrev pub IsMeant : Unit → Meaning → Type 0

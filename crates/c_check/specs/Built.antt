@@ -1,17 +1,15 @@
--- The rows of expressions as far as they are built (C11 6.5): all but calls and alignments, which say so, as do constants that no type
--- holds and names whose types other declarations may complete.
+-- The rows of expressions as far as they are built over what is known before an expression (C11 6.5): all, but names whose types other
+-- declarations may complete say that they aren't, as do constants and strings that no reading of a text takes.
 use Rattle.std.specs.Prelude.{ℕ, ◌==◌, ◌≡◌, ◌<◌, ◌≤◌, Bool, false, ◌&&◌, nat_le, List, [], ◌∷◌, take, Some, slice_get, if◌then◌else◌}
-use Rattle.pta_base.specs.declared.kind.Kind.TheVariants.{Operand, NotBuilt}
+use Rattle.pta_base.specs.declared.kind.Kind.TheVariants.{NotBuilt}
 use Rattle.c_grammar.specs.declared.trees.SyntaxNode.{SyntaxNode}
 use Rattle.c_grammar.specs.Reads.{leaf}
-use Rattle.c_grammar.specs.Productions.{p_expression, p_assignment, p_conditional, p_cast, p_unary, p_post, p_primary}
+use Rattle.c_grammar.specs.Productions.{p_expression, p_primary}
 use Rattle.c_senses.specs.Tree.{Source, is_identifier, kind_at}
 use Rattle.c_senses.specs.Given.{Given, Fits, Refuses}
 use Rattle.c_senses.specs.World.{World}
 use Rattle.c_senses.specs.Sense.{Sense, Nothing, sense_in}
-use Rattle.c_senses.specs.Operators.{between}
-use Rattle.c_senses.specs.Expressions.{cast_row_of, conditional_row, assignment_row, binary_row, is_binary}
-use Rattle.c_rows.specs.Built.{built_primary, built_post, built_unary}
+use Rattle.expression_rows.specs.Built.{built_row}
 
 -- what is around an expression, and which uses name something whose other declarations may complete its type: that isn't built
 pub record Scene : Type 0 where
@@ -22,30 +20,19 @@ abbrev pub names_unfinished : Scene → Source → List ℕ → Bool
 names_unfinished scene s [] = false
 names_unfinished scene s (first ∷ rest) = is_identifier (kind_at s first) && scene.unfinished first
 
--- the row of an expression's production
-abbrev pub built_row : World → Source → (ℕ → Sense) → ℕ → ℕ → List ℕ → Given Sense
-built_row w s sense production at children =
-    if production == p_primary then built_primary w s sense at children
-    else if production == p_post then built_post w s sense at children
-    else if production == p_unary then built_unary w s sense at children
-    else if production == p_cast then cast_row_of w s sense at children
-    else if production == p_conditional then conditional_row w s sense at children
-    else if production == p_assignment then assignment_row w s sense at children
-    else if is_binary w s sense production then binary_row w s sense (between w) at children
-    else Refuses Operand at
-
-abbrev pub checked_primary : Scene → Source → (ℕ → Sense) → ℕ → List ℕ → Given Sense
-checked_primary scene s sense at children = if names_unfinished scene s children then Refuses NotBuilt at else built_primary scene.world s sense at children
-
 abbrev pub is_expression : ℕ → Bool
 is_expression production = nat_le p_expression production && nat_le production p_primary
+
+-- an expression's row
+abbrev pub finished_row : Scene → Source → (ℕ → Sense) → ℕ → ℕ → List ℕ → Given Sense
+finished_row scene s sense production at children =
+    if (production == p_primary) && names_unfinished scene s children then Refuses NotBuilt at else built_row scene.world s sense production at children
 
 -- a leaf stands for nothing, and no other production than those of expressions is built
 abbrev pub checked_row : Scene → Source → (ℕ → Sense) → ℕ → ℕ → List ℕ → Given Sense
 checked_row scene s sense production at children =
     if production == leaf then Fits Nothing
-    else if production == p_primary then checked_primary scene s sense at children
-    else if is_expression production then built_row scene.world s sense production at children
+    else if is_expression production then finished_row scene s sense production at children
     else Refuses NotBuilt at
 
 -- the senses of the nodes up to some node, each from a start on what its row gives over those before it; before the start nothing stands

@@ -8,10 +8,10 @@ ghost use Rattle.c_rows.specs.Named.{IsNamed, IsNamedWithin};
 ghost use Rattle.c_check.specs.Around.{entity_meaning, meaning_seen, is_open, is_open_entity, is_automatic as automatic_spec, may_name_in, IsMeant, own_name_in};
 
 use crate::known::Meaning;
-use c_rows::Named;
 use c_types::term::{Form, Term};
 use core_nodes::CheckFault;
 use core_tree::node::{Linkage, Storage, Unit};
+use expression_rows::Named;
 use pta_base::Listing;
 use std::alloc::Global;
 

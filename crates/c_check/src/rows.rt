@@ -1,18 +1,17 @@
 // The row of a node, by its production.
 #![tactic(auto)]
 
-ghost use Rattle.std.specs.Prelude.{◌≡◌, ◌<◌, ◌≤◌, ℕ, List, None, length, get_or, IfOk, IfSome, All};
+ghost use Rattle.std.specs.Prelude.{◌≡◌, ℕ, List, None, IfOk, IfSome, All};
 ghost use Rattle.core_tree.specs.declared.node.Unit.{Unit as UnitSpec};
 ghost use Rattle.std.specs.Option.{option_copied};
 ghost use Rattle.c_lexer.specs.declared.TokenKind.TheVariants.{Identifier};
 ghost use Rattle.c_senses.specs.Tree.{production_at, children_at, kind_at};
-ghost use Rattle.c_senses.specs.World.{World};
 ghost use Rattle.c_senses.specs.Sense.{sense_in};
-ghost use Rattle.c_check.specs.Around.{Fitting, IsKnown, IsMeant, meant, own_name_in};
+ghost use Rattle.c_check.specs.Around.{Fitting, IsKnown, IsMeant, meant, first_meant, own_name_in};
 ghost use Rattle.c_check.specs.Built as spec;
-ghost use Rattle.c_check.specs.Built.{Scene, built_row};
+ghost use Rattle.c_check.specs.Built.{Scene};
 ghost use Rattle.c_check.specs.Lookups.{AreLookups};
-ghost use Rattle.core_nodes.specs.Standing.{IsReady, Builds, Knows};
+ghost use Rattle.core_nodes.specs.Standing.{IsReady, Builds};
 ghost use Rattle.c_results.specs.Standing.{sense_made, senses_made, IsWithin, Rowed};
 ghost use Rattle.tree_reads.specs.Sources.{source_read};
 ghost use Rattle.whole_rows.specs.Constants.{SenseHasRows, HaveRowsMade};
@@ -22,27 +21,16 @@ use crate::lookups::{Lookups, meaning_of};
 use crate::names::{is_unfinished_meaning, named_of};
 use c_lexer::TokenKind;
 use c_results::Made;
-use c_rows::{post_row, primary_row, unary_row};
 use core_nodes::CheckFault;
 use core_tree::node::Unit;
+use expression_rows::row as expression_row;
 use pta_base::{Kind, Listing};
 use std::alloc::Global;
 use tree_reads::{Syntax, children_of, kind_of, production_of};
-use whole_rows::{assignment_row, binary_row, cast_row, conditional_row};
 
 const LEAF: u32 = 4294967295;
 
 const P_EXPRESSION: u32 = 31;
-
-const P_ASSIGNMENT: u32 = 32;
-
-const P_CONDITIONAL: u32 = 33;
-
-const P_CAST: u32 = 44;
-
-const P_UNARY: u32 = 45;
-
-const P_POST: u32 = 46;
 
 const P_PRIMARY: u32 = 47;
 
@@ -78,113 +66,30 @@ fn own_name_of(around: &Around) -> Option<&[u8]>
     }
 }
 
-// What the first leaf of some children means.
+// What the first leaf of a primary means, where that is an identifier.
 fn first_meaning(
     syntax: &Syntax,
     around: &Around,
     known: &Known,
+    production: u32,
     children: &[u32],
 ) -> Option<Meaning>
     ensures meant { (uses : List (ℕ × ℕ)) →
-        let first = get_or children.now 0 0 in
         AreLookups around.now.found known.now.list.items uses →
-        0 < length children.now →
-        kind_at (source_read syntax.now) first ≡ Identifier → result ≡ meant known.now.list.items uses first }
+        result ≡ first_meant (meant known.now.list.items uses) (source_read syntax.now) production children.now }
     ensures among { (u : UnitSpec) → All (λ k. IsMeant u k.1) known.now.list.items → IfSome result (IsMeant u) }
-    ensures other { (kind_at (source_read syntax.now) (get_or children.now 0 0) ≡ Identifier → ⊥) → result ≡ None }
-    ensures nothing { length children.now ≡ 0 → result ≡ None }
 {
+    if production != P_PRIMARY {
+        return None;
+    }
     if children.is_empty() {
         return None;
     }
     meaning_of_first(syntax, around, known, children[0])
 }
 
-// A primary; a name whose type other declarations may complete isn't built.
-fn primary(
-    alloc: Global,
-    unit: &mut Unit,
-    syntax: &Syntax,
-    results: &[Made],
-    around: &Around,
-    known: &Known,
-    at: u32,
-    children: &[u32],
-) -> Result<Made, CheckFault>
-    requires ready { IsReady unit.old }
-    requires results { All (IsWithin unit.old) results.now }
-    requires rows { HaveRowsMade unit.old results.now }
-    requires known { IsKnown unit.old known.now.list.items }
-    ensures ready { IsReady unit.new }
-    ensures builds { Builds unit.old unit.new }
-    ensures within { IfOk result (IsWithin unit.new) }
-    ensures rows { IfOk result (λ m. SenseHasRows (sense_made unit.new m)) }
-    ensures row { (scene : Scene) (uses : List (ℕ × ℕ)) →
-        AreLookups around.now.found known.now.list.items uses →
-        around.now.own_name ≡ own_name_in unit.old known.now.owner →
-        Fitting scene unit.old known.now.owner known.now.list.items uses →
-        let sense = sense_in (senses_made unit.old results.now) in
-        Rowed unit.new result (spec.checked_primary scene (source_read syntax.now) sense at children.now) }
-{
-    let meaning = first_meaning(syntax, around, known, children);
-    if is_unfinished_meaning(unit, meaning) {
-        return Err(CheckFault::Unsupported(Kind::NotBuilt, at));
-    }
-    let named = named_of(unit, known.owner, meaning);
-    primary_row(
-        alloc,
-        unit,
-        syntax,
-        results,
-        at,
-        children,
-        named,
-        own_name_of(around),
-    )
-}
-
-// A part of an expression that is no primary.
-fn part(
-    alloc: Global,
-    unit: &mut Unit,
-    syntax: &Syntax,
-    results: &[Made],
-    production: u32,
-    at: u32,
-    children: &[u32],
-) -> Result<Made, CheckFault>
-    requires ready { IsReady unit.old }
-    requires results { All (IsWithin unit.old) results.now }
-    requires rows { HaveRowsMade unit.old results.now }
-    requires low { 31 ≤ production }
-    requires high { production < 47 }
-    ensures ready { IsReady unit.new }
-    ensures builds { Builds unit.old unit.new }
-    ensures within { IfOk result (IsWithin unit.new) }
-    ensures row { (w : World) →
-        Knows w unit.old →
-        let sense = sense_in (senses_made unit.old results.now) in
-        Rowed unit.new result (built_row w (source_read syntax.now) sense production at children.now) }
-{
-    if production == P_POST {
-        return post_row(alloc, unit, syntax, results, at, children);
-    }
-    if production == P_UNARY {
-        return unary_row(alloc, unit, syntax, results, at, children);
-    }
-    if production == P_CAST {
-        return cast_row(alloc, unit, syntax, results, at, children);
-    }
-    if production == P_CONDITIONAL {
-        return conditional_row(alloc, unit, syntax, results, at, children);
-    }
-    if production == P_ASSIGNMENT {
-        return assignment_row(alloc, unit, syntax, results, at, children);
-    }
-    binary_row(alloc, unit, syntax, results, at, children)
-}
-
-/// What a node stands for, by its production (C11 6.5); a production that is none of an expression's isn't built.
+/// What a node stands for, by its production (C11 6.5); a production that is none of an expression's isn't built, and neither is a name
+/// whose type other declarations may complete.
 pub fn row(
     alloc: Global,
     unit: &mut Unit,
@@ -211,15 +116,23 @@ pub fn row(
         Rowed unit.new result (spec.checked_row scene s sense (production_at s at) at (children_at s at)) }
 {
     let production = production_of(syntax, at);
-    let children = children_of(syntax, at);
     if production == LEAF {
         return Ok(Made::Nothing);
     }
-    if production == P_PRIMARY {
-        return primary(alloc, unit, syntax, results, around, known, at, children);
+    if production < P_EXPRESSION {
+        return Err(CheckFault::Unsupported(Kind::NotBuilt, at));
     }
-    if P_EXPRESSION <= production && production < P_PRIMARY {
-        return part(alloc, unit, syntax, results, production, at, children);
+    if production > P_PRIMARY {
+        return Err(CheckFault::Unsupported(Kind::NotBuilt, at));
     }
-    Err(CheckFault::Unsupported(Kind::NotBuilt, at))
+    let meaning = first_meaning(syntax, around, known, production, children_of(syntax, at));
+    if is_unfinished_meaning(unit, meaning) {
+        return Err(CheckFault::Unsupported(Kind::NotBuilt, at));
+    }
+    let looked_up = expression_rows::Around {
+        first: named_of(unit, known.owner, meaning),
+        may_call: true,
+        own_name: own_name_of(around),
+    };
+    expression_row(alloc, unit, syntax, results, &looked_up, at)
 }

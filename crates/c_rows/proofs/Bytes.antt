@@ -9,7 +9,7 @@ use Rattle.c_senses.specs.Tree.{Source}
 use Rattle.c_rows.specs.Literals.{are_bytes}
 use Rattle.c_rows.specs.Pieces.{piece_at, pieces, IsUnbuilt}
 
-and_both : (a b : Bool) → a ≡ true → b ≡ true → (a && b) ≡ true
+pub and_both : (a b : Bool) → a ≡ true → b ≡ true → (a && b) ≡ true
 and_both true b e f = f
 and_both false b e f = e
 
@@ -21,7 +21,7 @@ and_right : (a b : Bool) → (a && b) ≡ true → b ≡ true
 and_right true b h = h
 and_right false b h = absurd (false≢true h)
 
-tested : (xs : List ℕ) → All (λ b. b < 256) xs → are_bytes xs ≡ true
+pub tested : (xs : List ℕ) → All (λ b. b < 256) xs → are_bytes xs ≡ true
 tested [] h = refl
 tested (x ∷ xs) h =
     let below : x < 256 = All-head (λ b. b < 256) x xs h in

@@ -10,7 +10,7 @@ ghost use Rattle.c_senses.specs.Given.{Fits, given_if};
 ghost use Rattle.c_senses.specs.World.{World, Meaning};
 ghost use Rattle.c_senses.specs.Objects as spec;
 ghost use Rattle.core_nodes.specs.Standing.{IsReady, Builds, Made};
-ghost use Rattle.c_rows.specs.Named.{IsNamed, IsNamedWithin};
+ghost use Rattle.c_rows.specs.Named.{NameFits, IsNamedWithin};
 
 use crate::literals::text_node;
 use c_types::term::{Term, TypeId};
@@ -132,7 +132,7 @@ fn own_name_row(
     }
 }
 
-/// A name by what it means (C11 6.5.1, 6.4.2.2).
+/// A name by what it means (C11 6.5.1, 6.4.2.2). The own name of the function whose body is read is asked where nothing is declared.
 pub fn name_row(
     alloc: Global,
     unit: &mut Unit,
@@ -147,8 +147,7 @@ pub fn name_row(
     ensures builds { Builds unit.old unit.new }
     ensures within { IfOk result (λ i. i < length unit.new.nodes.items) }
     ensures made { (w : World) (m : Option Meaning) →
-        IsNamed w unit.old named m →
-        w.own_name ≡ option_copied own_name.entry → Made unit.new result (spec.name_row w place at m) }
+        NameFits w unit.old named (option_copied own_name.entry) m → Made unit.new result (spec.name_row w place at m) }
 {
     match named {
         Named::Undeclared => own_name_row(alloc, unit, place, at, own_name),

@@ -1,6 +1,7 @@
-// What stands behind an operand: an index, a member, or counting up or down (C11 6.5.2).
-ghost use Rattle.std.specs.Prelude.{◌≡◌, ◌<◌, length, drop, get_or, IfOk, All, true, if◌then◌else◌};
+// What stands behind an operand but a call: an index, a member, or counting up or down (C11 6.5.2).
+ghost use Rattle.std.specs.Prelude.{◌≡◌, ◌≢◌, ◌<◌, length, drop, get_or, IfOk, All, true, if◌then◌else◌};
 ghost use Rattle.core_tree.specs.declared.node.Op.TheVariants.{Plus, Minus};
+ghost use Rattle.c_grammar.specs.Words.{sign_left_parenthesis};
 ghost use Rattle.c_senses.specs.World.{World};
 ghost use Rattle.c_senses.specs.Sense.{sense_in};
 ghost use Rattle.c_senses.specs.Tree.{place_at, Source};
@@ -8,7 +9,6 @@ ghost use Rattle.c_senses.specs.Expressions as expressions;
 ghost use Rattle.core_nodes.specs.Standing.{core_at, IsReady, Builds, Made as CoreMade, Knows};
 ghost use Rattle.c_results.specs.Standing.{senses_made, IsWithin, Rowed};
 ghost use Rattle.tree_reads.specs.Sources.{source_read};
-ghost use Rattle.c_rows.specs.Built as spec;
 ghost use Rattle.c_rows.specs.Postfix.{dotted_core, pointed_core, counted_core, counted_part};
 
 use crate::parts::{core_of, sensed, value_of};
@@ -19,13 +19,11 @@ use c_operators::updates::update_row;
 use c_results::Made;
 use core_nodes::CheckFault;
 use core_tree::node::{Op, Unit};
-use pta_base::{Kind, Place};
+use pta_base::Place;
 use std::alloc::Global;
-use tree_reads::{Syntax, left_of, place_of, sign_of, spelling_of};
+use tree_reads::{Syntax, place_of, spelling_of};
 
 const SIGN_LEFT_BRACKET: u8 = 0;
-
-const SIGN_LEFT_PARENTHESIS: u8 = 2;
 
 const SIGN_DOT: u8 = 6;
 
@@ -262,8 +260,8 @@ fn with_arrow(
     sensed(member_behind_left(alloc, unit, results, place, at, name, left))
 }
 
-// What a punctuator makes of what stands to its left.
-fn post_of(
+/// What a punctuator that begins no call makes of what stands to its left (C11 6.5.2).
+pub fn other_post(
     alloc: Global,
     unit: &mut Unit,
     syntax: &Syntax,
@@ -276,6 +274,7 @@ fn post_of(
     requires ready { IsReady unit.old }
     requires results { All (IsWithin unit.old) results.now }
     requires some { 0 < length children.now }
+    requires other { sign ≢ sign_left_parenthesis }
     ensures ready { IsReady unit.new }
     ensures builds { Builds unit.old unit.new }
     ensures within { IfOk result (IsWithin unit.new) }
@@ -284,14 +283,11 @@ fn post_of(
         let sense = sense_in (senses_made unit.old results.now) in
         let s = source_read syntax.now in
         let place = place_at s (get_or children.now 0 0) in
-        Rowed unit.new result (spec.built_post_of w s sense place at (sense left) (drop 1 children.now) sign) }
+        Rowed unit.new result (expressions.post_of w s sense place at (sense left) (drop 1 children.now) sign) }
 {
     let place = place_of(syntax, children[0]);
     if sign == SIGN_LEFT_BRACKET {
         return with_index(alloc, unit, results, place, at, left, children);
-    }
-    if sign == SIGN_LEFT_PARENTHESIS {
-        return Err(CheckFault::Unsupported(Kind::NotBuilt, at));
     }
     if sign == SIGN_DOT {
         return with_dot(alloc, unit, syntax, results, place, at, left, children);
@@ -306,34 +302,4 @@ fn post_of(
         return sensed(counted_left(alloc, unit, results, place, at, left, true));
     }
     Err(CheckFault::BadOperand(at))
-}
-
-/// The row of what stands behind an operand, by its punctuator (C11 6.5.2). A call isn't built.
-pub fn post_row(
-    alloc: Global,
-    unit: &mut Unit,
-    syntax: &Syntax,
-    results: &[Made],
-    at: u32,
-    children: &[u32],
-) -> Result<Made, CheckFault>
-    requires ready { IsReady unit.old }
-    requires results { All (IsWithin unit.old) results.now }
-    ensures ready { IsReady unit.new }
-    ensures builds { Builds unit.old unit.new }
-    ensures within { IfOk result (IsWithin unit.new) }
-    ensures row { (w : World) →
-        Knows w unit.old →
-        Rowed unit.new result
-        (spec.built_post w (source_read syntax.now) (sense_in (senses_made unit.old results.now)) at children.now) }
-{
-    if children.is_empty() {
-        return Err(CheckFault::BadOperand(at));
-    }
-    let first = children[0];
-    let left = left_of(syntax, first);
-    match sign_of(syntax, first) {
-        Some(sign) => post_of(alloc, unit, syntax, results, at, left, sign, children),
-        None => Err(CheckFault::BadOperand(at)),
-    }
 }

@@ -9,7 +9,7 @@ ghost use Rattle.c_senses.specs.Expressions.{passed};
 ghost use Rattle.core_nodes.specs.Standing.{IsReady, Builds};
 ghost use Rattle.c_results.specs.Standing.{senses_made, IsWithin, Rowed};
 ghost use Rattle.tree_reads.specs.Sources.{source_read};
-ghost use Rattle.c_rows.specs.Named.{IsNamed, IsNamedWithin};
+ghost use Rattle.c_rows.specs.Named.{NameFits, IsNamedWithin};
 ghost use Rattle.c_rows.specs.Built as spec;
 
 use crate::literals::{character, integer, string};
@@ -62,8 +62,9 @@ pub fn primary_row(
     ensures within { IfOk result (IsWithin unit.new) }
     ensures row { (w : World) →
         (let first = get_or children.now 0 0 in
-        0 < length children.now → kind_at (source_read syntax.now) first ≡ Identifier → IsNamed w unit.old named (w.meaning first)) →
-        w.own_name ≡ option_copied own_name.entry →
+        0 < length children.now →
+        kind_at (source_read syntax.now) first ≡ Identifier →
+        NameFits w unit.old named (option_copied own_name.entry) (w.meaning first)) →
         let sense = sense_in (senses_made unit.old results.now) in
         Rowed unit.new result (spec.built_primary w (source_read syntax.now) sense at children.now) }
 {

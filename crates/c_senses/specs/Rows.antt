@@ -12,7 +12,7 @@ use Rattle.c_senses.specs.World.{World}
 use Rattle.c_senses.specs.Expressions.{expression_row}
 use Rattle.c_senses.specs.Specifiers.{align_specifier, type_row, specs_row}
 use Rattle.c_senses.specs.Declarators.{plain_declarator_row, suffix_row, parameter_row, type_name_row, is_outermost, base_type, derived, adjusted}
-use Rattle.c_senses.specs.Tags.{struct_row, enum_row, members_row, member_declaration, field_row, enumerator_row, completed_from, members_under, look_of}
+use Rattle.c_senses.specs.Tags.{struct_row, enum_row, members_row, member_declaration, field_row, enumerator_row, completed_from, members_under, look_of, tags_below}
 use Rattle.c_senses.specs.Entities.{meaning_at, storage_of, is_automatic_storage, is_in_static, function_around, by_place}
 use Rattle.c_senses.specs.Initialised.{designator_row, init_row, items_row}
 use Rattle.c_senses.specs.Statements.{rest_row, declaration_row, assert_row, block_row, statement_row}
@@ -25,7 +25,7 @@ world_over s senses sense completed i = record {
   members = members_under completed;
   look = look_of completed;
   fillable = looked_up (laid_out [] completed);
-  tags = length completed;
+  tags = tags_below s;
   may_name = λ e. not (is_in_static s sense i && is_automatic_storage s sense (storage_of s sense e));
   may_call = not (is_in_static s sense i);
   own_name = option_map (spelling_at s) (function_around s sense i);

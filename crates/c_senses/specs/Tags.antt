@@ -1,6 +1,6 @@
 -- Structures, unions and enumerations: their tags, members and enumerators, and the keys by which units share them (C11 6.7.2.1 to
 -- 6.7.2.3).
-use Rattle.std.specs.Prelude.{ℕ, suc, ◌*◌, ◌==◌, ℤ, pos, neg_ℤ, ◌+ℤ◌, int_le, Bool, true, false, ◌&&◌, ◌||◌, not, nat_lt, nat_le, List, [], ◌∷◌, ◌++◌, map, length, Option, Some, None, is_some, is_none, option_and_then, if◌then◌else◌}
+use Rattle.std.specs.Prelude.{ℕ, suc, ◌*◌, ◌==◌, max, ℤ, pos, neg_ℤ, ◌+ℤ◌, int_le, Bool, true, false, ◌&&◌, ◌||◌, not, nat_lt, nat_le, List, [], ◌∷◌, ◌++◌, map, length, Option, Some, None, is_some, is_none, option_and_then, if◌then◌else◌}
 use Rattle.pta_base.specs.declared.kind.Kind.TheVariants.{Operand}
 use Rattle.c_types.specs.Trees.{Ctype, BoolType, IntegerType, ArrayOf, StructureOf, UnionOf}
 use Rattle.c_types.specs.Layout.{Extent, Look, structure_of, union_of, member_extent, looked_up, laid_out, Completed}
@@ -8,7 +8,7 @@ use Rattle.core_tree.specs.Rows.{int}
 use Rattle.c_grammar.specs.Productions.{p_specs, p_struct, p_members, p_field, p_enum, p_enumerators, p_enumerator, p_declarator, p_conditional}
 use Rattle.c_grammar.specs.Words.{word_union, sign_colon}
 use Rattle.c_inits.specs.Made.{Part, TagParts}
-use Rattle.c_senses.specs.Tree.{Source, is_a, is_leaf, is_name, has_sign, has_word, children_at, spelling_at, word_at, first_where, last_where, all_where, any_where, child_of, parent_of, numbers_from}
+use Rattle.c_senses.specs.Tree.{Source, is_a, is_leaf, is_name, has_sign, has_word, children_at, spelling_at, word_at, first_where, last_where, all_where, any_where, child_of, parent_of, numbers_from, all_nodes}
 use Rattle.c_senses.specs.Names.{tag_of_leaf}
 use Rattle.c_senses.specs.Given.{Given, Fits, Refuses, ◌>>=◌, given_if, given_some}
 use Rattle.c_senses.specs.World.{World, has_size, has_name, same_length}
@@ -41,6 +41,14 @@ tag_of s i = s.tag_number (tag_declared s i)
 -- the specifier that declares a tag, around its leaf; another one that stands in its list ends before it
 abbrev pub declaring_specifier : Source → ℕ → Option ℕ
 declaring_specifier s tag = if is_leaf s tag then parent_of s tag else Some tag
+
+-- a number above those of the tags of some nodes, and of all structures and unions
+abbrev pub tags_among : Source → List ℕ → ℕ
+tags_among s [] = 0
+tags_among s (i ∷ rest) = if is_a s p_struct i then max (suc (tag_of s i)) (tags_among s rest) else tags_among s rest
+
+abbrev pub tags_below : Source → ℕ
+tags_below s = tags_among s (all_nodes s)
 
 -- the word of a tag's declaration
 abbrev pub keyword_of : Source → ℕ → Option ℕ

@@ -62,6 +62,11 @@ abbrev pub size_below : Option Extent → Option ℕ
 size_below None = None
 size_below (Some e) = if nat_lt e.size (2 ^ 63) then Some e.size else None
 
+-- an alignment
+abbrev pub align_within : Option Extent → Option ℕ
+align_within None = None
+align_within (Some e) = Some e.align
+
 -- a number of nodes up to 2^24
 abbrev pub nodes_within : Option Extent → Option ℕ
 nodes_within None = None

@@ -2,7 +2,7 @@
 
 ghost use Rattle.std.specs.Prelude.{◌≡◌, ℕ, ◌+◌, ◌-◌, ◌*◌, ◌^◌, ◌<◌, ◌≤◌, ◌↔◌, ◌⊎◌, ◌++◌, ◌∷◌, [], None, Some, IsTrue, IfOk, IfSome, IfNone, List, Option, OnErr, OnOk, MatchResult, MatchOption, All, length, map, slice_get, slice_index};
 ghost use Rattle.std.specs.Option.{option_map};
-ghost use Rattle.c_types.specs.Table.{types_of, type_of, IsAfter, HasTag, NotArray, IsFirstOf, IsNowhere, look_in, extent_in, size_below, nodes_within, node_of, extents_in, members_in};
+ghost use Rattle.c_types.specs.Table.{types_of, type_of, IsAfter, HasTag, NotArray, IsFirstOf, IsNowhere, look_in, extent_in, align_within, size_below, nodes_within, node_of, extents_in, members_in};
 ghost use Rattle.c_types.specs.Made.{AreNamed, IsFresh, IsMade, IsSized, KeepsApart, StandsAsStructure, StandsAsUnion, AreMembers};
 ghost use Rattle.c_types.specs.Parts.{class_of_type, head_type, first_member_of, field_in, within_32};
 ghost use Rattle.c_types.specs.declared.table.Entry.{Entry};
@@ -272,6 +272,17 @@ impl TypeTable {
     {
         match bounds_at(&self.entries, &self.tags, &self.completed, id) {
             Some(b) => { if b.size < 1 << 63 { Some(b.size) } else { None } }
+            None => None,
+        }
+    }
+
+    /// The alignment of a type in bytes (C11 6.2.8), of an array that of its element; None exactly for void, function and incomplete types.
+    pub fn align_of(&self, id: TypeId) -> Option<u64>
+        requires { id.0 < length self.now.terms }
+        ensures { result ≡ align_within (extent_in self.now (type_of self.now id.0)) }
+    {
+        match bounds_at(&self.entries, &self.tags, &self.completed, id) {
+            Some(b) => Some(b.align),
             None => None,
         }
     }

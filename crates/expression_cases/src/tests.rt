@@ -11,7 +11,7 @@ use c_lexer::{TokenKind, Tokens};
 use c_parser::parse_expression;
 use c_scope::Bound;
 use c_types::table::TypeTable;
-use c_types::term::{Term, TypeId};
+use c_types::term::{Form, Term, TypeId, TypeList};
 use core_tree::node::{Entity, Linkage, NodeKind, Op, Storage, Unit};
 use pta_base::{Kind, Place, Text};
 use std::alloc::Global;
@@ -39,6 +39,7 @@ struct ObjectTypes {
     pointer: TypeId,
     void_pointer: TypeId,
     array: TypeId,
+    function: TypeId,
 }
 
 // The unit that has these types and neither nodes nor entities.
@@ -48,7 +49,7 @@ fn bare_unit(alloc: Global) -> Result<(Unit, ObjectTypes), Fail>
     ensures none { IfOk result (λ made. length made.0.entities.items ≡ 0) }
     ensures types { IfOk result (λ made. (made.1.int.0 < length made.0.types.terms)
         × (made.1.pointer.0 < length made.0.types.terms) × (made.1.void_pointer.0 < length made.0.types.terms)
-        × (made.1.array.0 < length made.0.types.terms)) }
+        × (made.1.array.0 < length made.0.types.terms) × (made.1.function.0 < length made.0.types.terms)) }
 {
     let name = Text::copy_of(alloc, "sum.c")?;
     let mut types = TypeTable::new(alloc);
@@ -64,6 +65,13 @@ fn bare_unit(alloc: Global) -> Result<(Unit, ObjectTypes), Fail>
         of: int,
         length: Some(1),
     })?;
+    let mut parameters = Vec::new(alloc);
+    parameters.push(pointer)?;
+    let function = types.add(Term::Function {
+        result: int,
+        parameters: TypeList::from_items(parameters),
+        form: Form::Variadic,
+    })?;
     let unit = Unit {
         name,
         types,
@@ -78,6 +86,7 @@ fn bare_unit(alloc: Global) -> Result<(Unit, ObjectTypes), Fail>
             pointer,
             void_pointer,
             array,
+            function,
         },
     ))
 }
@@ -114,8 +123,9 @@ fn object(alloc: Global, name: &str, ty: TypeId) -> Result<Entity, Fail>
     })
 }
 
-// The unit of the objects a and b of type int, p of type int *, v of type void * and e of type int[1].
-fn unit_of_five(alloc: Global) -> Result<Unit, Fail>
+// The unit of the objects a and b of type int, p of type int *, v of type void * and e of type int[1], and of the function
+// int f(int *, ...).
+fn unit_of_six(alloc: Global) -> Result<Unit, Fail>
     ensures ready { IfOk result (λ unit. IsReady unit) }
     ensures known { IfOk result (λ unit. IsKnown unit []) }
     ensures count { IfOk result (λ unit. length unit.entities.items ≡ 5) }
@@ -125,13 +135,14 @@ fn unit_of_five(alloc: Global) -> Result<Unit, Fail>
     let two = add_entity(one, object(alloc, "b", types.int)?)?;
     let three = add_entity(two, object(alloc, "p", types.pointer)?)?;
     let four = add_entity(three, object(alloc, "v", types.void_pointer)?)?;
-    add_entity(four, object(alloc, "e", types.array)?)
+    let five = add_entity(four, object(alloc, "e", types.array)?)?;
+    add_entity(five, object(alloc, "f", types.function)?)
 }
 
-// The objects of a unit, which the syntax nodes 1000 to 1004 declare.
+// The objects of a unit, which the syntax nodes 1000 to 1005 declare.
 fn known_objects(alloc: Global, unit: &Unit) -> Result<Known, Fail>
     requires known { IsKnown unit.now [] }
-    requires count { length unit.now.entities.items ≡ 5 }
+    requires count { length unit.now.entities.items ≡ 6 }
     ensures { IfOk result (λ known. IsKnown unit.now known.list.items) }
 {
     let entries = [
@@ -140,6 +151,7 @@ fn known_objects(alloc: Global, unit: &Unit) -> Result<Known, Fail>
         (1002, Meaning::Entity(2)),
         (1003, Meaning::Entity(3)),
         (1004, Meaning::Entity(4)),
+        (1005, Meaning::Entity(5)),
     ];
     Ok(Known {
         owner: None,
@@ -155,6 +167,7 @@ fn declaring(name: &[u8]) -> u32 {
         b"p" => 1002,
         b"v" => 1003,
         b"e" => 1004,
+        b"f" => 1005,
         _ => 0,
     }
 }
@@ -231,7 +244,7 @@ type Refusal = (Kind, u32);
 
 // The unit with the core nodes of a text, and a refusal where there is one.
 fn answer(alloc: Global, text: &[u8]) -> Result<(Unit, Option<Refusal>), Fail> {
-    let mut unit = unit_of_five(alloc)?;
+    let mut unit = unit_of_six(alloc)?;
     let mut known = known_objects(alloc, &unit)?;
     let found = tokens(alloc, text)?;
     let tree = parsed(alloc, &found)?;
@@ -287,6 +300,9 @@ fn letter_of(kind: &NodeKind) -> u8 {
         NodeKind::Update { post: true, .. } => b'U',
         NodeKind::Update { post: false, .. } => b'u',
         NodeKind::Choose => b'?',
+        NodeKind::Assign => b'A',
+        NodeKind::FunctionName(_) => b'f',
+        NodeKind::CallNode => b'(',
         NodeKind::Sequence => b',',
         NodeKind::Arith(op) => letter_of_operator(*op),
         _ => b'.',
@@ -388,5 +404,74 @@ fn refusals(rt: HostRuntime) -> Result<(), Fail> {
     assert_eq!(rt; refusal(alloc, b"a+sizeof *v")?, Some((Kind::Operand, 10)));
     assert_eq!(rt; refusal(alloc, b"p*a+&2")?, Some((Kind::Operand, 1)));
     assert_eq!(rt; refusal(alloc, b"a=p")?, Some((Kind::Operand, 1)));
+    assert_eq!(rt; refusal(alloc, b"a?p:1")?, Some((Kind::Operand, 1)));
+    Ok(())
+}
+
+// A constant 0 that is assigned to a pointer, or stands beside one, is a null value, also where it has to be computed (C11 6.3.2.3p3,
+// 6.5.9p5, 6.5.16.1p1).
+#[test]
+fn null_constants(rt: HostRuntime) -> Result<(), Fail> {
+    let alloc = rt.alloc();
+    let assigned: [Shape<'_>; 3] = [(b'c', 1, &[]), (b'N', 4, &[]), (b'A', 2, &[0, 1])];
+    let equated: [Shape<'_>; 4] = [
+        (b'c', 1, &[]),
+        (b'F', 1, &[0]),
+        (b'N', 5, &[]),
+        (b'=', 2, &[1, 2]),
+    ];
+    assert!(rt; gives(alloc, b"p=1-1", &assigned)?);
+    assert!(rt; gives(alloc, b"p==1-1", &equated)?);
+    Ok(())
+}
+
+// Beside a pointer the constant 0 of a choice becomes one (C11 6.5.15p6).
+#[test]
+fn choice_of_a_pointer(rt: HostRuntime) -> Result<(), Fail> {
+    let alloc = rt.alloc();
+    let shapes: [Shape<'_>; 6] = [
+        (b'a', 1, &[]),
+        (b'c', 3, &[]),
+        (b'F', 1, &[0]),
+        (b'F', 3, &[1]),
+        (b'N', 5, &[]),
+        (b'?', 2, &[2, 3, 4]),
+    ];
+    assert!(rt; gives(alloc, b"a?p:0", &shapes)?);
+    Ok(())
+}
+
+// A call takes the value of what is called and of each argument: one for a parameter is converted to its type, and one past the list is
+// passed as it is (C11 6.5.2.2p4, p7).
+#[test]
+fn calls(rt: HostRuntime) -> Result<(), Fail> {
+    let alloc = rt.alloc();
+    let passed: [Shape<'_>; 7] = [
+        (b'f', 1, &[]),
+        (b'c', 3, &[]),
+        (b'a', 5, &[]),
+        (b'D', 1, &[0]),
+        (b'F', 3, &[1]),
+        (b'F', 5, &[2]),
+        (b'(', 2, &[3, 4, 5]),
+    ];
+    let null: [Shape<'_>; 4] = [
+        (b'f', 1, &[]),
+        (b'D', 1, &[0]),
+        (b'N', 3, &[]),
+        (b'(', 2, &[1, 2]),
+    ];
+    assert!(rt; gives(alloc, b"f(p,a)", &passed)?);
+    assert!(rt; gives(alloc, b"f(0)", &null)?);
+    Ok(())
+}
+
+// An argument for each parameter, which fits its type; and what is called is a function (C11 6.5.2.2p1, p2).
+#[test]
+fn refused_calls(rt: HostRuntime) -> Result<(), Fail> {
+    let alloc = rt.alloc();
+    assert_eq!(rt; refusal(alloc, b"f()")?, Some((Kind::Operand, 2)));
+    assert_eq!(rt; refusal(alloc, b"f(a)")?, Some((Kind::NumberToPointer, 2)));
+    assert_eq!(rt; refusal(alloc, b"a(p)")?, Some((Kind::Operand, 2)));
     Ok(())
 }

@@ -6,6 +6,7 @@ use Rattle.c_inits.specs.Made.{looked_up, laid_out}
 use Rattle.c_inits.specs.Tables.{tag_parts}
 use Rattle.c_consts.specs.Core.{Core}
 use Rattle.c_senses.specs.Given.{Given, Fits}
+use Rattle.c_senses.specs.Tree.{Source}
 use Rattle.c_senses.specs.World.{World}
 use Rattle.core_nodes.specs.Standing.{core_at, parts_in, Knows, Made}
 use Rattle.core_nodes.specs.declared.fault.CheckFault.{CheckFault}
@@ -33,6 +34,14 @@ pub made_has : (P : Core → Type 0) (u : Unit) (r : Result ℕ CheckFault) (g :
 made_has P u (Ok i) g m h = subst (Gives P) m h
 made_has P u (Err fault) g m h = tt
 
-pub may_itself : (u : Unit) → (bare_world u).may_call ≡ true
-unfolding bare_world
-may_itself u = refl
+-- a source of nothing
+pub bare_source : Source
+bare_source = record {
+  unit = 0;
+  text = [];
+  tokens = [];
+  nodes = [];
+  uses = [];
+  declared = record { ordinary = []; tags = []; scopes = [] };
+  tag_number = λ i. i;
+}

@@ -1,2 +1,4 @@
+pub mod Calls
+pub mod Prefix
 pub mod Constants
 pub mod Whole

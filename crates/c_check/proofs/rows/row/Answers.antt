@@ -1,40 +1,70 @@
-use Rattle.std.proofs.Common.{arith, ◌∙◌, ℕ, sym, ap, subst}
+use Rattle.std.proofs.Common.{arith, ◌≡◌, ◌∙◌, ◌==◌, ℕ, List, false, true, [], sym, ap, subst}
+use Rattle.std.specs.Prelude.{◌&&◌}
+use Rattle.c_grammar.specs.Productions.{p_primary}
 use Rattle.c_senses.specs.Given.{Given}
 use Rattle.c_senses.specs.Sense.{Sense, sense_in}
-use Rattle.c_senses.specs.Tree.{production_at}
+use Rattle.c_senses.specs.Tree.{production_at, children_at}
 use Rattle.c_results.specs.Standing.{senses_made, Rowed}
 use Rattle.tree_reads.specs.Sources.{source_read}
-use Rattle.c_check.specs.Built.{checked_row}
-use Rattle.c_check.proofs.Productions.{expression_row}
-use Rattle.whole_rows.proofs.Keeping.{sense_rows}
-use Rattle.whole_rows.proofs.Worlds.{bare_world, knows_itself}
-use Rattle.c_check.proofs.Keeping.{made_rows, part_kept}
+use Rattle.expression_rows.specs.declared.around.Around.{Around}
+use Rattle.expression_rows.specs.Fitting.{FitsAround}
+use Rattle.expression_rows.specs.Built.{built_row}
+use Rattle.c_check.specs.Around.{meant, is_open}
+use Rattle.c_check.specs.Built.{names_unfinished, checked_row}
+use Rattle.c_check.proofs.Productions.{built_checked, open_checked, below_checked, above_checked}
+use Rattle.c_check.proofs.Primaries.{unfinished_is, named_first}
 use Rattle.c_check.proofs.rows.row.Goals as goal
 
-pub returns-then-production-eq-P_PRIMARY-clause-row : goal.returns-then-production-eq-P_PRIMARY-clause-row
-returns-then-production-eq-P_PRIMARY-clause-row c scene uses found own fit =
+pub returns-then-production-lt-P_EXPRESSION-clause-row : goal.returns-then-production-lt-P_EXPRESSION-clause-row
+returns-then-production-lt-P_EXPRESSION-clause-row c scene uses found own fit =
     let s = source_read c.args.syntax.now in
     let S = sense_in (senses_made c.args.unit.now c.args.results.now) in
     let at = c.args.at in
-    let xs = c.children_of-children.result.now in
-    let here = subst (λ (p : ℕ). Rowed c.primary.new.unit c.primary.result (checked_row scene s S p at xs)) (sym c.if-production-eq-P_PRIMARY.true) (c.primary.ensures.row scene uses found own fit) in
-    let same = ap (λ (p : ℕ). checked_row scene s S p at xs) c.production_of-production.ensures ∙ ap (checked_row scene s S (production_at s at) at) c.children_of-children.ensures in
-    subst (λ (g : Given Sense). Rowed c.primary.new.unit c.primary.result g) same here
+    let xs = children_at s at in
+    sym (ap (λ (q : ℕ). checked_row scene s S q at xs) c.production_of-production.ensures) ∙ below_checked scene s S c.production_of-production.result at xs c.if-production.false (omega arith)
 
-pub returns-then-production-lt-P_PRIMARY-clause-row : goal.returns-then-production-lt-P_PRIMARY-clause-row
-returns-then-production-lt-P_PRIMARY-clause-row c scene uses found own fit =
+pub returns-then-production-gt-P_PRIMARY-clause-row : goal.returns-then-production-gt-P_PRIMARY-clause-row
+returns-then-production-gt-P_PRIMARY-clause-row c scene uses found own fit =
     let s = source_read c.args.syntax.now in
     let S = sense_in (senses_made c.args.unit.now c.args.results.now) in
     let at = c.args.at in
-    let xs = c.children_of-children.result.now in
-    let production = c.production_of-production.result in
-    let same = expression_row scene s S production at xs (omega arith) (omega arith) ∙ (ap (λ (p : ℕ). checked_row scene s S p at xs) c.production_of-production.ensures ∙ ap (checked_row scene s S (production_at s at) at) c.children_of-children.ensures) in
-    subst (λ (g : Given Sense). Rowed c.part.new.unit c.part.result g) same (c.part.ensures.row scene.world fit.knows)
+    let xs = children_at s at in
+    sym (ap (λ (q : ℕ). checked_row scene s S q at xs) c.production_of-production.ensures) ∙ above_checked scene s S c.production_of-production.result at xs c.if-production.false (omega arith)
 
-pub returns-then-production-lt-P_PRIMARY-clause-rows : goal.returns-then-production-lt-P_PRIMARY-clause-rows
-returns-then-production-lt-P_PRIMARY-clause-rows c =
+pub returns-then-is_unfinished_meaning-clause-row : goal.returns-then-is_unfinished_meaning-clause-row
+returns-then-is_unfinished_meaning-clause-row c scene uses found own fit =
     let u = c.args.unit.now in
-    let rs = c.args.results.now in
-    let w = bare_world u in
-    made_rows c.part.new.unit c.part.result _ (c.part.ensures.row w (knows_itself u))
-    (part_kept w (source_read c.args.syntax.now) (sense_in (senses_made u rs)) (sense_rows u rs c.requires.rows) c.production_of-production.result c.args.at c.children_of-children.result.now (λ e. omega (arith, e)))
+    let s = source_read c.args.syntax.now in
+    let S = sense_in (senses_made u c.args.results.now) in
+    let at = c.args.at in
+    let p = c.production_of-production.result in
+    let xs = c.children_of.result.now in
+    let means = meant c.args.known.now.list.items uses in
+    let yes : ((p == p_primary) && names_unfinished scene s xs) ≡ true =
+    unfinished_is scene s u means fit.unfinished p xs ∙ (ap (is_open u) (sym (c.first_meaning-meaning.ensures.meant uses found)) ∙ sym c.if-is_unfinished_meaning.ensures) in
+    let same = ap (λ (q : ℕ). checked_row scene s S q at xs) c.production_of-production.ensures ∙ ap (checked_row scene s S (production_at s at) at) c.children_of.ensures in
+    sym same ∙ open_checked scene s S p at xs c.if-production.false (omega arith) (omega arith) yes
+
+pub returns-clause-row : goal.returns-clause-row
+returns-clause-row c scene uses found own fit =
+    let u = c.args.unit.now in
+    let u1 = c.row.new.unit in
+    let s = source_read c.args.syntax.now in
+    let S = sense_in (senses_made u c.args.results.now) in
+    let w = scene.world in
+    let at = c.args.at in
+    let p = c.production_of-production.result in
+    let xs = c.children_of.result.now in
+    let around : Around = record { first = c.named_of.result; may_call = true; own_name = c.own_name_of.result } in
+    let means = meant c.args.known.now.list.items uses in
+    let no : ((p == p_primary) && names_unfinished scene s xs) ≡ false =
+    unfinished_is scene s u means fit.unfinished p xs ∙ (ap (is_open u) (sym (c.first_meaning-meaning.ensures.meant uses found)) ∙ sym c.if-is_unfinished_meaning.ensures) in
+    let given : FitsAround w u s p xs around = record {
+      primary = named_first means s p w u fit.meaning xs around c.first_meaning-meaning.result (c.first_meaning-meaning.ensures.meant uses found) (c.named_of.ensures.named w fit.may_name) (fit.own_name ∙ (sym own ∙ sym c.own_name_of.ensures));
+      post = λ e. fit.may_call;
+    } in
+    let there = subst (λ (l : List ℕ). FitsAround w u s (production_at s at) l around) c.children_of.ensures (subst (λ (q : ℕ). FitsAround w u s q xs around) c.production_of-production.ensures given) in
+    let from = ap (λ (q : ℕ). built_row w s S q at xs) c.production_of-production.ensures ∙ ap (built_row w s S (production_at s at) at) c.children_of.ensures in
+    let to = ap (λ (q : ℕ). checked_row scene s S q at xs) c.production_of-production.ensures ∙ ap (checked_row scene s S (production_at s at) at) c.children_of.ensures in
+    let same = sym from ∙ (sym (built_checked scene s S p at xs c.if-production.false (omega arith) (omega arith) no) ∙ to) in
+    subst (λ (g : Given Sense). Rowed u1 c.row.result g) same (c.row.ensures.built w [] fit.knows there)

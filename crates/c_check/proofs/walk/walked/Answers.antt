@@ -1,7 +1,5 @@
 use Rattle.std.proofs.Common.{subst}
-use Rattle.c_lexer.specs.declared.Tokens.{Tokens}
-use Rattle.c_grammar.specs.declared.trees.Tree.{Tree}
-use Rattle.c_senses.specs.Names.{source_with}
+use Rattle.c_senses.specs.Tree.{Source}
 use Rattle.c_check.specs.Around.{scene_of}
 use Rattle.c_check.specs.Runs.{Answered}
 use Rattle.c_check.proofs.Walking.{fits_itself}
@@ -16,5 +14,4 @@ returns-clause-answer c =
     let scene = scene_of u0 known.owner known.list.items uses in
     let syntax = c.in-Ok.syntax in
     let answer = c.walk_nodes.ensures.answer scene uses c.in_ok-around.ensures.found c.in_ok-around.ensures.own (fits_itself u0 known.owner known.list.items uses) in
-    let over = λ (tokens : Tokens) (tree : Tree). Answered scene (source_with tokens tree uses) c.args.start c.args.end u1 c.walk_nodes.result in
-    subst (λ (tree : Tree). over c.args.tokens.now tree) c.in-Ok.ensures.tree (subst (λ (tokens : Tokens). over tokens syntax.tree.now) c.in-Ok.ensures.tokens answer)
+    subst (λ (s : Source). Answered scene s c.args.start c.args.end u1 c.walk_nodes.result) (c.in-Ok.ensures.source uses) answer

@@ -1,0 +1,3 @@
+pub mod Productions
+pub mod Readable
+pub mod Keeping

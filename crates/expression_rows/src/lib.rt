@@ -1,0 +1,11 @@
+//! The row of each production of expressions (C11 6.5): what a node of an expression stands for, over what has been made for the nodes
+//! before it and what is looked up around it.
+#![tactic(auto)]
+
+mod around;
+pub mod laws;
+mod rows;
+
+pub use around::Around;
+pub use c_rows::Named;
+pub use rows::row;
