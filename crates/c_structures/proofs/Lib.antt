@@ -1,2 +1,5 @@
 pub mod Gathering
 pub mod Fielding
+pub mod Naming
+pub mod Ascending
+pub mod Covering

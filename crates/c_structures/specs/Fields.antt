@@ -1,19 +1,13 @@
 -- Names and types of fields.
-use Rattle.std.specs.Prelude.{ℕ, ◌≡◌, Bool, true, not, ◌&&◌, ◌||◌, List, Option, Some, None}
+use Rattle.std.specs.Prelude.{ℕ, ◌≡◌, Bool, not, ◌&&◌, ◌||◌, Option, Some, None}
 use Rattle.c_types.specs.declared.term.TypeId.{TypeId}
 use Rattle.c_types.specs.Trees.{Ctype}
 use Rattle.c_types.specs.Table.{Table, type_of}
-use Rattle.c_inits.specs.Made.{Part}
 use Rattle.c_senses.specs.Tree.{Source}
 use Rattle.c_senses.specs.World.{World, has_size}
 use Rattle.c_senses.specs.Limits.{ends_flexible}
 use Rattle.c_senses.specs.Sense.{Sense}
-use Rattle.c_senses.specs.Tags.{has_part_named, in_union, is_last_field}
-
--- no name, or one that none of some members has
-abbrev pub new_among : World → Source → (ℕ → Sense) → List Part → Option (List ℕ) → Bool
-new_among w s sense parts None = true
-new_among w s sense parts (Some name) = not (has_part_named w s sense name parts)
+use Rattle.c_senses.specs.Tags.{in_union, is_last_field}
 
 -- an element's type, where there is one
 abbrev pub IsElement : Table → Option TypeId → Option Ctype → Type 0

@@ -1,2 +1,5 @@
 pub mod Members
 pub mod Fields
+pub mod Named
+pub mod Before
+pub mod Widths

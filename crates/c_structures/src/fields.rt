@@ -14,8 +14,10 @@ ghost use Rattle.core_nodes.specs.Standing.{Knows};
 ghost use Rattle.c_results.specs.Standing.{IsWithin, Rowed};
 ghost use Rattle.c_declarators.specs.Limited.{AreFlexible};
 ghost use Rattle.tree_reads.specs.Sources.{source_read, source_in};
-ghost use Rattle.c_structures.specs.Fields.{new_among, IsElement, ends_list, fits_whole};
+ghost use Rattle.c_structures.specs.Fields.{IsElement, ends_list, fits_whole};
+ghost use Rattle.c_structures.specs.Before.{SaysEarlier};
 
+use crate::before::MembersBefore;
 use crate::places::{in_union, is_last_field};
 use c_declarators::ends_flexible;
 use c_results::Made;
@@ -30,37 +32,15 @@ use tree_reads::{Syntax, Test, children_of, first_where, spelling_of};
 
 const SIGN_COLON: u8 = 31;
 
-// Whether a member has a name, and that one.
-fn is_named(member: &MemberTerm, name: &[u8]) -> bool
-    ensures { result ≡ has_name name.now member.now.name }
-{
-    match &member.name {
-        Some(own) => own.as_str().as_bytes() == name,
-        None => false,
-    }
-}
-
-// Whether a member of some has that name.
-fn has_part_named(members: &[MemberTerm], name: &[u8]) -> bool
-    ensures { (table : Table) (w : World) (s : Source) (sense : ℕ → Sense) →
-        result ≡ spec.has_part_named w s sense name.now (map (part_of table) members.now) }
-{
-    for member in members {
-        if is_named(member, name) {
-            return true;
-        }
-    }
-    false
-}
-
-// Whether a field has no name, or one that none of some members has.
-fn is_new_name(syntax: &Syntax, earlier: &[MemberTerm], leaf: Option<u32>) -> bool
-    ensures { (table : Table) (w : World) (sense : ℕ → Sense) →
+/// Whether a field has no name, or one that no member before it in its list has.
+pub(crate) fn is_new_name(syntax: &Syntax, earlier: &MembersBefore, leaf: Option<u32>) -> bool
+    ensures { (w : World) (sense : ℕ → Sense) (at : ℕ) →
         let s = source_read syntax.now in
-        result ≡ new_among w s sense (map (part_of table) earlier.now) (spec.field_name w s sense leaf) }
+        SaysEarlier earlier.now (spec.earlier_parts w s sense at) →
+        result ≡ spec.is_new_name w s sense at (spec.field_name w s sense leaf) }
 {
     match leaf {
-        Some(leaf) => !has_part_named(earlier, spelling_of(syntax, leaf)),
+        Some(leaf) => !earlier.contains(spelling_of(syntax, leaf)),
         None => true,
     }
 }
@@ -164,8 +144,8 @@ fn field_name(alloc: Global, syntax: &Syntax, leaf: Option<u32>) -> Result<Optio
     }
 }
 
-// One member.
-fn one_member(
+/// One member.
+pub(crate) fn one_member(
     alloc: Global,
     syntax: &Syntax,
     leaf: Option<u32>,
@@ -187,8 +167,8 @@ fn one_member(
     Ok(Made::Members(list))
 }
 
-// The node that names a field in refusals: its name, or its colon.
-fn named_field(syntax: &Syntax, at: u32, leaf: Option<u32>) -> u32
+/// The node that names a field in refusals: its name, or its colon.
+pub(crate) fn named_field(syntax: &Syntax, at: u32, leaf: Option<u32>) -> u32
     ensures { (w : World) (sense : ℕ → Sense) → result ≡ spec.named_field w (source_read syntax.now) sense at leaf }
 {
     if let Some(leaf) = leaf {
@@ -200,19 +180,12 @@ fn named_field(syntax: &Syntax, at: u32, leaf: Option<u32>) -> u32
     }
 }
 
-// Whether there are members.
-fn has_members(members: &[MemberTerm]) -> bool
-    ensures { (table : Table) → result ≡ nat_lt 0 (length (map (part_of table) members.now)) }
-{
-    0 < members.len()
-}
-
 // Whether a field without a width may stand there under its name.
 fn plain_fits(
     unit: &Unit,
     syntax: &Syntax,
     unions: &[bool],
-    earlier: &[MemberTerm],
+    earlier: &MembersBefore,
     at: u32,
     leaf: Option<u32>,
     ty: TypeId,
@@ -223,12 +196,12 @@ fn plain_fits(
         Knows w unit.now →
         AreFlexible w unions.now →
         let s = source_read syntax.now in
-        map (part_of unit.now.types) earlier.now ≡ spec.earlier_parts w s sense at →
+        SaysEarlier earlier.now (spec.earlier_parts w s sense at) →
         result
         ≡ (spec.may_be_member w s sense at (type_of unit.now.types ty.0)
         && spec.is_new_name w s sense at (spec.field_name w s sense leaf)) }
 {
-    let has_earlier = has_members(earlier);
+    let has_earlier = earlier.has_members();
     may_be_member(unit, syntax, unions, at, has_earlier, ty) && is_new_name(syntax, earlier, leaf)
 }
 
@@ -241,7 +214,7 @@ pub fn plain_field(
     unit: &Unit,
     syntax: &Syntax,
     unions: &[bool],
-    earlier: &[MemberTerm],
+    earlier: &MembersBefore,
     at: u32,
     leaf: Option<u32>,
     ty: TypeId,
@@ -253,7 +226,7 @@ pub fn plain_field(
         Knows w unit.now →
         AreFlexible w unions.now →
         let s = source_in syntax.now uses in
-        map (part_of unit.now.types) earlier.now ≡ spec.earlier_parts w s sense at →
+        SaysEarlier earlier.now (spec.earlier_parts w s sense at) →
         Rowed unit.now result (spec.field_typed w s sense at leaf (type_of unit.now.types ty.0) None) }
 {
     if plain_fits(unit, syntax, unions, earlier, at, leaf, ty) {

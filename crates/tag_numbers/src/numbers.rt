@@ -1,0 +1,101 @@
+// Numbers in the order of the first specifiers.
+ghost use Rattle.std.specs.Prelude.{◌≡◌, ◌<◌, ◌+◌, ℕ, List, true, length, get_or, unwrap_or, IfOk, OnOk};
+ghost use Rattle.c_grammar.specs.Productions.{p_struct};
+ghost use Rattle.c_senses.specs.Tree as tree;
+ghost use Rattle.c_senses.specs.Tree.{Source};
+ghost use Rattle.c_senses.specs.Tags as spec;
+ghost use Rattle.leaf_maps.specs.Numbers.{number_at};
+ghost use Rattle.tree_reads.specs.Sources.{source_in};
+ghost use Rattle.tag_numbers.specs.Firsts.{Declares};
+ghost use Rattle.tag_numbers.specs.Numbers.{AreNumbers};
+
+use crate::declaring::{Declaring, tag_declared};
+use leaf_maps::LeafMap;
+use pta_base::OutOfMemory;
+use std::alloc::Global;
+use tree_reads::{Syntax, is_a};
+
+pub(crate) const P_STRUCT: u32 = 12;
+
+/// Numbers by the node of a tag's first declaration, and the first specifier of each number.
+#[derive(Drop)]
+pub(crate) struct Numbering {
+    pub(crate) numbers: LeafMap,
+    pub(crate) firsts: Vec<u32>,
+}
+
+// The tag of a specifier gets the next number, if it has none yet.
+fn number_one(numbering: &mut Numbering, node: u32, declared: u32) -> Result<(), OutOfMemory>
+    ensures { OnOk result ((s : Source) →
+        AreNumbers s numbering.old node →
+        tree.is_a s p_struct node ≡ true →
+        spec.tag_declared s node ≡ declared → declared < length s.nodes → AreNumbers s numbering.new (node + 1)) }
+{
+    if let Some(_number) = numbering.numbers.get(declared) {
+        return Ok(());
+    }
+    let number = numbering.firsts.as_slice().len();
+    if number > u32::MAX as usize {
+        return Err(OutOfMemory);
+    }
+    numbering.numbers.add(declared, number as u32)?;
+    numbering.firsts.push(node)?;
+    Ok(())
+}
+
+// What one more node adds to the numbers.
+fn number_node(
+    numbering: &mut Numbering,
+    syntax: &Syntax,
+    declaring: &Declaring,
+    node: u32,
+) -> Result<(), OutOfMemory>
+    ensures { OnOk result ((uses : List (ℕ × ℕ)) →
+        let s = source_in syntax.now uses in
+        Declares s declaring.now → AreNumbers s numbering.old node → AreNumbers s numbering.new (node + 1)) }
+{
+    if !is_a(syntax, P_STRUCT, node) {
+        return Ok(());
+    }
+    let declared = tag_declared(syntax, declaring, node);
+    if declared as usize >= syntax.tree.nodes.len() {
+        return Err(OutOfMemory);
+    }
+    number_one(numbering, node, declared)
+}
+
+/// Numbers for the structures and unions of a tree, in the order of their first specifiers. A tag that is known by a node past the
+/// tree, which no bound unit has, counts as want of memory.
+pub(crate) fn number_all(
+    alloc: Global,
+    syntax: &Syntax,
+    declaring: &Declaring,
+) -> Result<Numbering, OutOfMemory>
+    ensures { IfOk result (λ n. (uses : List (ℕ × ℕ)) →
+        let s = source_in syntax.now uses in Declares s declaring.now → AreNumbers s n (length s.nodes)) }
+{
+    let mut numbering = Numbering {
+        numbers: LeafMap::new(alloc),
+        firsts: Vec::new(alloc),
+    };
+    if syntax.tree.nodes.len() > u32::MAX as usize {
+        return Err(OutOfMemory);
+    }
+    for node in 0..syntax.tree.nodes.len() {
+        number_node(&mut numbering, syntax, declaring, node as u32)?;
+    }
+    Ok(numbering)
+}
+
+/// The numbers of a map as a list by node, with 0 for each node that has none.
+pub(crate) fn by_node(alloc: Global, numbers: &LeafMap, count: u32) -> Result<Vec<u32>, OutOfMemory>
+    ensures long { IfOk result (λ list. length list.items ≡ count) }
+    ensures each { IfOk result (λ list.
+        (d : ℕ) → d < count → get_or list.items d d ≡ unwrap_or (number_at numbers.now d) 0) }
+{
+    let mut list = Vec::new(alloc);
+    for node in 0..count {
+        list.push(numbers.get(node).unwrap_or(0))?;
+    }
+    Ok(list)
+}

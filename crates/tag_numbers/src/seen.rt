@@ -1,0 +1,244 @@
+// What is known of each specifier's tag.
+ghost use Rattle.std.specs.Prelude.{◌≡◌, ◌<◌, ◌+◌, ◌==◌, ◌&&◌, ◌||◌, not, ℕ, List, Some, true, false, length, get_or, slice_get, IfOk, OnOk};
+ghost use Rattle.c_grammar.specs.Productions.{p_struct, p_members};
+ghost use Rattle.c_senses.specs.Tree as tree;
+ghost use Rattle.c_senses.specs.Tree.{Source};
+ghost use Rattle.c_senses.specs.World.{same_length};
+ghost use Rattle.c_senses.specs.Tags as spec;
+ghost use Rattle.c_tags.specs.Seen.{IsSeen};
+ghost use Rattle.tree_reads.specs.Sources.{source_in};
+ghost use Rattle.tag_numbers.specs.Firsts.{Declares};
+ghost use Rattle.tag_numbers.specs.Numbers.{ListedBefore};
+ghost use Rattle.tag_numbers.specs.Numbers.{AreSeen, MarkedBefore, completes};
+
+use crate::declaring::{Declaring, tag_declared};
+use crate::numbers::P_STRUCT;
+use c_tags::SeenTag;
+use pta_base::OutOfMemory;
+use std::alloc::Global;
+use tree_reads::{Syntax, child_of, is_a, is_leaf, word_of};
+
+const P_MEMBERS: u32 = 13;
+
+const P_ENUM: u32 = 16;
+
+const P_ENUMERATORS: u32 = 17;
+
+// Whether a node is the specifier of a structure, union or enumeration.
+fn is_tag_specifier(syntax: &Syntax, node: u32) -> bool
+    ensures { (uses : List (ℕ × ℕ)) → result ≡ spec.is_tag_specifier (source_in syntax.now uses) node }
+{
+    is_a(syntax, P_STRUCT, node) || is_a(syntax, P_ENUM, node)
+}
+
+// Whether a specifier has a list of members or enumerators.
+fn has_list(syntax: &Syntax, node: u32) -> bool
+    ensures { (uses : List (ℕ × ℕ)) → result ≡ spec.has_list (source_in syntax.now uses) node }
+{
+    child_of(syntax, P_MEMBERS, node).is_some() || child_of(syntax, P_ENUMERATORS, node).is_some()
+}
+
+// The specifier that declares a tag first.
+fn declaring_specifier(syntax: &Syntax, tag: u32) -> Option<u32>
+    requires { tag < length syntax.now.tree.now.nodes.items }
+    ensures { (uses : List (ℕ × ℕ)) → result ≡ spec.declaring_specifier (source_in syntax.now uses) tag }
+{
+    if is_leaf(syntax, tag) {
+        syntax.parent_of(tag)
+    } else {
+        Some(tag)
+    }
+}
+
+// The keyword with which a tag is declared first.
+fn keyword_of(syntax: &Syntax, tag: u32) -> Option<u8>
+    requires { tag < length syntax.now.tree.now.nodes.items }
+    ensures { (uses : List (ℕ × ℕ)) → result ≡ spec.keyword_of (source_in syntax.now uses) tag }
+{
+    match declaring_specifier(syntax, tag) {
+        Some(specifier) => word_of(syntax, specifier),
+        None => None,
+    }
+}
+
+// Whether two keywords are one.
+fn same_word(a: Option<u8>, b: Option<u8>) -> bool
+    ensures { result ≡ same_length a b }
+{
+    match a {
+        Some(a) => match b {
+            Some(b) => a == b,
+            None => false,
+        },
+        None => b.is_none(),
+    }
+}
+
+/// A flag of a list, which is not set past its end.
+pub(crate) fn flag_at(flags: &[bool], number: u32) -> bool
+    ensures { result ≡ get_or flags.now number false }
+{
+    match flags.get(number as usize) {
+        Some(flag) => *flag,
+        None => false,
+    }
+}
+
+// Whether a specifier has a list where its tag has had one.
+fn is_listed_again(syntax: &Syntax, listed: &[bool], node: u32, declared: u32) -> bool
+    ensures { (uses : List (ℕ × ℕ)) →
+        let s = source_in syntax.now uses in
+        spec.tag_declared s node ≡ declared →
+        ListedBefore s node listed.now → result ≡ (spec.has_list s node && spec.is_listed_before s node) }
+{
+    has_list(syntax, node) && flag_at(listed, declared)
+}
+
+// Whether a specifier's keyword isn't that with which its tag is declared first.
+fn has_other_keyword(syntax: &Syntax, node: u32, declared: u32) -> bool
+    requires { declared < length syntax.now.tree.now.nodes.items }
+    ensures { (uses : List (ℕ × ℕ)) →
+        let s = source_in syntax.now uses in
+        spec.tag_declared s node ≡ declared → result ≡ spec.has_other_keyword s node }
+{
+    !same_word(keyword_of(syntax, declared), word_of(syntax, node))
+}
+
+// Whether a specifier may stand.
+fn tag_fits(syntax: &Syntax, listed: &[bool], node: u32, declared: u32) -> bool
+    requires { declared < length syntax.now.tree.now.nodes.items }
+    ensures { (uses : List (ℕ × ℕ)) →
+        let s = source_in syntax.now uses in
+        spec.tag_declared s node ≡ declared → ListedBefore s node listed.now → result ≡ spec.tag_fits s node }
+{
+    !(is_listed_again(syntax, listed, node, declared) || has_other_keyword(syntax, node, declared))
+}
+
+// What is known of the tag of a specifier, by the node of the tag's first declaration and the tags that have had a list.
+fn seen_tag(syntax: &Syntax, listed: &[bool], node: u32, declared: u32) -> SeenTag
+    requires { declared < length syntax.now.tree.now.nodes.items }
+    ensures { (uses : List (ℕ × ℕ)) →
+        let s = source_in syntax.now uses in
+        spec.tag_declared s node ≡ declared → ListedBefore s node listed.now → IsSeen s node result }
+{
+    SeenTag {
+        number: syntax.tag_number(declared),
+        fits: tag_fits(syntax, listed, node, declared),
+    }
+}
+
+// Marks a number in a list of flags, if that is asked.
+fn mark_if(flags: &mut Vec<bool>, number: usize, asked: bool)
+    requires { number < length flags.old.items }
+    ensures long { length flags.new.items ≡ length flags.old.items }
+    ensures marked { (n : ℕ) →
+        get_or flags.new.items n false ≡ (get_or flags.old.items n false || (asked && number == n)) }
+{
+    if asked {
+        flags[number] = true;
+    }
+}
+
+// What is known of the tag of one more node, if it is a specifier.
+fn see_node(
+    syntax: &Syntax,
+    declaring: &Declaring,
+    listed: &mut Vec<bool>,
+    node: u32,
+) -> Result<SeenTag, OutOfMemory>
+    requires { length listed.old.items ≡ length syntax.now.tree.now.nodes.items }
+    ensures long { OnOk result (length listed.new.items ≡ length listed.old.items) }
+    ensures seen { IfOk result (λ tag. (uses : List (ℕ × ℕ)) →
+        let s = source_in syntax.now uses in
+        Declares s declaring.now →
+        ListedBefore s node listed.old.items → spec.is_tag_specifier s node ≡ true → IsSeen s node tag) }
+    ensures listed { OnOk result ((uses : List (ℕ × ℕ)) →
+        let s = source_in syntax.now uses in
+        Declares s declaring.now → ListedBefore s node listed.old.items → ListedBefore s (node + 1) listed.new.items) }
+{
+    if !is_tag_specifier(syntax, node) {
+        return Ok(SeenTag {
+            number: 0,
+            fits: false,
+        });
+    }
+    let declared = tag_declared(syntax, declaring, node);
+    if declared as usize >= listed.as_slice().len() {
+        return Err(OutOfMemory);
+    }
+    let tag = seen_tag(syntax, listed.as_slice(), node, declared);
+    mark_if(listed, declared as usize, has_list(syntax, node));
+    Ok(tag)
+}
+
+/// What is known of each specifier's tag, by node. A tag that is known by a node past the tree, which no bound unit has, counts as
+/// want of memory.
+pub(crate) fn seen_tags(
+    alloc: Global,
+    syntax: &Syntax,
+    declaring: &Declaring,
+) -> Result<Vec<SeenTag>, OutOfMemory>
+    ensures { IfOk result (λ list. (uses : List (ℕ × ℕ)) →
+        let s = source_in syntax.now uses in Declares s declaring.now → AreSeen s list.items (length s.nodes)) }
+{
+    let count = syntax.tree.nodes.len();
+    if count > u32::MAX as usize {
+        return Err(OutOfMemory);
+    }
+    let mut listed: Vec<bool> = vec![in alloc; false; count]?;
+    let mut seen = Vec::new(alloc);
+    for node in 0..count {
+        let tag = see_node(syntax, declaring, &mut listed, node as u32)?;
+        seen.push(tag)?;
+    }
+    Ok(seen)
+}
+
+// Whether a node is a specifier of a structure or union with a list of members.
+fn completes(syntax: &Syntax, node: u32) -> bool
+    ensures { (uses : List (ℕ × ℕ)) → result ≡ completes (source_in syntax.now uses) node }
+{
+    is_a(syntax, P_STRUCT, node) && child_of(syntax, P_MEMBERS, node).is_some()
+}
+
+// Marks the tag of one more node, if it is a specifier with a list of members.
+fn mark_node(
+    syntax: &Syntax,
+    declaring: &Declaring,
+    flags: &mut Vec<bool>,
+    node: u32,
+) -> Result<(), OutOfMemory>
+    ensures { OnOk result ((uses : List (ℕ × ℕ)) →
+        let s = source_in syntax.now uses in
+        Declares s declaring.now → MarkedBefore s node flags.old.items → MarkedBefore s (node + 1) flags.new.items) }
+{
+    if !completes(syntax, node) {
+        return Ok(());
+    }
+    let number = syntax.tag_number(tag_declared(syntax, declaring, node));
+    if number as usize >= flags.as_slice().len() {
+        return Err(OutOfMemory);
+    }
+    mark_if(flags, number as usize, true);
+    Ok(())
+}
+
+/// Which of so many tags have a list of members somewhere.
+pub(crate) fn completed_tags(
+    alloc: Global,
+    syntax: &Syntax,
+    declaring: &Declaring,
+    count: usize,
+) -> Result<Vec<bool>, OutOfMemory>
+    ensures { IfOk result (λ flags. (uses : List (ℕ × ℕ)) →
+        let s = source_in syntax.now uses in Declares s declaring.now → MarkedBefore s (length s.nodes) flags.items) }
+{
+    if syntax.tree.nodes.len() > u32::MAX as usize {
+        return Err(OutOfMemory);
+    }
+    let mut flags: Vec<bool> = vec![in alloc; false; count]?;
+    for node in 0..syntax.tree.nodes.len() {
+        mark_node(syntax, declaring, &mut flags, node as u32)?;
+    }
+    Ok(flags)
+}
