@@ -1,0 +1,5 @@
+pub mod Pairs
+pub mod Tests
+pub mod Lists
+pub mod Values
+pub mod Keeping

@@ -1,0 +1,5 @@
+pub mod Known
+pub mod Storages
+pub mod Internal
+pub mod Joined
+pub mod Meanings

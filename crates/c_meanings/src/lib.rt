@@ -1,0 +1,17 @@
+//! What the names of a unit mean: their linkage, entities, storage and types (C11 6.2.1 to 6.2.4, 6.2.7).
+#![tactic(auto)]
+
+mod linkage;
+mod meanings;
+mod names;
+mod storage;
+mod types;
+
+pub use linkage::{entity_of, is_internal, linkage_of};
+pub use meanings::{Meaning, declared_meaning, meaning_at, meaning_of, named_by};
+pub use names::{
+    Names, before_in_scope, declared_at, declares_function, is_linked, is_typedef, linked_before,
+    names_of_unit,
+};
+pub use storage::{is_automatic, is_static_object, storage_of};
+pub use types::type_behind;

@@ -1,0 +1,137 @@
+// The nodes above a node.
+ghost use Rattle.std.specs.Prelude.{◌≡◌, ◌<◌, length, IfSome};
+ghost use Rattle.c_senses.specs.Tree.{any_where, nearest_above};
+ghost use Rattle.c_senses.specs.Entities as spec;
+ghost use Rattle.tree_reads.specs.Sources.{source_read};
+ghost use Rattle.name_places.specs.Levels.{asks, is_definition, level_seen, no_senses};
+
+use tree_reads::{Syntax, child_of, children_of, has_word, is_a};
+
+const P_EXTERNAL: u32 = 1;
+
+const P_REST: u32 = 2;
+
+const P_ASSERT: u32 = 4;
+
+const P_ALIGN: u32 = 10;
+
+const P_FIELD: u32 = 15;
+
+const P_ENUMERATOR: u32 = 18;
+
+const P_SUFFIX: u32 = 22;
+
+const P_INIT: u32 = 25;
+
+const P_DESIGNATOR: u32 = 28;
+
+const P_BLOCK: u32 = 29;
+
+const P_STATEMENT: u32 = 30;
+
+const P_UNARY: u32 = 45;
+
+const WORD_SIZEOF: u8 = 24;
+
+const WORD_ALIGNOF: u8 = 35;
+
+/// What a node above another is asked: whether it defines a function, or whether it decides if what is in it initialises a
+/// static object.
+#[derive(Clone, Copy, Debug, PartialEq, Eq)]
+pub(crate) enum Level {
+    Definition,
+    Boundary,
+}
+
+/// Whether a node is the definition of a function (C11 6.9.1).
+pub(crate) fn is_definition(syntax: &Syntax, node: u32) -> bool
+    ensures { result ≡ is_definition (source_read syntax.now) node }
+{
+    is_a(syntax, P_EXTERNAL, node) && child_of(syntax, P_BLOCK, node).is_some()
+}
+
+// Whether a node is the keyword `sizeof` or `_Alignof`.
+fn asks(syntax: &Syntax, node: u32) -> bool
+    ensures { result ≡ asks (source_read syntax.now) node }
+{
+    has_word(syntax, WORD_SIZEOF, node) || has_word(syntax, WORD_ALIGNOF, node)
+}
+
+// Whether one of those keywords is among some nodes.
+fn any_asks(syntax: &Syntax, list: &[u32]) -> bool
+    ensures { result ≡ any_where (asks (source_read syntax.now)) list.now }
+{
+    for node in list {
+        if asks(syntax, *node) {
+            return true;
+        }
+    }
+    false
+}
+
+// Whether a node is `sizeof` or `_Alignof` with what it asks of.
+fn is_operand_word(syntax: &Syntax, node: u32) -> bool
+    ensures { result ≡ spec.is_operand_word (source_read syntax.now) no_senses node }
+{
+    is_a(syntax, P_UNARY, node) && any_asks(syntax, children_of(syntax, node))
+}
+
+/// Whether a node is the initialiser of a declared name (C11 6.7.9).
+pub(crate) fn is_object_initialiser(syntax: &Syntax, node: u32) -> bool
+    requires { node < length syntax.now.tree.now.nodes.items }
+    ensures { result ≡ spec.is_object_initialiser (source_read syntax.now) no_senses node }
+{
+    if !is_a(syntax, P_INIT, node) {
+        return false;
+    }
+    match syntax.parent_of(node) {
+        Some(parent) => is_a(syntax, P_REST, parent),
+        None => false,
+    }
+}
+
+// Whether a node decides if what is in it initialises a static object.
+fn is_boundary(syntax: &Syntax, node: u32) -> bool
+    requires { node < length syntax.now.tree.now.nodes.items }
+    ensures { result ≡ spec.is_boundary (source_read syntax.now) no_senses node }
+{
+    is_operand_word(syntax, node)
+        || is_a(syntax, P_SUFFIX, node)
+        || is_a(syntax, P_ALIGN, node)
+        || is_a(syntax, P_ENUMERATOR, node)
+        || is_a(syntax, P_FIELD, node)
+        || is_a(syntax, P_DESIGNATOR, node)
+        || is_a(syntax, P_STATEMENT, node)
+        || is_a(syntax, P_ASSERT, node)
+        || is_object_initialiser(syntax, node)
+}
+
+// Whether a node passes a test.
+fn passes(syntax: &Syntax, level: Level, node: u32) -> bool
+    requires { node < length syntax.now.tree.now.nodes.items }
+    ensures { result ≡ level_seen (source_read syntax.now) level node }
+{
+    match level {
+        Level::Definition => is_definition(syntax, node),
+        Level::Boundary => is_boundary(syntax, node),
+    }
+}
+
+/// The nearest node above that passes a test.
+pub(crate) fn nearest(syntax: &Syntax, level: Level, node: u32) -> Option<u32>
+    requires { node < length syntax.now.tree.now.nodes.items }
+    ensures nearest { let s = source_read syntax.now in result ≡ nearest_above s (level_seen s level) node }
+    ensures within { IfSome result (λ p. p < length syntax.now.tree.now.nodes.items) }
+{
+    let mut next = syntax.parent_of(node);
+    for _step in 0..syntax.tree.nodes.len() {
+        let Some(parent) = next else {
+            return None;
+        };
+        if passes(syntax, level, parent) {
+            return Some(parent);
+        }
+        next = syntax.parent_of(parent);
+    }
+    None
+}
