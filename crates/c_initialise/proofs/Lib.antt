@@ -1,3 +1,4 @@
 pub mod Viewed
 pub mod Listed
 pub mod Given
+pub mod Told

@@ -1,15 +1,7 @@
 -- The nodes of a tree's list.
 use Rattle.std.specs.Prelude.{ℕ, Bool, ◌&&◌, eqb, nat_lt, List, [], ◌∷◌, Option, Some, None, slice_get, if◌then◌else◌}
 use Rattle.c_grammar.specs.declared.trees.SyntaxNode.{SyntaxNode}
-use Rattle.c_grammar.specs.Reads.{leaf}
-
-abbrev pub production_of : Option SyntaxNode → ℕ
-production_of None = leaf
-production_of (Some n) = n.production
-
-abbrev pub children_of : Option SyntaxNode → List ℕ
-children_of None = []
-children_of (Some n) = n.children.items
+pub use Rattle.c_senses.specs.Tree.{production_of, children_of}
 
 -- a node of that production that stands before another
 abbrev pub is_before : List SyntaxNode → (production before i : ℕ) → Bool

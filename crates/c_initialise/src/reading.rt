@@ -10,13 +10,14 @@ ghost use Rattle.c_initialise.specs.Nodes.{production_of, children_of};
 ghost use Rattle.c_initialise.specs.Read.{part_at, before, IsItem};
 
 use crate::facts::{Source, designator_at, expression_at};
-use crate::nodes::{child_of, children_at, is_child};
+use crate::nodes::{child_before, is_child};
 use c_braces::growing::{push_braces, push_value};
 use c_braces::tree::{InitEntry, InitNode};
 use c_grammar::productions::{DESIGNATOR, INIT, ITEM, ITEMS};
 use c_inits::designators::Designator;
 use c_types::term::OutOfMemory;
 use std::alloc::Global;
+use tree_reads::children_of;
 
 fn push_designator(
     designators: &mut Vec<Designator>,
@@ -41,14 +42,14 @@ fn push_entry(entries: &mut Vec<InitEntry>, entry: InitEntry) -> Result<(), OutO
 
 /// The designators of an item.
 fn designators_of(alloc: Global, source: &Source, item: u32) -> Result<Vec<Designator>, OutOfMemory>
-    ensures { let s = told source.now.types.now source.now.facts.now in
-        let part = part_at s source.now.nodes.now in
+    ensures { let s = told source.now in
+        let part = part_at s source.now.syntax.now.tree.now.nodes.items in
         IfOk result (λ list.
-        map designator_of list.items ≡ all_designators (before item part) (children_of (slice_get source.now.nodes.now item))) }
+        map designator_of list.items ≡ all_designators (before item part) (children_of (slice_get source.now.syntax.now.tree.now.nodes.items item))) }
 {
     let mut designators = Vec::new(alloc);
-    for child in children_at(source.nodes, item) {
-        if is_child(source.nodes, DESIGNATOR, item, *child) {
+    for child in children_of(source.syntax, item) {
+        if is_child(source.syntax, DESIGNATOR, item, *child) {
             let designator = designator_at(alloc, source, *child)?;
             push_designator(&mut designators, designator)?;
         }
@@ -66,22 +67,22 @@ pub fn read_init(
     inits: &mut Vec<InitNode>,
 ) -> Result<u32, OutOfMemory>
     requires known { AreKnown source.now }
-    requires inits { AreInits source.now.types.now inits.old.items }
-    requires node { production_of (slice_get source.now.nodes.now node) ≡ p_init }
+    requires inits { AreInits source.now.unit.now.types inits.old.items }
+    requires node { production_of (slice_get source.now.syntax.now.tree.now.nodes.items node) ≡ p_init }
     ensures at { IfOk result (λ at. at < length inits.new.items) }
-    ensures init { let s = told source.now.types.now source.now.facts.now in
-        IfOk result (λ at. part_at s source.now.nodes.now node ≡ AnInit (init_at source.now.types.now inits.new.items at)) }
-    ensures grows { OnOk result (Grows source.now.types.now inits.old.items inits.new.items) }
+    ensures init { let s = told source.now in
+        IfOk result (λ at. part_at s source.now.syntax.now.tree.now.nodes.items node ≡ AnInit (init_at source.now.unit.now.types inits.new.items at)) }
+    ensures grows { OnOk result (Grows source.now.unit.now.types inits.old.items inits.new.items) }
 {
-    match child_of(source.nodes, ITEMS, node) {
+    match child_before(source.syntax, ITEMS, node) {
         Some(list) => {
             let entries = read_items(alloc, source, list, inits)?;
-            let at = push_braces(source.types, inits, node, entries)?;
+            let at = push_braces(&source.unit.types, inits, node, entries)?;
             Ok(at)
         }
         None => {
             let value = expression_at(source, node);
-            let at = push_value(source.types, inits, node, value)?;
+            let at = push_value(&source.unit.types, inits, node, value)?;
             Ok(at)
         }
     }
@@ -96,17 +97,17 @@ pub fn read_items(
     inits: &mut Vec<InitNode>,
 ) -> Result<Vec<InitEntry>, OutOfMemory>
     requires known { AreKnown source.now }
-    requires inits { AreInits source.now.types.now inits.old.items }
-    requires list { production_of (slice_get source.now.nodes.now list) ≡ p_items }
+    requires inits { AreInits source.now.unit.now.types inits.old.items }
+    requires list { production_of (slice_get source.now.syntax.now.tree.now.nodes.items list) ≡ p_items }
     ensures within { IfOk result (λ entries. ItemsBefore (length inits.new.items) entries.items) }
-    ensures items { let s = told source.now.types.now source.now.facts.now in
+    ensures items { let s = told source.now in
         IfOk result (λ entries.
-        part_at s source.now.nodes.now list ≡ AList (items_over (init_at source.now.types.now inits.new.items) entries.items)) }
-    ensures grows { OnOk result (Grows source.now.types.now inits.old.items inits.new.items) }
+        part_at s source.now.syntax.now.tree.now.nodes.items list ≡ AList (items_over (init_at source.now.unit.now.types inits.new.items) entries.items)) }
+    ensures grows { OnOk result (Grows source.now.unit.now.types inits.old.items inits.new.items) }
 {
     let mut entries = Vec::new(alloc);
-    for child in children_at(source.nodes, list) {
-        if is_child(source.nodes, ITEM, list, *child) {
+    for child in children_of(source.syntax, list) {
+        if is_child(source.syntax, ITEM, list, *child) {
             match read_item(alloc, source, *child, inits)? {
                 Some(entry) => push_entry(&mut entries, entry)?,
                 None => {}
@@ -125,13 +126,13 @@ fn read_item(
     inits: &mut Vec<InitNode>,
 ) -> Result<Option<InitEntry>, OutOfMemory>
     requires known { AreKnown source.now }
-    requires inits { AreInits source.now.types.now inits.old.items }
-    requires item { production_of (slice_get source.now.nodes.now item) ≡ p_item }
-    ensures item { let s = told source.now.types.now source.now.facts.now in
-        IfOk result (λ entry. IsItem source.now.types.now inits.new.items (part_at s source.now.nodes.now item) entry) }
-    ensures grows { OnOk result (Grows source.now.types.now inits.old.items inits.new.items) }
+    requires inits { AreInits source.now.unit.now.types inits.old.items }
+    requires item { production_of (slice_get source.now.syntax.now.tree.now.nodes.items item) ≡ p_item }
+    ensures item { let s = told source.now in
+        IfOk result (λ entry. IsItem source.now.unit.now.types inits.new.items (part_at s source.now.syntax.now.tree.now.nodes.items item) entry) }
+    ensures grows { OnOk result (Grows source.now.unit.now.types inits.old.items inits.new.items) }
 {
-    match child_of(source.nodes, INIT, item) {
+    match child_before(source.syntax, INIT, item) {
         Some(child) => {
             let designators = designators_of(alloc, source, item)?;
             let init = read_init(alloc, source, child, inits)?;

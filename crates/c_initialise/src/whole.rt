@@ -28,17 +28,17 @@ pub fn initialise_node(
     id: TypeId,
 ) -> Result<Result<Initialised, u32>, OutOfMemory>
     requires known { AreKnown source.now }
-    requires node { production_of (slice_get source.now.nodes.now node) ≡ p_init }
-    requires object { id.0 < length source.now.types.now.terms }
-    ensures { let s = told source.now.types.now source.now.facts.now in
+    requires node { production_of (slice_get source.now.syntax.now.tree.now.nodes.items node) ≡ p_init }
+    requires object { id.0 < length source.now.unit.now.types.terms }
+    ensures { let s = told source.now in
         IfOk result (λ answer. (init : Init)
-        × (init_seen s source.now.nodes.now node ≡ Some init)
-        × Answers source.now.types.now limit id.0 init answer) }
+        × (init_seen s source.now.syntax.now.tree.now.nodes.items node ≡ Some init)
+        × Answers source.now.unit.now.types limit id.0 init answer) }
 {
     let mut inits = Vec::new(alloc);
     let at = read_init(alloc, source, node, &mut inits)?;
     let walk = Walk {
-        types: source.types,
+        types: &source.unit.types,
         limit,
         inits: inits.as_slice(),
     };
@@ -57,18 +57,18 @@ pub fn initialise_literal(
     id: TypeId,
 ) -> Result<Result<Initialised, u32>, OutOfMemory>
     requires known { AreKnown source.now }
-    requires list { production_of (slice_get source.now.nodes.now list) ≡ p_items }
-    requires object { id.0 < length source.now.types.now.terms }
-    ensures { let s = told source.now.types.now source.now.facts.now in
+    requires list { production_of (slice_get source.now.syntax.now.tree.now.nodes.items list) ≡ p_items }
+    requires object { id.0 < length source.now.unit.now.types.terms }
+    ensures { let s = told source.now in
         IfOk result (λ answer. (items : Items)
-        × (items_seen s source.now.nodes.now list ≡ Some items)
-        × Answers source.now.types.now limit id.0 (Braces brace items) answer) }
+        × (items_seen s source.now.syntax.now.tree.now.nodes.items list ≡ Some items)
+        × Answers source.now.unit.now.types limit id.0 (Braces brace items) answer) }
 {
     let mut inits = Vec::new(alloc);
     let entries = read_items(alloc, source, list, &mut inits)?;
-    let at = push_braces(source.types, &mut inits, brace, entries)?;
+    let at = push_braces(&source.unit.types, &mut inits, brace, entries)?;
     let walk = Walk {
-        types: source.types,
+        types: &source.unit.types,
         limit,
         inits: inits.as_slice(),
     };

@@ -269,8 +269,9 @@ module _ (table : Table) (made : IsMade table) where
     object tag k m h = elim h.object [ inl p ↦ inl p | inr p ↦ inr p.flexible ]
 
     module _ (same : layout.looked_up (layout.laid_out before' (map comp cs)) ≡ look_in table) (tag : ℕ) where
-      stays : looked_up done tag ≡ None → eqb c.tag tag ≡ true → now ≡ all_fields final c.members
-      stays none this =
+      -- over any look that knows what was laid out
+      stays_in : (more : Look) → ((t : ℕ) (fs : Fields) → looked_up done t ≡ Some fs → more t ≡ Some fs) → looked_up done tag ≡ None → eqb c.tag tag ≡ true → now ≡ all_fields more c.members
+      stays_in more knows none this =
           let unseen : layout.looked_up before tag ≡ None = there_none (layout.looked_up before tag) (sym (agree tag) ∙ ap is_there none) in
           let members : members_in table tag ≡ Some c.members = rest tag unseen ∙ ap (λ b. cond b (Some c.members) (members_among cs tag)) this in
           let first : layout.looked_up before' tag ≡ Some taken =
@@ -278,13 +279,28 @@ module _ (table : Table) (made : IsMade table) where
           let looked : look_in table tag ≡ Some taken = ap (λ (f : layout.Look). f tag) (sym same) ∙ kept_extents before' (map comp cs) tag taken first in
           let laid : look_in table tag ≡ Some (map (member_extent (look_in table)) (map type c.members)) = made.laid tag ∙ ap (option_map (extents_in table)) members in
           let equal : taken ≡ map (member_extent (look_in table)) (map type c.members) = some_is _ _ (sym looked ∙ laid) in
-          fields_same (looked_up done) final 0 c.members
+          fields_same (looked_up done) more 0 c.members
           (λ k m at.
-          member_stays (looked_up done) final (layout.looked_up before) agree
-          (λ t fs known. kept_fields done' (map (tag_parts table) cs) t fs (last_fields done c.tag now t ∙ ap (λ o. either_of o (cond (eqb c.tag t) (Some now) None)) known))
+          member_stays (looked_up done) more (layout.looked_up before) agree knows
           (type m)
           (each_same (member_extent (layout.looked_up before)) (member_extent (look_in table)) (map type c.members) equal k (type m) (mapped_at type c.members k m at))
           (object tag k m (made.members tag c.members members k m at).1))
+
+      stays : looked_up done tag ≡ None → eqb c.tag tag ≡ true → now ≡ all_fields final c.members
+      stays none this =
+          stays_in final
+          (λ t fs known. kept_fields done' (map (tag_parts table) cs) t fs (last_fields done c.tag now t ∙ ap (λ o. either_of o (cond (eqb c.tag t) (Some now) None)) known))
+          none this
+
+      -- what the tag has then is what any look says that knows what was laid out, and gives each tag what its members say
+      knows_one : (more : Look) → ((t : ℕ) → more t ≡ option_map (all_fields more) (members_in table t)) → ((t : ℕ) (fs : Fields) → looked_up done t ≡ Some fs → more t ≡ Some fs) →
+          (fs : Fields) (o : Option Fields) (here : Bool) → looked_up done tag ≡ o → eqb c.tag tag ≡ here → either_of o (cond here (Some now) None) ≡ Some fs → more tag ≡ Some fs
+      knows_one more says knows fs (Some x) here at is e = knows tag fs (at ∙ e)
+      knows_one more says knows fs None false at is e = cc
+      knows_one more says knows fs None true at is e =
+          let unseen : layout.looked_up before tag ≡ None = there_none (layout.looked_up before tag) (sym (agree tag) ∙ ap is_there at) in
+          let members : members_in table tag ≡ Some c.members = rest tag unseen ∙ ap (λ b. cond b (Some c.members) (members_among cs tag)) is in
+          says tag ∙ ap (option_map (all_fields more)) members ∙ ap Some (sym (stays_in more knows at is)) ∙ e
 
       joined : (a : Option Fields) (here : Bool) (r : Option (List MemberTerm)) → (a ≡ None → here ≡ true → now ≡ all_fields final c.members)
           → either_of (either_of a (cond here (Some now) None)) (option_map (all_fields final) r) ≡ either_of a (option_map (all_fields final) (cond here (Some c.members) r))
@@ -308,3 +324,32 @@ module _ (table : Table) (made : IsMade table) where
   pub filled : (tag : ℕ) → fillable table tag ≡ option_map (λ ms. fields_of (fillable table) 0 (map (part_of table) ms)) (members_in table tag)
   unfolding fillable
   filled tag = over_rest table.completed [] [] (λ t. refl) refl (λ t e. refl) tag
+
+  -- so it is in any look that gives each tag what its members say
+  known_over : (cs : List TagMembers) (done : List (ℕ × Fields)) (before : List (ℕ × List Extent)) → Agree (looked_up done) (layout.looked_up before) →
+      layout.looked_up (layout.laid_out before (map comp cs)) ≡ look_in table →
+      ((tag : ℕ) → layout.looked_up before tag ≡ None → members_in table tag ≡ members_among cs tag) →
+      (more : Look) → ((t : ℕ) → more t ≡ option_map (all_fields more) (members_in table t)) → ((t : ℕ) (fs : Fields) → looked_up done t ≡ Some fs → more t ≡ Some fs) →
+      (t : ℕ) (fs : Fields) → looked_up (laid_out done (map (tag_parts table) cs)) t ≡ Some fs → more t ≡ Some fs
+  known_over [] done before agree same rest more says knows t fs e = knows t fs e
+  known_over (c ∷ cs) done before agree same rest more says knows t fs e =
+      known_over cs (done' c cs done before agree rest) (before' c cs done before agree rest) (agree' c cs done before agree rest) same (rest' c cs done before agree rest) more says
+      (λ tag gs h. knows_one c cs done before agree rest same tag more says knows gs (looked_up done tag) (eqb c.tag tag) refl refl (sym (last_fields done c.tag (now c cs done before agree rest) tag) ∙ h))
+      t fs e
+
+  same_there : (tag : ℕ) (more : Look) (o : Option Fields) → fillable table tag ≡ o → ((fs : Fields) → fillable table tag ≡ Some fs → more tag ≡ Some fs)
+      → (fillable table tag ≡ None → more tag ≡ None) → more tag ≡ o
+  same_there tag more (Some fs) at some none = some fs at
+  same_there tag more None at some none = none at
+
+  without_members : (o : Option (List MemberTerm)) (f g : List MemberTerm → Fields) → option_map f o ≡ None → option_map g o ≡ None
+  without_members None f g e = refl
+  without_members (Some ms) f g e = cc
+
+  -- a look that gives each tag what its members say is what can be initialised
+  pub only_fillable : (more : Look) → ((t : ℕ) → more t ≡ option_map (λ ms. fields_of more 0 (map (part_of table) ms)) (members_in table t)) → (tag : ℕ) → more tag ≡ fillable table tag
+  unfolding fillable
+  only_fillable more says tag =
+      same_there tag more (fillable table tag) refl
+      (λ fs e. known_over table.completed [] [] (λ t. refl) refl (λ t e. refl) more says (λ t fs e. cc) tag fs e)
+      (λ e. says tag ∙ without_members (members_in table tag) (all_fields (fillable table)) (all_fields more) (sym (filled tag) ∙ e))

@@ -1,6 +1,6 @@
 //! The sub-object that a designator names (C11 6.7.9p6, p7; 6.7.2.1p13).
 
-ghost use Rattle.std.specs.Prelude.{◌≡◌, ◌<◌, ◌∷◌, ◌++◌, ℕ, List, [], length, IfOk, IfSome, IfNone, OnOk, MatchOption, MatchResult, None, Some, map};
+ghost use Rattle.std.specs.Prelude.{◌≡◌, ◌<◌, ◌^◌, ◌∷◌, ◌++◌, ℕ, List, [], length, IfOk, IfSome, IfNone, OnOk, MatchOption, MatchResult, None, Some, map};
 ghost use Rattle.c_inits.specs.Shapes.{Path};
 ghost use Rattle.c_inits.specs.Initial.{has_name, own, in_unnamed, named, element, designated, described, Found, Missing};
 ghost use Rattle.c_inits.specs.Tables.{type_shape, HasShape, fields_from, tag_fields, AreComplete};
@@ -12,10 +12,10 @@ use c_types::table::TypeTable;
 use c_types::term::{MemberTerm, Name, OutOfMemory, PathStep, Term, TypeId};
 
 /// A designator (C11 6.7.9p6, p7) with its syntax node: an index, or the name of a member. An index that is negative is passed as
-/// 2^63 or more.
+/// 2^64 or more, which no array has.
 #[derive(Drop)]
 pub enum Designator {
-    Index { node: u32, index: u64 },
+    Index { node: u32, index: u128 },
     Name { node: u32, name: Name },
 }
 
@@ -180,7 +180,7 @@ fn find_element(
     root: TypeId,
     frames: &mut Vec<Frame>,
     id: TypeId,
-    index: u64,
+    index: u128,
 ) -> Result<Option<TypeId>, OutOfMemory>
     requires stands { Stands types.now limit (type_shape types.now limit root.0) frames.old.items }
     requires at { IsAt types.now limit (type_shape types.now limit root.0) (path_of frames.old.items) id.0 }
@@ -194,7 +194,7 @@ fn find_element(
 {
     match element_at(types, limit, id, index) {
         Some(next) => {
-            let step = PathStep::Index(index);
+            let step = PathStep::Index(index as u64);
             push_frame(frames, Frame { owner: id, step })?;
             Ok(Some(next))
         }
@@ -203,16 +203,18 @@ fn find_element(
 }
 
 /// The type of the element of an index, where the object is an array that has it.
-fn element_at(types: &TypeTable, limit: u64, id: TypeId, index: u64) -> Option<TypeId>
+fn element_at(types: &TypeTable, limit: u64, id: TypeId, index: u128) -> Option<TypeId>
     requires known { id.0 < length types.now.terms }
     requires shaped { HasShape types.now limit id.0 }
-    ensures { MatchOption result
+    ensures below { IfSome result (λ next. index < 2 ^ 64) }
+    ensures element { MatchOption result
         (element (type_shape types.now limit id.0) index ≡ None)
         (λ next. IsElement types.now limit id.0 index next.0) }
 {
     match types.term(id) {
         Term::Array { of, length } => {
-            if index < element_count(*length, limit) {
+            let count = element_count(*length, limit);
+            if index < count as u128 {
                 Some(*of)
             } else {
                 None

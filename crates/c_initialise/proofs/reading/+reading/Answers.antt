@@ -12,53 +12,53 @@ use Rattle.c_initialise.proofs.reading.+reading.Goals as goal
 
 pub read_init-read_items-requires : goal.read_init-read_items-requires
 read_init-read_items-requires t c =
-    let s = told c.args.source.now.types.now c.args.source.now.facts.now in
-    let at = first_is s c.args.source.now.nodes.now c.args.node p_items c.child_of.result c.in-Some.list c.child_of.ensures c.in-Some.is in
+    let s = told c.args.source.now in
+    let at = first_is s c.args.source.now.syntax.now.tree.now.nodes.items c.args.node p_items c.child_before.result c.in-Some.list c.child_before.ensures c.in-Some.is in
     let lower = at.0 in
     (omega (arith, c.decreases, lower), (c.requires.known, (c.requires.inits, at.1)))
 
 pub read_init-returns-in_ok-at-in-Some-clause-init : goal.read_init-returns-in_ok-at-in-Some-clause-init
 read_init-returns-in_ok-at-in-Some-clause-init t c =
-    let s = told c.args.source.now.types.now c.args.source.now.facts.now in
-    braces_read s c.args.source.now.nodes.now c.args.node _ _ c.child_of.result c.in-Some.list c.requires.node c.child_of.ensures c.in-Some.is
+    let s = told c.args.source.now in
+    braces_read s c.args.source.now.syntax.now.tree.now.nodes.items c.args.node _ _ c.child_before.result c.in-Some.list c.requires.node c.child_before.ensures c.in-Some.is
     c.in_ok-entries-in-Some.ensures.items c.in_ok-at-in-Some.ensures.init
 
 pub read_init-returns-in_ok-at-in-None-clause-init : goal.read_init-returns-in_ok-at-in-None-clause-init
 read_init-returns-in_ok-at-in-None-clause-init t c =
-    let s = told c.args.source.now.types.now c.args.source.now.facts.now in
-    value_read s c.args.source.now.nodes.now c.args.node _ _ _ c.child_of.result c.requires.node c.child_of.ensures c.in-None.is
+    let s = told c.args.source.now in
+    value_read s c.args.source.now.syntax.now.tree.now.nodes.items c.args.node _ _ _ c.child_before.result c.requires.node c.child_before.ensures c.in-None.is
     c.in_ok-at-in-None.ensures.init c.expression_at-value.ensures.ty c.expression_at-value.ensures.text
 
 pub read_item-read_init-requires : goal.read_item-read_init-requires
 read_item-read_init-requires t c =
-    let s = told c.args.source.now.types.now c.args.source.now.facts.now in
-    let at = first_is s c.args.source.now.nodes.now c.args.item p_init c.child_of.result c.in-Some.child c.child_of.ensures c.in-Some.is in
+    let s = told c.args.source.now in
+    let at = first_is s c.args.source.now.syntax.now.tree.now.nodes.items c.args.item p_init c.child_before.result c.in-Some.child c.child_before.ensures c.in-Some.is in
     let lower = at.0 in
     (omega (arith, c.decreases, lower), (c.requires.known, (c.requires.inits, at.1)))
 
 pub read_item-returns-in_ok-init-in-Some-clause-item : goal.read_item-returns-in_ok-init-in-Some-clause-item
 read_item-returns-in_ok-init-in-Some-clause-item t c =
-    let s = told c.args.source.now.types.now c.args.source.now.facts.now in (
+    let s = told c.args.source.now in (
       c.in_ok-init-in-Some.ensures.at,
-      item_read s c.args.source.now.nodes.now c.args.item _ _ c.child_of.result c.in-Some.child c.requires.item c.child_of.ensures c.in-Some.is
+      item_read s c.args.source.now.syntax.now.tree.now.nodes.items c.args.item _ _ c.child_before.result c.in-Some.child c.requires.item c.child_before.ensures c.in-Some.is
           c.in_ok-designators-in-Some.ensures c.in_ok-init-in-Some.ensures.init,
     )
 
 pub read_item-returns-in-None-clause-item : goal.read_item-returns-in-None-clause-item
 read_item-returns-in-None-clause-item t c =
-    let s = told c.args.source.now.types.now c.args.source.now.facts.now in
-    let nodes = c.args.source.now.nodes.now in (
+    let s = told c.args.source.now in
+    let nodes = c.args.source.now.syntax.now.tree.now.nodes.items in (
       all_designators (before c.args.item (part_at s nodes)) (kids s nodes c.args.item),
-      item_without s nodes c.args.item c.child_of.result c.requires.item c.child_of.ensures c.in-None.is,
+      item_without s nodes c.args.item c.child_before.result c.requires.item c.child_before.ensures c.in-None.is,
     )
 
 pub read_items-loop-child-preserved : goal.read_items-loop-child-preserved
 read_items-loop-child-preserved t c =
-    let table = c.args.source.now.types.now in
-    let s = told table c.args.source.now.facts.now in
-    let nodes = c.args.source.now.nodes.now in
-    let all = c.children_at-child-items.result.now in
-    let same = c.children_at-child-items.ensures in
+    let table = c.args.source.now.unit.now.types in
+    let s = told c.args.source.now in
+    let nodes = c.args.source.now.syntax.now.tree.now.nodes.items in
+    let all = c.children_of-child-items.result.now in
+    let same = c.children_of-child-items.ensures in
     let old = c.loop-child.inits.items in
     let es = c.loop-child.entries.items in
     elim c.if-is_child.branch [
@@ -93,6 +93,6 @@ read_items-loop-child-preserved t c =
 
 pub read_items-returns-clause-items : goal.read_items-returns-clause-items
 read_items-returns-clause-items t c =
-    let s = told c.args.source.now.types.now c.args.source.now.facts.now in
-    all_taken s c.args.source.now.nodes.now c.args.list c.children_at-child-items.result.now c.loop-child.child-index _ _
-    c.children_at-child-items.ensures c.loop-child-test.false c.requires.list c.loop-child.invariant.items
+    let s = told c.args.source.now in
+    all_taken s c.args.source.now.syntax.now.tree.now.nodes.items c.args.list c.children_of-child-items.result.now c.loop-child.child-index _ _
+    c.children_of-child-items.ensures c.loop-child-test.false c.requires.list c.loop-child.invariant.items

@@ -10,11 +10,11 @@ use Rattle.c_initialise.proofs.reading.+reading.Given as goal
 -- the items so far, and those of the children that are left
 abbrev pub invariant-read_items-loop-child : goal.invariant-read_items-loop-child
 invariant-read_items-loop-child l = record {
-  items : all_items (before l.list (part_at (told l.source.types.now l.source.facts.now) l.source.nodes.now)) (children_of (slice_get l.source.nodes.now l.list))
-      ≡ items_then (init_at l.source.types.now l.inits.items) l.entries.items
-      (all_items (before l.list (part_at (told l.source.types.now l.source.facts.now) l.source.nodes.now)) (drop l.child-index (children_of (slice_get l.source.nodes.now l.list))));
+  items : all_items (before l.list (part_at (told l.source) l.source.syntax.now.tree.now.nodes.items)) (children_of (slice_get l.source.syntax.now.tree.now.nodes.items l.list))
+      ≡ items_then (init_at l.source.unit.now.types l.inits.items) l.entries.items
+      (all_items (before l.list (part_at (told l.source) l.source.syntax.now.tree.now.nodes.items)) (drop l.child-index (children_of (slice_get l.source.syntax.now.tree.now.nodes.items l.list))));
   within : ItemsBefore (length l.inits.items) l.entries.items;
-  grows : Grows l.source.types.now l.initial.inits.items l.inits.items;
+  grows : Grows l.source.unit.now.types l.initial.inits.items l.inits.items;
 }
 
 abbrev pub decreases-read_init : goal.decreases-read_init

@@ -9,6 +9,6 @@ use Rattle.c_initialise.proofs.reading.designators_of.Given as goal
 -- those so far, and those of the children that are left
 abbrev pub invariant-loop-child : goal.invariant-loop-child
 invariant-loop-child l =
-    all_designators (before l.item (part_at (told l.source.types.now l.source.facts.now) l.source.nodes.now)) (children_of (slice_get l.source.nodes.now l.item))
+    all_designators (before l.item (part_at (told l.source) l.source.syntax.now.tree.now.nodes.items)) (children_of (slice_get l.source.syntax.now.tree.now.nodes.items l.item))
     ≡ map designator_of l.designators.items
-    ++ all_designators (before l.item (part_at (told l.source.types.now l.source.facts.now) l.source.nodes.now)) (drop l.child-index (children_of (slice_get l.source.nodes.now l.item)))
+    ++ all_designators (before l.item (part_at (told l.source) l.source.syntax.now.tree.now.nodes.items)) (drop l.child-index (children_of (slice_get l.source.syntax.now.tree.now.nodes.items l.item)))

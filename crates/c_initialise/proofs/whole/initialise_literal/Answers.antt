@@ -7,11 +7,11 @@ use Rattle.c_initialise.proofs.whole.initialise_literal.Goals as goal
 
 pub returns : goal.returns
 returns c =
-    let table = c.args.source.now.types.now in
-    let s = told table c.args.source.now.facts.now in
+    let table = c.args.source.now.unit.now.types in
+    let s = told c.args.source.now in
     let items = items_over (init_at table c.read_items.new.inits.items) c.in_ok-entries.entries.items in (
       items,
-      seen_items s c.args.source.now.nodes.now c.args.list items c.in_ok-entries.ensures.items,
+      seen_items s c.args.source.now.syntax.now.tree.now.nodes.items c.args.list items c.in_ok-entries.ensures.items,
       answers table c.args.limit c.args.id.0 (init_at table c.as_slice.result.now c.in_ok-at.at) (Braces c.args.brace items) c.in_ok-answer.answer
           (ap (λ l. init_at table l c.in_ok-at.at) c.as_slice.ensures.value ∙ c.in_ok-at.ensures.init) c.in_ok-answer.ensures,
     )

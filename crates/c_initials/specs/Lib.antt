@@ -1,0 +1,4 @@
+pub mod Fixed
+pub mod Along
+pub mod Scope
+pub mod Filling
