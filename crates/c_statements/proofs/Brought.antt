@@ -19,7 +19,7 @@ use Rattle.core_nodes.specs.Standing.{core_at, cores_at, Builds, Made}
 use Rattle.c_results.specs.declared.made.Made.{Made as Result_of}
 use Rattle.c_results.specs.declared.made.Made.TheVariants as made
 use Rattle.c_results.specs.Standing.{sense_made, senses_made, sense_read, IsWithin}
-use Rattle.c_statements.specs.Parts.{gathered, nodes_of, nodes_made, AreLocals, object_of, object_made, objects_made, made_within, declared_made, block_object}
+use Rattle.c_statements.specs.Parts.{gathered, nodes_of, nodes_made}
 
 -- a part that has been made stands for that
 pub sense_at : (u : Unit) (results : List Result_of) (i : ℕ) → sense_in (senses_made u results) i ≡ sense_read u (slice_get results i)
@@ -68,41 +68,6 @@ module _ (u : Unit) where
       let tail = cores_in w s (sense_in (senses_made u results)) rest in
       brings (slice_get results c) (gathered (nodes_made results) rest) tail (cores_made w s results rest)
       ∙ sym (ap (λ (x : Sense). elim x [ IsCore y ↦ MoreCores y tail | IsRun cores ↦ appended cores tail | _ ↦ tail ]) (sense_at u results c))
-
--- the automatic objects that are found are those that the block lists
-module _ (u : Unit) (w : World) (s : Source) (results : List Result_of) (locals : List Bool) (are : AreLocals w s (sense_in (senses_made u results)) locals) where
-  object_same : (m : Option Result_of) → object_of locals m ≡ automatic_name w s (sense_in (senses_made u results)) (sense_read u m)
-  object_same (Some (made.Declarator (Some leaf) ds)) = ap (λ (b : Bool). cond b (leaf ∷ []) []) (are leaf)
-  object_same m = refl
-
-  named_same : (c : ℕ) → object_of locals (slice_get results c) ≡ automatic_name w s (sense_in (senses_made u results)) (sense_in (senses_made u results) c)
-  named_same c = object_same (slice_get results c) ∙ sym (ap (automatic_name w s (sense_in (senses_made u results))) (sense_at u results c))
-
-  chosen : (b : Bool) (x y xs ys : List ℕ) → x ≡ y → xs ≡ ys → cond b x [] ++ xs ≡ cond b (y ++ ys) ys
-  chosen true x y xs ys e h = ap (λ (l : List ℕ). l ++ xs) e ∙ ap (λ (l : List ℕ). y ++ l) h
-  chosen false x y xs ys e h = h
-
-  pub among_same : (list : List ℕ) → objects_made s locals results list ≡ objects_among w s (sense_in (senses_made u results)) list
-  among_same [] = refl
-  among_same (c ∷ rest) = chosen (is_a s p_declarator c) _ _ _ _ (named_same c) (among_same rest)
-
-  in_this : (b : Bool) (c : ℕ) (later : Option ℕ) (rest : List ℕ) → made_within s locals results later ≡ rest → made_within s locals results (cond b (Some c) later) ≡ cond b (objects_among w s (sense_in (senses_made u results)) (children_at s c)) rest
-  in_this true c later rest e = among_same (children_at s c)
-  in_this false c later rest e = e
-
-  rest_same : (list : List ℕ) → made_within s locals results (first_where (is_a s p_rest) list) ≡ objects_in_rest w s (sense_in (senses_made u results)) list
-  rest_same [] = refl
-  rest_same (c ∷ rest) = in_this (is_a s p_rest c) c (first_where (is_a s p_rest) rest) _ (rest_same rest)
-
-  pub declared_same : (declaration : ℕ) → declared_made s locals results declaration ≡ objects_declared w s (sense_in (senses_made u results)) declaration
-  declared_same declaration =
-      let children = children_at s declaration in
-      ap (λ (l : List ℕ). l ++ made_within s locals results (first_where (is_a s p_rest) children)) (among_same children)
-      ∙ ap (λ (l : List ℕ). objects_among w s (sense_in (senses_made u results)) children ++ l) (rest_same children)
-
-  pub objects_same : (list : List ℕ) → gathered (block_object s locals results) list ≡ objects_in w s (sense_in (senses_made u results)) list
-  objects_same [] = refl
-  objects_same (c ∷ rest) = chosen (is_a s p_declaration c) _ _ _ _ (declared_same c) (objects_same rest)
 
 -- a statement over some nodes
 pub row_made : (u1 u2 : Unit) (r : Result ℕ CheckFault) (kind wanted : NodeKind) (p q : Place) (t : Ctype) (under : Cores) (trees : Cores) → kind ≡ wanted → p ≡ q → t ≡ VoidType → under ≡ trees → Made u2 r (Fits (Of kind p t under)) → Made u2 r (Fits (statement wanted q trees))

@@ -7,7 +7,7 @@ drop_nil : (k : ℕ) → drop {A = ℕ} k [] ≡ []
 drop_nil zero = refl
 drop_nil (suc k) = refl
 
-drop_past : (xs : List ℕ) (i : ℕ) → length xs ≤ i → drop i xs ≡ []
+pub drop_past : (xs : List ℕ) (i : ℕ) → length xs ≤ i → drop i xs ≡ []
 drop_past [] i h = drop_nil i
 drop_past (x ∷ xs) zero h = absurd (omega arith)
 drop_past (x ∷ xs) (suc i) h = drop_past xs i (omega arith)

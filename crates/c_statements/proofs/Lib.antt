@@ -1,7 +1,10 @@
 pub mod Bodies
 pub mod Brought
-pub mod Choices
+pub mod Choosing
 pub mod Gathering
 pub mod Labelling
+pub mod Numbering
 pub mod Own
 pub mod Returning
+pub mod Selections
+pub mod Turns

@@ -1,3 +1,4 @@
+pub mod Fors
 pub mod Labels
 pub mod Others
 pub mod Owning

@@ -1,7 +1,7 @@
 // Labels and jumps to them, and defaults (C11 6.8.1, 6.8.6.1).
-ghost use Rattle.std.specs.Prelude.{◌≡◌, ◌<◌, ◌++◌, ℕ, List, length, take, All, IfOk, OnOk};
+ghost use Rattle.std.specs.Prelude.{◌≡◌, ◌<◌, ◌++◌, ℕ, List, length, true, All, IfOk, OnOk};
 ghost use Rattle.core_tree.specs.declared.node.NodeKind.TheVariants.{Goto};
-ghost use Rattle.c_senses.specs.Tree.{spelling_at};
+ghost use Rattle.c_senses.specs.Tree.{is_name, spelling_at};
 ghost use Rattle.c_senses.specs.World.{World};
 ghost use Rattle.c_senses.specs.Sense.{Sense, sense_in};
 ghost use Rattle.c_senses.specs.Statements as spec;
@@ -46,7 +46,7 @@ pub fn goto_row(
     ensures within { IfOk result (λ i. i < length unit.new.nodes.items) }
     ensures made { (w : World) (uses : List (ℕ × ℕ)) (sense : ℕ → Sense) →
         let s = source_in syntax.now uses in
-        ((name : ℕ) → IsAscii (spelling_at s name)) →
+        ((name : ℕ) → is_name s name ≡ true → IsAscii (spelling_at s name)) →
         CoreMade unit.new result (spec.goto_row w s sense at children.now) }
 {
     let Some(name) = first_where(syntax, Test::Name, children) else {

@@ -2,6 +2,9 @@
 #![tactic(auto, using(core_nodes::proofs::IntegerTypes::integers))]
 
 mod blocks;
+mod cases;
+mod choices;
+mod fors;
 mod jumps;
 mod labels;
 mod loops;
@@ -11,6 +14,9 @@ mod returns;
 mod simple;
 
 pub use blocks::block_row;
+pub use cases::case_row;
+pub use choices::{CaseMap, Choices};
+pub use fors::{ForParts, for_parts, for_row};
 pub use jumps::{break_row, continue_row};
 pub use labels::{default_row, goto_row, labelled_row};
 pub use loops::{do_row, if_row, switch_row, while_row};

@@ -12,7 +12,7 @@ use Rattle.c_results.proofs.Keeping.{mades_kept}
 use Rattle.c_types.specs.Table.{type_of}
 use Rattle.tree_reads.specs.Sources.{source_in}
 use Rattle.c_statements.specs.Parts.{gathered, nodes_made}
-use Rattle.c_statements.proofs.Brought.{all_stand, cores_made, objects_same, row_made}
+use Rattle.c_statements.proofs.Brought.{all_stand, cores_made, row_made}
 use Rattle.c_statements.proofs.blocks.block_row.Goals as goal
 
 pub push_node-requires-clause-children : goal.push_node-requires-clause-children
@@ -24,13 +24,13 @@ push_node-requires-clause-children c =
     All-same (λ (i : ℕ). i < length u1.nodes.items) c.of-2.result nodes (c.of-2.ensures ∙ c.in_ok-nodes.ensures.nodes) more
 
 pub returns-clause-made : goal.returns-clause-made
-returns-clause-made c = λ w uses are.
+returns-clause-made c = λ w uses.
     let s = source_in c.args.syntax.now uses in
     let u0 = c.args.unit.now in
     let u1 = c.void_type.new.unit in
     let results = c.args.results.now in
     let children = c.args.children.now in
-    let same = ap Block (c.of.ensures ∙ (c.in_ok-objects.ensures.objects ∙ objects_same u0 w s results c.args.locals.now are children)) in
+    let same = ap Block c.of.ensures in
     let kept = mades_kept u0 u1 c.in-Ok.ensures.builds results c.requires.results in
     let under = ap (cores_at u1) (c.of-2.ensures ∙ c.in_ok-nodes.ensures.nodes) ∙ (cores_made u1 w s results children ∙ ap (λ (ss : List Sense). cores_in w s (sense_in ss) children) kept) in
     row_made u1 c.push_node.new.unit c.push_node.result (Block c.of.result) _ c.place_of.result (place_at s c.args.at) (type_of u1.types c.in-Ok.ty.0) (cores_at u1 c.of-2.result) _ same c.place_of.ensures c.in-Ok.ensures.made under c.push_node.ensures.made

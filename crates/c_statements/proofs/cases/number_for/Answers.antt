@@ -1,0 +1,44 @@
+use Rattle.std.proofs.Common.{◌≡◌, ℕ, Bool, true, false, Some, None, Ok, Err, List, rules, is_some, to_z-of_z, FitsSigned, refl, sym, ap, ◌∙◌, subst}
+use Rattle.std.specs.Prelude.{ℤ}
+use Rattle.std.specs.Int.{w128}
+use Rattle.core_tree.specs.declared.node.NodeKind.TheVariants.{Case}
+use Rattle.c_types.specs.Trees.{Ctype}
+use Rattle.c_consts.specs.Core.{Core}
+use Rattle.c_consts.specs.Wrapped.{converted}
+use Rattle.c_senses.specs.Given.{Given, Fits, ◌>>=◌}
+use Rattle.c_senses.specs.Tree.{place_at, children_at, any_where, numbers_from}
+use Rattle.c_senses.specs.Sense.{sense_in}
+use Rattle.c_senses.specs.Statements as spec
+use Rattle.core_nodes.specs.Standing.{core_at, Made}
+use Rattle.core_nodes.proofs.Failing.{fails, follows, made_same}
+use Rattle.c_results.specs.Standing.{senses_made}
+use Rattle.tree_reads.specs.Sources.{source_in}
+use Rattle.c_statements.specs.Labels.{case_at, number_for}
+use Rattle.c_statements.proofs.Numbering.{bad_number, unsupported_number}
+use Rattle.c_statements.proofs.cases.number_for.Goals as goal
+
+pub returns-in-Ok-clause-number : goal.returns-in-Ok-clause-number
+returns-in-Ok-clause-number c = λ w uses knows.
+    let s = source_in c.args.syntax.now uses in
+    let sense = sense_in (senses_made c.args.unit.now c.args.results.now) in
+    let same = ap (λ (l : List ℕ). spec.switched w s sense c.args.switch (spec.expression_in w s sense l)) c.children_of-children.ensures in
+    let fits : FitsSigned w128 c.number_as.result = search rules in
+    let number = simp (to_z-of_z c.ranges.number) at c.number_as.ensures in
+    ap Some (to_z-of_z fits ∙ (number ∙ ap (λ (t : Ctype). converted t c.args.number) c.type_of_node-ty.ensures.tree))
+    ∙ ap (λ (g : Given Core). number_for g c.args.number) (sym (c.in-Ok.ensures.made w knows) ∙ same)
+
+pub returns-in-Err-BadOperand-clause-number : goal.returns-in-Err-BadOperand-clause-number
+returns-in-Err-BadOperand-clause-number c = λ w uses knows.
+    let s = source_in c.args.syntax.now uses in
+    let sense = sense_in (senses_made c.args.unit.now c.args.results.now) in
+    let same = ap (λ (l : List ℕ). spec.switched w s sense c.args.switch (spec.expression_in w s sense l)) c.children_of-children.ensures in
+    bad_number c.switched.new.unit c.in-Err-BadOperand.field-0 c.in-Err-BadOperand.field-0-0 _ c.args.number c.in-Err-BadOperand.field-0-is (c.in-Err-BadOperand.ensures.made w knows)
+    ∙ ap (λ (g : Given Core). number_for g c.args.number) same
+
+pub returns-in-Err-Unsupported-clause-number : goal.returns-in-Err-Unsupported-clause-number
+returns-in-Err-Unsupported-clause-number c = λ w uses knows.
+    let s = source_in c.args.syntax.now uses in
+    let sense = sense_in (senses_made c.args.unit.now c.args.results.now) in
+    let same = ap (λ (l : List ℕ). spec.switched w s sense c.args.switch (spec.expression_in w s sense l)) c.children_of-children.ensures in
+    unsupported_number c.switched.new.unit c.in-Err-Unsupported.field-0 c.in-Err-Unsupported.field-0-0 c.in-Err-Unsupported.field-0-1 _ c.args.number c.in-Err-Unsupported.field-0-is (c.in-Err-Unsupported.ensures.made w knows)
+    ∙ ap (λ (g : Given Core). number_for g c.args.number) same

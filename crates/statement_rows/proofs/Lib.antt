@@ -1,0 +1,4 @@
+pub mod Flagging
+pub mod Placing
+pub mod Running
+pub mod Stand

@@ -1,0 +1,19 @@
+use Rattle.std.proofs.Common.{arith, ◌≡◌, ◌<◌, ◌≤◌, ◌+◌, ◌-◌, ℕ, Bool, true, false, not, cond, List, [], ◌∷◌, ◌++◌, Option, Some, None, Ok, Err, length, map, take, drop, get_or, append-nil, option_and_then, refl, sym, ap, ◌∙◌, subst}
+use Rattle.c_consts.specs.Core.{Core}
+use Rattle.c_types.specs.Trees.{Ctype}
+use Rattle.c_senses.specs.Given.{Given, Fits, Refuses}
+use Rattle.c_senses.specs.Sense.{Sense, IsRun, IsInitial, sense_in}
+use Rattle.c_senses.specs.Statements as spec
+use Rattle.core_nodes.specs.Standing.{core_at, Made}
+use Rattle.c_results.specs.Standing.{senses_made, IsWithin, Rowed, TypeSeen}
+use Rattle.tree_reads.specs.Sources.{source_in, source_read}
+use Rattle.c_senses.specs.Entities.{defined_name}
+use Rattle.statement_rows.specs.Parts.{name_in}
+use Rattle.statement_rows.proofs.returned.function_around.Goals as goal
+
+pub returns : goal.returns
+returns c = λ u.
+    let s = source_read c.args.syntax.now in
+    let sense = sense_in (senses_made u c.args.results.now) in
+    c.name_at.ensures u
+    ∙ (ap (λ (o : Option ℕ). option_and_then (λ d. name_in (sense d)) o) c.in_ok-declarator.ensures ∙ ap (λ (o : Option ℕ). option_and_then (defined_name s sense) o) c.in_ok-definition.ensures.nearest)
