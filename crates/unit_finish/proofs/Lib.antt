@@ -1,0 +1,5 @@
+pub mod Lists
+pub mod Standing
+pub mod Rightness
+pub mod Finished
+pub mod Results

@@ -1,0 +1,22 @@
+-- What is answered, where the unit is completed.
+use Rattle.std.proofs.Common.{◌≡◌, ℕ, List, ◌++◌, map, Option, Result, Ok, Err, IfOk, MatchResult, sym, subst}
+use Rattle.c_types.specs.Table.{Table}
+use Rattle.core_tree.specs.declared.node.Unit.{Unit}
+use Rattle.core_nodes.specs.declared.fault.CheckFault.{CheckFault}
+use Rattle.core_nodes.specs.Standing.{IsReady}
+use Rattle.c_senses.specs.Tree.{Source}
+use Rattle.c_senses.specs.Sense.{Sense}
+use Rattle.c_senses.specs.Right.{Right}
+use Rattle.unit_parts.specs.declared.declared.Declared.{Declared}
+use Rattle.unit_parts.specs.Renamed.{literals_in}
+use Rattle.unit_finish.specs.declared.keeping.Kept.{Kept}
+use Rattle.unit_finish.specs.Complete.{IsKept, Completes, NoneCompletes}
+use Rattle.unit_finish.specs.Walked.{IsWalked, literal_entry}
+use Rattle.unit_finish.proofs.Rightness.{is_right}
+
+module _ (s : Source) (senses : List Sense) (walked : Unit) (name : List ℕ) (number : ℕ) (types : Table) (keys : List (Option (List ℕ))) (names : List Declared) (kept : Kept) (list : List Declared) (ready : IsReady walked) (te : walked.types ≡ types) (ue : s.unit ≡ number) (w : IsWalked s senses walked keys names) (k : IsKept walked.nodes.items names kept) (es : list ≡ kept.names.items ++ map (literal_entry s senses) (literals_in kept.nodes.items)) where
+  pub right_result : (root : ℕ) (r : Result Unit CheckFault) → MatchResult r (λ u. Completes name number types keys kept.nodes.items list u) (λ fault. NoneCompletes name number types keys kept.nodes.items list root fault) → IfOk r (λ u. Right s name u)
+  right_result root (Ok u) m =
+      is_right s senses walked u name keys names kept list w ready k es
+      (subst (λ (n : ℕ). Completes name n walked.types keys kept.nodes.items list u) (sym ue) (subst (λ (t : Table). Completes name number t keys kept.nodes.items list u) (sym te) m))
+  right_result root (Err fault) m = tt

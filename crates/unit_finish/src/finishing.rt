@@ -1,0 +1,50 @@
+// A unit that is right.
+#![tactic(auto)]
+
+ghost use Rattle.std.specs.Prelude.{◌≡◌, ◌++◌, List, map, IfOk, MatchResult};
+ghost use Rattle.core_tree.specs.declared.node.Unit.{Unit as UnitSpec};
+ghost use Rattle.core_nodes.specs.Standing.{IsReady};
+ghost use Rattle.c_senses.specs.Tree.{Source};
+ghost use Rattle.c_senses.specs.Sense.{Sense};
+ghost use Rattle.c_senses.specs.Right.{Right};
+ghost use Rattle.unit_parts.specs.declared.declared.Declared.{Declared as DeclaredSpec};
+ghost use Rattle.unit_parts.specs.Renamed.{literals_in};
+ghost use Rattle.unit_finish.specs.Complete.{IsKept, Completes, NoneCompletes};
+ghost use Rattle.unit_finish.specs.Walked.{IsWalked, literal_entry};
+
+use crate::completing::{Heading, complete};
+use crate::keeping::Kept;
+use c_types::table::TypeTable;
+use core_nodes::CheckFault;
+use core_tree::node::Unit;
+use pta_base::Text;
+use std::alloc::Global;
+use unit_parts::Declared;
+
+/// The unit of what was kept of the walk's nodes and names, and of what is declared at the compound literals among these nodes: as
+/// `complete` says. Where these are what the senses of a whole tree say, it is what the tree says (`Right`).
+pub fn finish(
+    alloc: Global,
+    heading: Heading,
+    types: TypeTable,
+    keys: Vec<Option<Text>>,
+    kept: Kept,
+    literals: Vec<Declared>,
+) -> Result<Unit, CheckFault>
+    ensures completes { MatchResult result
+        (λ u. Completes heading.name heading.unit types keys.items kept.nodes.items (kept.names.items ++ literals.items) u)
+        (λ fault. NoneCompletes heading.name heading.unit types keys.items kept.nodes.items (kept.names.items ++ literals.items)
+        heading.root fault) }
+    ensures right { (s : Source) (senses : List Sense) (walked : UnitSpec) (names : List DeclaredSpec) →
+        IsReady walked → walked.types ≡ types → s.unit ≡ heading.unit →
+        IsWalked s senses walked keys.items names →
+        IsKept walked.nodes.items names kept →
+        literals.items ≡ map (literal_entry s senses) (literals_in kept.nodes.items) →
+        IfOk result (λ u. Right s heading.name u) }
+{
+    let Kept { nodes, names } = kept;
+    let mut list = names;
+    let mut more = literals;
+    list.append(&mut more)?;
+    complete(alloc, heading, types, keys, nodes, list)
+}

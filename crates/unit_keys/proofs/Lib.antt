@@ -1,0 +1,5 @@
+pub mod Lists
+pub mod Around
+pub mod Taking
+pub mod Naming
+pub mod Counting

@@ -1,0 +1,101 @@
+// The name by which a specifier without a tag has its key.
+#![tactic(auto)]
+
+ghost use Rattle.std.specs.Prelude.{◌≡◌, ◌||◌, ◌&&◌, ◌<◌, ◌^◌, Bool, ℕ, List, map, length, option_map, IfOk, OnOk};
+ghost use Rattle.core_tree.specs.declared.node.Unit.{Unit as UnitSpec};
+ghost use Rattle.c_senses.specs.Tree.{spelling_at};
+ghost use Rattle.c_senses.specs.Keys as keys;
+ghost use Rattle.c_senses.specs.Sense.{Sense, sense_in};
+ghost use Rattle.c_results.specs.Standing.{senses_made};
+ghost use Rattle.tree_reads.specs.Sources.{source_in};
+ghost use Rattle.unit_keys.specs.Words as words;
+ghost use Rattle.unit_keys.specs.Free.{first_untaken, AreFree};
+
+use crate::names::leaves_with;
+use crate::words::{Words, add_word, has_word};
+use c_results::Made;
+use std::alloc::{AllocError, Global};
+use std::collections::BTreeMap;
+use tree_reads::{Syntax, Test, children_of, first_where, is_a, spelling_of};
+
+const P_STRUCT: u32 = 12;
+
+// Whether a node is the specifier of a structure or union without a tag.
+fn is_untagged(syntax: &Syntax, node: u32) -> bool
+    ensures { (uses : List (ℕ × ℕ)) (sense : ℕ → Sense) → result ≡ keys.is_untagged (source_in syntax.now uses) sense node }
+{
+    is_a(syntax, P_STRUCT, node)
+        && first_where(syntax, Test::Name, children_of(syntax, node)).is_none()
+}
+
+// The first leaf whose name isn't taken.
+fn first_free(syntax: &Syntax, taken: &Words, leaves: &[u32]) -> Option<u32>
+    ensures { (uses : List (ℕ × ℕ)) →
+        let s = source_in syntax.now uses in
+        option_map (spelling_at s) result ≡ first_untaken (words.has_word taken.now) (map (spelling_at s) leaves.now) }
+{
+    for leaf in leaves {
+        if !has_word(taken, spelling_of(syntax, *leaf)) {
+            return Some(*leaf);
+        }
+    }
+    None
+}
+
+// Takes the names of some leaves.
+fn take_names(
+    alloc: Global,
+    syntax: &Syntax,
+    taken: &mut Words,
+    leaves: &[u32],
+) -> Result<(), AllocError>
+    ensures { OnOk result ((uses : List (ℕ × ℕ)) (sense : ℕ → Sense) (name : List ℕ) →
+        let s = source_in syntax.now uses in
+        words.has_word taken.new name ≡ (words.has_word taken.old name || keys.has_bytes s sense name (map (spelling_at s) leaves.now))) }
+{
+    for leaf in leaves {
+        add_word(alloc, taken, spelling_of(syntax, *leaf), *leaf)?;
+    }
+    Ok(())
+}
+
+// Takes the names that are declared with a node, if it is a specifier without a tag.
+fn take_untagged(
+    alloc: Global,
+    syntax: &Syntax,
+    taken: &mut Words,
+    node: u32,
+    leaves: &[u32],
+) -> Result<(), AllocError>
+    ensures { OnOk result ((uses : List (ℕ × ℕ)) (sense : ℕ → Sense) (name : List ℕ) →
+        let s = source_in syntax.now uses in
+        words.has_word taken.new name
+        ≡ (words.has_word taken.old name
+        || (keys.is_untagged s sense node && keys.has_bytes s sense name (map (spelling_at s) leaves.now)))) }
+{
+    if !is_untagged(syntax, node) {
+        return Ok(());
+    }
+    take_names(alloc, syntax, taken, leaves)?;
+    Ok(())
+}
+
+/// For each node the leaf of the first name that is declared with it at file scope and with no specifier before that has no tag.
+pub fn free_names(
+    alloc: Global,
+    syntax: &Syntax,
+    results: &[Made],
+) -> Result<Vec<Option<u32>>, AllocError>
+    requires { length syntax.now.tree.now.nodes.items < 2 ^ 32 }
+    ensures { IfOk result (λ free. (u : UnitSpec) (uses : List (ℕ × ℕ)) →
+        AreFree (source_in syntax.now uses) (sense_in (senses_made u results.now)) free.items (length syntax.now.tree.now.nodes.items)) }
+{
+    let mut taken = BTreeMap::new(alloc);
+    let mut free = Vec::new(alloc);
+    for node in 0..syntax.tree.nodes.len() as u32 {
+        let leaves = leaves_with(alloc, syntax, results, node)?;
+        free.push(first_free(syntax, &taken, leaves.as_slice()))?;
+        take_untagged(alloc, syntax, &mut taken, node, leaves.as_slice())?;
+    }
+    Ok(free)
+}

@@ -1,0 +1,5 @@
+pub mod Marked
+pub mod Numbered
+pub mod Renamed
+pub mod Uses
+pub mod Entities

@@ -1,0 +1,85 @@
+// Entities out of what is declared.
+#![tactic(auto)]
+
+ghost use Rattle.std.specs.Prelude.{◌≡◌, ◌<◌, ◌^◌, ◌↔◌, length, option_and_then, IfOk, IsTrue, ℕ};
+ghost use Rattle.leaf_maps.specs.Numbers.{number_at};
+ghost use Rattle.c_senses.specs.Right.{InitialisesOnce};
+ghost use Rattle.unit_parts.specs.Entities.{entities_from, IsOwnBody, EachOwnBody};
+
+use crate::declared::Declared;
+use crate::uses::uses_of;
+use core_tree::node::{Entity, Node, NodeKind, Unit};
+use leaf_maps::LeafMap;
+use pta_base::Place;
+use std::alloc::{AllocError, Global};
+use std::collections::VecDeque;
+
+// The number of an owner, if there is one.
+fn owner_of(numbers: &LeafMap, owner: Option<u32>) -> Option<u32>
+    ensures { result ≡ option_and_then (number_at numbers.now) owner }
+{
+    match owner {
+        Some(leaf) => numbers.get(leaf),
+        None => None,
+    }
+}
+
+/// The entities of a list in order: the owner of each by its number, and the least place of its uses among the nodes.
+pub fn entities_of(
+    alloc: Global,
+    unit: u32,
+    numbers: &LeafMap,
+    nodes: &[Node],
+    list: Vec<Declared>,
+) -> Result<Vec<Entity>, AllocError>
+    ensures { IfOk result (λ entities. entities.items ≡ entities_from unit (number_at numbers.now) nodes.now 0 list.items) }
+{
+    let uses = uses_of(alloc, list.len(), nodes)?;
+    let mut rest = VecDeque::from_vec(list);
+    let mut entities = Vec::new(alloc);
+    while let Some(item) = rest.pop_front() {
+        let used = uses[entities.len()];
+        entities.push(Entity {
+            name: item.name,
+            unit,
+            place: item.place,
+            ty: item.ty,
+            linkage: item.linkage,
+            storage: item.storage,
+            owner: owner_of(numbers, item.owner),
+            body: item.body,
+            used,
+        })?;
+    }
+    Ok(entities)
+}
+
+// Whether a node, if it is an Initialise, is the body of its entity.
+fn is_own_body(entities: &[Entity], i: usize, kind: &NodeKind) -> bool
+    ensures { IsTrue result ↔ IsOwnBody entities.now i kind.now }
+{
+    match kind {
+        NodeKind::Initialise { entity, .. } => match entities.get(*entity as usize) {
+            Some(found) => found.body.is_some_and(|b| b as usize == i),
+            None => false,
+        },
+        _ => true,
+    }
+}
+
+// Whether each of the nodes that is an Initialise is the body of its entity.
+fn own_bodies(entities: &[Entity], nodes: &[Node]) -> bool
+    ensures { IsTrue result ↔ EachOwnBody entities.now nodes.now }
+{
+    nodes
+        .iter()
+        .enumerate()
+        .all(|(i, node)| is_own_body(entities, i, &node.kind))
+}
+
+/// Whether each Initialise of a unit is its entity's body.
+pub fn initialises_once(unit: &Unit) -> bool
+    ensures { IsTrue result ↔ InitialisesOnce unit.now }
+{
+    own_bodies(unit.entities.as_slice(), unit.nodes.as_slice())
+}

@@ -1,0 +1,88 @@
+// The nodes that stay, and their new numbers.
+#![tactic(auto)]
+
+ghost use Rattle.std.specs.Prelude.{◌≡◌, ◌<◌, ◌^◌, length, map, IfOk, ℕ};
+ghost use Rattle.unit_parts.specs.Numbered as spec;
+ghost use Rattle.unit_parts.specs.Numbered.{numbered_from, kept_of};
+
+use core_tree::node::Node;
+use pta_base::Listing;
+use std::alloc::{AllocError, Global};
+use std::collections::VecDeque;
+
+/// The new number of each node: the marked ones are counted from 0, and the others have none.
+pub fn numbers_of(alloc: Global, marks: &[bool]) -> Result<Vec<Option<u32>>, AllocError>
+    requires { length marks.now < 2 ^ 32 }
+    ensures { IfOk result (λ numbers. numbers.items ≡ numbered_from 0 marks.now) }
+{
+    let mut numbers = Vec::new(alloc);
+    let mut next = 0;
+    for mark in marks {
+        if *mark {
+            numbers.push(Some(next))?;
+            next += 1;
+        } else {
+            numbers.push(None)?;
+        }
+    }
+    Ok(numbers)
+}
+
+/// The new number of a node, and 0 where it has none.
+pub fn new_number(numbers: &[Option<u32>], node: u32) -> u32
+    ensures { result ≡ spec.new_number numbers.now node }
+{
+    match numbers.get(node as usize) {
+        Some(number) => number.unwrap_or(0),
+        None => 0,
+    }
+}
+
+// The new numbers of some nodes.
+fn new_numbers(
+    alloc: Global,
+    numbers: &[Option<u32>],
+    nodes: &[u32],
+) -> Result<Listing<u32>, AllocError>
+    ensures { IfOk result (λ list. list ≡ map (spec.new_number numbers.now) nodes.now) }
+{
+    let mut list = Listing::new(alloc);
+    for node in nodes {
+        list.push(new_number(numbers, *node))?;
+    }
+    Ok(list)
+}
+
+// A node over the new numbers of its children.
+fn moved(alloc: Global, numbers: &[Option<u32>], node: Node) -> Result<Node, AllocError>
+    ensures { IfOk result (λ new. new ≡ spec.moved numbers.now node) }
+{
+    let children = new_numbers(alloc, numbers, node.children.as_slice())?;
+    Ok(Node {
+        kind: node.kind,
+        place: node.place,
+        ty: node.ty,
+        children,
+    })
+}
+
+/// The nodes that have a new number, in order, over the new numbers of their children.
+pub fn kept_nodes(
+    alloc: Global,
+    numbers: &[Option<u32>],
+    nodes: Vec<Node>,
+) -> Result<Vec<Node>, AllocError>
+    ensures { IfOk result (λ kept. kept.items ≡ kept_of nodes.items numbers.now) }
+{
+    let mut rest = VecDeque::from_vec(nodes);
+    let mut kept = Vec::new(alloc);
+    for number in numbers {
+        let Some(node) = rest.pop_front() else {
+            return Ok(kept);
+        };
+        if number.is_some() {
+            kept.push(moved(alloc, numbers, node)?)?;
+        }
+    }
+    Ok(kept)
+}

@@ -1,0 +1,104 @@
+// The numbers of entities by their leaves, and the bodies of what is declared.
+#![tactic(auto)]
+
+ghost use Rattle.std.specs.Prelude.{◌≡◌, ◌<◌, ◌^◌, ◌↔◌, length, map, All, IfOk, IsTrue, ℕ};
+ghost use Rattle.leaf_maps.specs.Numbers.{number_at};
+ghost use Rattle.unit_parts.specs.Entities as spec;
+ghost use Rattle.unit_parts.specs.Entities.{leaves_from, numbering_of, EachApart};
+
+use crate::declared::Declared;
+use crate::kept::new_number;
+use leaf_maps::LeafMap;
+use std::alloc::{AllocError, Global};
+
+// The leaf of each of a list with its position.
+fn leaves_of(alloc: Global, list: &[Declared]) -> Result<Vec<(u32, u32)>, AllocError>
+    requires { length list.now < 2 ^ 32 }
+    ensures { IfOk result (λ pairs. pairs.items ≡ leaves_from 0 list.now) }
+{
+    let mut pairs = Vec::new(alloc);
+    for (i, item) in list.iter().enumerate() {
+        pairs.push((item.leaf, i as u32))?;
+    }
+    Ok(pairs)
+}
+
+/// The position of what is declared at each leaf, the first one's where there are several.
+pub fn numbering(alloc: Global, list: &[Declared]) -> Result<LeafMap, AllocError>
+    requires { length list.now < 2 ^ 32 }
+    ensures { IfOk result (λ map. (d : ℕ) → number_at map d ≡ numbering_of list.now d) }
+{
+    let pairs = leaves_of(alloc, list)?;
+    LeafMap::of_pairs(alloc, pairs.as_slice())
+}
+
+/// Whether no two of a list are declared at one leaf.
+pub fn are_apart(numbers: &LeafMap, list: &[Declared]) -> bool
+    requires { (d : ℕ) → number_at numbers.now d ≡ numbering_of list.now d }
+    ensures { IsTrue result ↔ EachApart list.now }
+{
+    list.iter().enumerate().all(|(i, item)| numbers.get(item.leaf).is_some_and(|k| k as usize == i))
+}
+
+// Whether an owner, if there is one, has a number.
+fn is_owner_known(numbers: &LeafMap, owner: Option<u32>) -> bool
+    ensures { result ≡ spec.is_owner_known (number_at numbers.now) owner }
+{
+    match owner {
+        Some(leaf) => numbers.get(leaf).is_some(),
+        None => true,
+    }
+}
+
+/// Whether the owner of each of a list, if it has one, has a number.
+pub fn owners_known(numbers: &LeafMap, list: &[Declared]) -> bool
+    ensures { IsTrue result ↔ All (λ x. IsTrue (spec.is_owner_known (number_at numbers.now) x.owner)) list.now }
+{
+    list.iter().all(|item| is_owner_known(numbers, item.owner))
+}
+
+/// The bodies of what is declared, in order.
+pub fn bodies_of(alloc: Global, list: &[Declared]) -> Result<Vec<u32>, AllocError>
+    ensures { IfOk result (λ bodies. bodies.items ≡ spec.bodies_of list.now) }
+{
+    let mut bodies = Vec::new(alloc);
+    for item in list {
+        if let Some(body) = item.body {
+            bodies.push(body)?;
+        }
+    }
+    Ok(bodies)
+}
+
+// The same with the new number of its body.
+fn with_moved_body(numbers: &[Option<u32>], item: Declared) -> Declared
+    ensures { result ≡ spec.with_moved_body numbers.now item }
+{
+    let body = match item.body {
+        Some(node) => Some(new_number(numbers, node)),
+        None => None,
+    };
+    Declared {
+        leaf: item.leaf,
+        name: item.name,
+        place: item.place,
+        ty: item.ty,
+        linkage: item.linkage,
+        storage: item.storage,
+        owner: item.owner,
+        body,
+    }
+}
+
+/// The same list with the new numbers of bodies.
+pub fn with_moved_bodies(
+    alloc: Global,
+    numbers: &[Option<u32>],
+    list: Vec<Declared>,
+) -> Result<Vec<Declared>, AllocError>
+    ensures { IfOk result (λ moved. moved.items ≡ map (spec.with_moved_body numbers.now) list.items) }
+{
+    list.into_iter()
+        .map(|item| with_moved_body(numbers, item))
+        .collect(alloc)
+}

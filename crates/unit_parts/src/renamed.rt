@@ -1,0 +1,123 @@
+// Nodes that name entities by their numbers.
+#![tactic(auto)]
+
+ghost use Rattle.std.specs.Prelude.{◌≡◌, ◌↔◌, map, IfOk, IsTrue, All, ℕ};
+ghost use Rattle.leaf_maps.specs.Numbers.{number_at};
+ghost use Rattle.unit_parts.specs.Renamed as spec;
+
+use core_tree::node::{Node, NodeKind};
+use leaf_maps::LeafMap;
+use pta_base::Listing;
+use std::alloc::{AllocError, Global};
+use std::collections::VecDeque;
+
+// The number of the entity of a leaf, and 0 where there is none.
+fn entity_number(numbers: &LeafMap, leaf: u32) -> u32
+    ensures { result ≡ spec.entity_number (number_at numbers.now) leaf }
+{
+    numbers.get(leaf).unwrap_or(0)
+}
+
+// The numbers of the entities of some leaves.
+fn entity_numbers(
+    alloc: Global,
+    numbers: &LeafMap,
+    leaves: &[u32],
+) -> Result<Listing<u32>, AllocError>
+    ensures { IfOk result (λ list. list ≡ map (spec.entity_number (number_at numbers.now)) leaves.now) }
+{
+    let mut list = Listing::new(alloc);
+    for leaf in leaves {
+        list.push(entity_number(numbers, *leaf))?;
+    }
+    Ok(list)
+}
+
+// A kind with the numbers of the entities that it names.
+fn renamed(alloc: Global, numbers: &LeafMap, kind: NodeKind) -> Result<NodeKind, AllocError>
+    ensures { IfOk result (λ new. new ≡ spec.renamed (number_at numbers.now) kind) }
+{
+    match kind {
+        NodeKind::Named(d) => Ok(NodeKind::Named(entity_number(numbers, d))),
+        NodeKind::FunctionName(d) => Ok(NodeKind::FunctionName(entity_number(numbers, d))),
+        NodeKind::Literal(d) => Ok(NodeKind::Literal(entity_number(numbers, d))),
+        NodeKind::Initialise { entity, paths } => Ok(NodeKind::Initialise {
+            entity: entity_number(numbers, entity),
+            paths,
+        }),
+        NodeKind::Block(ds) => Ok(NodeKind::Block(entity_numbers(alloc, numbers, ds.as_slice())?)),
+        NodeKind::For {
+            entities,
+            condition,
+            after,
+        } => Ok(NodeKind::For {
+            entities: entity_numbers(alloc, numbers, entities.as_slice())?,
+            condition,
+            after,
+        }),
+        other => Ok(other),
+    }
+}
+
+// A node whose kind has the numbers of the entities that it names.
+fn renamed_node(alloc: Global, numbers: &LeafMap, node: Node) -> Result<Node, AllocError>
+    ensures { IfOk result (λ new. new ≡ spec.renamed_node (number_at numbers.now) node) }
+{
+    let kind = renamed(alloc, numbers, node.kind)?;
+    Ok(Node {
+        kind,
+        place: node.place,
+        ty: node.ty,
+        children: node.children,
+    })
+}
+
+/// The same nodes, with numbers of entities in place of leaves; a leaf without a number has 0.
+pub fn rename_all(
+    alloc: Global,
+    numbers: &LeafMap,
+    nodes: Vec<Node>,
+) -> Result<Vec<Node>, AllocError>
+    ensures { IfOk result (λ new. new.items ≡ map (spec.renamed_node (number_at numbers.now)) nodes.items) }
+{
+    let mut rest = VecDeque::from_vec(nodes);
+    let mut list = Vec::new(alloc);
+    while let Some(node) = rest.pop_front() {
+        list.push(renamed_node(alloc, numbers, node)?)?;
+    }
+    Ok(list)
+}
+
+// Whether each of some leaves has a number.
+fn all_named(numbers: &LeafMap, leaves: &[u32]) -> bool
+    ensures { result ≡ spec.all_known (number_at numbers.now) leaves.now }
+{
+    for leaf in leaves {
+        if numbers.get(*leaf).is_none() {
+            return false;
+        }
+    }
+    true
+}
+
+// Whether each entity that a kind names has a number.
+fn is_known(numbers: &LeafMap, kind: &NodeKind) -> bool
+    ensures { result ≡ spec.is_known (number_at numbers.now) kind.now }
+{
+    match kind {
+        NodeKind::Named(d) | NodeKind::FunctionName(d) | NodeKind::Literal(d) => numbers
+            .get(*d)
+            .is_some(),
+        NodeKind::Initialise { entity, .. } => numbers.get(*entity).is_some(),
+        NodeKind::Block(ds) => all_named(numbers, ds.as_slice()),
+        NodeKind::For { entities, .. } => all_named(numbers, entities.as_slice()),
+        _ => true,
+    }
+}
+
+/// Whether each entity that a node names has a number.
+pub fn all_known(numbers: &LeafMap, nodes: &[Node]) -> bool
+    ensures { IsTrue result ↔ All (λ node. IsTrue (spec.is_known (number_at numbers.now) node.kind)) nodes.now }
+{
+    nodes.iter().all(|node| is_known(numbers, &node.kind))
+}

@@ -1,0 +1,8 @@
+//! The rows of a unit's nodes, one after another.
+#![tactic(auto)]
+
+mod nodes;
+mod units;
+
+pub use nodes::walk_nodes;
+pub use units::{Walked, walk};

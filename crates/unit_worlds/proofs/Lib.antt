@@ -1,0 +1,4 @@
+pub mod Completing
+pub mod Entries
+pub mod Worlds
+pub mod Sensing

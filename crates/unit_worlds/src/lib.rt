@@ -1,0 +1,4 @@
+//! What a unit knows of the world around a node, from one node to the next.
+#![tactic(auto)]
+
+pub mod laws;
