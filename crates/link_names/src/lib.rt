@@ -19,3 +19,4 @@ mod whole;
 pub use declared::{Declared, Scene};
 pub use fault::LinkFault;
 pub use names::{Names, check_names};
+pub use uses::is_before;

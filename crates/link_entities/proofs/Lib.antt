@@ -1,0 +1,4 @@
+pub mod Using
+pub mod Linking
+pub mod Naming
+pub mod Rowing

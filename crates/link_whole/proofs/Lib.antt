@@ -1,0 +1,4 @@
+pub mod OwnTypes
+pub mod PlacedNodes
+pub mod Numbered
+pub mod Alone

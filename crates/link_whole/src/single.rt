@@ -1,0 +1,144 @@
+//! Linking one unit (C11 5.1.1.2, 6.2.2).
+
+ghost use Rattle.std.specs.Prelude.{◌≡◌, ◌<◌, ◌^◌, ◌∷◌, [], ℕ, Some, MatchResult, IfOk, length, slice_get};
+ghost use Rattle.core_tree.specs.declared.node.Unit.{Unit as UnitSpec};
+ghost use Rattle.core_tree.specs.Range.{InRange};
+ghost use Rattle.core_tree.specs.Typed.{trees_of};
+ghost use Rattle.link_names.specs.Names.{AreNames};
+ghost use Rattle.link_names.specs.Said.{IsFaultUnless};
+ghost use Rattle.link_names.specs.Scene.{IsScene, joined_of};
+ghost use Rattle.unit_link.specs.Linked.{Linked, LinksBadly};
+ghost use Rattle.unit_link.specs.Needs.{AreLinkable};
+ghost use Rattle.link_program.specs.Ready.{AreReady};
+ghost use Rattle.link_program.specs.Rows.{AreEntityNumbers};
+ghost use Rattle.link_entities.specs.Row.{AreLinked};
+ghost use Rattle.link_whole.specs.Placed.{AreNamed, ArePlaced};
+ghost use Rattle.link_program.specs.Checked.{joined_by};
+ghost use Rattle.link_program.specs.Merging.{AreMerged};
+ghost use Rattle.link_whole.specs.Entities.{AreEntitiesOf};
+
+use crate::nodes::placed_nodes;
+use c_types::table::TypeTable;
+use core_tree::{Entity, Program, Unit};
+use link_entities::entities::{Linking, linked_entities};
+use link_entities::uses::first_uses;
+use link_makers::makers::makers_of;
+use link_names::{LinkFault, Names, Scene};
+use link_program::checked::checked;
+use link_program::counts::{entity_counts, node_counts};
+use link_program::numbers::{EntityNumbers, entity_numbers};
+use link_types::starts::starts;
+use pta_base::OutOfMemory;
+use std::alloc::Global;
+use std::slice;
+
+// The program's entities.
+fn entities_in(
+    alloc: Global,
+    scene: &Scene<'_>,
+    names: &Names,
+    numbers: &EntityNumbers,
+) -> Result<Vec<Entity>, OutOfMemory>
+    requires scene { IsScene scene.now }
+    requires ready { AreReady scene.now.types.now }
+    requires ranges { (u : ℕ) (x : UnitSpec) → slice_get scene.now.units.now u ≡ Some x → InRange (trees_of x) }
+    requires names { AreNames (joined_of scene.now) scene.now.declared.now names.now }
+    requires numbers { AreEntityNumbers scene.now.units.now numbers.now }
+    ensures few { IfOk result (λ _. (u : ℕ) (x : UnitSpec) → slice_get scene.now.units.now u ≡ Some x → length x.nodes.items < 2 ^ 32) }
+    ensures linked { let n = numbers.now in
+        IfOk result (λ list. AreLinked (joined_of scene.now) scene.now.declared.now n (length n.leaders.items) list.items) }
+{
+    let counts = node_counts(alloc, scene.units)?;
+    let node_starts = starts(alloc, counts.as_slice())?;
+    let makers = makers_of(alloc, scene, names.firsts.as_slice())?;
+    let uses = first_uses(alloc, scene, names.firsts.as_slice())?;
+    let linking = Linking {
+        scene,
+        numbers,
+        names,
+        makers: makers.as_slice(),
+        uses: uses.as_slice(),
+        node_starts: node_starts.as_slice(),
+    };
+    linked_entities(alloc, &linking)
+}
+
+// The program of a unit with those entities.
+fn program_of(
+    alloc: Global,
+    unit: Unit,
+    numbers: &[u32],
+    entities: Vec<Entity>,
+) -> Result<Program, OutOfMemory>
+    requires few { length unit.nodes.items < 2 ^ 32 }
+    requires named { AreNamed (length numbers.now) unit.nodes.items }
+    ensures names { IfOk result (λ p. p.names.items ≡ unit.name ∷ []) }
+    ensures types { IfOk result (λ p. p.types ≡ unit.types) }
+    ensures nodes { IfOk result (λ p. ArePlaced numbers.now unit.nodes.items p.nodes.items) }
+    ensures entities { IfOk result (λ p. p.entities.items ≡ entities.items) }
+{
+    let Unit {
+        name,
+        types,
+        tags: _,
+        nodes,
+        entities: _,
+    } = unit;
+    let nodes = placed_nodes(alloc, nodes, numbers)?;
+    let mut names = Vec::new(alloc);
+    names.push(name)?;
+    Ok(Program {
+        names,
+        types,
+        nodes,
+        entities,
+    })
+}
+
+// The entities of the program that units are whose types stand in one table, and their numbers, or the first fault.
+fn entities_of(
+    alloc: Global,
+    units: &[Unit],
+    types: &TypeTable,
+    type_starts: &[u32],
+) -> Result<(Vec<Entity>, EntityNumbers), LinkFault>
+    requires linkable { AreLinkable units.now }
+    requires merged { AreMerged units.now type_starts.now types.now }
+    requires ready { AreReady types.now }
+    requires few { length units.now < 2 ^ 32 }
+    ensures { MatchResult result (λ made. AreEntitiesOf (joined_by units.now types.now type_starts.now) made.0.items made.1) (λ fault.
+        IsFaultUnless fault (LinksBadly units.now fault)) }
+{
+    let (declared, names) = checked(alloc, units, types, type_starts)?;
+    let _types = types.type_count();
+    let _entities = entity_counts(alloc, units)?;
+    let numbers = entity_numbers(alloc, units)?;
+    let scene = Scene {
+        units,
+        types,
+        type_starts,
+        declared: declared.as_slice(),
+    };
+    let entities = entities_in(alloc, &scene, &names, &numbers)?;
+    Ok((entities, numbers))
+}
+
+/// The program that one unit is: one object or function for each of its external names, every other entity and all nodes as they are,
+/// over the unit's own types; or the first fault: of the declarations in order of place (a type that doesn't agree with the earlier ones
+/// or lacks a library name's shape, before a second definition), then the first use of a name that nothing defines, then the want of
+/// `main`. The unit's table has to have each signature and each array of one element that the program may need.
+pub fn link_one(alloc: Global, unit: Unit) -> Result<Program, LinkFault>
+    requires linkable { AreLinkable (unit ∷ []) }
+    requires ready { AreReady unit.types }
+    ensures { MatchResult result (Linked (unit ∷ [])) (λ fault. IsFaultUnless fault (LinksBadly (unit ∷ []) fault)) }
+{
+    let whole = &unit;
+    let (entities, numbers) = entities_of(
+        alloc,
+        slice::from_ref(whole),
+        &whole.types,
+        [0].as_slice(),
+    )?;
+    let program = program_of(alloc, unit, numbers.numbers.as_slice(), entities)?;
+    Ok(program)
+}
