@@ -128,7 +128,7 @@ fn object(alloc: Global, name: &str, ty: TypeId) -> Result<Entity, Fail>
 fn unit_of_six(alloc: Global) -> Result<Unit, Fail>
     ensures ready { IfOk result (λ unit. IsReady unit) }
     ensures known { IfOk result (λ unit. IsKnown unit []) }
-    ensures count { IfOk result (λ unit. length unit.entities.items ≡ 5) }
+    ensures count { IfOk result (λ unit. length unit.entities.items ≡ 6) }
 {
     let (bare, types) = bare_unit(alloc)?;
     let one = add_entity(bare, object(alloc, "a", types.int)?)?;
