@@ -30,10 +30,10 @@ pub record AreChained (syntax : Syntax) (names : Names) : Type 0 where
 pub record ArePaired (names : Names) (uses : List (ℕ × ℕ)) : Type 0 where
   pub each : (leaf : ℕ) → number_at names.uses leaf ≡ paired uses leaf
 
--- with what is settled of their linkage for these results and all that begin so
+-- what is known of the names, whatever was made so far
 pub record AreNamed (syntax : Syntax) (results : List Made) (names : Names) : Type 0 where
   pub chained : AreChained syntax names
 
--- and of their types
+-- and whatever stands in the unit
 pub record AreNames (syntax : Syntax) (u : Unit) (results : List Made) (names : Names) : Type 0 where
   pub named : AreNamed syntax results names
