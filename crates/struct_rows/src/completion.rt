@@ -9,12 +9,11 @@ ghost use Rattle.c_senses.specs.Limits.{is_small};
 ghost use Rattle.core_nodes.specs.Standing.{IsReady};
 ghost use Rattle.struct_rows.specs.Completes.{Completes};
 
-use c_types::term::{MemberTerm, TypeId};
-use core_nodes::CheckFault;
+use c_types::term::{MemberTerm, OutOfMemory, TypeId};
 use core_tree::node::Unit;
 
 /// Gives a tag its members. Only memory may want.
-pub fn complete(unit: &mut Unit, tag: u32, members: Vec<MemberTerm>) -> Result<(), CheckFault>
+pub fn complete(unit: &mut Unit, tag: u32, members: Vec<MemberTerm>) -> Result<(), OutOfMemory>
     requires ready { IsReady unit.old }
     requires tag { tag < unit.old.types.tags }
     requires incomplete { members_in unit.old.types tag ≡ None }
@@ -23,9 +22,9 @@ pub fn complete(unit: &mut Unit, tag: u32, members: Vec<MemberTerm>) -> Result<(
     ensures ready { IsReady unit.new }
     ensures completes { OnOk result (Completes unit.old unit.new tag (map (part_of unit.old.types) members.items)) }
 {
+    // (What every table keeps is told by its count.)
     let _count = unit.types.type_count();
-    unit.types.complete(tag, members)?;
-    Ok(())
+    unit.types.complete(tag, members)
 }
 
 /// Whether a type that has a size has one below 2^63, and at most 2^24 nodes.
