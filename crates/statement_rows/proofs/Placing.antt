@@ -8,12 +8,12 @@ use Rattle.core_tree.specs.declared.node.Storage.TheVariants.{Static, Automatic,
 use Rattle.c_grammar.specs.Terminals.{contains}
 use Rattle.c_grammar.specs.Productions.{p_external, p_parameter, p_rest, p_declaration, p_declarator}
 use Rattle.c_grammar.specs.Words.{word_extern, word_static}
-use Rattle.c_senses.specs.Tree.{Source, is_a, children_at, children_of, first_where, parent_of, nearest_above, above_within, numbers_from}
+use Rattle.c_senses.specs.Tree.{Source, is_a, children_at, children_of, first_where, parent_of, above_within, numbers_from}
 use Rattle.c_senses.specs.Declarators.{outermost_of, is_outermost, declaration_around, specs_of}
 use Rattle.c_senses.specs.World.{World}
-use Rattle.c_senses.specs.Sense.{Sense, IsDeclarator, Specified}
-use Rattle.c_senses.specs.Entities.{is_typedef, is_parameter, declares_function, is_defined, has_storage, initialiser_for, is_static_object, is_at_file, specified, own_type, parameter_type, derived_type, with_length, length_given_by, specified_of, declaration_of, initialiser_of}
-use Rattle.c_senses.specs.Statements.{is_automatic_object, automatic_name, objects_among, objects_in_rest, objects_declared, objects_in, for_objects}
+use Rattle.c_senses.specs.Sense.{Sense, IsDeclarator}
+use Rattle.c_senses.specs.Entities.{is_typedef, is_parameter, declares_function, is_defined, has_storage, initialiser_for, is_static_object, is_at_file, specified, own_type, parameter_type, derived_type, with_length, length_given_by, initialiser_of}
+use Rattle.c_senses.specs.Statements.{is_automatic_object, automatic_name, objects_among, objects_in_rest, objects_declared, objects_in}
 use Rattle.sense_laws.specs.Senses.{ChildrenFirst}
 use Rattle.c_statements.specs.Parts.{gathered}
 use Rattle.statement_rows.specs.Parts.{name_in, is_placed, object_at, objects_at}

@@ -1,10 +1,9 @@
 -- The rows of statements keep the rows of constants.
 use Rattle.std.proofs.Common.{◌≡◌, ℕ, Bool, true, false, ◌==◌, List, [], ◌∷◌, Option, Some, None, refl}
-use Rattle.std.specs.Prelude.{⊤, ℤ, is_some, not, if◌then◌else◌}
+use Rattle.std.specs.Prelude.{⊤, ℤ, not, if◌then◌else◌}
 use Rattle.pta_base.specs.declared.kind.Kind.TheVariants.{Operand}
-use Rattle.pta_base.specs.declared.place.Place.{Place}
 use Rattle.c_types.specs.Trees.{Ctype}
-use Rattle.core_tree.specs.declared.node.NodeKind.TheVariants.{Expression, If, For, Case, Default, Label, Goto, Break, Continue}
+use Rattle.core_tree.specs.declared.node.NodeKind.TheVariants.{Expression, Case, Default, Label, Goto, Break, Continue}
 use Rattle.core_tree.specs.Typed.{IsInteger}
 use Rattle.c_grammar.specs.Productions.{p_declaration, p_expression, p_conditional}
 use Rattle.c_grammar.specs.Words.{word_case, word_default, word_if, word_switch, word_while, word_do, word_for, word_goto, word_continue, word_break, word_return, sign_semicolon}
@@ -17,12 +16,12 @@ use Rattle.c_senses.specs.Conversions.{OperandSort, Whole, operand_of, is_scalar
 use Rattle.c_senses.specs.Constants.{constant_in, is_whole}
 use Rattle.c_senses.specs.Places.{own_place}
 use Rattle.c_senses.specs.Sense.{Sense, IsCore, IsRun, IsInitial, core_of, value_in, fits}
-use Rattle.c_senses.specs.Statements.{statement, one, appended, with_some, ForParts, cores_in, block_row, condition_of, statements_among, body_of, other_body, expression_in, labelled, switch_around, switched, is_case_again, case_in, case_row, default_row, if_row, switch_row, while_row, do_row, for_parts, expression_statement, for_first, for_objects, for_condition, for_after, for_of, for_row, break_row, continue_row, goto_row, returned_type, return_row, of_word, leaf_statement, statement_of, statement_row, runs_initialiser, initials_among, rest_row, run_in, declaration_row}
+use Rattle.c_senses.specs.Statements.{statement, one, appended, with_some, ForParts, cores_in, block_row, condition_of, statements_among, body_of, other_body, expression_in, labelled, switch_around, switched, is_case_again, case_row, default_row, if_row, switch_row, while_row, do_row, for_parts, expression_statement, for_first, for_condition, for_after, for_of, for_row, break_row, continue_row, goto_row, returned_type, return_row, of_word, leaf_statement, statement_row, runs_initialiser, initials_among, rest_row, run_in, declaration_row}
 use Rattle.c_conversions.specs.Constants.{HasRows, HaveRows}
 use Rattle.sense_laws.specs.Sound.{Gives}
 use Rattle.sense_laws.proofs.Giving.{then_gives, if_given, some_given, if_holds}
 use Rattle.sense_laws.proofs.Conversions.{whole_integer}
-use Rattle.row_trees.specs.Trees.{SenseHasRows, AllHaveRows, RowsValue, RowsOf}
+use Rattle.row_trees.specs.Trees.{AllHaveRows, RowsValue, RowsOf}
 use Rattle.row_trees.proofs.Conversions.{promotion_value, conversion_rows}
 use Rattle.row_trees.proofs.Expressions.{core_rows, value_in_rows}
 use Rattle.statement_rows.specs.Kept.{RunHasRows, HasAllRows}

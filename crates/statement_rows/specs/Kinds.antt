@@ -1,5 +1,5 @@
 -- What name resolution says of declared names, by leaf.
-use Rattle.std.specs.Prelude.{ℕ, ◌≡◌, Bool, true, false, ◌&&◌, not, List, [], ◌∷◌, Option, Some, None, get_or, if◌then◌else◌}
+use Rattle.std.specs.Prelude.{ℕ, ◌≡◌, Bool, false, ◌&&◌, not, List, Option, Some, None, get_or}
 use Rattle.c_scope.specs.declared.kinds.Declared.{Declared}
 use Rattle.c_senses.specs.Tree.{Source}
 use Rattle.c_senses.specs.Names.{names_type, entry_of}

@@ -10,7 +10,7 @@ use Rattle.c_senses.specs.World.{World}
 use Rattle.c_grammar.specs.Words.{word_extern, word_static}
 use Rattle.c_senses.specs.Entities.{is_parameter, is_at_file, has_storage}
 use Rattle.c_senses.specs.Sense.{Sense, IsDeclarator, IsRun, IsInitial}
-use Rattle.c_senses.specs.Statements.{automatic_name, is_automatic_object, objects_declared, runs_initialiser}
+use Rattle.c_senses.specs.Statements.{automatic_name, objects_declared, runs_initialiser}
 
 -- the name of a declarator, if a sense is one
 abbrev pub name_in : Sense → Option ℕ

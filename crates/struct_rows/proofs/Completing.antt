@@ -1,5 +1,5 @@
 -- A tag is completed.
-use Rattle.std.proofs.Common.{arith, ◌≡◌, ℕ, zero, suc, ◌<◌, Bool, true, false, List, [], ◌∷◌, ◌++◌, Option, Some, None, cond, eqb, refl, sym, ap, ◌∙◌, ◌⊎◌, inl, inr, length, map, option_map, ◌==◌}
+use Rattle.std.proofs.Common.{arith, ◌≡◌, ℕ, Bool, true, false, List, [], ◌∷◌, ◌++◌, Option, Some, None, cond, eqb, refl, sym, ap, ◌∙◌, length, map, option_map, ◌==◌}
 use Rattle.std.specs.Prelude.{if◌then◌else◌}
 use Rattle.std.proofs.lemmas.Bool.Decides.{nat_tests}
 use Rattle.c_types.specs.Trees.{Ctype, VoidType, BoolType, IntegerType, FloatingType, VaListType, PointerTo, ArrayOf, FunctionFrom, StructureOf, UnionOf}
@@ -8,11 +8,11 @@ use Rattle.c_types.specs.Table.{Table, TagMembers, type_of, members_among, membe
 use Rattle.c_types.specs.Made.{IsMade}
 use Rattle.c_types.specs.declared.term.MemberTerm.{MemberTerm}
 use Rattle.core_tree.specs.declared.node.Unit.{Unit}
-use Rattle.c_inits.specs.Made.{Part, TagParts}
+use Rattle.c_inits.specs.Made.{Part}
 use Rattle.c_inits.specs.Tables.{tag_parts, parts_in, part_of}
-use Rattle.c_senses.specs.World.{World, extent}
+use Rattle.c_senses.specs.World.{World}
 use Rattle.c_senses.specs.Tags.{types_of_parts, laid}
-use Rattle.core_nodes.specs.Standing.{core_at, Knows, IsReady}
+use Rattle.core_nodes.specs.Standing.{Knows, IsReady}
 use Rattle.core_nodes.proofs.Growing.{core_retyped}
 use Rattle.struct_rows.specs.Completes.{with_members, with_extents, with_tag, Completes}
 

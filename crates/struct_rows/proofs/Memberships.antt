@@ -6,13 +6,10 @@ use Rattle.std.proofs.lemmas.List.{drop_more}
 use Rattle.std.proofs.lemmas.List.Elements.{All-head, All-tail}
 use Rattle.c_types.specs.Trees.{Ctype, VoidType, BoolType, IntegerType, FloatingType, VaListType, PointerTo, ArrayOf, FunctionFrom, StructureOf, UnionOf}
 use Rattle.c_types.specs.Table.{Table, type_of, extent_in}
-use Rattle.c_types.specs.Made.{HasBits, HasWidth, IsComplete, IsFlexible, IsLastFlexible, IsMember, AreMembers, StandsAsStructure}
-use Rattle.c_types.specs.Layout.{Extent}
+use Rattle.c_types.specs.Made.{HasBits, IsFlexible, IsMember, AreMembers, StandsAsStructure}
 use Rattle.c_types.specs.declared.term.MemberTerm.{MemberTerm}
-use Rattle.c_inits.specs.Made.{Part}
 use Rattle.c_inits.specs.Tables.{part_of}
-use Rattle.c_senses.specs.Tags.{bits_in}
-use Rattle.struct_rows.specs.Taken.{width_in, bits_fit, is_none_left, is_flexible, type_fits, takes_member, takes}
+use Rattle.struct_rows.specs.Taken.{bits_fit, is_none_left, is_flexible, type_fits, takes_member, takes}
 
 and_left : (a b : Bool) → (a && b) ≡ true → a ≡ true
 and_left true b h = refl

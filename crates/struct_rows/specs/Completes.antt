@@ -1,10 +1,10 @@
 -- What goes on standing while a structure or union is completed.
-use Rattle.std.specs.Prelude.{ℕ, ◌≡◌, ◌<◌, ◌==◌, Option, Some, None, List, [], ◌∷◌, ◌++◌, map, length, if◌then◌else◌}
+use Rattle.std.specs.Prelude.{ℕ, ◌≡◌, ◌==◌, Option, Some, None, List, [], ◌∷◌, ◌++◌, map, length, if◌then◌else◌}
 use Rattle.c_types.specs.Trees.{Ctype}
 use Rattle.c_types.specs.Layout.{Extent, Look, member_extent}
-use Rattle.c_types.specs.Table.{Table, type_of, members_in, look_in, extent_in}
+use Rattle.c_types.specs.Table.{type_of, members_in, look_in, extent_in}
 use Rattle.core_tree.specs.declared.node.Unit.{Unit}
-use Rattle.c_inits.specs.Made.{Part, TagParts}
+use Rattle.c_inits.specs.Made.{Part}
 use Rattle.c_inits.specs.Tables.{tag_parts, parts_in}
 use Rattle.c_senses.specs.World.{World}
 use Rattle.c_senses.specs.Tags.{types_of_parts}

@@ -1,5 +1,5 @@
 -- Results whose constants can be computed, in the words of the crates below, and what the rows of declarations give.
-use Rattle.std.proofs.Common.{arith, ◌≡◌, ◌==◌, ◌||◌, ℕ, Bool, true, false, cond, List, [], ◌∷◌, Option, Some, None, Result, Ok, Err, IfOk, All, refl, sym, ap, ◌∙◌, subst}
+use Rattle.std.proofs.Common.{◌≡◌, ◌==◌, ◌||◌, ℕ, Bool, true, false, cond, List, [], ◌∷◌, Option, Some, None, Result, Ok, Err, IfOk, All, refl, sym, ap, subst}
 use Rattle.std.specs.Ordering.{int_eq}
 use Rattle.std.specs.Prelude.{⊤, ℤ, pos, ◌+ℤ◌, not}
 use Rattle.std.proofs.lemmas.List.Elements.{All-weaker}
@@ -7,14 +7,14 @@ use Rattle.core_tree.specs.declared.node.Unit.{Unit}
 use Rattle.c_types.specs.Trees.{Ctype}
 use Rattle.pta_base.specs.declared.kind.Kind.TheVariants.{Operand, NotBuilt}
 use Rattle.c_grammar.specs.Terminals.{contains}
-use Rattle.c_grammar.specs.Productions.{p_enum, p_conditional, p_type, p_struct, p_specs, p_either, p_abstract, p_suffix, p_parameter, p_type_name}
+use Rattle.c_grammar.specs.Productions.{p_enum, p_conditional, p_type, p_struct, p_specs, p_either, p_abstract}
 use Rattle.c_grammar.specs.Words.{sign_left_bracket}
 use Rattle.c_senses.specs.Tree.{Source, is_a, production_at, is_leaf, last_where, all_where, has_sign, child_of}
 use Rattle.c_senses.specs.Given.{Given, Fits, Refuses, given_if, ◌>>=◌}
 use Rattle.c_senses.specs.World.{World}
-use Rattle.c_senses.specs.Sense.{Sense, Nothing, IsCore, IsType, IsSpecified, IsDeclarator, IsDerivation, IsParameter, IsMembers, IsValue, IsRun, IsInitial, Derivation, Parameter}
+use Rattle.c_senses.specs.Sense.{Sense, Nothing, IsCore, IsType, IsSpecified, IsDeclarator, IsDerivation, IsParameter, IsValue, Derivation, Parameter}
 use Rattle.c_senses.specs.Specifiers.{align_specifier, align_operand, specs_row, words_fit, storage_words, function_words, specified_type, first_type}
-use Rattle.c_senses.specs.Declarators.{derived, adjusted, parameter_fits, suffix_row, array_suffix, parameter_row, parameter_of, type_name_row, type_name_of, specified_at, sense_of_child}
+use Rattle.c_senses.specs.Declarators.{derived, adjusted, parameter_fits, suffix_row, array_suffix, parameter_of, type_name_of, specified_at, sense_of_child}
 use Rattle.c_senses.specs.Rows.{row_of}
 use Rattle.c_results.specs.declared.made.Made.{Made}
 use Rattle.c_results.specs.Standing.{sense_made, Rowed}

@@ -1,12 +1,12 @@
 -- Productions that only list others.
-use Rattle.std.proofs.Common.{arith, ◌≡◌, ◌==◌, ◌<◌, ◌≤◌, ℕ, zero, suc, Bool, true, false, cond, ◌||◌, ◌&&◌, nat_lt, List, [], ◌∷◌, ◌⊎◌, inl, inr, refl, sym, ap, ◌∙◌, subst}
+use Rattle.std.proofs.Common.{arith, ◌≡◌, ◌==◌, ◌<◌, ℕ, Bool, true, false, cond, ◌||◌, ◌&&◌, nat_lt, List, [], ◌∷◌, inl, inr, refl, ap, ◌∙◌, subst}
 use Rattle.std.specs.Prelude.{nat_le}
 use Rattle.std.proofs.lemmas.Bool.{eqb-true, ltb-true, leb-true}
 use Rattle.std.proofs.lemmas.Bool.Decides.{eqb_tells}
 use Rattle.pta_base.specs.declared.kind.Kind.TheVariants.{NotBuilt}
 use Rattle.c_grammar.specs.Terminals.{contains}
 use Rattle.c_senses.specs.Tree.{Source}
-use Rattle.c_senses.specs.Given.{Given, Fits, Refuses}
+use Rattle.c_senses.specs.Given.{Fits, Refuses}
 use Rattle.c_senses.specs.World.{World}
 use Rattle.c_senses.specs.Sense.{Sense, Nothing}
 use Rattle.c_senses.specs.Rows.{row_of, declaring_row}

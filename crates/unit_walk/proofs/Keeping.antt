@@ -1,20 +1,17 @@
 -- What has been made goes on standing while a unit grows.
-use Rattle.std.proofs.Common.{arith, ◌≡◌, ℕ, ◌<◌, ◌≤◌, List, [], ◌∷◌, All, length, map, refl, sym, ap, ◌∙◌, subst}
+use Rattle.std.proofs.Common.{arith, ◌≡◌, ℕ, ◌<◌, List, [], ◌∷◌, All, length, map, refl, sym, ap, subst}
 use Rattle.std.proofs.lemmas.List.Elements.{All-head, All-tail, All-weaker, All-cons}
-use Rattle.c_types.specs.declared.term.TypeId.{TypeId}
 use Rattle.c_types.specs.declared.term.MemberTerm.{MemberTerm}
 use Rattle.c_types.specs.Trees.{Ctype}
-use Rattle.c_types.specs.Table.{Table, type_of}
 use Rattle.c_consts.specs.Core.{Core}
 use Rattle.core_tree.specs.declared.node.Unit.{Unit}
 use Rattle.c_inits.specs.Made.{Part, TagParts}
 use Rattle.c_inits.specs.Tables.{part_with, part_of}
-use Rattle.c_senses.specs.Sense.{Sense, Parameter, Specified, IsCore, IsType, IsSpecified, IsDeclarator, IsDerivation, IsParameter, IsMembers, IsRun, IsInitial}
-use Rattle.c_senses.specs.Sense as sense
-use Rattle.core_nodes.specs.Standing.{core_at, Builds}
+use Rattle.c_senses.specs.Sense.{IsCore, IsType, IsSpecified, IsDeclarator, IsDerivation, IsParameter, IsMembers, IsRun, IsInitial}
+use Rattle.core_nodes.specs.Standing.{core_at}
 use Rattle.c_results.specs.declared.made.Made.{Made}
 use Rattle.c_results.specs.declared.made.Made.TheVariants as made
-use Rattle.c_results.specs.Standing.{derivation_seen, derivations_seen, sense_made, senses_made, IsDerivable, IsWithin}
+use Rattle.c_results.specs.Standing.{sense_made, senses_made, IsWithin}
 use Rattle.c_results.proofs.Keeping.{derivation_kept, derivations_kept, derivable_more, derivables_more, made_kept, within_kept}
 use Rattle.row_trees.specs.Trees.{SenseHasRows}
 use Rattle.unit_worlds.specs.Growing.{Completes, Grows}

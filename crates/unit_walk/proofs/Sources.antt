@@ -1,12 +1,11 @@
 -- The source of a unit with the numbers of its tags.
-use Rattle.std.proofs.Common.{arith, ◌≡◌, ℕ, ◌<◌, true, List, Some, slice_get, refl, sym, ap, ◌∙◌, subst}
+use Rattle.std.proofs.Common.{◌≡◌, ℕ, ◌<◌, List, Some, slice_get, sym, ap, ◌∙◌, subst}
 use Rattle.c_lexer.specs.declared.Tokens.{Tokens}
 use Rattle.c_grammar.specs.declared.trees.Tree.{Tree}
 use Rattle.c_scope.specs.declared.resolving.Bound.{Bound}
 use Rattle.c_scope.specs.Resolves.{IsBound}
 use Rattle.c_senses.specs.Tree.{Source, children_of}
 use Rattle.c_senses.specs.Names.{source_of, source_with, numbered}
-use Rattle.c_senses.specs.Tags.{tags_below}
 use Rattle.sense_laws.specs.Senses.{ChildrenFirst}
 use Rattle.core_nodes.specs.declared.fault.CheckFault.{CheckFault}
 use Rattle.core_nodes.specs.declared.fault.CheckFault.TheVariants.{BadOperand, Unsupported, OutOfMemory}

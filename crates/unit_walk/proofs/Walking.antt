@@ -1,13 +1,11 @@
 -- Rows one after another.
-use Rattle.std.proofs.Common.{arith, ◌≡◌, ℕ, ◌<◌, ◌≤◌, ◌+◌, List, [], ◌∷◌, ◌++◌, Option, Some, None, All, Ok, Err, length, get_or, map, slice_get, ◌⊎◌, inl, inr, refl, sym, ap, ◌∙◌, subst}
+use Rattle.std.proofs.Common.{arith, ◌≡◌, ℕ, ◌<◌, List, [], ◌∷◌, ◌++◌, Some, All, Err, length, get_or, map, slice_get, ◌⊎◌, inl, inr, sym, ap, ◌∙◌, subst}
 use Rattle.std.proofs.lemmas.List.Elements.{All-push, All-same}
-use Rattle.std.proofs.lemmas.List.{map-append, length-append, length-map}
+use Rattle.std.proofs.lemmas.List.{map-append, length-map}
 use Rattle.std.proofs.lemmas.Option.{slice_get-get_or}
 use Rattle.pta_base.specs.declared.kind.Kind.{Kind}
-use Rattle.pta_base.specs.declared.kind.Kind.TheVariants as kinds
 use Rattle.pta_base.specs.declared.kind.Kind.TheVariants.{Operand, NotBuilt}
-use Rattle.c_types.specs.Trees.{Ctype}
-use Rattle.c_types.specs.Table.{TagMembers, type_of, members_among, extent_in}
+use Rattle.c_types.specs.Table.{TagMembers, type_of, members_among}
 use Rattle.c_types.specs.Layout.{extent_of, looked_up, laid_out}
 use Rattle.core_tree.specs.declared.node.Unit.{Unit}
 use Rattle.c_inits.specs.Made.{TagParts}
@@ -28,7 +26,7 @@ use Rattle.unit_worlds.specs.Growing.{Grows, completed_at}
 use Rattle.unit_worlds.proofs.Sensing.{no_senses, row_as, senses_more}
 use Rattle.unit_worlds.proofs.Worlds.{known_one}
 use Rattle.unit_rows.specs.Built.{built_unit_row, StopsAt}
-use Rattle.unit_rows.specs.Standing.{HaveRows, Stand, AreMade}
+use Rattle.unit_rows.specs.Standing.{Stand, AreMade}
 use Rattle.unit_rows.proofs.Parts.{rows_part}
 use Rattle.unit_walk.specs.Walked.{IsRefused, RefusedBy}
 use Rattle.unit_walk.proofs.Keeping.{mades_grown, withins_grown, rows_grown}

@@ -1,8 +1,4 @@
-use Rattle.std.proofs.Common.{arith, ◌≡◌, ◌<◌, ◌≤◌, ℕ, Bool, true, false, not, cond, List, [], ◌∷◌, ◌++◌, Option, Some, None, length, append-nil, refl, sym, ap, ◌∙◌, subst}
-use Rattle.c_senses.specs.Sense.{Sense, sense_in}
-use Rattle.c_senses.specs.Statements as spec
-use Rattle.c_results.specs.Standing.{senses_made}
-use Rattle.tree_reads.specs.Sources.{source_in}
+use Rattle.std.proofs.Common.{ap, ◌∙◌}
 use Rattle.statement_rows.specs.Parts.{name_in}
 use Rattle.statement_rows.proofs.objects.name_at.Goals as goal
 

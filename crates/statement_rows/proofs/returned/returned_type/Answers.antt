@@ -1,13 +1,8 @@
-use Rattle.std.proofs.Common.{arith, ◌≡◌, ◌<◌, ◌≤◌, ◌+◌, ◌-◌, ℕ, Bool, true, false, not, cond, List, [], ◌∷◌, ◌++◌, Option, Some, None, Ok, Err, length, map, take, drop, get_or, append-nil, option_and_then, refl, sym, ap, ◌∙◌, subst}
-use Rattle.c_consts.specs.Core.{Core}
+use Rattle.std.proofs.Common.{arith, ◌≤◌, ℕ, Option, Some, None, length, option_and_then, sym, ap, ◌∙◌}
 use Rattle.c_types.specs.Trees.{Ctype}
-use Rattle.c_senses.specs.Given.{Given, Fits, Refuses}
-use Rattle.c_senses.specs.Sense.{Sense, IsRun, IsInitial, sense_in}
-use Rattle.c_senses.specs.Statements as spec
-use Rattle.core_nodes.specs.Standing.{core_at, Made}
-use Rattle.c_results.specs.Standing.{senses_made, IsWithin, Rowed, TypeSeen}
+use Rattle.c_senses.specs.Sense.{sense_in}
+use Rattle.c_results.specs.Standing.{senses_made}
 use Rattle.tree_reads.specs.Sources.{source_in, source_read}
-use Rattle.c_types.specs.Table.{type_of}
 use Rattle.c_senses.specs.Entities.{own_type, result_of}
 use Rattle.c_entities.specs.Types.{type_in}
 use Rattle.statement_rows.proofs.Placing.{no_own_type}

@@ -1,12 +1,11 @@
-use Rattle.std.proofs.Common.{arith, ◌≡◌, ◌<◌, ◌≤◌, ◌+◌, ◌-◌, ℕ, Bool, true, false, not, cond, List, [], ◌∷◌, ◌++◌, Option, Some, None, Ok, Err, length, map, take, drop, get_or, append-nil, option_and_then, refl, sym, ap, ◌∙◌, subst}
+use Rattle.std.proofs.Common.{arith, ◌<◌, ◌≤◌, length, ap, ◌∙◌, subst}
 use Rattle.c_consts.specs.Core.{Core}
-use Rattle.c_types.specs.Trees.{Ctype}
-use Rattle.c_senses.specs.Given.{Given, Fits, Refuses}
-use Rattle.c_senses.specs.Sense.{Sense, IsRun, IsInitial, sense_in}
+use Rattle.c_senses.specs.Given.{Given}
+use Rattle.c_senses.specs.Sense.{sense_in}
 use Rattle.c_senses.specs.Statements as spec
-use Rattle.core_nodes.specs.Standing.{core_at, Made}
-use Rattle.c_results.specs.Standing.{senses_made, IsWithin, Rowed, TypeSeen}
-use Rattle.tree_reads.specs.Sources.{source_in, source_read}
+use Rattle.core_nodes.specs.Standing.{Made}
+use Rattle.c_results.specs.Standing.{senses_made}
+use Rattle.tree_reads.specs.Sources.{source_in}
 use Rattle.statement_rows.proofs.Running.{behind_two}
 use Rattle.statement_rows.proofs.statements.for_statement.Goals as goal
 

@@ -1,11 +1,10 @@
-use Rattle.std.proofs.Common.{◌≡◌, ℕ, Bool, true, false, cond, List, get_or, refl, sym, ap, ◌∙◌, subst}
-use Rattle.c_consts.specs.Core.{Core}
+use Rattle.std.proofs.Common.{Bool, cond, get_or, sym, ap, ◌∙◌, subst}
 use Rattle.c_grammar.specs.Productions.{p_expression}
 use Rattle.c_senses.specs.Given.{Given, Fits}
-use Rattle.c_senses.specs.Tree.{is_a, is_leaf}
+use Rattle.c_senses.specs.Tree.{is_a}
 use Rattle.c_senses.specs.Sense.{Sense, sense_in}
 use Rattle.c_senses.specs.Statements as spec
-use Rattle.c_results.specs.Standing.{sense_made, senses_made, Rowed}
+use Rattle.c_results.specs.Standing.{senses_made, Rowed}
 use Rattle.tree_reads.specs.Sources.{source_in}
 use Rattle.statement_rows.specs.Words.{sensed}
 use Rattle.statement_rows.proofs.Running.{begins}

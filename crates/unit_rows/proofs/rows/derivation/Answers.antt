@@ -3,7 +3,6 @@ use Rattle.c_senses.specs.Sense.{sense_in}
 use Rattle.c_results.specs.Standing.{senses_made, Rowed}
 use Rattle.tree_reads.specs.Sources.{source_in}
 use Rattle.unit_rows.specs.Built.{built_unit_row}
-use Rattle.unit_rows.proofs.Constants.{constants_of}
 use Rattle.unit_rows.proofs.rows.derivation.Goals as goal
 
 pub returns-then-production-eq-P_SUFFIX-clause-row : goal.returns-then-production-eq-P_SUFFIX-clause-row

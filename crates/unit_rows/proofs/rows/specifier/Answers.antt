@@ -1,9 +1,8 @@
-use Rattle.std.proofs.Common.{ℕ, true, ap, ◌∙◌, refl, sym, subst}
+use Rattle.std.proofs.Common.{ℕ, ◌∙◌, sym, subst}
 use Rattle.c_senses.specs.Sense.{sense_in}
 use Rattle.c_results.specs.Standing.{senses_made, Rowed}
 use Rattle.tree_reads.specs.Sources.{number_in, source_in}
 use Rattle.unit_rows.specs.Built.{built_unit_row}
-use Rattle.c_senses.specs.Tags.{is_tag_specifier}
 use Rattle.unit_rows.proofs.Constants.{constants_of, specified_enum}
 use Rattle.unit_rows.proofs.rows.specifier.Goals as goal
 

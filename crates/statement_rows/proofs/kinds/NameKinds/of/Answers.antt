@@ -1,4 +1,4 @@
-use Rattle.std.proofs.Common.{arith, ◌≡◌, ◌<◌, ◌-◌, ℕ, false, length, get_or, refl}
+use Rattle.std.proofs.Common.{arith, ◌<◌, ◌-◌, false, length, get_or, refl}
 use Rattle.std.proofs.Math.ListN.{length-set}
 use Rattle.c_scope.specs.declared.kinds.Declared.{Declared}
 use Rattle.c_scope.specs.declared.kinds.Kind.TheVariants.{Linked}
