@@ -6,8 +6,7 @@ ghost use Rattle.c_inits.specs.Tables.{part_of};
 ghost use Rattle.c_structures.specs.Named.{SaysNames, is_among, same_name};
 
 use c_types::term::MemberTerm;
-use core_nodes::CheckFault;
-use std::alloc::Global;
+use std::alloc::{AllocError, Global};
 use std::collections::BTreeSet;
 
 /// The names of some members, and whether there are members.
@@ -18,7 +17,7 @@ pub struct MemberNames {
 }
 
 // Adds a name to a set of names.
-fn add_name(names: &mut BTreeSet<Vec<u8>>, alloc: Global, name: &[u8]) -> Result<(), CheckFault>
+fn add_name(names: &mut BTreeSet<Vec<u8>>, alloc: Global, name: &[u8]) -> Result<(), AllocError>
     ensures { OnOk result ((other : List ℕ) → is_among names.new other ≡ (same_name name.now other || is_among names.old other)) }
 {
     let copy = Vec::from_slice(alloc, name)?;
@@ -45,7 +44,7 @@ impl MemberNames {
     }
 
     // One member more.
-    fn add(&mut self, alloc: Global, member: &MemberTerm) -> Result<(), CheckFault>
+    fn add(&mut self, alloc: Global, member: &MemberTerm) -> Result<(), AllocError>
         ensures { OnOk result ((table : Table) (parts : List Part) →
             SaysNames self.old parts → SaysNames self.new (parts ++ part_of table member.now ∷ [])) }
     {
@@ -57,7 +56,7 @@ impl MemberNames {
     }
 
     /// These members more. Only memory may want.
-    pub fn add_all(&mut self, alloc: Global, members: &[MemberTerm]) -> Result<(), CheckFault>
+    pub fn add_all(&mut self, alloc: Global, members: &[MemberTerm]) -> Result<(), AllocError>
         ensures { OnOk result ((table : Table) (parts : List Part) →
             SaysNames self.old parts → SaysNames self.new (parts ++ map (part_of table) members.now)) }
     {
