@@ -28,16 +28,16 @@ length_map : {X Y : Type 0} (f : X → Y) (xs : List X) → length (map f xs) �
 length_map f [] = refl
 length_map f (x ∷ xs) = ap suc (length_map f xs)
 
-abbrev parts_or : Option (List Part) → List Part
+abbrev pub parts_or : Option (List Part) → List Part
 parts_or None = []
 parts_or (Some parts) = parts
 
 module _ (w : World) (s : Source) (sense : ℕ → Sense) where
-  in_sense : (x : Sense) → members_in_sense w s sense x ≡ parts_or (parts_in x)
+  pub in_sense : (x : Sense) → members_in_sense w s sense x ≡ parts_or (parts_in x)
   in_sense (IsMembers parts) = refl
   in_sense x = refl
 
-  among_append : (xs ys : List ℕ) → members_among w s sense (xs ++ ys) ≡ members_among w s sense xs ++ members_among w s sense ys
+  pub among_append : (xs ys : List ℕ) → members_among w s sense (xs ++ ys) ≡ members_among w s sense xs ++ members_among w s sense ys
   among_append [] ys = refl
   among_append (x ∷ xs) ys = ap (λ (ps : List Part). members_in_sense w s sense (sense x) ++ ps) (among_append xs ys) ∙ sym (append_assoc (members_in_sense w s sense (sense x)) (members_among w s sense xs) (members_among w s sense ys))
 

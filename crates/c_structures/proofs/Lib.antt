@@ -3,3 +3,5 @@ pub mod Fielding
 pub mod Naming
 pub mod Ascending
 pub mod Covering
+pub mod Preceding
+pub mod Opening

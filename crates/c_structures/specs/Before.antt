@@ -1,11 +1,11 @@
 -- The members of the nodes that stand before one in a list, by their names.
-use Rattle.std.specs.Prelude.{ℕ, ◌≡◌, ◌<◌, ◌≤◌, Bool, true, ◌&&◌, ◌||◌, List, [], ◌∷◌, length, take, nat_lt, All}
+use Rattle.std.specs.Prelude.{ℕ, ◌≡◌, ◌<◌, ◌≤◌, Bool, true, ◌&&◌, ◌||◌, Option, Some, None, List, [], ◌∷◌, length, take, nat_lt, All}
 use Rattle.core_tree.specs.declared.node.Unit.{Unit}
 use Rattle.c_inits.specs.Made.{Part}
-use Rattle.c_senses.specs.Tree.{Source}
+use Rattle.c_senses.specs.Tree.{Source, all_where, children_at}
 use Rattle.c_senses.specs.World.{World}
 use Rattle.c_senses.specs.Sense.{Sense, sense_in}
-use Rattle.c_senses.specs.Tags.{members_among, has_part_named}
+use Rattle.c_senses.specs.Tags.{members_among, has_part_named, is_before}
 use Rattle.c_results.specs.declared.made.Made.{Made}
 use Rattle.c_results.specs.Standing.{senses_made}
 use Rattle.c_structures.specs.declared.before.Cursor.{Cursor}
@@ -28,3 +28,12 @@ pub record Covers (results : List Made) (nodes : List ℕ) (c : Cursor) : Type 0
 pub record SaysEarlier (b : MembersBefore) (parts : List Part) : Type 0 where
   pub named : (w : World) (s : Source) (sense : ℕ → Sense) (name : List ℕ) → (is_among b.whole.names.names name || is_among b.part.names.names name) ≡ has_part_named w s sense name parts
   pub any_are : (b.whole.names.any || b.part.names.any) ≡ nat_lt 0 (length parts)
+
+module _ (w : World) (s : Source) (sense : ℕ → Sense) where
+  -- the members of those nodes of a list, and of those children of a node, that are below a number
+  abbrev pub parts_below : List ℕ → ℕ → List Part
+  parts_below nodes below = members_among w s sense (all_where (is_before w s sense below) nodes)
+
+  abbrev pub parts_before : Option ℕ → ℕ → List Part
+  parts_before None below = []
+  parts_before (Some list) below = parts_below (children_at s list) below

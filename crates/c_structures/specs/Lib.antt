@@ -3,3 +3,5 @@ pub mod Fields
 pub mod Named
 pub mod Before
 pub mod Widths
+pub mod Listed
+pub mod Kept

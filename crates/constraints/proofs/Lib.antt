@@ -3,3 +3,4 @@ pub mod ListLemmas
 pub mod Demanded
 pub mod Laws
 pub mod OwnedLemmas
+pub mod Agreeing

@@ -1,5 +1,5 @@
 -- What a system's making answers.
-use Rattle.std.specs.Prelude.{IsFalse, ◌≡◌, ℕ, ◌+◌, ◌*◌, ◌/◌, ◌<◌, ◌≤◌, ◌^◌, ◌++◌, ⊤, List, ◌∷◌, Option, Some, None, length, map, slice_get, option_and_then, Vec}
+use Rattle.std.specs.Prelude.{IsFalse, ◌≡◌, ℕ, ◌+◌, ◌*◌, ◌/◌, ◌<◌, ◌≤◌, ◌^◌, ◌++◌, ⊤, List, ◌∷◌, Option, Some, None, length, map, slice_get, option_and_then, AllPairs, Vec}
 use Rattle.std.specs.declared.alloc.Global.{Global}
 use Rattle.std.specs.List.{range_with_len}
 use Rattle.c_types.specs.declared.key.ObjectKey.{ObjectKey}
@@ -7,6 +7,7 @@ use Rattle.c_types.specs.declared.key.ObjectKey.TheVariants.{Entity as EntityKey
 use Rattle.sol_model.specs.declared.system.System.{System}
 use Rattle.sol_model.specs.declared.system.LocationFact.{LocationFact}
 use Rattle.sol_model.specs.declared.system.Constraint.{Constraint}
+use Rattle.sol_model.specs.declared.system.Function.{Function}
 use Rattle.sol_model.specs.declared.system.Constraint.TheVariants.{Call}
 use Rattle.sol_model.specs.Places.{nodes_of}
 use Rattle.sol_model.specs.Systems.{location_count, width_of}
@@ -64,3 +65,12 @@ pub record IsSized (system : System) : Type 0 where
 abbrev pub AreLocated : System → Type 0
 AreLocated system =
     (l : ℕ) (fact : LocationFact) → slice_get system.locations l ≡ Some fact → (fact.ty < length system.types) × (IsFalse fact.collapsed → l + nodes_of system fact.ty ≤ location_count system)
+
+-- functions stand in the order of their locations
+abbrev pub AreInOrder : System → Type 0
+AreInOrder system = AllPairs (λ (one other : Function). one.location < other.location) system.functions
+
+-- the facts of locations are those of the space
+pub record AgreesWith (s : SpaceView) (system : System) : Type 0 where
+  pub count : location_count system ≡ s.count
+  pub facts : (l : ℕ) (fact : LocationFact) → slice_get system.locations l ≡ Some fact → (fact.collapsed ≡ s.collapsed l) × (fact.ty ≡ s.node_type l)

@@ -4,7 +4,6 @@ ghost use Rattle.std.specs.Prelude.{◌≡◌, ℕ, ◌+◌, ◌*◌, ◌/◌, �
 ghost use Rattle.std.specs.Option.{option_and_then};
 ghost use Rattle.core_tree.specs.Typed.{trees_in};
 ghost use Rattle.core_tree.specs.Range.{InRange};
-ghost use Rattle.core_tree.specs.Valid.{ValidProgram};
 ghost use Rattle.obj_space.specs.Space.{AreTyped, HasTrees};
 ghost use Rattle.obj_space.specs.View.{view_of};
 ghost use Rattle.row_numbers.specs.Setting.{row_total};
@@ -12,7 +11,7 @@ ghost use Rattle.row_numbers.specs.Frame.{IsNumbered};
 ghost use Rattle.row_numbers.specs.Results.{AreResults};
 ghost use Rattle.normal_form.specs.SystemOf.{SystemOf, NormalOf, IsWhole};
 ghost use Rattle.constraints.specs.Owned.{AreOwned};
-ghost use Rattle.constraints.specs.System.{IsWithin, IsFaultOf, IsSized, AreLocated, first_entity, constraint_list, second_in};
+ghost use Rattle.constraints.specs.System.{IsWithin, IsFaultOf, IsSized, AreLocated, AreInOrder, AgreesWith, first_entity, constraint_list, second_in};
 
 use crate::copies::copy_calls;
 use crate::facts::location_facts;
@@ -141,7 +140,7 @@ fn within(
     space: &Space,
     normal: &Normal,
 ) -> Result<System, OutOfMemory>
-    requires valid { ValidProgram program.now }
+    requires range { InRange (trees_in program.now) }
     requires normal { NormalOf program.now (view_of space.now) normal.now }
     requires few { row_total (trees_in program.now) (view_of space.now) ≤ 2 ^ 24 }
     ensures { IfOk result (λ system. SystemOf program.now (view_of space.now) system) }
@@ -160,15 +159,17 @@ fn word_total(space: &Space, normal: &Normal) -> u128
     u128::from(normal.rows) * u128::from((u64::from(space.count()) + 63) / 64)
 }
 
-/// The system of a program from its normal form. `Nodes` comes exactly where the program has over 2^24 nodes, and then
-/// `Words` exactly where its rows have over 2^24 words. A program has a location, that of its main function.
+/// The system of a program, in which every type, node and entity that is named is in range, from its normal form. `Nodes`
+/// comes exactly where the program has over 2^24 nodes, and then `Words` exactly where its rows have over 2^24 words. A
+/// program has a location, that of its main function. The system's functions stand in the order of their locations, and
+/// what it knows of its locations is what the space says.
 pub fn system(
     alloc: Global,
     program: &Program,
     space: &Space,
     normal: &Normal,
 ) -> Result<System, SystemFault>
-    requires valid { ValidProgram program.now }
+    requires range { InRange (trees_in program.now) }
     requires located { 0 < (view_of space.now).count }
     requires normal { NormalOf program.now (view_of space.now) normal.now }
     ensures system { IfOk result (λ system. SystemOf program.now (view_of space.now) system) }
@@ -178,6 +179,8 @@ pub fn system(
     // What the space promises of its locations is kept by the system's.
     ensures located { IfOk result (λ system.
         AreTyped program.now.types space.now → HasTrees program.now.types space.now → AreLocated system) }
+    ensures ordered { IfOk result AreInOrder }
+    ensures agrees { IfOk result (AgreesWith (view_of space.now)) }
     ensures fault { IfErr result (λ fault. IsFaultOf program.now (view_of space.now) fault) }
 {
     let nodes = program.nodes.as_slice().len();

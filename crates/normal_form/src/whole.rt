@@ -6,7 +6,6 @@ ghost use Rattle.row_numbers.specs.Frame.{IsFrame, AreNumbers, IsNumbered, setti
 ghost use Rattle.normal_form.specs.SystemOf.{NormalOf};
 ghost use Rattle.core_tree.specs.Typed.{trees_in};
 ghost use Rattle.core_tree.specs.Range.{InRange};
-ghost use Rattle.core_tree.specs.Valid.{ValidProgram};
 ghost use Rattle.obj_space.specs.View.{view_of};
 
 use crate::kinds::demanded;
@@ -94,10 +93,10 @@ fn numbered(
     })
 }
 
-/// The normal form of a program: its rows, the assignments that its nodes demand, and its calls in order of node. Past
-/// 2^24 rows it has no assignments and no calls.
+/// The normal form of a program in which every type, node and entity that is named is in range: its rows, the assignments
+/// that its nodes demand, and its calls in order of node. Past 2^24 rows it has no assignments and no calls.
 pub fn normalise(alloc: Global, program: &Program, space: &Space) -> Result<Normal, OutOfMemory>
-    requires { ValidProgram program.now }
+    requires { InRange (trees_in program.now) }
     ensures { IfOk result (λ normal. NormalOf program.now (view_of space.now) normal) }
 {
     if !is_numbered(program) {

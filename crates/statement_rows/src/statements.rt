@@ -57,6 +57,7 @@ const WORD_WHILE: u8 = 33;
 
 /// What the rows of statements are told: what name resolution says of declared names, and the cases and the defaults before the
 /// node.
+#[derive(Clone, Copy)]
 pub struct Told<'a> {
     pub kinds: &'a NameKinds,
     pub choices: &'a Choices,

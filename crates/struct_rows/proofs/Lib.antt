@@ -1,2 +1,4 @@
 pub mod Completing
 pub mod Memberships
+pub mod Building
+pub mod Growing

@@ -1,2 +1,5 @@
 pub mod Completes
 pub mod Taken
+pub mod Built
+pub mod Standing
+pub mod Laws

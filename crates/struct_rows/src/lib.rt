@@ -2,7 +2,10 @@
 #![tactic(auto)]
 
 mod completion;
+pub mod laws;
+mod rows;
 mod taking;
 
 pub use completion::{complete, is_small_type};
+pub use rows::{is_union, struct_row};
 pub use taking::takes;

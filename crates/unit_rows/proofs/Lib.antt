@@ -1,3 +1,5 @@
-pub mod Constants
-pub mod Lists
-pub mod Parts
+mod Cover
+pub mod Nothing
+pub mod Answers
+mod Saying
+mod Expressions

@@ -1,15 +1,19 @@
--- The rows of a unit's nodes as far as they are built.
-use Rattle.std.specs.Prelude.{ℕ, ◌≡◌, Bool, ◌||◌, nat_lt, List, [], ◌∷◌, length, slice_get, Some, ◌⊎◌, if◌then◌else◌}
-use Rattle.pta_base.specs.declared.kind.Kind.{Kind}
+-- The rows of a unit's nodes as they are built: each is the row of its production, but that at some nodes it may be said that what stands
+-- there isn't built.
+use Rattle.std.specs.Prelude.{ℕ, ◌≡◌, ◌<◌, Bool, true, IsTrue, ◌==◌, nat_lt, nat_le, ◌||◌, ◌&&◌, List, [], ◌∷◌, length, slice_get, Some, ◌⊎◌, Result, Ok, Err}
 use Rattle.pta_base.specs.declared.kind.Kind.TheVariants.{NotBuilt}
 use Rattle.c_grammar.specs.Terminals.{contains}
 use Rattle.c_grammar.specs.declared.trees.SyntaxNode.{SyntaxNode}
-use Rattle.c_grammar.specs.Productions.{p_unit, p_external, p_assert, p_asm_name, p_specs, p_storage, p_function, p_qualifier, p_align, p_enum, p_enumerators, p_enumerator, p_suffix, p_parameter, p_type_name, p_item, p_primary}
+use Rattle.c_grammar.specs.Productions.{p_unit, p_external, p_rest, p_declaration, p_asm_name, p_storage, p_function, p_qualifier, p_struct, p_members, p_member, p_field, p_enumerators, p_assert, p_specs, p_align, p_type, p_enum, p_enumerator, p_suffix, p_parameter, p_type_name, p_declarator, p_abstract, p_either, p_init, p_items, p_item, p_designator, p_block, p_statement, p_expression, p_primary}
+use Rattle.core_tree.specs.declared.node.Unit.{Unit}
+use Rattle.core_nodes.specs.declared.fault.CheckFault.{CheckFault}
+use Rattle.core_nodes.specs.declared.fault.CheckFault.TheVariants.{Unsupported}
+use Rattle.c_results.specs.declared.made.Made.{Made}
+use Rattle.c_results.specs.Standing.{Rowed}
 use Rattle.c_senses.specs.Tree.{Source}
 use Rattle.c_senses.specs.Given.{Given, Refuses}
-use Rattle.c_senses.specs.World.{World}
-use Rattle.c_senses.specs.Sense.{Sense, sense_in}
-use Rattle.c_senses.specs.Rows.{row_of, world_at, AreSenses}
+use Rattle.c_senses.specs.Sense.{Sense}
+use Rattle.c_senses.specs.Rows.{row, AreSenses}
 
 -- the productions of nodes that stand for nothing of their own, and a leaf's
 abbrev pub lists : List ℕ
@@ -18,24 +22,54 @@ lists = p_unit ∷ p_external ∷ p_asm_name ∷ p_storage ∷ p_function ∷ p_
 abbrev pub lists_others : ℕ → Bool
 lists_others production = contains lists production || nat_lt p_primary production
 
--- the other productions whose rows are built
-abbrev pub built : List ℕ
-built = p_assert ∷ p_specs ∷ p_align ∷ p_enum ∷ p_enumerator ∷ p_suffix ∷ p_parameter ∷ p_type_name ∷ []
+-- the productions at whose nodes it may be said that what stands there isn't built: structures whose members may not stand, or with a
+-- member that ends in an array without a length; members, declarators and initialisers where a type isn't known to be within the limits;
+-- and primaries with constants and strings that no reading of a text takes
+abbrev pub partial : List ℕ
+partial = p_struct ∷ p_members ∷ p_member ∷ p_field ∷ p_declarator ∷ p_abstract ∷ p_either ∷ p_init ∷ p_items ∷ p_designator ∷ p_primary ∷ []
 
-abbrev pub is_built : ℕ → Bool
-is_built production = lists_others production || contains built production
+abbrev pub may_stop : ℕ → Bool
+may_stop production = contains partial production
 
-abbrev pub built_unit_row : World → Source → (ℕ → Sense) → ℕ → ℕ → List ℕ → Given Sense
-built_unit_row w s sense production at children = if is_built production then row_of w s sense production at children else Refuses NotBuilt at
+-- what a call answers of the row of a node
+abbrev pub RowedAt : Unit → Result Made CheckFault → Given Sense → ℕ → ℕ → Type 0
+RowedAt u (Err (Unsupported NotBuilt node)) g production at = (g ≡ Refuses NotBuilt node) ⊎ ((node ≡ at) × (may_stop production ≡ true))
+RowedAt u r g production at = Rowed u r g
 
--- each built row gives what the whole row gives, or is NotBuilt at its node
-abbrev pub RowsArePart : Type 0
-RowsArePart = (w : World) (s : Source) (sense : ℕ → Sense) (production at : ℕ) (children : List ℕ) → (built_unit_row w s sense production at children ≡ row_of w s sense production at children) ⊎ (built_unit_row w s sense production at children ≡ Refuses NotBuilt at)
-
--- the rows fit up to a node, and that node's built row refuses
-pub record StopsAt (s : Source) (kind : Kind) (named : ℕ) : Type 0 where
+-- the rows fit up to a node, of which it is said that it isn't built
+pub record StopsAt (s : Source) (named : ℕ) : Type 0 where
   pub senses : List Sense
   pub before : AreSenses s senses
   pub node : SyntaxNode
   pub stands : slice_get s.nodes (length senses) ≡ Some node
-  pub refuses : built_unit_row (world_at s senses (length senses)) s (sense_in senses) node.production (length senses) node.children.items ≡ Refuses kind named
+  pub stops : (row s senses (length senses) node ≡ Refuses NotBuilt named) ⊎ ((named ≡ length senses) × (may_stop node.production ≡ true))
+
+-- a part of specifiers, or an assertion; a part of a declarator; a statement, a block, a declaration or the rest of one; an expression
+abbrev pub is_part : ℕ → Bool
+is_part production = contains (p_assert ∷ p_specs ∷ p_align ∷ p_type ∷ p_enum ∷ p_enumerator ∷ []) production
+
+abbrev pub is_derivation : ℕ → Bool
+is_derivation production = contains (p_suffix ∷ p_parameter ∷ p_type_name ∷ []) production
+
+abbrev pub is_statement : ℕ → Bool
+is_statement production = contains (p_rest ∷ p_declaration ∷ p_block ∷ p_statement ∷ []) production
+
+abbrev pub is_expression : ℕ → Bool
+is_expression production = nat_le p_expression production && nat_le production p_primary
+
+-- a list of members, a declaration of some or a field; a declarator; an initialiser, the list of a compound literal or a designator
+abbrev pub is_member : ℕ → Bool
+is_member production = contains (p_members ∷ p_member ∷ p_field ∷ []) production
+
+abbrev pub is_declarator : ℕ → Bool
+is_declarator production = contains (p_declarator ∷ p_abstract ∷ p_either ∷ []) production
+
+abbrev pub is_initial : ℕ → Bool
+is_initial production = contains (p_init ∷ p_items ∷ p_designator ∷ []) production
+
+-- those of which nothing more is asked, and those that ask for types within the limits
+abbrev pub is_plain : ℕ → Bool
+is_plain production = is_part production || (is_derivation production || is_statement production)
+
+abbrev pub is_limited : ℕ → Bool
+is_limited production = (production == p_struct) || (is_member production || (is_declarator production || is_initial production))

@@ -1,7 +1,13 @@
 //! The row of each node of a unit's syntax tree.
 #![tactic(auto)]
 
-pub mod laws;
+mod initials;
+mod known;
+mod limits;
+mod names;
+mod parts;
 mod rows;
+mod structures;
 
+pub use known::Known;
 pub use rows::row;

@@ -1,31 +1,45 @@
 // The row of a node, by its production.
-ghost use Rattle.std.specs.Prelude.{◌≡◌, ◌<◌, ◌≤◌, ℕ, List, false, length, IfOk, All};
-ghost use Rattle.c_senses.specs.Tree.{production_at, children_at};
+ghost use Rattle.std.specs.Prelude.{◌≡◌, ◌<◌, true, IfOk};
+ghost use Rattle.c_senses.specs.Tree.{production_at};
 ghost use Rattle.c_senses.specs.World.{World};
 ghost use Rattle.c_senses.specs.Sense.{sense_in};
-ghost use Rattle.c_senses.specs.Rows.{world_at};
+ghost use Rattle.c_senses.specs.Rows.{declarator_row};
 ghost use Rattle.core_nodes.specs.Standing.{IsReady, Builds, Knows};
 ghost use Rattle.c_results.specs.Standing.{sense_made, senses_made, IsWithin, Rowed};
-ghost use Rattle.tree_reads.specs.Sources.{source_read, source_in};
-ghost use Rattle.row_trees.specs.Trees.{SenseHasRows};
-ghost use Rattle.tag_numbers.specs.Known.{AreTags};
+ghost use Rattle.c_initials.specs.Filling.{Fills};
+ghost use Rattle.name_places.specs.Named.{IsNamedIn};
+ghost use Rattle.row_shapes.specs.Kept.{Keeps};
+ghost use Rattle.struct_rows.specs.Built.{HasTagTypes};
+ghost use Rattle.unit_limits.specs.Small.{IsSmallTable};
 ghost use Rattle.unit_worlds.specs.Growing.{Grows, completed_at};
-ghost use Rattle.unit_rows.specs.Built.{built_unit_row, lists_others};
-ghost use Rattle.unit_rows.specs.Standing.{HaveRows};
+ghost use Rattle.unit_rows.specs.Built.{RowedAt, lists_others, is_part, is_derivation, is_statement, is_plain, is_expression, is_member, is_declarator, is_limited};
+ghost use Rattle.unit_rows.specs.Limits.{AreTested};
+ghost use Rattle.unit_rows.specs.Standing.{IsKnown, Stand, ChoicesFit, source_known, nodes_known, world_there, row_there};
 
-use c_declarators::{parameter_row, specs_row, suffix_row, type_name_row};
+use crate::initials::initial_row;
+use crate::known::Known;
+use crate::limits::all_small;
+use crate::parts::{derivation, specifier};
+use crate::structures::structure;
 use c_results::Made;
-use c_tags::{align_specifier, assert_row, enum_row, enumerator_row};
+use c_statements::Choices;
+use c_structures::member;
 use core_nodes::CheckFault;
 use core_tree::node::Unit;
+use name_sayings::{DeclaredNames, completed_flags, declarator};
+use name_uses::expression;
 use pta_base::Kind;
+use statement_rows::{Told, row as statement_row};
 use std::alloc::Global;
-use tag_numbers::Numbered;
-use tree_reads::{Syntax, children_of, production_of};
+use tree_reads::{children_of, production_of};
 
 const P_UNIT: u32 = 0;
 
 const P_EXTERNAL: u32 = 1;
+
+const P_REST: u32 = 2;
+
+const P_DECLARATION: u32 = 3;
 
 const P_ASSERT: u32 = 4;
 
@@ -41,6 +55,16 @@ const P_QUALIFIER: u32 = 9;
 
 const P_ALIGN: u32 = 10;
 
+const P_TYPE: u32 = 11;
+
+const P_STRUCT: u32 = 12;
+
+const P_MEMBERS: u32 = 13;
+
+const P_MEMBER: u32 = 14;
+
+const P_FIELD: u32 = 15;
+
 const P_ENUM: u32 = 16;
 
 const P_ENUMERATORS: u32 = 17;
@@ -49,6 +73,10 @@ const P_ENUMERATOR: u32 = 18;
 
 const P_DECLARATOR: u32 = 19;
 
+const P_ABSTRACT: u32 = 20;
+
+const P_EITHER: u32 = 21;
+
 const P_SUFFIX: u32 = 22;
 
 const P_PARAMETER: u32 = 23;
@@ -56,6 +84,12 @@ const P_PARAMETER: u32 = 23;
 const P_TYPE_NAME: u32 = 24;
 
 const P_ITEM: u32 = 27;
+
+const P_BLOCK: u32 = 29;
+
+const P_STATEMENT: u32 = 30;
+
+const P_EXPRESSION: u32 = 31;
 
 const P_PRIMARY: u32 = 47;
 
@@ -71,160 +105,226 @@ fn is_list(production: u32) -> bool
     }
 }
 
-// The row of an assertion, or of a part of specifiers.
-fn specifier(
-    alloc: Global,
-    unit: &mut Unit,
-    numbered: &Numbered,
-    results: &[Made],
-    production: u32,
-    at: u32,
-    children: &[u32],
-) -> Result<Made, CheckFault>
-    requires ready { IsReady unit.old }
-    requires results { All (IsWithin unit.old) results.now }
-    requires rows { HaveRows unit.old results.now }
-    requires at { at < length numbered.now.syntax.tree.now.nodes.items }
-    requires production { production ≡ production_at (source_read numbered.now.syntax) at }
-    requires low { production < 19 }
-    requires other { lists_others production ≡ false }
-    ensures ready { IsReady unit.new }
-    ensures within { IfOk result (IsWithin unit.new) }
-    ensures builds { Builds unit.old unit.new }
-    ensures row { (w : World) (uses : List (ℕ × ℕ)) →
-        let s = source_in numbered.now.syntax uses in
-        let sense = sense_in (senses_made unit.old results.now) in
-        Knows w unit.old →
-        AreTags s numbered.now.tags → Rowed unit.new result (built_unit_row w s sense production at children.now) }
+// Whether a node is a part of specifiers, or an assertion.
+fn is_part(production: u32) -> bool
+    ensures { result ≡ is_part production }
 {
-    let syntax = &numbered.syntax;
-    if production == P_ASSERT {
-        return assert_row(unit, syntax, results, at);
+    match production {
+        P_ASSERT | P_SPECS | P_ALIGN => true,
+        P_TYPE | P_ENUM | P_ENUMERATOR => true,
+        _ => false,
     }
-    if production == P_SPECS {
-        return specs_row(alloc, unit, syntax, results, at, children);
-    }
-    if production == P_ALIGN {
-        return align_specifier(unit, syntax, results, at, children);
-    }
-    if production == P_ENUM {
-        return enum_row(unit, syntax, numbered.tags.seen_at(at), at);
-    }
-    if production == P_ENUMERATOR {
-        return enumerator_row(unit, syntax, results, at, children);
-    }
-    Err(CheckFault::Unsupported(Kind::NotBuilt, at))
 }
 
-// The row of a part of a declarator, or of a parameter or a type name.
-fn derivation(
-    alloc: Global,
-    unit: &mut Unit,
-    syntax: &Syntax,
-    results: &[Made],
-    production: u32,
-    at: u32,
-    children: &[u32],
-) -> Result<Made, CheckFault>
-    requires ready { IsReady unit.old }
-    requires results { All (IsWithin unit.old) results.now }
-    requires rows { HaveRows unit.old results.now }
-    requires at { at < length syntax.now.tree.now.nodes.items }
-    requires high { 19 ≤ production }
-    requires other { lists_others production ≡ false }
-    ensures ready { IsReady unit.new }
-    ensures within { IfOk result (IsWithin unit.new) }
-    ensures builds { Builds unit.old unit.new }
-    ensures row { (w : World) (uses : List (ℕ × ℕ)) →
-        let sense = sense_in (senses_made unit.old results.now) in
-        Rowed unit.new result (built_unit_row w (source_in syntax.now uses) sense production at children.now) }
+// Whether a node is a part of a declarator.
+fn is_derivation(production: u32) -> bool
+    ensures { result ≡ is_derivation production }
 {
-    if production == P_SUFFIX {
-        return suffix_row(alloc, unit, syntax, results, at, children);
+    match production {
+        P_SUFFIX | P_PARAMETER | P_TYPE_NAME => true,
+        _ => false,
     }
-    if production == P_PARAMETER {
-        return parameter_row(alloc, unit, syntax, results, at);
-    }
-    if production == P_TYPE_NAME {
-        return type_name_row(alloc, unit, syntax, results, at);
-    }
-    Err(CheckFault::Unsupported(Kind::NotBuilt, at))
 }
 
-// The row of a node that completes no structure or union.
-fn declared(
+// Whether a node is a statement, a block, a declaration or the rest of one.
+fn is_statement(production: u32) -> bool
+    ensures { result ≡ is_statement production }
+{
+    match production {
+        P_REST | P_DECLARATION | P_BLOCK | P_STATEMENT => true,
+        _ => false,
+    }
+}
+
+// Whether a node is one of those, of which nothing more is asked.
+fn is_plain(production: u32) -> bool
+    ensures { result ≡ is_plain production }
+{
+    is_part(production) || is_derivation(production) || is_statement(production)
+}
+
+// Whether a node is an expression.
+fn is_expression(production: u32) -> bool
+    ensures { result ≡ is_expression production }
+{
+    P_EXPRESSION <= production && production <= P_PRIMARY
+}
+
+// Whether a node is a list of members, a declaration of some or a field.
+fn is_member(production: u32) -> bool
+    ensures { result ≡ is_member production }
+{
+    match production {
+        P_MEMBERS | P_MEMBER | P_FIELD => true,
+        _ => false,
+    }
+}
+
+// Whether a node is a declarator.
+fn is_declarator(production: u32) -> bool
+    ensures { result ≡ is_declarator production }
+{
+    match production {
+        P_DECLARATOR | P_ABSTRACT | P_EITHER => true,
+        _ => false,
+    }
+}
+
+// The row of a declarator.
+fn declared_name(
     alloc: Global,
     unit: &mut Unit,
-    numbered: &Numbered,
+    known: &Known,
     results: &[Made],
-    production: u32,
     at: u32,
     children: &[u32],
 ) -> Result<Made, CheckFault>
-    requires ready { IsReady unit.old }
-    requires results { All (IsWithin unit.old) results.now }
-    requires rows { HaveRows unit.old results.now }
-    requires at { at < length numbered.now.syntax.tree.now.nodes.items }
-    requires production { production ≡ production_at (source_read numbered.now.syntax) at }
+    requires known { IsKnown known.now }
+    requires stand { Stand (nodes_known known.now) unit.old results.now }
+    requires small { IsSmallTable unit.old.types }
+    requires at { at < nodes_known known.now }
     ensures ready { IsReady unit.new }
-    ensures within { IfOk result (IsWithin unit.new) }
     ensures builds { Builds unit.old unit.new }
-    ensures row { (w : World) (uses : List (ℕ × ℕ)) →
-        let s = source_in numbered.now.syntax uses in
-        let sense = sense_in (senses_made unit.old results.now) in
+    ensures within { IfOk result (IsWithin unit.new) }
+    ensures named { (w : World) → Knows w unit.old → IfOk result (IsNamedIn (nodes_known known.now)) }
+    ensures row { (w : World) →
         Knows w unit.old →
-        AreTags s numbered.now.tags → Rowed unit.new result (built_unit_row w s sense production at children.now) }
+        let sense = sense_in (senses_made unit.old results.now) in
+        Rowed unit.new result (declarator_row w (source_known known.now) sense at children.now) }
 {
-    if is_list(production) {
-        return Ok(Made::Nothing);
-    }
-    if production < P_DECLARATOR {
-        return specifier(alloc, unit, numbered, results, production, at, children);
-    }
-    derivation(
+    let declared = DeclaredNames {
+        names: known.names,
+        lists: known.lists,
+        completed: completed_flags(&known.numbered.tags),
+    };
+    declarator(
         alloc,
         unit,
-        &numbered.syntax,
+        &known.numbered.syntax,
+        &declared,
         results,
-        production,
         at,
         children,
     )
 }
 
-/// What a node stands for, by its production (C11 6.5 to 6.9), over what was made for the nodes before it: exactly `built_unit_row`,
-/// which is the production's row or `NotBuilt`. Beside that only memory may want.
+// The row of a node that asks for types within the limits, once they are tested: a structure or union, a member, a declarator or an
+// initialiser.
+fn limited(
+    alloc: Global,
+    unit: &mut Unit,
+    known: &Known,
+    results: &[Made],
+    tested: &mut u32,
+    at: u32,
+) -> Result<Made, CheckFault>
+    requires known { IsKnown known.now }
+    requires stand { Stand (nodes_known known.now) unit.old results.now }
+    requires knows { Knows (world_there known.now unit.old results.now at) unit.old }
+    requires fills { Fills (world_there known.now unit.old results.now at) unit.old }
+    requires types { HasTagTypes (source_known known.now) unit.old.types }
+    requires tested { AreTested unit.old tested.old }
+    requires at { at < nodes_known known.now }
+    requires limited { is_limited (production_at (source_known known.now) at) ≡ true }
+    ensures ready { IsReady unit.new }
+    ensures within { IfOk result (IsWithin unit.new) }
+    ensures keeps { IfOk result (λ m. Keeps (nodes_known known.now) (sense_made unit.new m)) }
+    ensures grows { let sense = sense_in (senses_made unit.old results.now) in
+        IfOk result (λ m. Grows unit.old unit.new (completed_at (source_known known.now) sense at)) }
+    ensures tested { IfOk result (λ m. AreTested unit.new tested.new) }
+    ensures row { let s = source_known known.now in
+        RowedAt unit.new result (row_there known.now unit.old results.now at) (production_at s at) at }
+{
+    let syntax = &known.numbered.syntax;
+    let production = production_of(syntax, at);
+    let children = children_of(syntax, at);
+    if !all_small(unit, tested) {
+        return Err(CheckFault::Unsupported(Kind::NotBuilt, at));
+    }
+    if production == P_STRUCT {
+        return structure(alloc, unit, known, results, tested, at);
+    }
+    if is_member(production) {
+        return member(alloc, unit, syntax, results, production, at, children);
+    }
+    if is_declarator(production) {
+        return declared_name(alloc, unit, known, results, at, children);
+    }
+    initial_row(alloc, unit, known, results, at)
+}
+
+// The row of a node of a declaration or a statement.
+fn declared(
+    alloc: Global,
+    unit: &mut Unit,
+    known: &Known,
+    results: &[Made],
+    choices: &Choices,
+    at: u32,
+) -> Result<Made, CheckFault>
+    requires known { IsKnown known.now }
+    requires stand { Stand (nodes_known known.now) unit.old results.now }
+    requires knows { Knows (world_there known.now unit.old results.now at) unit.old }
+    requires choices { ChoicesFit known.now unit.old results.now at choices.now }
+    requires at { at < nodes_known known.now }
+    requires plain { is_plain (production_at (source_known known.now) at) ≡ true }
+    ensures ready { IsReady unit.new }
+    ensures builds { Builds unit.old unit.new }
+    ensures within { IfOk result (IsWithin unit.new) }
+    ensures row { Rowed unit.new result (row_there known.now unit.old results.now at) }
+{
+    let syntax = &known.numbered.syntax;
+    let production = production_of(syntax, at);
+    let children = children_of(syntax, at);
+    if is_part(production) {
+        return specifier(alloc, unit, known, results, production, at, children);
+    }
+    if is_derivation(production) {
+        return derivation(alloc, unit, syntax, results, production, at, children);
+    }
+    let kinds = known.kinds;
+    statement_row(alloc, unit, syntax, results, &Told { kinds, choices }, at)
+}
+
+/// What a node stands for, by its production (C11 6.5 to 6.9), over what was made for the nodes before it and the cases and defaults before
+/// it: exactly the row of its production, where an answer comes. At some nodes (`partial`) it may be `NotBuilt`. Beside that only memory
+/// may want. `tested` counts the types of the unit that are known to be within the limits.
 pub fn row(
     alloc: Global,
     unit: &mut Unit,
-    numbered: &Numbered,
+    known: &Known,
     results: &[Made],
+    choices: &Choices,
+    tested: &mut u32,
     at: u32,
 ) -> Result<Made, CheckFault>
-    requires ready { IsReady unit.old }
-    requires results { All (IsWithin unit.old) results.now }
-    requires rows { HaveRows unit.old results.now }
-    requires at { at < length numbered.now.syntax.tree.now.nodes.items }
+    requires known { IsKnown known.now }
+    requires stand { Stand (nodes_known known.now) unit.old results.now }
+    requires knows { Knows (world_there known.now unit.old results.now at) unit.old }
+    requires fills { Fills (world_there known.now unit.old results.now at) unit.old }
+    requires types { HasTagTypes (source_known known.now) unit.old.types }
+    requires choices { ChoicesFit known.now unit.old results.now at choices.now }
+    requires tested { AreTested unit.old tested.old }
+    requires at { at < nodes_known known.now }
     ensures ready { IsReady unit.new }
     ensures within { IfOk result (IsWithin unit.new) }
-    ensures rows { (uses : List (ℕ × ℕ)) →
-        let s = source_in numbered.now.syntax uses in
-        Knows (world_at s (senses_made unit.old results.now) at) unit.old →
-        AreTags s numbered.now.tags → IfOk result (λ m. SenseHasRows (sense_made unit.new m)) }
-    ensures grows { (uses : List (ℕ × ℕ)) →
-        let s = source_in numbered.now.syntax uses in
-        Knows (world_at s (senses_made unit.old results.now) at) unit.old →
-        AreTags s numbered.now.tags →
-        IfOk result (λ m. Grows unit.old unit.new (completed_at s (sense_in (senses_made unit.old results.now)) at)) }
-    ensures row { (uses : List (ℕ × ℕ)) →
-        let s = source_in numbered.now.syntax uses in
-        let senses = senses_made unit.old results.now in
-        let w = world_at s senses at in
-        Knows w unit.old →
-        AreTags s numbered.now.tags →
-        Rowed unit.new result (built_unit_row w s (sense_in senses) (production_at s at) at (children_at s at)) }
+    ensures keeps { IfOk result (λ m. Keeps (nodes_known known.now) (sense_made unit.new m)) }
+    ensures grows { let sense = sense_in (senses_made unit.old results.now) in
+        IfOk result (λ m. Grows unit.old unit.new (completed_at (source_known known.now) sense at)) }
+    ensures tested { IfOk result (λ m. AreTested unit.new tested.new) }
+    ensures row { let s = source_known known.now in
+        RowedAt unit.new result (row_there known.now unit.old results.now at) (production_at s at) at }
 {
-    let production = production_of(&numbered.syntax, at);
-    let children = children_of(&numbered.syntax, at);
-    declared(alloc, unit, numbered, results, production, at, children)
+    let syntax = &known.numbered.syntax;
+    let production = production_of(syntax, at);
+    if is_list(production) {
+        return Ok(Made::Nothing);
+    }
+    if is_expression(production) {
+        return expression(alloc, unit, syntax, known.names, results, at);
+    }
+    if is_plain(production) {
+        return declared(alloc, unit, known, results, choices, at);
+    }
+    limited(alloc, unit, known, results, tested, at)
 }

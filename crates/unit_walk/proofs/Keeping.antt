@@ -13,9 +13,9 @@ use Rattle.c_results.specs.declared.made.Made.{Made}
 use Rattle.c_results.specs.declared.made.Made.TheVariants as made
 use Rattle.c_results.specs.Standing.{sense_made, senses_made, IsWithin}
 use Rattle.c_results.proofs.Keeping.{derivation_kept, derivations_kept, derivable_more, derivables_more, made_kept, within_kept}
-use Rattle.row_trees.specs.Trees.{SenseHasRows}
+use Rattle.row_shapes.specs.Kept.{Keeps}
 use Rattle.unit_worlds.specs.Growing.{Completes, Grows}
-use Rattle.unit_rows.specs.Standing.{HaveRows}
+use Rattle.unit_rows.specs.Standing.{AreKept}
 
 map_same : {X Y : Type 0} (P : X → Type 0) (f g : X → Y) → ((x : X) → P x → f x ≡ g x) → (xs : List X) → All P xs → map f xs ≡ map g xs
 map_same P f g h [] all = refl
@@ -71,12 +71,12 @@ module _ (old new : Unit) where
   pub withins_grown : (es : List TagParts) → Grows old new es → (ms : List Made) → All (IsWithin old) ms → All (IsWithin new) ms
   withins_grown es b ms all = All-weaker (IsWithin old) (IsWithin new) (within_grown es b) ms all
 
-  pub rows_grown : (es : List TagParts) → Grows old new es → (ms : List Made) → All (IsWithin old) ms → HaveRows old ms → HaveRows new ms
-  rows_grown es b [] all h = λ k d lt. absurd (omega arith)
-  rows_grown es b (m ∷ ms) all h =
-      All-cons (λ (r : Made). SenseHasRows (sense_made new r)) m ms
-      (subst SenseHasRows (sym (made_grown es b m (All-head (IsWithin old) m ms all))) (All-head (λ (r : Made). SenseHasRows (sense_made old r)) m ms h))
-      (rows_grown es b ms (All-tail (IsWithin old) m ms all) (All-tail (λ (r : Made). SenseHasRows (sense_made old r)) m ms h))
+  pub kept_grown : (count : ℕ) (es : List TagParts) → Grows old new es → (ms : List Made) → All (IsWithin old) ms → AreKept count old ms → AreKept count new ms
+  kept_grown count es b [] all h = λ k d lt. absurd (omega arith)
+  kept_grown count es b (m ∷ ms) all h =
+      All-cons (λ (r : Made). Keeps count (sense_made new r)) m ms
+      (subst (Keeps count) (sym (made_grown es b m (All-head (IsWithin old) m ms all))) (All-head (λ (r : Made). Keeps count (sense_made old r)) m ms h))
+      (kept_grown count es b ms (All-tail (IsWithin old) m ms all) (All-tail (λ (r : Made). Keeps count (sense_made old r)) m ms h))
 
   pub entities_grown : (es : List TagParts) → Grows old new es → new.entities.items ≡ old.entities.items
   entities_grown [] b = b.entities

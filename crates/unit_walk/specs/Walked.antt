@@ -19,9 +19,10 @@ pub record IsWalked (s : Source) (u : Unit) (results : List Made) : Type 0 where
   pub made : AreMade s u results
   pub whole : length results ≡ length s.nodes
 
--- a refusal is that of the first node whose row doesn't fit; of NotBuilt it is known that the node's built row is
+-- a refusal is that of the first node whose row doesn't fit; of NotBuilt it is known that the rows before the node fit, and that it may
+-- be said of the node
 abbrev pub IsRefused : Source → Kind → ℕ → Type 0
-IsRefused s NotBuilt named = StopsAt s NotBuilt named
+IsRefused s NotBuilt named = StopsAt s named
 IsRefused s kind named = RefusedAt s kind named
 
 abbrev pub RefusedBy : Source → CheckFault → Type 0
@@ -39,3 +40,9 @@ pub record AreDense (s : Source) : Type 0 where
 abbrev pub RefusedIn : Source → CheckFault → Type 0
 RefusedIn s OutOfMemory = ⊤
 RefusedIn s fault = (tag_number : ℕ → ℕ) × AreDense (numbered tag_number s) × RefusedBy (numbered tag_number s) fault
+
+-- before the first row, it may be said at node 0 that the names of a text can't be taken: one that isn't spelled in ASCII
+abbrev pub IsUnread : CheckFault → Type 0
+IsUnread (Unsupported NotBuilt named) = named ≡ 0
+IsUnread OutOfMemory = ⊤
+IsUnread fault = ⊥

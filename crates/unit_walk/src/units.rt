@@ -1,86 +1,69 @@
 // A unit of the source, from its tokens and its tree.
-ghost use Rattle.std.specs.Prelude.{◌≡◌, [], IfOk, MatchResult};
+ghost use Rattle.std.specs.Prelude.{◌≡◌, ◌⊎◌, ℕ, List, [], IfOk, IfErr, IsOkUnless, MatchResult};
+ghost use Rattle.core_tree.specs.declared.node.Unit.{Unit as UnitSpec};
+ghost use Rattle.core_nodes.specs.declared.fault.CheckFault.TheVariants.{OutOfMemory};
 ghost use Rattle.core_nodes.specs.Standing.{IsReady};
 ghost use Rattle.c_scope.specs.Resolves.{IsBound};
 ghost use Rattle.c_senses.specs.Names.{source_of, numbered};
 ghost use Rattle.sense_laws.specs.Senses.{ChildrenFirst};
-ghost use Rattle.tree_reads.specs.Sources.{source_in, number_in};
+ghost use Rattle.struct_rows.specs.Built.{HasTagTypes};
 ghost use Rattle.tag_numbers.specs.Known.{AreTags};
+ghost use Rattle.tree_reads.specs.Sources.{source_in, number_in};
+ghost use Rattle.unit_limits.specs.Small.{IsSmallTable};
 ghost use Rattle.unit_rows.specs.Standing.{Stand};
-ghost use Rattle.unit_walk.specs.Walked.{IsWalked, RefusedIn};
+ghost use Rattle.unit_walk.specs.Ground.{IsGround, source_ground, nodes_ground};
+ghost use Rattle.unit_walk.specs.Walked.{IsWalked, RefusedIn, IsUnread};
 
 use crate::nodes::walk_nodes;
 use c_grammar::Tree;
 use c_lexer::Tokens;
+use c_meanings::Names;
 use c_results::Made;
 use c_scope::Bound;
-use c_types::table::TypeTable;
 use core_nodes::CheckFault;
 use core_tree::node::Unit;
-use pta_base::{OutOfMemory, Text};
+use name_sayings::open_names;
+use pta_base::{Kind, Text};
+use statement_rows::NameKinds;
 use std::alloc::Global;
+use symbol_lists::SymbolLists;
 use tag_numbers::{Numbered, number_tags};
+use tag_types::open_types;
 use tree_reads::Syntax;
+use unit_choices::{name_kinds, names_are_ascii};
+use unit_rows::Known;
 
-/// What a unit's nodes stand for: its syntax with the numbers of tags, its types and core nodes, in which an entity is known by the leaf
-/// of its name, and what was made for each syntax node.
+/// What is known of a unit before its rows, and owned.
+#[derive(Drop)]
+pub struct Ground<'a> {
+    pub numbered: Numbered<'a>,
+    pub names: Names,
+    pub lists: SymbolLists,
+    pub kinds: NameKinds,
+}
+
+/// What each node of a unit stands for: what is known of the unit, its types and core nodes, in which an entity is known by the leaf of
+/// its name, and what was made for each syntax node.
 #[derive(Drop)]
 pub struct Walked<'a> {
-    pub numbered: Numbered<'a>,
+    pub ground: Ground<'a>,
     pub unit: Unit,
     pub results: Vec<Made>,
 }
 
-// A table without types, with so many structures and unions, none of them complete.
-fn open_tags(alloc: Global, count: u32) -> Result<TypeTable, OutOfMemory>
-    ensures { IfOk result (λ types. types ≡ record { terms = []; tags = count; completed = [] }) }
-{
-    let mut types = TypeTable::new(alloc);
-    for _tag in 0..count {
-        let Ok(_) = types.tag() else {
-            return Err(OutOfMemory);
-        };
-    }
-    Ok(types)
-}
-
-// A unit of so many structures and unions with nothing in it.
-fn open_unit(alloc: Global, name: Text, count: u32) -> Result<Unit, OutOfMemory>
-    ensures ready { IfOk result IsReady }
-    ensures name { IfOk result (λ unit. unit.name ≡ name) }
-    ensures types { IfOk result (λ unit. unit.types ≡ record { terms = []; tags = count; completed = [] }) }
-    ensures entities { IfOk result (λ unit. unit.entities.items ≡ []) }
-{
-    let types = open_tags(alloc, count)?;
-    Ok(Unit {
-        name,
-        types,
-        tags: Vec::new(alloc),
-        nodes: Vec::new(alloc),
-        entities: Vec::new(alloc),
-    })
-}
-
-/// What each node of a unit stands for (C11 6.5 to 6.9), where its tokens and its tree are those of a text whose names are bound. It is
-/// refused as the first node is whose row doesn't fit, and `NotBuilt` where that node's row isn't built. Only memory may want beside that.
-pub fn walk<'a>(
+// What is known of a unit before its rows, where its names can be taken.
+fn ground_of<'a>(
     alloc: Global,
     tokens: &'a Tokens<'a>,
     tree: &'a Tree,
     bound: &Bound,
-    name: Text,
-) -> Result<Walked<'a>, CheckFault>
+) -> Result<Ground<'a>, CheckFault>
     requires bound { IsBound tokens.now tree.now bound.now }
     requires first { ChildrenFirst (source_of tokens.now tree.now) }
-    ensures stand { IfOk result (λ w. Stand w.unit w.results.items) }
-    ensures entities { IfOk result (λ w. w.unit.entities.items ≡ []) }
-    ensures source { IfOk result (λ w.
-        source_in w.numbered.syntax bound.now.uses.items
-        ≡ numbered (number_in w.numbered.syntax.tag_numbers.items) (source_of tokens.now tree.now)) }
-    ensures tags { IfOk result (λ w. AreTags (source_in w.numbered.syntax bound.now.uses.items) w.numbered.tags) }
-    ensures walked { MatchResult result
-        (λ w. IsWalked (source_in w.numbered.syntax bound.now.uses.items) w.unit w.results.items)
-        (RefusedIn (source_of tokens.now tree.now)) }
+    ensures tokens { IfOk result (λ g. g.numbered.syntax.tokens.now ≡ tokens.now) }
+    ensures tree { IfOk result (λ g. g.numbered.syntax.tree.now ≡ tree.now) }
+    ensures ground { (u : UnitSpec) → IfOk result (λ g. IsGround g bound.now) }
+    ensures unread { IfErr result IsUnread }
 {
     let Ok(syntax) = Syntax::new(alloc, tokens, tree) else {
         return Err(CheckFault::OutOfMemory);
@@ -88,12 +71,92 @@ pub fn walk<'a>(
     let Ok(numbered) = number_tags(alloc, syntax, bound) else {
         return Err(CheckFault::OutOfMemory);
     };
-    let Ok(mut unit) = open_unit(alloc, name, numbered.tags.count) else {
+    let (names, lists) = match open_names(alloc, &numbered.syntax, bound) {
+        Ok(both) => both,
+        Err(fault) => return Err(fault),
+    };
+    let kinds = match name_kinds(alloc, &numbered.syntax, bound) {
+        Ok(kinds) => kinds,
+        Err(fault) => return Err(fault),
+    };
+    if !names_are_ascii(&numbered.syntax) {
+        return Err(CheckFault::Unsupported(Kind::NotBuilt, 0));
+    }
+    Ok(Ground {
+        numbered,
+        names,
+        lists,
+        kinds,
+    })
+}
+
+// A unit with the types of its structures and unions and with nothing else in it, not even a name.
+fn open_unit(alloc: Global, numbered: &Numbered) -> Result<Unit, CheckFault>
+    ensures ready { IfOk result IsReady }
+    ensures open { IfOk result (λ unit. unit.types.completed ≡ []) }
+    ensures small { IfOk result (λ unit. IsSmallTable unit.types) }
+    ensures count { IfOk result (λ unit. unit.types.tags ≡ numbered.now.tags.count) }
+    ensures tags { (uses : List (ℕ × ℕ)) →
+        let s = source_in numbered.now.syntax uses in
+        AreTags s numbered.now.tags → IfOk result (λ unit. HasTagTypes s unit.types) }
+    ensures entities { IfOk result (λ unit. unit.entities.items ≡ []) }
+    ensures memory { IsOkUnless result OutOfMemory }
+{
+    let Ok(types) = open_types(alloc, numbered) else {
         return Err(CheckFault::OutOfMemory);
     };
-    match walk_nodes(alloc, &mut unit, &numbered, bound) {
+
+    // That the table has a count says that its types were made by its own functions.
+    let _count = types.type_count();
+    Ok(Unit {
+        name: Text::of(String::new(alloc)),
+        types,
+        tags: Vec::new(alloc),
+        nodes: Vec::new(alloc),
+        entities: Vec::new(alloc),
+    })
+}
+
+/// What each node of a unit stands for (C11 6.5 to 6.9), where its tokens and its tree are those of a text whose names are bound; the unit
+/// has no name yet. It is refused as the first node is whose row doesn't fit; `NotBuilt` comes at a node of whose production not each form
+/// is built, or at node 0 where a name isn't spelled in ASCII or has no place among the nodes. Beside that only memory may want.
+pub fn walk<'a>(
+    alloc: Global,
+    tokens: &'a Tokens<'a>,
+    tree: &'a Tree,
+    bound: &Bound,
+) -> Result<Walked<'a>, CheckFault>
+    requires bound { IsBound tokens.now tree.now bound.now }
+    requires first { ChildrenFirst (source_of tokens.now tree.now) }
+    ensures ground { IfOk result (λ w. IsGround w.ground bound.now) }
+    ensures tokens { IfOk result (λ w. w.ground.numbered.syntax.tokens.now ≡ tokens.now) }
+    ensures tree { IfOk result (λ w. w.ground.numbered.syntax.tree.now ≡ tree.now) }
+    ensures source { IfOk result (λ w.
+        source_ground w.ground bound.now
+        ≡ numbered (number_in w.ground.numbered.syntax.tag_numbers.items) (source_of tokens.now tree.now)) }
+    ensures stand { IfOk result (λ w. Stand (nodes_ground w.ground) w.unit w.results.items) }
+    ensures walked { MatchResult result
+        (λ w. IsWalked (source_ground w.ground bound.now) w.unit w.results.items)
+        (λ fault. RefusedIn (source_of tokens.now tree.now) fault ⊎ IsUnread fault) }
+{
+    let ground = match ground_of(alloc, tokens, tree, bound) {
+        Ok(ground) => ground,
+        Err(fault) => return Err(fault),
+    };
+    let mut unit = match open_unit(alloc, &ground.numbered) {
+        Ok(unit) => unit,
+        Err(fault) => return Err(fault),
+    };
+    let known = Known {
+        numbered: &ground.numbered,
+        bound,
+        names: &ground.names,
+        lists: &ground.lists,
+        kinds: &ground.kinds,
+    };
+    match walk_nodes(alloc, &mut unit, &known) {
         Ok(results) => Ok(Walked {
-            numbered,
+            ground,
             unit,
             results,
         }),

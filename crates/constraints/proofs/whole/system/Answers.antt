@@ -3,6 +3,7 @@ use Rattle.core_tree.specs.Typed.{trees_in}
 use Rattle.obj_space.specs.View.{view_of}
 use Rattle.constraints.specs.System.{IsWithin, word_total}
 use Rattle.constraints.proofs.Laws.{rows_fit, size_fits, locations_fit}
+use Rattle.constraints.proofs.Agreeing.{in_order, agrees_with}
 use Rattle.constraints.proofs.whole.system.Goals as goal
 
 pub returns-in-Ok-clause-sized : goal.returns-in-Ok-clause-sized
@@ -20,3 +21,9 @@ returns-in-Ok-clause-sized c =
 pub returns-in-Ok-clause-located : goal.returns-in-Ok-clause-located
 returns-in-Ok-clause-located c = λ typed trees l fact at.
     locations_fit (trees_in c.args.program.now) c.args.space.now typed trees c.in-Ok.system c.in-Ok.ensures.locations c.in-Ok.ensures.types l fact at
+
+pub returns-in-Ok-clause-ordered : goal.returns-in-Ok-clause-ordered
+returns-in-Ok-clause-ordered c = in_order (trees_in c.args.program.now) (view_of c.args.space.now) c.in-Ok.system c.in-Ok.ensures.functions
+
+pub returns-in-Ok-clause-agrees : goal.returns-in-Ok-clause-agrees
+returns-in-Ok-clause-agrees c = agrees_with (trees_in c.args.program.now) (view_of c.args.space.now) c.in-Ok.system c.in-Ok.ensures.locations

@@ -1,33 +1,214 @@
-use Rattle.std.proofs.Common.{ℕ, ap, ◌∙◌, subst}
-use Rattle.c_senses.specs.Given.{Given}
-use Rattle.c_senses.specs.Sense.{sense_in}
-use Rattle.c_senses.specs.Tree.{production_at}
-use Rattle.c_senses.specs.Rows.{world_at}
-use Rattle.c_results.specs.Standing.{senses_made, Rowed}
-use Rattle.tree_reads.specs.Sources.{source_in}
-use Rattle.unit_rows.specs.Built.{built_unit_row}
-use Rattle.unit_rows.proofs.Constants.{made_rows, declared_gives, grows_by}
+use Rattle.std.proofs.Common.{◌≡◌, ℕ, true, false, refl, sym, ◌∙◌, subst}
+use Rattle.core_nodes.proofs.Growing.{same_builds}
+use Rattle.c_senses.specs.Sense.{Sense, sense_in}
+use Rattle.c_senses.specs.Tree.{production_at, children_at}
+use Rattle.c_senses.specs.Rows.{row_of}
+use Rattle.c_results.specs.declared.made.Made.{Made}
+use Rattle.c_results.specs.Standing.{sense_made, senses_made}
+use Rattle.name_places.specs.Named.{IsNamedSense}
+use Rattle.row_trees.specs.Trees.{SenseHasRows}
+use Rattle.row_shapes.specs.Kept as shapes
+use Rattle.statement_rows.specs.Kept.{HasAllRows}
+use Rattle.unit_worlds.specs.Growing.{Grows, completed_at}
+use Rattle.unit_rows.specs.Built.{lists_others, is_expression, is_plain}
+use Rattle.unit_rows.specs.Limits.{AreTested}
+use Rattle.unit_rows.specs.Standing.{source_known, nodes_known, world_there}
+use Rattle.unit_rows.proofs.Nothing.{nothing_of}
+use Rattle.unit_rows.proofs.Cover.{limited_there}
+use Rattle.unit_rows.proofs.Expressions.{expression_there, no_struct, no_initial, no_declarator, lists_no_struct, rows_made, names_in}
+use Rattle.unit_rows.proofs.Answers.{rowed_at, keeps_there, unless, given, anyway, plain_other, plain_own, tested_on, grows_so}
 use Rattle.unit_rows.proofs.rows.row.Goals as goal
 
-pub returns-clause-row : goal.returns-clause-row
-returns-clause-row c uses k tags =
-    let s = source_in c.args.numbered.now.syntax uses in
-    let senses = senses_made c.args.unit.now c.args.results.now in
-    let w = world_at s senses c.args.at in
-    let same = ap (λ (p : ℕ). built_unit_row w s (sense_in senses) p c.args.at c.children_of-children.result.now) c.production_of-production.ensures ∙ ap (built_unit_row w s (sense_in senses) (production_at s c.args.at) c.args.at) c.children_of-children.ensures in
-    subst (λ (g : Given _). Rowed c.declared.new.unit c.declared.result g) same (c.declared.ensures.row w uses k tags)
+pub returns-then-is_list-clause-row : goal.returns-then-is_list-clause-row
+returns-then-is_list-clause-row c =
+    let k = c.args.known.now in
+    let s = source_known k in
+    let at = c.args.at in
+    let rs = c.args.results.now in
+    let u = c.args.unit.now in
+    let S = sense_in (senses_made u rs) in
+    let w = world_there k u rs at in
+    let q = production_at s at in
+    let ys = children_at s at in
+    let p = c.production_of-production.ensures in
+    let kind : lists_others q ≡ true = subst (λ (x : ℕ). lists_others x ≡ true) p (sym c.is_list.ensures ∙ c.if-is_list.true) in
+    nothing_of w s S at ys q kind
 
-pub returns-clause-rows : goal.returns-clause-rows
-returns-clause-rows c uses k tags =
-    let s = source_in c.args.numbered.now.syntax uses in
-    let senses = senses_made c.args.unit.now c.args.results.now in
-    let w = world_at s senses c.args.at in
-    made_rows c.declared.new.unit c.declared.result _ (c.declared.ensures.row w uses k tags) (declared_gives w s (sense_in senses) c.args.at c.production_of-production.result c.children_of-children.result.now)
+pub returns-then-is_list-clause-grows : goal.returns-then-is_list-clause-grows
+returns-then-is_list-clause-grows c =
+    let k = c.args.known.now in
+    let s = source_known k in
+    let at = c.args.at in
+    let rs = c.args.results.now in
+    let u = c.args.unit.now in
+    let S = sense_in (senses_made u rs) in
+    let w = world_there k u rs at in
+    let q = production_at s at in
+    let ys = children_at s at in
+    let p = c.production_of-production.ensures in
+    let kind : lists_others q ≡ true = subst (λ (x : ℕ). lists_others x ≡ true) p (sym c.is_list.ensures ∙ c.if-is_list.true) in
+    grows_so s S at u u (lists_no_struct q kind) (same_builds u u refl refl refl)
 
-pub returns-clause-grows : goal.returns-clause-grows
-returns-clause-grows c uses k tags =
-    let s = source_in c.args.numbered.now.syntax uses in
-    let senses = senses_made c.args.unit.now c.args.results.now in
-    let w = world_at s senses c.args.at in
-    grows_by w s (sense_in senses) c.args.at c.args.unit.now c.declared.new.unit c.declared.result c.children_of-children.result.now
-    (subst (λ (p : ℕ). Rowed c.declared.new.unit c.declared.result (built_unit_row w s (sense_in senses) p c.args.at c.children_of-children.result.now)) c.production_of-production.ensures (c.declared.ensures.row w uses k tags)) c.declared.ensures.builds
+pub returns-then-is_expression-clause-row : goal.returns-then-is_expression-clause-row
+returns-then-is_expression-clause-row c =
+    let k = c.args.known.now in
+    let s = source_known k in
+    let at = c.args.at in
+    let rs = c.args.results.now in
+    let u = c.args.unit.now in
+    let S = sense_in (senses_made u rs) in
+    let w = world_there k u rs at in
+    let q = production_at s at in
+    let ys = children_at s at in
+    let p = c.production_of-production.ensures in
+    let kind : is_expression q ≡ true = subst (λ (x : ℕ). is_expression x ≡ true) p (sym c.is_expression.ensures ∙ c.if-is_expression.true) in
+    expression_there w s S q at ys c.expression.new.unit c.expression.result kind (c.expression.ensures.row k.bound.now.uses.items c.requires.known.pairs c.requires.knows)
+
+pub returns-then-is_expression-clause-keeps : goal.returns-then-is_expression-clause-keeps
+returns-then-is_expression-clause-keeps c =
+    let k = c.args.known.now in
+    let s = source_known k in
+    let at = c.args.at in
+    let rs = c.args.results.now in
+    let u = c.args.unit.now in
+    let S = sense_in (senses_made u rs) in
+    let w = world_there k u rs at in
+    let q = production_at s at in
+    let ys = children_at s at in
+    let p = c.production_of-production.ensures in
+    let kind : is_expression q ≡ true = subst (λ (x : ℕ). is_expression x ≡ true) p (sym c.is_expression.ensures ∙ c.if-is_expression.true) in
+    keeps_there (nodes_known k) u c.expression.new.unit rs w s q at ys c.expression.result c.requires.stand.kept
+    (expression_there w s S q at ys c.expression.new.unit c.expression.result kind (c.expression.ensures.row k.bound.now.uses.items c.requires.known.pairs c.requires.knows))
+    (given c.expression.result (λ m. SenseHasRows (sense_made c.expression.new.unit m)) (is_expression q) c.expression.ensures.rows)
+    (unless (shapes.is_initial q) (no_initial q kind) c.expression.result (λ m. HasAllRows (sense_made c.expression.new.unit m)))
+    (unless (shapes.is_declarator q) (no_declarator q kind) c.expression.result (λ m. IsNamedSense (nodes_known k) (sense_made c.expression.new.unit m)))
+
+pub returns-then-is_expression-clause-grows : goal.returns-then-is_expression-clause-grows
+returns-then-is_expression-clause-grows c =
+    let k = c.args.known.now in
+    let s = source_known k in
+    let at = c.args.at in
+    let rs = c.args.results.now in
+    let u = c.args.unit.now in
+    let S = sense_in (senses_made u rs) in
+    let w = world_there k u rs at in
+    let q = production_at s at in
+    let ys = children_at s at in
+    let p = c.production_of-production.ensures in
+    let kind : is_expression q ≡ true = subst (λ (x : ℕ). is_expression x ≡ true) p (sym c.is_expression.ensures ∙ c.if-is_expression.true) in
+    anyway c.expression.result (Grows u c.expression.new.unit (completed_at s S at)) (grows_so s S at u c.expression.new.unit (no_struct q kind) c.expression.ensures.builds)
+
+pub returns-then-is_expression-clause-tested : goal.returns-then-is_expression-clause-tested
+returns-then-is_expression-clause-tested c =
+    let k = c.args.known.now in
+    let s = source_known k in
+    let at = c.args.at in
+    let rs = c.args.results.now in
+    let u = c.args.unit.now in
+    let S = sense_in (senses_made u rs) in
+    let w = world_there k u rs at in
+    let q = production_at s at in
+    let ys = children_at s at in
+    let p = c.production_of-production.ensures in
+    anyway c.expression.result (AreTested c.expression.new.unit c.args.tested.now) (tested_on u c.expression.new.unit c.args.tested.now c.requires.tested c.expression.ensures.builds)
+
+pub returns-then-is_plain-clause-row : goal.returns-then-is_plain-clause-row
+returns-then-is_plain-clause-row c =
+    let k = c.args.known.now in
+    let s = source_known k in
+    let at = c.args.at in
+    let rs = c.args.results.now in
+    let u = c.args.unit.now in
+    let S = sense_in (senses_made u rs) in
+    let w = world_there k u rs at in
+    let q = production_at s at in
+    let ys = children_at s at in
+    let p = c.production_of-production.ensures in
+    rowed_at c.declared.new.unit c.declared.result (row_of w s S q at ys) q at c.declared.ensures.row
+
+pub returns-then-is_plain-clause-keeps : goal.returns-then-is_plain-clause-keeps
+returns-then-is_plain-clause-keeps c =
+    let k = c.args.known.now in
+    let s = source_known k in
+    let at = c.args.at in
+    let rs = c.args.results.now in
+    let u = c.args.unit.now in
+    let S = sense_in (senses_made u rs) in
+    let w = world_there k u rs at in
+    let q = production_at s at in
+    let ys = children_at s at in
+    let p = c.production_of-production.ensures in
+    let kind : is_plain q ≡ true = subst (λ (x : ℕ). is_plain x ≡ true) p (sym c.is_plain.ensures ∙ c.if-is_plain.true) in
+    keeps_there (nodes_known k) u c.declared.new.unit rs w s q at ys c.declared.result c.requires.stand.kept
+    (rowed_at c.declared.new.unit c.declared.result (row_of w s S q at ys) q at c.declared.ensures.row)
+    (unless (is_expression q) (plain_other q kind) c.declared.result (λ m. SenseHasRows (sense_made c.declared.new.unit m)))
+    (unless (shapes.is_initial q) (plain_own q kind).0 c.declared.result (λ m. HasAllRows (sense_made c.declared.new.unit m)))
+    (unless (shapes.is_declarator q) (plain_own q kind).1.0 c.declared.result (λ m. IsNamedSense (nodes_known k) (sense_made c.declared.new.unit m)))
+
+pub returns-then-is_plain-clause-grows : goal.returns-then-is_plain-clause-grows
+returns-then-is_plain-clause-grows c =
+    let k = c.args.known.now in
+    let s = source_known k in
+    let at = c.args.at in
+    let rs = c.args.results.now in
+    let u = c.args.unit.now in
+    let S = sense_in (senses_made u rs) in
+    let w = world_there k u rs at in
+    let q = production_at s at in
+    let ys = children_at s at in
+    let p = c.production_of-production.ensures in
+    let kind : is_plain q ≡ true = subst (λ (x : ℕ). is_plain x ≡ true) p (sym c.is_plain.ensures ∙ c.if-is_plain.true) in
+    anyway c.declared.result (Grows u c.declared.new.unit (completed_at s S at)) (grows_so s S at u c.declared.new.unit (plain_own q kind).1.1 c.declared.ensures.builds)
+
+pub returns-then-is_plain-clause-tested : goal.returns-then-is_plain-clause-tested
+returns-then-is_plain-clause-tested c =
+    let k = c.args.known.now in
+    let s = source_known k in
+    let at = c.args.at in
+    let rs = c.args.results.now in
+    let u = c.args.unit.now in
+    let S = sense_in (senses_made u rs) in
+    let w = world_there k u rs at in
+    let q = production_at s at in
+    let ys = children_at s at in
+    let p = c.production_of-production.ensures in
+    anyway c.declared.result (AreTested c.declared.new.unit c.args.tested.now) (tested_on u c.declared.new.unit c.args.tested.now c.requires.tested c.declared.ensures.builds)
+
+pub limited-requires-clause-limited : goal.limited-requires-clause-limited
+limited-requires-clause-limited c =
+    let k = c.args.known.now in
+    let s = source_known k in
+    let at = c.args.at in
+    let rs = c.args.results.now in
+    let u = c.args.unit.now in
+    let S = sense_in (senses_made u rs) in
+    let w = world_there k u rs at in
+    let q = production_at s at in
+    let ys = children_at s at in
+    let p = c.production_of-production.ensures in
+    limited_there q (subst (λ (x : ℕ). lists_others x ≡ false) p (sym c.is_list.ensures ∙ c.if-is_list.false)) (subst (λ (x : ℕ). is_expression x ≡ false) p (sym c.is_expression.ensures ∙ c.if-is_expression.false))
+    (subst (λ (x : ℕ). is_plain x ≡ false) p (sym c.is_plain.ensures ∙ c.if-is_plain.false))
+
+pub declared-requires-clause-plain : goal.declared-requires-clause-plain
+declared-requires-clause-plain c =
+    let k = c.args.known.now in
+    let s = source_known k in
+    let at = c.args.at in
+    let rs = c.args.results.now in
+    let u = c.args.unit.now in
+    let S = sense_in (senses_made u rs) in
+    let w = world_there k u rs at in
+    let q = production_at s at in
+    let ys = children_at s at in
+    let p = c.production_of-production.ensures in
+    let kind : is_plain q ≡ true = subst (λ (x : ℕ). is_plain x ≡ true) p (sym c.is_plain.ensures ∙ c.if-is_plain.true) in
+    kind
+
+pub expression-requires-clause-rows : goal.expression-requires-clause-rows
+expression-requires-clause-rows c = rows_made (nodes_known c.args.known.now) c.args.unit.now c.args.results.now c.requires.stand.kept
+
+pub expression-requires-clause-named : goal.expression-requires-clause-named
+expression-requires-clause-named c = names_in (nodes_known c.args.known.now) c.args.unit.now c.args.results.now c.requires.stand.kept
+
+pub expression-requires-clause-names : goal.expression-requires-clause-names
+expression-requires-clause-names c = record { named = c.requires.known.names c.args.results.now }

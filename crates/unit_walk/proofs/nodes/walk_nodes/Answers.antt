@@ -1,37 +1,47 @@
-use Rattle.std.proofs.Common.{arith, ◌≡◌, ◌∙◌, ◌+◌, ℕ, List, [], ◌∷◌, Err, length, length-append, refl, sym, ap, subst}
+use Rattle.std.proofs.Common.{arith, ◌≡◌, ◌∙◌, ◌+◌, ℕ, List, [], ◌∷◌, ◌++◌, All, Err, length, length-append, refl, sym, ap, subst}
 use Rattle.c_results.specs.declared.made.Made.{Made}
 use Rattle.c_senses.specs.Given.{Fits}
-use Rattle.c_senses.specs.Sense.{sense_in}
-use Rattle.c_senses.specs.Tree.{production_at, children_at}
+use Rattle.c_senses.specs.Sense.{Sense, sense_in}
+use Rattle.c_senses.specs.Tree.{production_at}
 use Rattle.c_senses.specs.Rows.{world_at}
-use Rattle.core_nodes.specs.Standing.{Knows}
-use Rattle.c_results.specs.Standing.{sense_made, senses_made, Rowed}
-use Rattle.tree_reads.specs.Sources.{source_in}
+use Rattle.c_initials.specs.Filling.{Fills}
+use Rattle.c_results.specs.Standing.{sense_made, senses_made, IsWithin}
+use Rattle.statement_rows.specs.Told.{IsTold}
+use Rattle.filling_laws.proofs.Worlds.{fills_first}
+use Rattle.struct_rows.proofs.Growing.{tag_types_grow}
 use Rattle.unit_worlds.specs.Growing.{Grows, completed_at}
-use Rattle.unit_rows.specs.Built.{built_unit_row}
-use Rattle.unit_rows.specs.Standing.{Stand, AreMade}
+use Rattle.unit_rows.specs.Built.{RowedAt}
+use Rattle.unit_rows.specs.Standing.{Stand, AreMade, source_known, nodes_known}
 use Rattle.unit_walk.proofs.Keeping.{entities_grown}
-use Rattle.unit_walk.proofs.Walking.{stand_empty, made_empty, known_at, made_more, refused, stand_more}
+use Rattle.unit_walk.proofs.Walking.{stand_empty, made_empty, Whole, length_made, made_there, refused, stand_more, tested_first, senses_with, fills_more}
 use Rattle.unit_walk.proofs.nodes.walk_nodes.Goals as goal
 
 pub loop-at-init : goal.loop-at-init
 loop-at-init c =
     let u = c.args.unit.now in
-    let s = source_in c.args.numbered.now.syntax c.args.bound.now.uses.items in
+    let k = c.args.known.now in
+    let s = source_known k in
     let none = c.new-results.ensures.items in
     record {
-      stand = subst (Stand u) (sym none) (stand_empty u c.requires.ready);
+      stand = subst (Stand (nodes_known k) u) (sym none) (stand_empty (nodes_known k) u c.requires.ready);
       long = ap length none;
       entities = refl;
-      made = subst (AreMade s u) (sym none) (made_empty s u c.requires.open (c.requires.count ∙ c.requires.tags.count));
+      made = subst (AreMade s u) (sym none) (made_empty s u c.requires.open (c.requires.count ∙ c.requires.known.tags.count));
+      fills = subst (λ (l : List Made). Fills (world_at s (senses_made u l) 0) u) (sym none) (fills_first s u 0 c.requires.open);
+      types = c.requires.types;
+      told =
+          subst (λ (l : List Made). IsTold (world_at s (senses_made u l) 0) s (sense_in (senses_made u l)) 0 c.no_choices-choices.result) (sym none)
+          (c.no_choices-choices.ensures (world_at s (senses_made u []) 0) s (sense_in (senses_made u [])) c.requires.known.spelled);
+      tested = tested_first u c.type_count-tested.result c.requires.small c.type_count-tested.ensures.count;
+      table = c.type_count-tested.ensures.made;
     }
 
 pub loop-at-preserved : goal.loop-at-preserved
 loop-at-preserved c =
     let u = c.loop-at.unit in
     let v = c.row.new.unit in
-    let uses = c.args.bound.now.uses.items in
-    let s = source_in c.args.numbered.now.syntax uses in
+    let k = c.args.known.now in
+    let s = source_known k in
     let at = c.loop-at.at in
     let rs = c.loop-at.results.items in
     let more = c.push.new.self.items in
@@ -40,40 +50,58 @@ loop-at-preserved c =
     let inv = c.loop-at.invariant in
     let ok = c.in-Ok.ensures in
     let items = c.in_ok-push-in-Ok.ensures.items in
-    let given = c.as_slice.ensures.value in
-    let knows : Knows (world_at s senses at) u = known_at s senses u (length rs) at inv.made.knows in
-    let knows1 = subst (λ (l : List Made). Knows (world_at s (senses_made u l) at) u) (sym given) knows in
-    let rows = ok.rows uses knows1 c.requires.tags in
-    let grows = subst (λ (l : List Made). Grows u v (completed_at s (sense_in (senses_made u l)) at)) given (ok.grows uses knows1 c.requires.tags) in
-    let row = subst (λ (l : List Made). built_unit_row (world_at s (senses_made u l) at) s (sense_in (senses_made u l)) (production_at s at) at (children_at s at) ≡ Fits (sense_made v m)) given (ok.row uses knows1 c.requires.tags) in
-    let grows1 = subst (λ (i : ℕ). Grows u v (completed_at s (sense_in senses) i)) (sym inv.long) grows in
-    let row1 = subst (λ (i : ℕ). built_unit_row (world_at s senses i) s (sense_in senses) (production_at s i) i (children_at s i) ≡ Fits (sense_made v m)) (sym inv.long) row in
+    let given = c.as_slice-before.ensures.value in
+    let grows = subst (λ (l : List Made). Grows u v (completed_at s (sense_in (senses_made u l)) at)) given ok.grows in
+    let es = completed_at s (sense_in senses) at in
+    let table = c.type_count-types.ensures.made in
+    let pushed = senses_with s u v rs more m at items inv.stand.within grows in
     record {
-      stand = stand_more u v (completed_at s (sense_in senses) at) grows ok.ready rs more m items inv.stand ok.within rows;
+      stand = stand_more (nodes_known k) u v es grows ok.ready rs more m items inv.stand ok.within ok.keeps;
       long = ap length items ∙ (length-append rs (m ∷ []) ∙ ap (λ (n : ℕ). n + 1) inv.long);
-      entities = entities_grown u v (completed_at s (sense_in senses) at) grows ∙ inv.entities;
-      made = made_more s u rs inv.made c.requires.first v m more items inv.stand.within (omega (arith, inv.long, c.loop-at-test.true)) row1 grows1;
+      entities = entities_grown u v es grows ∙ inv.entities;
+      made = made_there s u v rs more m at inv.made c.requires.known.ordered items inv.long inv.stand.within (omega (arith, c.loop-at-test.true)) (subst (λ (l : List Made). Whole s u l at ≡ Fits (sense_made v m)) given ok.row) grows;
+      fills = fills_more s u v rs more m at c.requires.known.ordered items inv.long inv.stand.within inv.table table grows inv.fills;
+      types = tag_types_grow s u v es grows inv.types;
+      told =
+          subst (λ (t : List Sense). IsTold (world_at s t (at + 1)) s (sense_in t) (at + 1) c.note.new.choices) (sym pushed)
+          (c.in_ok-note.ensures.told (world_at s senses at) (world_at s (senses ++ sense_made v m ∷ []) (at + 1)) k.bound.now.uses.items senses (sense_made v m)
+          (ap (senses_made v) c.as_slice.ensures.value ∙ pushed) (length_made u rs ∙ inv.long) inv.told);
+      tested = ok.tested;
+      table = table;
     }
+
+pub note-requires-clause-results : goal.note-requires-clause-results
+note-requires-clause-results c =
+    let u = c.loop-at.unit in
+    let v = c.row.new.unit in
+    let k = c.args.known.now in
+    let s = source_known k in
+    let at = c.loop-at.at in
+    let rs = c.loop-at.results.items in
+    let more = c.push.new.self.items in
+    let m = c.in-Ok.made in
+    let inv = c.loop-at.invariant in
+    let ok = c.in-Ok.ensures in
+    let items = c.in_ok-push-in-Ok.ensures.items in
+    let grows = subst (λ (l : List Made). Grows u v (completed_at s (sense_in (senses_made u l)) at)) c.as_slice-before.ensures.value ok.grows in
+    let stand = stand_more (nodes_known k) u v (completed_at s (sense_in (senses_made u rs)) at) grows ok.ready rs more m items inv.stand ok.within ok.keeps in
+    subst (λ (l : List Made). All (IsWithin v) l) (sym c.as_slice.ensures.value) stand.within
 
 pub returns-in-Err-clause-walked : goal.returns-in-Err-clause-walked
 returns-in-Err-clause-walked c =
     let u = c.loop-at.unit in
     let v = c.row.new.unit in
-    let uses = c.args.bound.now.uses.items in
-    let s = source_in c.args.numbered.now.syntax uses in
+    let s = source_known c.args.known.now in
     let at = c.loop-at.at in
     let rs = c.loop-at.results.items in
-    let senses = senses_made u rs in
     let inv = c.loop-at.invariant in
-    let given = c.as_slice.ensures.value in
-    let knows : Knows (world_at s senses at) u = known_at s senses u (length rs) at inv.made.knows in
-    let knows1 = subst (λ (l : List Made). Knows (world_at s (senses_made u l) at) u) (sym given) knows in
-    let row = subst (λ (l : List Made). Rowed v (Err c.in-Err.fault) (built_unit_row (world_at s (senses_made u l) at) s (sense_in (senses_made u l)) (production_at s at) at (children_at s at))) given (c.in-Err.ensures.row uses knows1 c.requires.tags) in
+    let row =
+    subst (λ (l : List Made). RowedAt v (Err c.in-Err.fault) (Whole s u l at) (production_at s at) at) c.as_slice-before.ensures.value c.in-Err.ensures.row in
     refused s u rs inv.made at inv.long (omega (arith, c.loop-at-test.true)) v c.in-Err.fault row
 
 pub returns-clause-walked : goal.returns-clause-walked
 returns-clause-walked c =
     let inv = c.loop-at.invariant in
-    let long : c.len-at-end.result ≡ length c.args.numbered.now.syntax.tree.now.nodes.items = omega (arith, c.len-at-end.ensures, c.args.numbered.now.syntax.tree.now.nodes.ok) in
+    let long : c.len-at-end.result ≡ length c.args.known.now.numbered.now.syntax.tree.now.nodes.items = omega (arith, c.len-at-end.ensures, c.args.known.now.numbered.now.syntax.tree.now.nodes.ok) in
     let ends : c.loop-at.at ≡ c.len-at-end.result = omega (arith, c.loop-at.auto.at-end, c.loop-at-test.false) in
     record { made = inv.made; whole = inv.long ∙ (ends ∙ long) }

@@ -1,13 +1,23 @@
 use Rattle.std.proofs.Common.{◌≡◌, length}
-use Rattle.tree_reads.specs.Sources.{source_in}
-use Rattle.unit_rows.specs.Standing.{Stand, AreMade}
+use Rattle.c_types.specs.Made.{IsMade}
+use Rattle.c_senses.specs.Rows.{world_at}
+use Rattle.c_results.specs.Standing.{senses_made}
+use Rattle.c_initials.specs.Filling.{Fills}
+use Rattle.struct_rows.specs.Built.{HasTagTypes}
+use Rattle.unit_rows.specs.Limits.{AreTested}
+use Rattle.unit_rows.specs.Standing.{Stand, AreMade, ChoicesFit, source_known, nodes_known}
 use Rattle.unit_walk.proofs.nodes.walk_nodes.Given as goal
 
 -- the rows fit up to where it stands
 abbrev pub invariant-loop-at : goal.invariant-loop-at
 invariant-loop-at l = record {
-  stand : Stand l.unit l.results.items;
+  stand : Stand (nodes_known l.known) l.unit l.results.items;
   long : length l.results.items ≡ l.at;
   entities : l.unit.entities.items ≡ l.fn.unit.entities.items;
-  made : AreMade (source_in l.numbered.syntax l.bound.uses.items) l.unit l.results.items;
+  made : AreMade (source_known l.known) l.unit l.results.items;
+  fills : Fills (world_at (source_known l.known) (senses_made l.unit l.results.items) l.at) l.unit;
+  types : HasTagTypes (source_known l.known) l.unit.types;
+  told : ChoicesFit l.known l.unit l.results.items l.at l.choices;
+  tested : AreTested l.unit l.tested;
+  table : IsMade l.unit.types;
 }

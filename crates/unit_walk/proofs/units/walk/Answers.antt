@@ -1,21 +1,22 @@
-use Rattle.std.proofs.Common.{◌∙◌}
-use Rattle.unit_walk.proofs.Sources.{source_same, first_there, refused_in}
+use Rattle.std.proofs.Common.{inl, inr}
+use Rattle.unit_walk.proofs.Sources.{source_same, refused_in, unread_memory}
 use Rattle.unit_walk.proofs.units.walk.Goals as goal
 
-pub walk_nodes-requires-clause-first : goal.walk_nodes-requires-clause-first
-walk_nodes-requires-clause-first c =
-    let n = c.in-Ok-number_tags.numbered in
-    let told = c.in-Ok-number_tags.ensures in
-    first_there n.syntax c.args.tokens.now c.args.tree.now c.args.bound.now (told.tokens ∙ c.in-Ok.ensures.tokens) (told.tree ∙ c.in-Ok.ensures.tree) c.requires.bound c.requires.first
+pub walk_nodes-requires-clause-known : goal.walk_nodes-requires-clause-known
+walk_nodes-requires-clause-known c = c.in-Ok.ensures.ground c.in-Ok-open_unit.unit
+
+pub returns-in-Ok-walk_nodes-clause-ground : goal.returns-in-Ok-walk_nodes-clause-ground
+returns-in-Ok-walk_nodes-clause-ground c = c.in-Ok.ensures.ground c.in-Ok-open_unit.unit
+
+pub returns-in-Err-open_unit-clause-walked : goal.returns-in-Err-open_unit-clause-walked
+returns-in-Err-open_unit-clause-walked c = inr (unread_memory c.in-Err-open_unit.fault c.in-Err-open_unit.ensures.memory)
 
 pub returns-in-Ok-walk_nodes-clause-source : goal.returns-in-Ok-walk_nodes-clause-source
 returns-in-Ok-walk_nodes-clause-source c =
-    let n = c.in-Ok-number_tags.numbered in
-    let told = c.in-Ok-number_tags.ensures in
-    source_same n.syntax c.args.tokens.now c.args.tree.now c.args.bound.now (told.tokens ∙ c.in-Ok.ensures.tokens) (told.tree ∙ c.in-Ok.ensures.tree) c.requires.bound
+    source_same c.in-Ok.ground.numbered.syntax c.args.tokens.now c.args.tree.now c.args.bound.now c.in-Ok.ensures.tokens c.in-Ok.ensures.tree c.requires.bound
 
 pub returns-clause-walked : goal.returns-clause-walked
 returns-clause-walked c =
-    let n = c.in-Ok-number_tags.numbered in
-    let told = c.in-Ok-number_tags.ensures in
-    refused_in n.syntax c.args.tokens.now c.args.tree.now c.args.bound.now (told.tokens ∙ c.in-Ok.ensures.tokens) (told.tree ∙ c.in-Ok.ensures.tree) c.requires.bound n.tags c.in-Err.fault told.tags c.in-Err.ensures.walked
+    let n = c.in-Ok.ground.numbered in
+    let ground = c.in-Ok.ensures.ground c.in-Ok-open_unit.unit in
+    inl (refused_in n.syntax c.args.tokens.now c.args.tree.now c.args.bound.now c.in-Ok.ensures.tokens c.in-Ok.ensures.tree c.requires.bound n.tags c.in-Err-walk_nodes.fault ground.tags c.in-Err-walk_nodes.ensures.walked)

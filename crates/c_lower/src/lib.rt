@@ -1,0 +1,6 @@
+//! The unit that a text stands for: its types, entities and core nodes (C11 6.5 to 6.9).
+#![tactic(auto)]
+
+mod lowering;
+
+pub use lowering::lower_unit;

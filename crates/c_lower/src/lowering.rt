@@ -1,0 +1,126 @@
+// From the walk over a unit's tree to the unit.
+ghost use Rattle.std.specs.Prelude.{◌≡◌, ℕ, List, All, length, IfOk, IfErr, MatchResult};
+ghost use Rattle.core_tree.specs.declared.node.Unit.{Unit as UnitSpec};
+ghost use Rattle.core_nodes.specs.Standing.{IsReady};
+ghost use Rattle.c_scope.specs.Resolves.{IsBound};
+ghost use Rattle.c_senses.specs.Names.{source_of};
+ghost use Rattle.c_senses.specs.Right.{Right};
+ghost use Rattle.c_results.specs.Standing.{senses_made};
+ghost use Rattle.sense_laws.specs.Senses.{ChildrenFirst};
+ghost use Rattle.tree_reads.specs.Sources.{source_in};
+ghost use Rattle.name_places.specs.Named.{IsNamedIn};
+ghost use Rattle.c_meanings.specs.Known.{AreNamed};
+ghost use Rattle.unit_parts.specs.declared.declared.Declared.{Declared as DeclaredSpec};
+ghost use Rattle.unit_finish.specs.Complete.{IsKept};
+ghost use Rattle.unit_finish.specs.Walked as finish;
+ghost use Rattle.unit_rows.specs.Standing.{Stand};
+ghost use Rattle.unit_walk.specs.Ground.{IsGround, source_ground, nodes_ground};
+ghost use Rattle.unit_walk.specs.Walked.{IsWalked};
+ghost use Rattle.c_lower.specs.Lowered.{IsLowered, IsNotLowered, EndsAt, IsUnfinished};
+
+use c_grammar::Tree;
+use c_lexer::Tokens;
+use c_meanings::Names;
+use c_results::Made;
+use c_scope::Bound;
+use c_types::table::TypeTable;
+use core_nodes::CheckFault;
+use core_tree::node::Unit;
+use given_keys::keys_of;
+use pta_base::Text;
+use std::alloc::Global;
+use tree_reads::Syntax;
+use unit_finish::{Heading, Kept, finish, keep};
+use unit_names::{declared_literals, declared_names};
+use unit_walk::{Walked, walk};
+
+// The unit of what was kept, with the compound literals there.
+fn finished(
+    alloc: Global,
+    heading: Heading,
+    types: TypeTable,
+    keys: Vec<Option<Text>>,
+    kept: Kept,
+    names: &Names,
+    syntax: &Syntax,
+    results: &[Made],
+) -> Result<Unit, CheckFault>
+    requires names { AreNamed syntax.now results.now names.now }
+    requires named { All (IsNamedIn (length syntax.now.tree.now.nodes.items)) results.now }
+    ensures right { (u walked : UnitSpec) (uses : List (ℕ × ℕ)) (list : List DeclaredSpec) →
+        let s = source_in syntax.now uses in
+        IsReady walked → walked.types ≡ types → s.unit ≡ heading.unit →
+        finish.IsWalked s (senses_made u results.now) walked keys.items list →
+        IsKept walked.nodes.items list kept →
+        IfOk result (Right s heading.name) }
+    ensures refused { IfErr result (EndsAt heading.root (length syntax.now.tree.now.nodes.items)) }
+{
+    let nodes = kept.nodes.as_slice();
+    let literals = match declared_literals(alloc, names, syntax, results, nodes) {
+        Ok(literals) => literals,
+        Err(fault) => return Err(fault),
+    };
+    finish(alloc, heading, types, keys, kept, literals)
+}
+
+// The unit of what the walk has made, under a name, with what is declared and the keys of its tags.
+fn completed(alloc: Global, bound: &Bound, name: Text, walked: Walked) -> Result<Unit, CheckFault>
+    requires bound { IsBound walked.ground.numbered.syntax.tokens.now walked.ground.numbered.syntax.tree.now bound.now }
+    requires ground { IsGround walked.ground bound.now }
+    requires stand { Stand (nodes_ground walked.ground) walked.unit walked.results.items }
+    requires walked { IsWalked (source_ground walked.ground bound.now) walked.unit walked.results.items }
+    ensures { let told = walked.entry.ground in
+        let s = source_ground told bound.now in
+        MatchResult result (Right s name) (IsUnfinished s told.numbered.syntax.tree.now.root) }
+{
+    let Walked {
+        ground,
+        mut unit,
+        results,
+    } = walked;
+    let syntax = &ground.numbered.syntax;
+    let made = results.as_slice();
+    let Ok(keys) = keys_of(alloc, &ground.numbered, bound, made) else {
+        return Err(CheckFault::OutOfMemory);
+    };
+    let list = declared_names(alloc, &mut unit, &ground.names, &ground.lists, syntax, made)?;
+    let heading = Heading {
+        name,
+        unit: syntax.tree.unit,
+        root: syntax.tree.root,
+    };
+    let kept = keep(alloc, unit.nodes, list)?;
+    finished(
+        alloc,
+        heading,
+        unit.types,
+        keys,
+        kept,
+        &ground.names,
+        syntax,
+        made,
+    )
+}
+
+/// The unit that a text stands for, where its tokens and its tree are those of a text whose names are bound, and each node stands behind
+/// its children. The text is refused at its first node, in order, whose row doesn't fit: `BadOperand` and `Unsupported` hold the kind and
+/// the node that the row names. `NotBuilt` comes at a node of whose production not each form is built; at node 0 where a name isn't spelled
+/// in ASCII or has no place among the nodes; and, where the rows of all nodes fit, at the root, where their unit would not be valid, or at
+/// a compound literal that stands at no node. Beside that only memory may want.
+pub fn lower_unit(
+    alloc: Global,
+    tokens: &Tokens,
+    tree: &Tree,
+    bound: &Bound,
+    name: Text,
+) -> Result<Unit, CheckFault>
+    requires bound { IsBound tokens.now tree.now bound.now }
+    requires first { ChildrenFirst (source_of tokens.now tree.now) }
+    ensures { MatchResult result (IsLowered (source_of tokens.now tree.now) name)
+        (IsNotLowered (source_of tokens.now tree.now) tree.now.root) }
+{
+    match walk(alloc, tokens, tree, bound) {
+        Ok(walked) => completed(alloc, bound, name, walked),
+        Err(fault) => Err(fault),
+    }
+}

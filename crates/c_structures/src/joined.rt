@@ -1,0 +1,183 @@
+// The rows of lists of members, of their declarations and of fields.
+ghost use Rattle.std.specs.Prelude.{◌≡◌, ◌<◌, ◌⊎◌, ℕ, List, [], Some, length, IfOk, IfSome, All};
+ghost use Rattle.c_grammar.specs.Productions.{p_members, p_member, p_field};
+ghost use Rattle.c_senses.specs.World.{World};
+ghost use Rattle.c_senses.specs.Sense.{sense_in};
+ghost use Rattle.c_senses.specs.Tree.{parent_of};
+ghost use Rattle.c_senses.specs.Tags as spec;
+ghost use Rattle.c_senses.specs.Rows.{declaring_row};
+ghost use Rattle.core_nodes.specs.Standing.{IsReady, Knows, Builds};
+ghost use Rattle.c_results.specs.Standing.{senses_made, IsWithin, Rowed};
+ghost use Rattle.c_declarators.specs.Limited.{AreFlexible};
+ghost use Rattle.constant_values.specs.Constants.{HasConstants};
+ghost use Rattle.tree_reads.specs.Sources.{source_read, source_in};
+ghost use Rattle.c_structures.specs.Listed.{AreLists};
+
+use crate::earlier::members_before;
+use crate::lists::{MemberLists, moved};
+use crate::members::{member_declaration, members_row};
+use crate::rows::field_row;
+use c_results::Made;
+use core_nodes::CheckFault;
+use core_tree::node::Unit;
+use std::alloc::Global;
+use tree_reads::Syntax;
+
+const P_MEMBERS: u32 = 13;
+
+const P_MEMBER: u32 = 14;
+
+const P_FIELD: u32 = 15;
+
+// The row of a field, where the members before it are gathered anew.
+fn gathered_field(
+    alloc: Global,
+    unit: &mut Unit,
+    syntax: &Syntax,
+    results: &[Made],
+    at: u32,
+) -> Result<Made, CheckFault>
+    requires ready { IsReady unit.old }
+    requires results { All (IsWithin unit.old) results.now }
+    requires rows { All (HasConstants unit.old) results.now }
+    requires at { at < length syntax.now.tree.now.nodes.items }
+    ensures ready { IsReady unit.new }
+    ensures builds { Builds unit.old unit.new }
+    ensures within { IfOk result (IsWithin unit.new) }
+    ensures row { (w : World) (uses : List (ℕ × ℕ)) →
+        Knows w unit.old →
+        AreFlexible w [] →
+        let sense = sense_in (senses_made unit.old results.now) in
+        Rowed unit.new result (spec.field_row w (source_in syntax.now uses) sense at) }
+{
+    let Ok(before) = members_before(alloc, syntax, results, at) else {
+        return Err(CheckFault::OutOfMemory);
+    };
+    field_row(alloc, unit, syntax, results, &[], &before, at)
+}
+
+// The declaration and the list in which a field stands.
+fn list_around(syntax: &Syntax, at: u32) -> Option<(u32, u32)>
+    requires { at < length syntax.now.tree.now.nodes.items }
+    ensures { IfSome result (λ p.
+        (parent_of (source_read syntax.now) at ≡ Some p.1) × (parent_of (source_read syntax.now) p.1 ≡ Some p.0)) }
+{
+    let Some(member) = syntax.parent_of(at) else {
+        return None;
+    };
+    match syntax.parent_of(member) {
+        Some(list) => Some((list, member)),
+        None => None,
+    }
+}
+
+// The row of a field, with what is kept of its list.
+fn listed_field(
+    alloc: Global,
+    unit: &mut Unit,
+    syntax: &Syntax,
+    results: &[Made],
+    lists: &mut MemberLists,
+    at: u32,
+) -> Result<Made, CheckFault>
+    requires ready { IsReady unit.old }
+    requires results { All (IsWithin unit.old) results.now }
+    requires rows { All (HasConstants unit.old) results.now }
+    requires lists { AreLists syntax.now results.now lists.old }
+    requires at { at < length syntax.now.tree.now.nodes.items }
+    ensures ready { IsReady unit.new }
+    ensures builds { Builds unit.old unit.new }
+    ensures within { IfOk result (IsWithin unit.new) }
+    ensures lists { AreLists syntax.now results.now lists.new }
+    ensures row { (w : World) (uses : List (ℕ × ℕ)) →
+        Knows w unit.old →
+        AreFlexible w [] →
+        let sense = sense_in (senses_made unit.old results.now) in
+        Rowed unit.new result (spec.field_row w (source_in syntax.now uses) sense at) }
+{
+    let Some((list, member)) = list_around(syntax, at) else {
+        return gathered_field(alloc, unit, syntax, results, at);
+    };
+    let Some(begun) = lists.found(alloc, syntax, list, member) else {
+        return gathered_field(alloc, unit, syntax, results, at);
+    };
+    let Ok(before) = moved(alloc, syntax, results, begun, list, at) else {
+        return Err(CheckFault::OutOfMemory);
+    };
+    let made = field_row(alloc, unit, syntax, results, &[], &before, at);
+    let kept = lists.keep(list, before);
+    if kept {
+        made
+    } else {
+        Err(CheckFault::OutOfMemory)
+    }
+}
+
+/// The row of a list of members, of a declaration of members or of a field (C11 6.7.2.1), in a unit whose structures end in no array
+/// without a length: exactly `declaring_row`, with the refusals of `members_row`, `member_declaration` and `field_row`. The members before
+/// a field are gathered anew, as `members_before` says.
+pub fn member(
+    alloc: Global,
+    unit: &mut Unit,
+    syntax: &Syntax,
+    results: &[Made],
+    production: u32,
+    at: u32,
+    children: &[u32],
+) -> Result<Made, CheckFault>
+    requires ready { IsReady unit.old }
+    requires results { All (IsWithin unit.old) results.now }
+    requires rows { All (HasConstants unit.old) results.now }
+    requires at { at < length syntax.now.tree.now.nodes.items }
+    requires production { (production ≡ p_members) ⊎ ((production ≡ p_member) ⊎ (production ≡ p_field)) }
+    ensures ready { IsReady unit.new }
+    ensures builds { Builds unit.old unit.new }
+    ensures within { IfOk result (IsWithin unit.new) }
+    ensures row { (w : World) (uses : List (ℕ × ℕ)) →
+        Knows w unit.old →
+        AreFlexible w [] →
+        let sense = sense_in (senses_made unit.old results.now) in
+        Rowed unit.new result (declaring_row w (source_in syntax.now uses) sense production at children.now) }
+{
+    if production == P_MEMBERS {
+        return members_row(alloc, results, children);
+    }
+    if production == P_MEMBER {
+        return member_declaration(alloc, unit, syntax, results, &[], at, children);
+    }
+    gathered_field(alloc, unit, syntax, results, at)
+}
+
+/// The row of a list of members, of a declaration of members or of a field, exactly as `member` gives it, with what is kept of the lists
+/// of members that are being gone through: each field costs about as much as its name. What is kept stays right while more is made.
+pub fn listed_member(
+    alloc: Global,
+    unit: &mut Unit,
+    syntax: &Syntax,
+    results: &[Made],
+    lists: &mut MemberLists,
+    production: u32,
+    at: u32,
+    children: &[u32],
+) -> Result<Made, CheckFault>
+    requires ready { IsReady unit.old }
+    requires results { All (IsWithin unit.old) results.now }
+    requires rows { All (HasConstants unit.old) results.now }
+    requires lists { AreLists syntax.now results.now lists.old }
+    requires at { at < length syntax.now.tree.now.nodes.items }
+    requires production { (production ≡ p_members) ⊎ ((production ≡ p_member) ⊎ (production ≡ p_field)) }
+    ensures ready { IsReady unit.new }
+    ensures builds { Builds unit.old unit.new }
+    ensures within { IfOk result (IsWithin unit.new) }
+    ensures lists { AreLists syntax.now results.now lists.new }
+    ensures row { (w : World) (uses : List (ℕ × ℕ)) →
+        Knows w unit.old →
+        AreFlexible w [] →
+        let sense = sense_in (senses_made unit.old results.now) in
+        Rowed unit.new result (declaring_row w (source_in syntax.now uses) sense production at children.now) }
+{
+    if production == P_FIELD {
+        return listed_field(alloc, unit, syntax, results, lists, at);
+    }
+    member(alloc, unit, syntax, results, production, at, children)
+}

@@ -1,0 +1,4 @@
+pub mod Declares
+pub mod Flags
+pub mod Keyed
+pub mod Given

@@ -1,0 +1,204 @@
+// Which tags get keys.
+#![tactic(auto)]
+
+ghost use Rattle.std.specs.Prelude.{◌≡◌, ◌<◌, ◌+◌, ◌^◌, ◌||◌, true, ℕ, List, length, IfOk, IfSome, OnOk};
+ghost use Rattle.std.specs.Option.{option_copied};
+ghost use Rattle.core_tree.specs.declared.node.Unit.{Unit as UnitSpec};
+ghost use Rattle.c_scope.specs.Resolves.{IsBound};
+ghost use Rattle.c_senses.specs.Tags as tags;
+ghost use Rattle.c_senses.specs.Right as right;
+ghost use Rattle.c_senses.specs.Right.{KeysRight};
+ghost use Rattle.c_senses.specs.Sense.{Sense, sense_in};
+ghost use Rattle.c_results.specs.Standing.{senses_made};
+ghost use Rattle.sense_laws.specs.Senses.{ChildrenFirst};
+ghost use Rattle.tree_reads.specs.Sources.{source_in, source_read};
+ghost use Rattle.tag_numbers.specs.Known.{AreTags};
+ghost use Rattle.unit_keys.specs.Words as words;
+ghost use Rattle.given_keys.specs.Flags.{AreFlags};
+ghost use Rattle.given_keys.specs.Keyed.{AreKeys};
+ghost use Rattle.given_keys.specs.Given.{AreBelow, AreGiven, GotKeys, is_key, untaken};
+
+use crate::declaring::meanings;
+use crate::flags::tag_flags;
+use crate::placed::{Known, is_long, keys_of_nodes};
+use c_results::Made;
+use c_scope::Bound;
+use pta_base::{OutOfMemory, Text};
+use std::alloc::Global;
+use std::collections::BTreeMap;
+use tag_numbers::Numbered;
+use tree_reads::{Syntax, is_leaf};
+use unit_keys::{Words, add_word, free_names, has_word, inner_flags, positions_of};
+
+// The specifier that declares a tag.
+fn declaring_specifier(syntax: &Syntax, tag: u32) -> Option<u32>
+    requires { tag < length syntax.now.tree.now.nodes.items }
+    ensures declares { (uses : List (ℕ × ℕ)) → result ≡ tags.declaring_specifier (source_in syntax.now uses) tag }
+    ensures within { IfSome result (λ i. i < length syntax.now.tree.now.nodes.items) }
+{
+    if is_leaf(syntax, tag) {
+        syntax.parent_of(tag)
+    } else {
+        Some(tag)
+    }
+}
+
+// The key of a tag, by those of all nodes, the last one first.
+fn key_of_tag<'a>(syntax: &Syntax, keys: &'a [Option<Text>], tag: u32) -> Option<&'a Text>
+    requires tag { tag < length syntax.now.tree.now.nodes.items }
+    requires long { length keys.now ≡ length syntax.now.tree.now.nodes.items }
+    ensures { (uses : List (ℕ × ℕ)) (sense : ℕ → Sense) →
+        let s = source_in syntax.now uses in
+        AreKeys s sense keys.now (length s.nodes) → option_copied result ≡ right.key_of_tag s sense tag }
+{
+    let node = declaring_specifier(syntax, tag)?;
+    keys[syntax.tree.nodes.len() - 1 - node as usize].as_ref()
+}
+
+// The key that a tag gets: its own, where no tag before has it. From then on it is given.
+fn give(
+    alloc: Global,
+    given: &mut Words,
+    key: Option<&Text>,
+    tag: u32,
+) -> Result<Option<Text>, OutOfMemory>
+    ensures key { IfOk result (λ own. own ≡ untaken (words.has_word given.old) (option_copied key.entry)) }
+    ensures given { OnOk result ((other : List ℕ) →
+        words.has_word given.new other ≡ (is_key (option_copied key.entry) other || words.has_word given.old other)) }
+{
+    let Some(key) = key else {
+        return Ok(None);
+    };
+    let text = key.as_str();
+    let there = has_word(given, text.as_bytes());
+    add_word(alloc, given, text.as_bytes(), tag)?;
+    if there {
+        return Ok(None);
+    }
+    let own = Text::copy_of(alloc, text)?;
+    Ok(Some(own))
+}
+
+// Gives its key to one more node, if a tag is known by it.
+fn give_at(
+    alloc: Global,
+    syntax: &Syntax,
+    keys: &[Option<Text>],
+    list: &mut Vec<Option<Text>>,
+    given: &mut Words,
+    tag: u32,
+) -> Result<(), OutOfMemory>
+    requires tag { tag < length syntax.now.tree.now.nodes.items }
+    requires long { length keys.now ≡ length syntax.now.tree.now.nodes.items }
+    ensures long { OnOk result (length list.new.items ≡ length list.old.items) }
+    ensures given { OnOk result ((uses : List (ℕ × ℕ)) (sense : ℕ → Sense) →
+        let s = source_in syntax.now uses in
+        right.is_tag s tag ≡ true →
+        AreBelow s (length list.old.items) →
+        AreKeys s sense keys.now (length s.nodes) →
+        AreGiven s sense list.old.items given.old tag → AreGiven s sense list.new.items given.new (tag + 1)) }
+{
+    let key = give(alloc, given, key_of_tag(syntax, keys, tag), tag)?;
+    let number = syntax.tag_number(tag) as usize;
+    if number < list.len() {
+        list[number] = key;
+    }
+    Ok(())
+}
+
+// No keys yet.
+fn no_keys(alloc: Global, count: u32) -> Result<Vec<Option<Text>>, OutOfMemory>
+    ensures { IfOk result (λ keys. length keys.items ≡ count) }
+{
+    let mut keys = Vec::new(alloc);
+    for _tag in 0..count {
+        keys.push(None)?;
+    }
+    Ok(keys)
+}
+
+// The keys that so many tags get, by the keys of all nodes, the last one first, and the nodes by which tags are known.
+fn given_keys(
+    alloc: Global,
+    syntax: &Syntax,
+    keys: &[Option<Text>],
+    flags: &[bool],
+    count: u32,
+) -> Result<Vec<Option<Text>>, OutOfMemory>
+    requires nodes { length syntax.now.tree.now.nodes.items < 2 ^ 32 }
+    requires keys { length keys.now ≡ length syntax.now.tree.now.nodes.items }
+    requires flags { length flags.now ≡ length syntax.now.tree.now.nodes.items }
+    ensures long { IfOk result (λ list. length list.items ≡ count) }
+    ensures given { IfOk result (λ list. (uses : List (ℕ × ℕ)) (sense : ℕ → Sense) →
+        let s = source_in syntax.now uses in
+        AreFlags s flags.now → AreBelow s count → AreKeys s sense keys.now (length s.nodes) → GotKeys s sense list.items (length s.nodes)) }
+{
+    let mut given = BTreeMap::new(alloc);
+    let mut list = no_keys(alloc, count)?;
+    for node in 0..syntax.tree.nodes.len() as u32 {
+        if flags[node as usize] {
+            give_at(alloc, syntax, keys, &mut list, &mut given, node)?;
+        }
+    }
+    Ok(list)
+}
+
+// The key of each node, the last one first. What is known of nodes is known of each one; if it weren't, that would count as want of memory.
+fn all_keys(
+    alloc: Global,
+    syntax: &Syntax,
+    results: &[Made],
+) -> Result<Vec<Option<Text>>, OutOfMemory>
+    requires count { length syntax.now.tree.now.nodes.items < 2 ^ 32 }
+    requires first { ChildrenFirst (source_read syntax.now) }
+    ensures long { IfOk result (λ list. length list.items ≡ length syntax.now.tree.now.nodes.items) }
+    ensures keys { IfOk result (λ list. (u : UnitSpec) (uses : List (ℕ × ℕ)) →
+        let s = source_in syntax.now uses in AreKeys s (sense_in (senses_made u results.now)) list.items (length s.nodes)) }
+{
+    let inner = inner_flags(alloc, syntax)?;
+    let free = free_names(alloc, syntax, results)?;
+    let positions = positions_of(alloc, syntax, results)?;
+    let known = Known {
+        inner: inner.as_slice(),
+        free: free.as_slice(),
+        positions: positions.as_slice(),
+    };
+    if !is_long(known, syntax.tree.nodes.len()) {
+        return Err(OutOfMemory);
+    }
+    let list = keys_of_nodes(alloc, syntax, results, known)?;
+    Ok(list)
+}
+
+/// The keys of the tags of a unit, one or none for each number: a tag has the key that its declaring specifier's place decides, where
+/// no tag that is declared earlier has the same (C11 6.2.7p1). `bound` is what the unit's names mean, and `results` what is made for its
+/// nodes. It takes time for the nodes, the text of names and the text of keys alone, but for ordered look-ups. Only memory may want.
+pub fn keys_of(
+    alloc: Global,
+    numbered: &Numbered,
+    bound: &Bound,
+    results: &[Made],
+) -> Result<Vec<Option<Text>>, OutOfMemory>
+    requires bound { IsBound numbered.now.syntax.tokens.now numbered.now.syntax.tree.now bound.now }
+    requires tags { AreTags (source_in numbered.now.syntax bound.now.uses.items) numbered.now.tags }
+    requires first { ChildrenFirst (source_read numbered.now.syntax) }
+    ensures count { IfOk result (λ keys. length keys.items ≡ numbered.now.tags.count) }
+    ensures right { IfOk result (λ keys. (u : UnitSpec) →
+        KeysRight (source_in numbered.now.syntax bound.now.uses.items) (sense_in (senses_made u results.now)) keys.items) }
+{
+    let syntax = &numbered.syntax;
+    if syntax.tree.nodes.len() > u32::MAX as usize {
+        return Err(OutOfMemory);
+    }
+    let declaring = meanings(alloc, bound)?;
+    let flags = tag_flags(alloc, syntax, &declaring)?;
+    let keys = all_keys(alloc, syntax, results)?;
+    let list = given_keys(
+        alloc,
+        syntax,
+        keys.as_slice(),
+        flags.as_slice(),
+        numbered.tags.count,
+    )?;
+    Ok(list)
+}

@@ -1,0 +1,9 @@
+//! The keys that the tags of a unit get, by which units share structures and unions.
+#![tactic(auto)]
+
+mod declaring;
+mod flags;
+mod given;
+mod placed;
+
+pub use given::keys_of;

@@ -1,0 +1,53 @@
+use Rattle.std.proofs.Common.{◌≡◌, ℕ, Option, Some, refl, sym, ap, ◌∙◌, option_and_then}
+use Rattle.c_types.specs.Table.{type_of}
+use Rattle.c_senses.specs.Sense.{Sense, Specified, sense_in}
+use Rattle.c_senses.specs.Tree.{Source}
+use Rattle.c_senses.specs.Declarators.{specs_of, outermost_of}
+use Rattle.c_senses.specs.Entities.{specified, specified_of, derived_type}
+use Rattle.c_results.specs.Standing.{senses_made}
+use Rattle.tree_reads.specs.Sources.{source_read}
+use Rattle.c_declarators.proofs.Declaring.{limited_at}
+use Rattle.c_entities.proofs.Reading.{specs_missing, type_seen, type_missing}
+use Rattle.init_rows.proofs.TypeLaws.{base_limited, steps_limited}
+use Rattle.init_rows.proofs.types.declared_type.Goals as goal
+
+-- the specifiers of a name by the node that has been found
+at : (s : Source) (sense : ℕ → Sense) (leaf d i : ℕ) → Some d ≡ outermost_of s leaf → Some i ≡ specs_of s d → specified_of s sense leaf ≡ specified s sense (Some i)
+at s sense leaf d i e f = ap (λ (o : Option ℕ). specified s sense (option_and_then (specs_of s) o)) (sym e) ∙ ap (specified s sense) (sym f)
+
+pub returns-in_default-specified_at-clause-made : goal.returns-in_default-specified_at-clause-made
+returns-in_default-specified_at-clause-made c =
+    let s = source_read c.args.syntax.now in
+    let u = c.args.unit.now in
+    let sense = sense_in (senses_made u c.args.results.now) in
+    let e = at s sense c.args.leaf c.in-Some.outermost c.in-Some-specs_of.specifiers c.in-Some.ensures.nearest c.in-Some-specs_of.ensures in
+    ap (λ (o : Option Specified). derived_type s sense o (Some c.args.declarator)) (e ∙ specs_missing (sense c.in-Some-specs_of.specifiers) (c.in_default-specified_at.ensures.seen u))
+
+pub returns-in_default-declarator_at-clause-made : goal.returns-in_default-declarator_at-clause-made
+returns-in_default-declarator_at-clause-made c =
+    let s = source_read c.args.syntax.now in
+    let u = c.args.unit.now in
+    let sense = sense_in (senses_made u c.args.results.now) in
+    let e = at s sense c.args.leaf c.in-Some.outermost c.in-Some-specs_of.specifiers c.in-Some.ensures.nearest c.in-Some-specs_of.ensures in
+    sym (type_missing s sense (specified_of s sense c.args.leaf) (Some c.args.declarator) c.in-Some-specs_of.specifiers c.args.declarator _ e refl (c.in-Some-specified_at.ensures.seen u) (c.in_default-declarator_at.ensures.seen u))
+
+pub derived_type-requires-clause-derivations : goal.derived_type-requires-clause-derivations
+derived_type-requires-clause-derivations c = c.in-Some-declarator_at.ensures.within c.args.unit.now c.requires.results
+
+pub returns-in-Ok-clause-made : goal.returns-in-Ok-clause-made
+returns-in-Ok-clause-made c =
+    let s = source_read c.args.syntax.now in
+    let u = c.args.unit.now in
+    let sense = sense_in (senses_made u c.args.results.now) in
+    let e = at s sense c.args.leaf c.in-Some.outermost c.in-Some-specs_of.specifiers c.in-Some.ensures.nearest c.in-Some-specs_of.ensures in
+    sym (ap Some c.in-Ok.ensures.made
+    ∙ type_seen s sense (specified_of s sense c.args.leaf) (Some c.args.declarator) c.in-Some-specs_of.specifiers c.args.declarator (type_of u.types c.in-Some-specified_at.base.0) e refl (c.in-Some-specified_at.ensures.seen u) _ _ (c.in-Some-declarator_at.ensures.seen u))
+
+pub returns-in-Ok-clause-limited : goal.returns-in-Ok-clause-limited
+returns-in-Ok-clause-limited c = λ w knows limited.
+    let u = c.args.unit.now in
+    let senses = senses_made u c.args.results.now in
+    let sense = sense_in senses in
+    c.in-Ok.ensures.limited w knows
+    (base_limited w (sense c.in-Some-specs_of.specifiers) _ (limited_at w senses c.in-Some-specs_of.specifiers limited) (c.in-Some-specified_at.ensures.seen u))
+    (steps_limited w (sense c.args.declarator) _ _ (limited_at w senses c.args.declarator limited) (c.in-Some-declarator_at.ensures.seen u))

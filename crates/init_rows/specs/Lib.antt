@@ -1,0 +1,5 @@
+pub mod Objects
+pub mod Around
+pub mod Types
+pub mod Literals
+pub mod Joined

@@ -1,0 +1,17 @@
+use Rattle.std.proofs.Common.{ℕ, ◌<◌, List, All, length}
+use Rattle.core_tree.specs.declared.node.Unit.{Unit}
+use Rattle.c_senses.specs.Sense.{sense_in}
+use Rattle.c_results.specs.Standing.{senses_made}
+use Rattle.tree_reads.specs.Sources.{source_in}
+use Rattle.symbol_lists.specs.Symbols.{of_symbol}
+use Rattle.name_sayings.proofs.Listing.{SoFar}
+use Rattle.name_sayings.proofs.internal.internal_of.Given as goal
+
+-- the leaves so far with those of what is left
+abbrev pub invariant-loop-place : goal.invariant-loop-place
+invariant-loop-place l = record {
+  left : (u : Unit) (uses : List (ℕ × ℕ)) →
+      let s = source_in l.syntax uses in
+      SoFar s (sense_in (senses_made u l.results)) l.leaf (of_symbol l.symbol s.declared.ordinary) l.list.items l.place;
+  within : All (λ (k : ℕ). k < length l.syntax.tree.now.nodes.items) l.list.items;
+}

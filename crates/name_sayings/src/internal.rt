@@ -1,0 +1,89 @@
+// The declarations of a name that give it internal linkage (C11 6.2.2p3 to p5).
+ghost use Rattle.std.specs.Prelude.{◌≡◌, ◌<◌, ◌++◌, ℕ, true, List, All, length, IfOk, OnOk, IsOkUnless};
+ghost use Rattle.core_tree.specs.declared.node.Unit.{Unit as UnitSpec};
+ghost use Rattle.c_senses.specs.World.{World};
+ghost use Rattle.c_senses.specs.Sense.{sense_in};
+ghost use Rattle.c_senses.specs.Entities as spec;
+ghost use Rattle.c_results.specs.Standing.{senses_made};
+ghost use Rattle.tree_reads.specs.Sources.{source_in};
+ghost use Rattle.c_meanings.specs.Known.{AreNamed};
+ghost use Rattle.c_named.specs.Lists.{leaves_of};
+ghost use Rattle.name_sayings.specs.Listed.{AreListed, leaf_if, internal_of};
+
+use c_meanings::{Names, declared_at, is_internal};
+use c_results::Made;
+use core_nodes::CheckFault;
+use std::alloc::Global;
+use symbol_lists::SymbolLists;
+use tree_reads::Syntax;
+
+// Adds a leaf that is wanted.
+fn add_if(list: &mut Vec<u32>, wanted: bool, leaf: u32) -> Result<(), CheckFault>
+    ensures added { OnOk result (list.new.items ≡ list.old.items ++ leaf_if wanted leaf) }
+    ensures memory { IsOkUnless result CheckFault.OutOfMemory }
+{
+    if wanted {
+        list.push(leaf)?;
+    }
+    Ok(())
+}
+
+// The leaves of the declarations of a symbol before one that give it internal linkage, in order. More than there are numbers count as
+// want of memory.
+fn internal_of(
+    alloc: Global,
+    names: &Names,
+    lists: &SymbolLists,
+    syntax: &Syntax,
+    results: &[Made],
+    symbol: u32,
+    leaf: u32,
+) -> Result<Vec<u32>, CheckFault>
+    requires names { AreNamed syntax.now results.now names.now }
+    requires lists { AreListed syntax.now lists.now }
+    ensures leaves { IfOk result (λ list. (u : UnitSpec) (uses : List (ℕ × ℕ)) →
+        list.items ≡ internal_of (source_in syntax.now uses) (sense_in (senses_made u results.now)) symbol leaf) }
+    ensures within { IfOk result (λ list. All (λ other. other < length syntax.now.tree.now.nodes.items) list.items) }
+    ensures memory { IsOkUnless result CheckFault.OutOfMemory }
+{
+    let mut list = Vec::new(alloc);
+    for place in 0..u32::MAX {
+        let Some(other) = lists.get(symbol, place) else {
+            return Ok(list);
+        };
+        if other == leaf {
+            return Ok(list);
+        }
+        let wanted = is_internal(names, syntax, results, other);
+        add_if(&mut list, wanted, other)?;
+    }
+    Err(CheckFault::OutOfMemory)
+}
+
+/// The leaves of the declarations before one of a name that give it internal linkage, in order, where it has that itself: none are
+/// asked for otherwise. It takes as long as there are declarations of the symbol before it.
+pub(crate) fn internal_before(
+    alloc: Global,
+    names: &Names,
+    lists: &SymbolLists,
+    syntax: &Syntax,
+    results: &[Made],
+    internal: bool,
+    leaf: u32,
+) -> Result<Vec<u32>, CheckFault>
+    requires names { AreNamed syntax.now results.now names.now }
+    requires lists { AreListed syntax.now lists.now }
+    ensures leaves { IfOk result (λ list. (u : UnitSpec) (w : World) (uses : List (ℕ × ℕ)) →
+        internal ≡ true →
+        list.items ≡ leaves_of (spec.internal_before w (source_in syntax.now uses) (sense_in (senses_made u results.now)) leaf)) }
+    ensures within { IfOk result (λ list. All (λ other. other < length syntax.now.tree.now.nodes.items) list.items) }
+    ensures memory { IsOkUnless result CheckFault.OutOfMemory }
+{
+    if !internal {
+        return Ok(Vec::new(alloc));
+    }
+    match declared_at(names, syntax, leaf) {
+        Some(declared) => internal_of(alloc, names, lists, syntax, results, declared.symbol, leaf),
+        None => Ok(Vec::new(alloc)),
+    }
+}

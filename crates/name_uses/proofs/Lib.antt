@@ -1,0 +1,6 @@
+pub mod Giving
+pub mod Looking
+pub mod Parts
+pub mod Worlds
+pub mod Usual
+pub mod Known

@@ -1,0 +1,4 @@
+pub mod Around
+pub mod Looked
+pub mod Built
+pub mod Usual

@@ -1,0 +1,185 @@
+// What is looked up around a node of an expression.
+ghost use Rattle.std.specs.Prelude.{◌≡◌, ◌<◌, ℕ, List, All, None, length, option_map, IfOk};
+ghost use Rattle.std.specs.Option.{option_copied};
+ghost use Rattle.core_tree.specs.declared.node.Unit.{Unit as UnitSpec};
+ghost use Rattle.core_nodes.specs.Standing.{IsReady, Builds};
+ghost use Rattle.c_results.specs.Standing.{senses_made, IsWithin};
+ghost use Rattle.c_senses.specs.Tree.{spelling_at, production_at, children_at};
+ghost use Rattle.c_senses.specs.World.{World};
+ghost use Rattle.c_senses.specs.Sense.{sense_in};
+ghost use Rattle.c_senses.specs.Entities as entities;
+ghost use Rattle.c_rows.specs.Named.{NameFits, IsNamedWithin};
+ghost use Rattle.tree_reads.specs.Sources.{source_in};
+ghost use Rattle.c_meanings.specs.Known.{AreNames, ArePaired};
+ghost use Rattle.c_meanings.specs.Meanings.{meaning_seen};
+ghost use Rattle.name_places.specs.Named.{IsNamedIn};
+ghost use Rattle.expression_rows.specs.Fitting.{FirstFits, FitsAround};
+ghost use Rattle.name_uses.specs.Around.{IsWorldAt};
+ghost use Rattle.name_uses.specs.Built.{is_strange, first_is_strange, names_strangely};
+ghost use Rattle.name_uses.specs.Looked.{Looked};
+
+use crate::named::named_of;
+use crate::uses::may_call;
+use c_lexer::TokenKind;
+use c_meanings::{Meaning, Names, meaning_at};
+use c_results::Made;
+use core_nodes::CheckFault;
+use core_tree::node::Unit;
+use expression_rows::{Around, Named};
+use name_places::own_name;
+use pta_base::Kind;
+use std::alloc::Global;
+use tree_reads::{Syntax, children_of, kind_of, production_of};
+
+const P_POST: u32 = 46;
+
+const P_PRIMARY: u32 = 47;
+
+// Around a node that is no name and no call nothing is looked up.
+fn nothing<'a>(may_call: bool) -> Around<'a>
+    ensures within { (u : UnitSpec) → IsNamedWithin u result.first }
+    ensures calls { result.may_call ≡ may_call }
+{
+    Around {
+        first: Named::NoValue,
+        may_call,
+        own_name: None,
+    }
+}
+
+// How the function around a node is named, where what is named there means nothing that is declared.
+fn own_name_unless<'a>(
+    syntax: &Syntax<'a>,
+    results: &[Made],
+    at: u32,
+    meaning: Option<Meaning>,
+) -> Option<&'a [u8]>
+    requires at { at < length syntax.now.tree.now.nodes.items }
+    ensures own { (u v : UnitSpec) (uses : List (ℕ × ℕ)) →
+        let s = source_in syntax.now uses in
+        meaning_seen v meaning ≡ None →
+        option_copied result
+        ≡ option_map (spelling_at s) (entities.function_around s (sense_in (senses_made u results.now)) at) }
+{
+    match meaning {
+        None => own_name(syntax, results, at),
+        Some(_) => None,
+    }
+}
+
+// What is looked up for a name.
+fn around_name<'a>(
+    alloc: Global,
+    unit: &mut Unit,
+    syntax: &Syntax<'a>,
+    names: &Names,
+    results: &[Made],
+    at: u32,
+    leaf: u32,
+) -> Result<Around<'a>, CheckFault>
+    requires ready { IsReady unit.old }
+    requires results { All (IsWithin unit.old) results.now }
+    requires named { All (IsNamedIn (length syntax.now.tree.now.nodes.items)) results.now }
+    requires names { AreNames syntax.now unit.old results.now names.now }
+    requires at { at < length syntax.now.tree.now.nodes.items }
+    ensures ready { IsReady unit.new }
+    ensures builds { Builds unit.old unit.new }
+    ensures within { IfOk result (λ around. IsNamedWithin unit.new around.first) }
+    ensures looked { (w : World) (uses : List (ℕ × ℕ)) →
+        let s = source_in syntax.now uses in
+        ArePaired names.now uses →
+        IsWorldAt w s (sense_in (senses_made unit.old results.now)) at →
+        Looked (λ around. NameFits w unit.new around.first (option_copied around.own_name) (w.meaning leaf))
+        (is_strange (length s.nodes) (w.meaning leaf)) at result }
+{
+    let Ok(meaning) = meaning_at(alloc, unit, syntax, names, results, leaf) else {
+        return Err(CheckFault::OutOfMemory);
+    };
+    let own_name = own_name_unless(syntax, results, at, meaning);
+    match named_of(names, syntax, results, at, meaning) {
+        Some(first) => Ok(Around {
+            first,
+            may_call: false,
+            own_name,
+        }),
+        None => Err(CheckFault::Unsupported(Kind::NotBuilt, at)),
+    }
+}
+
+// What is looked up for a primary: for an identifier what it means.
+fn around_primary<'a>(
+    alloc: Global,
+    unit: &mut Unit,
+    syntax: &Syntax<'a>,
+    names: &Names,
+    results: &[Made],
+    at: u32,
+    children: &[u32],
+) -> Result<Around<'a>, CheckFault>
+    requires ready { IsReady unit.old }
+    requires results { All (IsWithin unit.old) results.now }
+    requires named { All (IsNamedIn (length syntax.now.tree.now.nodes.items)) results.now }
+    requires names { AreNames syntax.now unit.old results.now names.now }
+    requires at { at < length syntax.now.tree.now.nodes.items }
+    ensures ready { IsReady unit.new }
+    ensures builds { Builds unit.old unit.new }
+    ensures within { IfOk result (λ around. IsNamedWithin unit.new around.first) }
+    ensures looked { (w : World) (uses : List (ℕ × ℕ)) →
+        let s = source_in syntax.now uses in
+        ArePaired names.now uses →
+        IsWorldAt w s (sense_in (senses_made unit.old results.now)) at →
+        Looked (FirstFits w unit.new s children.now) (first_is_strange w s children.now) at result }
+{
+    if children.is_empty() {
+        return Ok(nothing(false));
+    }
+    let first = children[0];
+    match kind_of(syntax, first) {
+        TokenKind::Identifier => around_name(alloc, unit, syntax, names, results, at, first),
+        TokenKind::Keyword(_) | TokenKind::Punctuator(_) | TokenKind::Integer => {
+            Ok(nothing(false))
+        }
+        TokenKind::Floating | TokenKind::Character | TokenKind::Text | TokenKind::End => {
+            Ok(nothing(false))
+        }
+    }
+}
+
+/// What is looked up around a node of an expression before its row: for a primary that is an identifier what it means there (C11
+/// 6.5.1) and, where it means nothing that is declared, how the function around it is named (6.4.2.2); for what stands behind an
+/// operand whether a function may be called (6.5.2.2, 6.7.9p4). `NotBuilt` at the node where the identifier means a number that int
+/// doesn't hold, or an object that no node of the tree declares: no declaration makes a name mean that. Only memory may want beside
+/// that. It takes as long as the nesting around the node is deep.
+pub fn around_of<'a>(
+    alloc: Global,
+    unit: &mut Unit,
+    syntax: &Syntax<'a>,
+    names: &Names,
+    results: &[Made],
+    at: u32,
+) -> Result<Around<'a>, CheckFault>
+    requires ready { IsReady unit.old }
+    requires results { All (IsWithin unit.old) results.now }
+    requires named { All (IsNamedIn (length syntax.now.tree.now.nodes.items)) results.now }
+    requires names { AreNames syntax.now unit.old results.now names.now }
+    requires at { at < length syntax.now.tree.now.nodes.items }
+    ensures ready { IsReady unit.new }
+    ensures builds { Builds unit.old unit.new }
+    ensures within { IfOk result (λ around. IsNamedWithin unit.new around.first) }
+    ensures looked { (w : World) (uses : List (ℕ × ℕ)) →
+        let s = source_in syntax.now uses in
+        ArePaired names.now uses →
+        IsWorldAt w s (sense_in (senses_made unit.old results.now)) at →
+        Looked (FitsAround w unit.new s (production_at s at) (children_at s at))
+        (names_strangely w s (production_at s at) (children_at s at)) at result }
+{
+    let production = production_of(syntax, at);
+    if production == P_PRIMARY {
+        let children = children_of(syntax, at);
+        return around_primary(alloc, unit, syntax, names, results, at, children);
+    }
+    if production == P_POST {
+        return Ok(nothing(may_call(syntax, results, at)));
+    }
+    Ok(nothing(false))
+}

@@ -1,0 +1,4 @@
+mod Expressions
+mod Declaring
+mod Named
+pub mod Rows

@@ -1,0 +1,2 @@
+pub mod Bodying
+pub mod Viewing

@@ -1,0 +1,4 @@
+pub mod Bodies
+pub mod View
+pub mod Around
+pub mod Gathered

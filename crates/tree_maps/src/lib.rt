@@ -1,0 +1,5 @@
+//! What the definition of valid units asks of nodes and entities by their names and numbers, found by ordered look-ups.
+#![tactic(auto)]
+
+pub mod cases;
+pub mod uses;

@@ -1,0 +1,4 @@
+pub mod Terms
+pub mod Within
+pub mod Staying
+pub mod Specifiers

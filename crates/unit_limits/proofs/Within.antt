@@ -1,0 +1,132 @@
+-- What a small table has is within the limits of a world that its unit knows.
+use Rattle.std.proofs.Common.{arith, ◌≡◌, ℕ, zero, suc, ◌<◌, ◌≤◌, Bool, true, false, List, [], ◌∷◌, length, Option, Some, None, All, refl, sym, ap, ◌∙◌, subst}
+use Rattle.std.specs.List.{list_all}
+use Rattle.std.proofs.lemmas.Bool.{and_parts, and_from, not-true, or_from}
+use Rattle.std.proofs.lemmas.List.Elements.{All-head, All-tail, All-map, All-weaker}
+use Rattle.c_types.specs.declared.term.Term.{Term}
+use Rattle.c_types.specs.declared.term.Term.TheVariants.{Void, Bool as BoolTerm, Integer, Floating, VaList, Pointer, Array, Function, Structure, Union}
+use Rattle.c_types.specs.declared.term.TypeId.{TypeId}
+use Rattle.c_types.specs.Trees.{Ctype, VoidType, BoolType, IntegerType, FloatingType, VaListType, PointerTo, ArrayOf, FunctionFrom, StructureOf, UnionOf, trees_at, grow}
+use Rattle.c_types.specs.Table.{IsAfter, types_of, type_of, extent_in}
+use Rattle.core_tree.specs.declared.node.Unit.{Unit}
+use Rattle.c_inits.specs.Made.{Part}
+use Rattle.c_senses.specs.World.{World, extent}
+use Rattle.c_senses.specs.Limits.{is_small, within_limits, all_within_limits, last_lacks_length, some_flexible, members_flexible, flexible_within}
+use Rattle.core_nodes.specs.Standing.{Knows}
+use Rattle.c_results.specs.declared.derivation.Derivation.{Derivation}
+use Rattle.c_results.specs.declared.derivation.Derivation.TheVariants.{Pointing, Elements, Returning}
+use Rattle.c_results.specs.declared.made.Made.{Made}
+use Rattle.c_results.specs.declared.made.Made.TheVariants as made
+use Rattle.c_results.specs.Standing.{derivation_seen, sense_made, IsDerivable, IsWithin}
+use Rattle.c_declarators.specs.Limited.{AreFlexible, parameters_limited, IsLimited}
+use Rattle.unit_limits.specs.Small.{has_element, ends_fixed, is_fixed, members_at, all_fixed, IsSmallTable}
+use Rattle.unit_limits.specs.Laws.{TypesAreLimited, ResultsAreAround}
+use Rattle.unit_limits.proofs.Terms.{type_is, term_at}
+
+-- no part of some is flexible
+some_none : (f g : Ctype → Bool) → ((t : Ctype) → g t ≡ true → f t ≡ false) → (ps : List Part) → list_all (λ p. g p.type) ps ≡ true → some_flexible f ps ≡ false
+some_none f g each [] h = refl
+some_none f g each (p ∷ ps) h =
+    let both = and_parts (g p.type) (list_all (λ p. g p.type) ps) h in
+    or_from (f p.type) (some_flexible f ps) (each p.type both.0) (some_none f g each ps both.1)
+
+ends_not : (o : Option (List Part)) → ends_fixed o ≡ true → members_flexible last_lacks_length o ≡ false
+ends_not None h = refl
+ends_not (Some ps) h = not-true (last_lacks_length ps) h
+
+module _ (w : World) (u : Unit) (ok : IsSmallTable u.types) (k : Knows w u) where
+  small_at : (id : ℕ) → id < length u.types.terms → is_small (extent w (type_of u.types id)) ≡ true
+  small_at id lt =
+      let t = type_of u.types id in
+      ap is_small (k.extents t) ∙ (and_parts (is_small (extent_in u.types t)) (has_element (extent_in u.types) t) (ok.small id lt)).0
+
+  -- types of smaller numbers
+  abbrev AreWithin : ℕ → Type 0
+  AreWithin n = (j : ℕ) → j < n → within_limits w (type_of u.types j) ≡ true
+
+  all_within : (n : ℕ) → AreWithin n → (ids : List TypeId) → All (λ id. id.0 < n) ids → all_within_limits w (trees_at (types_of u.types) ids) ≡ true
+  all_within n below [] h = refl
+  all_within n below (id ∷ ids) h =
+      and_from (within_limits w (type_of u.types id.0)) (all_within_limits w (trees_at (types_of u.types) ids))
+      (below id.0 (All-head (λ (x : TypeId). x.0 < n) id ids h))
+      (all_within n below ids (All-tail (λ (x : TypeId). x.0 < n) id ids h))
+
+  within_term : (n : ℕ) → AreWithin n → (t : Term) → IsAfter n t → is_small (extent w (grow (types_of u.types) t)) ≡ true → within_limits w (grow (types_of u.types) t) ≡ true
+  within_term n below (Pointer to) after small = below to.0 after
+  within_term n below (Array of m) after small =
+      and_from (is_small (extent w (grow (types_of u.types) (Array of m)))) (within_limits w (type_of u.types of.0)) small (below of.0 after)
+  within_term n below (Function result parameters form) after small =
+      and_from (within_limits w (type_of u.types result.0)) (all_within_limits w (trees_at (types_of u.types) parameters)) (below result.0 after.0) (all_within n below parameters after.1)
+  within_term n below Void after small = small
+  within_term n below BoolTerm after small = small
+  within_term n below (Integer size rank signed) after small = small
+  within_term n below Floating after small = small
+  within_term n below VaList after small = small
+  within_term n below (Structure tag) after small = small
+  within_term n below (Union tag) after small = small
+
+  within_below : (n : ℕ) → n ≤ length u.types.terms → AreWithin n
+  within_below zero le id lt = absurd (omega arith)
+  within_below (suc n) le id lt =
+      let here : id < length u.types.terms = omega arith in
+      let found = term_at u.types.terms id here in
+      let same = type_is u.types id found.0 ok.named found.1 in
+      let below : AreWithin id = λ j less. within_below n (omega arith) j (omega arith) in
+      let small : is_small (extent w (grow (types_of u.types) found.0)) ≡ true = subst (λ t. is_small (extent w t) ≡ true) same (small_at id here) in
+      subst (λ t. within_limits w t ≡ true) (sym same) (within_term id below found.0 (ok.named id found.0 found.1).0 small)
+
+  pub limited_at : AreWithin (length u.types.terms)
+  limited_at = within_below (length u.types.terms) (omega arith)
+
+  members_none : (d : ℕ) → ((t : Ctype) → is_fixed (members_at u.types) t ≡ true → flexible_within w d t ≡ false) → (o : Option (List Part)) → all_fixed u.types o ≡ true → members_flexible (some_flexible (flexible_within w d)) o ≡ false
+  members_none d each None e = refl
+  members_none d each (Some ps) e = some_none (flexible_within w d) (is_fixed (members_at u.types)) each ps e
+
+  -- nothing of fixed members is flexible
+  none_flexible : (depth : ℕ) (t : Ctype) → is_fixed (members_at u.types) t ≡ true → flexible_within w depth t ≡ false
+  none_flexible zero t h = refl
+  none_flexible (suc d) (StructureOf tag) h = ap (members_flexible last_lacks_length) (k.members tag) ∙ ends_not (members_at u.types tag) h
+  none_flexible (suc d) (UnionOf tag) h =
+      ap (members_flexible (some_flexible (flexible_within w d))) (k.members tag)
+      ∙ members_none d (λ x g. none_flexible d x g) (members_at u.types tag) (ok.fixed tag)
+  none_flexible (suc d) VoidType h = refl
+  none_flexible (suc d) BoolType h = refl
+  none_flexible (suc d) (IntegerType size rank signed) h = refl
+  none_flexible (suc d) FloatingType h = refl
+  none_flexible (suc d) VaListType h = refl
+  none_flexible (suc d) (PointerTo to) h = refl
+  none_flexible (suc d) (ArrayOf of n) h = refl
+  none_flexible (suc d) (FunctionFrom r ps f) h = refl
+
+  pub unions_fixed : AreFlexible w []
+  unions_fixed tag = none_flexible (suc w.tags) (UnionOf tag) refl
+
+  derivation_limited : (d : Derivation) → IsDerivable u.types d → parameters_limited w (derivation_seen u.types d) ≡ true
+  derivation_limited Pointing h = refl
+  derivation_limited (Elements n) h = refl
+  derivation_limited (Returning parameters form) h = all_within (length u.types.terms) limited_at parameters h
+
+  made_limited : (m : Made) → IsWithin u m → IsLimited w (sense_made u m)
+  made_limited made.Nothing h = tt
+  made_limited (made.Node i) h = tt
+  made_limited (made.Typed t) h = limited_at t.0 h
+  made_limited (made.Specifiers storage functions ty) h = limited_at ty.0 h
+  made_limited (made.Declarator name ds) h =
+      All-map (λ d. parameters_limited w d ≡ true) (derivation_seen u.types) ds.items
+      (All-weaker (IsDerivable u.types) (λ d. parameters_limited w (derivation_seen u.types d) ≡ true) derivation_limited ds.items h)
+  made_limited (made.Derived d) h = derivation_limited d h
+  made_limited (made.Parameter name ty) h = limited_at ty.0 h
+  made_limited (made.Members members) h = tt
+  made_limited (made.Value n) h = tt
+  made_limited (made.Run nodes) h = tt
+  made_limited (made.Initial node count) h = tt
+
+pub types_limited : TypesAreLimited
+types_limited w u ok k id lt = limited_at w u ok k id lt
+
+pub results_around : ResultsAreAround
+results_around w u results ok k within = record {
+  knows = k;
+  flexible = unions_fixed w u ok k;
+  limited = All-map (IsLimited w) (sense_made u) results (All-weaker (IsWithin u) (λ m. IsLimited w (sense_made u m)) (made_limited w u ok k) results within);
+}

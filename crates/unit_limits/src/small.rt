@@ -1,0 +1,174 @@
+// Whether types are small.
+ghost use Rattle.std.specs.Prelude.{◌≡◌, ◌<◌, ◌↔◌, ℕ, List, [], true, length, map, All, IsTrue, IfSome, Some};
+ghost use Rattle.std.specs.List.{list_all};
+ghost use Rattle.core_tree.specs.declared.node.Unit.{Unit as UnitSpec};
+ghost use Rattle.c_types.specs.Table.{type_of, extent_in};
+ghost use Rattle.c_inits.specs.Made.{Part, TagParts};
+ghost use Rattle.c_inits.specs.Tables.{part_of};
+ghost use Rattle.c_senses.specs.Limits.{is_small, lacks_a_length, last_lacks_length};
+ghost use Rattle.core_nodes.specs.Standing.{Builds};
+ghost use Rattle.unit_worlds.specs.Growing.{Completes, Grows};
+ghost use Rattle.unit_limits.specs.Small as spec;
+ghost use Rattle.unit_limits.specs.Small.{AreSmallFrom, IsSmallTable, IsTypeOf, tag_in, members_at};
+ghost use Rattle.unit_limits.specs.Small.{all_fixed, is_small_tag, is_small_completed, members_of_type};
+
+use c_types::table::TypeTable;
+use c_types::term::{MemberTerm, Term, TypeId};
+use core_tree::node::Unit;
+
+// Whether a type has no size, or a size below 2^63 and at most 2^24 nodes.
+fn is_small_type(types: &TypeTable, ty: TypeId) -> bool
+    requires { ty.0 < length types.now.terms }
+    ensures { result ≡ is_small (extent_in types.now (type_of types.now ty.0)) }
+{
+    match types.align_of(ty) {
+        Some(_) => types.size_of(ty).is_some() && types.nodes(ty).is_some(),
+        None => true,
+    }
+}
+
+// Whether a type is no array, or one of elements that have a size.
+fn has_element(types: &TypeTable, ty: TypeId) -> bool
+    requires { ty.0 < length types.now.terms }
+    ensures { result ≡ spec.has_element (extent_in types.now) (type_of types.now ty.0) }
+{
+    match types.term(ty) {
+        Term::Array { of, .. } => types.align_of(*of).is_some(),
+        _ => true,
+    }
+}
+
+// Whether a type is small and stays so.
+fn stays_small(types: &TypeTable, ty: TypeId) -> bool
+    requires { ty.0 < length types.now.terms }
+    ensures { result ≡ spec.stays_small (extent_in types.now) (type_of types.now ty.0) }
+{
+    is_small_type(types, ty) && has_element(types, ty)
+}
+
+/// Whether the types from a number on are small: each has no size, or one below 2^63 and at most 2^24 nodes, and an array's element
+/// has a size. It takes a step for each of them. Where they are, a table that was small before those types were added still is.
+pub fn new_types_are_small(unit: &Unit, from: u32) -> bool
+    ensures result { IsTrue result ↔ AreSmallFrom unit.now.types from }
+    ensures start { IsTrue result → from ≡ 0 → unit.now.types.completed ≡ [] → IsSmallTable unit.now.types }
+    ensures built { (old : UnitSpec) →
+        IsTrue result →
+        Builds old unit.now →
+        from ≡ length old.types.terms → IsSmallTable old.types → IsSmallTable unit.now.types }
+{
+    for id in from..unit.types.type_count() {
+        if !stays_small(&unit.types, TypeId(id)) {
+            return false;
+        }
+    }
+    true
+}
+
+// Whether the last of some members is an array without a length.
+fn last_lacks_length(types: &TypeTable, members: &[MemberTerm]) -> bool
+    requires { All (λ m. m.ty.0 < length types.now.terms) members.now }
+    ensures { result ≡ last_lacks_length (map (part_of types.now) members.now) }
+{
+    match members.last() {
+        Some(member) => lacks_length(types, member.ty),
+        None => false,
+    }
+}
+
+// Whether a type is an array without a length.
+fn lacks_length(types: &TypeTable, ty: TypeId) -> bool
+    requires { ty.0 < length types.now.terms }
+    ensures { result ≡ lacks_a_length (type_of types.now ty.0) }
+{
+    match types.term(ty) {
+        Term::Array { length: None, .. } => true,
+        _ => false,
+    }
+}
+
+// Whether a type is no structure, or a complete one that doesn't end in an array without a length.
+fn is_fixed(types: &TypeTable, ty: TypeId) -> bool
+    requires { ty.0 < length types.now.terms }
+    ensures { result ≡ spec.is_fixed (members_at types.now) (type_of types.now ty.0) }
+{
+    match types.term(ty) {
+        Term::Structure(tag) => match types.members(*tag) {
+            Some(members) => !last_lacks_length(types, members),
+            None => false,
+        },
+        _ => true,
+    }
+}
+
+// Whether such are all of some members.
+fn are_fixed(types: &TypeTable, members: &[MemberTerm]) -> bool
+    requires { All (λ m. m.ty.0 < length types.now.terms) members.now }
+    ensures { result ≡ list_all (λ m. spec.is_fixed (members_at types.now) (type_of types.now m.ty.0)) members.now }
+{
+    for member in members {
+        if !is_fixed(types, member.ty) {
+            return false;
+        }
+    }
+    true
+}
+
+// Whether such are the members of a tag.
+fn tag_is_fixed(types: &TypeTable, tag: u32) -> bool
+    requires { tag < types.now.tags }
+    ensures { result ≡ all_fixed types.now (members_at types.now tag) }
+{
+    match types.members(tag) {
+        Some(members) => are_fixed(types, members),
+        None => true,
+    }
+}
+
+// Whether such are the members of a structure or union.
+fn members_are_fixed(types: &TypeTable, ty: TypeId) -> bool
+    requires { ty.0 < length types.now.terms }
+    ensures { result ≡ all_fixed types.now (members_of_type types.now (type_of types.now ty.0)) }
+{
+    match types.term(ty) {
+        Term::Structure(tag) => tag_is_fixed(types, *tag),
+        Term::Union(tag) => tag_is_fixed(types, *tag),
+        _ => true,
+    }
+}
+
+/// Whether a structure or union is small: it has no size, or one below 2^63 and at most 2^24 nodes, and none of its members is a
+/// structure that ends in an array without a length (C11 6.7.2.1p3, p18), which only a union may have and which isn't built. It takes
+/// a step for each member. Where it is, and so are the new types, a table that was small before its tag was completed still is.
+pub fn completed_is_small(unit: &Unit, ty: TypeId) -> bool
+    requires { ty.0 < length unit.now.types.terms }
+    ensures result { result ≡ is_small_tag unit.now.types (type_of unit.now.types ty.0) }
+    ensures completed { (old : UnitSpec) (tag : ℕ) (parts : List Part) →
+        IsTrue result →
+        Completes old unit.now tag parts →
+        tag_in (type_of unit.now.types ty.0) ≡ Some tag →
+        AreSmallFrom unit.now.types (length old.types.terms) → IsSmallTable old.types → IsSmallTable unit.now.types }
+{
+    // (What every table keeps is told by its count.)
+    let _count = unit.types.type_count();
+    is_small_type(&unit.types, ty) && members_are_fixed(&unit.types, ty)
+}
+
+/// Whether a unit that has grown by a row is small still: its new types are, those from a number on, and the structure or union that the
+/// row's node completes is, whose type is given. It takes a step for each new type and for each member of that structure or union.
+pub fn grown_is_small(unit: &Unit, from: u32, completed: Option<TypeId>) -> bool
+    requires { IfSome completed (λ ty. ty.0 < length unit.now.types.terms) }
+    ensures result { IsTrue result ↔ (AreSmallFrom unit.now.types from × (is_small_completed unit.now.types completed ≡ true)) }
+    ensures grown { (old : UnitSpec) (es : List TagParts) →
+        IsTrue result →
+        Grows old unit.now es →
+        from ≡ length old.types.terms →
+        IsTypeOf unit.now.types completed es → IsSmallTable old.types → IsSmallTable unit.now.types }
+{
+    if !new_types_are_small(unit, from) {
+        return false;
+    }
+    match completed {
+        Some(ty) => completed_is_small(unit, ty),
+        None => true,
+    }
+}

@@ -1,0 +1,69 @@
+// Whether types are still small behind the row of a node.
+ghost use Rattle.std.specs.Prelude.{◌≡◌, ◌<◌, ℕ, List, true, length, IfSome, IsTrue};
+ghost use Rattle.core_tree.specs.declared.node.Unit.{Unit as UnitSpec};
+ghost use Rattle.c_grammar.specs.Productions.{p_struct};
+ghost use Rattle.c_senses.specs.Tree.{is_a};
+ghost use Rattle.c_senses.specs.World.{World};
+ghost use Rattle.c_senses.specs.Given.{Fits};
+ghost use Rattle.c_senses.specs.Sense.{Sense};
+ghost use Rattle.c_senses.specs.Tags.{struct_row};
+ghost use Rattle.tree_reads.specs.Sources.{source_in};
+ghost use Rattle.c_results.specs.Parts.{type_in};
+ghost use Rattle.c_results.specs.Standing.{sense_made, IsWithin, TypeSeen};
+ghost use Rattle.unit_worlds.specs.Growing.{Grows, completed_at};
+ghost use Rattle.unit_limits.specs.Small.{IsSmallTable, IsTypeOf};
+
+use crate::small::grown_is_small;
+use c_results::Made;
+use c_types::term::TypeId;
+use core_tree::node::Unit;
+use tree_reads::{Syntax, child_of, is_a};
+
+const P_STRUCT: u32 = 12;
+
+const P_MEMBERS: u32 = 13;
+
+// The type, if that is what has been made.
+fn typed(made: &Made) -> Option<TypeId>
+    ensures seen { (u : UnitSpec) → TypeSeen u result (type_in (sense_made u made.now)) }
+    ensures within { (u : UnitSpec) → IsWithin u made.now → IfSome result (λ t. t.0 < length u.types.terms) }
+{
+    match made {
+        Made::Typed(ty) => Some(*ty),
+        Made::Nothing | Made::Node(_) | Made::Specifiers { .. } | Made::Declarator { .. } => None,
+        Made::Derived(_) | Made::Parameter { .. } | Made::Members(_) | Made::Value(_) => None,
+        Made::Run(_) | Made::Initial { .. } => None,
+    }
+}
+
+// The type of the structure or union that a node completes, if it completes one: that of its row (C11 6.7.2.1).
+fn completed_type(syntax: &Syntax, at: u32, made: &Made) -> Option<TypeId>
+    ensures within { (u : UnitSpec) → IsWithin u made.now → IfSome result (λ t. t.0 < length u.types.terms) }
+    ensures tag { (u : UnitSpec) (w : World) (uses : List (ℕ × ℕ)) (sense : ℕ → Sense) →
+        let s = source_in syntax.now uses in
+        (is_a s p_struct at ≡ true → struct_row w s sense at ≡ Fits (sense_made u made.now)) →
+        IsTypeOf u.types result (completed_at s sense at) }
+{
+    if !is_a(syntax, P_STRUCT, at) {
+        return None;
+    }
+    match child_of(syntax, P_MEMBERS, at) {
+        Some(_) => typed(made),
+        None => None,
+    }
+}
+
+/// Whether a unit's types are still small once the row of node `at` is made, before which it had `from` types: its new types are, and so
+/// is the structure or union that the node completes. Where they are, a small table stays small over what the row adds to the unit. It
+/// takes a step for each new type, and for each member of that structure or union.
+pub fn stays_small_behind(unit: &Unit, from: u32, syntax: &Syntax, at: u32, made: &Made) -> bool
+    requires { IsWithin unit.now made.now }
+    ensures { (old : UnitSpec) (w : World) (uses : List (ℕ × ℕ)) (sense : ℕ → Sense) →
+        let s = source_in syntax.now uses in
+        IsTrue result →
+        (is_a s p_struct at ≡ true → struct_row w s sense at ≡ Fits (sense_made unit.now made.now)) →
+        Grows old unit.now (completed_at s sense at) →
+        from ≡ length old.types.terms → IsSmallTable old.types → IsSmallTable unit.now.types }
+{
+    grown_is_small(unit, from, completed_type(syntax, at, made))
+}

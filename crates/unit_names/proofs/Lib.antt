@@ -1,0 +1,5 @@
+pub mod Symbols
+pub mod Places
+pub mod Typed
+pub mod Parts
+pub mod Listing

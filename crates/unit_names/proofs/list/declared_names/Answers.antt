@@ -1,0 +1,48 @@
+use Rattle.std.proofs.Common.{◌≤◌, ◌+◌, List, All, length, arith, sym, ap, subst, ◌∙◌}
+use Rattle.c_results.specs.Standing.{senses_made}
+use Rattle.tree_reads.specs.Sources.{source_in}
+use Rattle.core_nodes.proofs.Growing.{builds_on}
+use Rattle.c_senses.specs.Sense.{Sense}
+use Rattle.c_senses.specs.Right.{declared_name}
+use Rattle.c_results.proofs.Keeping.{mades_kept, withins_kept}
+use Rattle.unit_parts.specs.declared.declared.Declared.{Declared}
+use Rattle.unit_names.specs.Entries.{IsDeclaredIn}
+use Rattle.unit_names.proofs.Listing.{ListsTo, lists_more, inside_more, lists_all, bodies_within}
+use Rattle.unit_names.proofs.list.declared_names.Goals as goal
+
+pub returns-in_err-found-clause-builds : goal.returns-in_err-found-clause-builds
+returns-in_err-found-clause-builds c = builds_on c.args.unit.now c.loop-leaf.unit c.declared_at.new.unit c.loop-leaf.invariant.builds c.in_err-found.ensures.builds
+
+pub returns-in_err-add_some-clause-builds : goal.returns-in_err-add_some-clause-builds
+returns-in_err-add_some-clause-builds c = builds_on c.args.unit.now c.loop-leaf.unit c.declared_at.new.unit c.loop-leaf.invariant.builds c.in_ok-found.ensures.builds
+
+pub loop-leaf-preserved : goal.loop-leaf-preserved
+loop-leaf-preserved c =
+    let first = c.args.unit.now in
+    let old = c.loop-leaf.unit in
+    let new = c.declared_at.new.unit in
+    let inv = c.loop-leaf.invariant in
+    let more = c.in_ok-found.ensures.builds in
+    let added = c.in_ok-add_some.ensures.added in
+    let list = c.loop-leaf.list.items in
+    record {
+      ready = c.in_ok-found.ensures.ready;
+      builds = builds_on first old new inv.builds more;
+      results = withins_kept old new more c.args.results.now inv.results;
+      inside = subst (All (IsDeclaredIn new)) (sym added) (inside_more old new more list c.in_ok-found.found inv.inside c.in_ok-found.ensures.within);
+      lists = λ uses.
+          let s = source_in c.args.syntax.now uses in
+          let senses = senses_made first c.args.results.now in
+          let seen = c.in_ok-found.ensures.declared uses ∙ ap (λ (ss : List Sense). declared_name s ss c.loop-leaf.leaf) (mades_kept first old inv.builds c.args.results.now c.requires.results) in
+          subst (λ (l : List Declared). ListsTo s senses new (c.loop-leaf.leaf + 1) l) (sym added)
+          (lists_more s senses old new more c.loop-leaf.leaf list inv.inside (inv.lists uses) c.in_ok-found.found seen c.in_ok-found.ensures.leaf);
+    }
+
+pub returns-clause-names : goal.returns-clause-names
+returns-clause-names c = λ uses.
+    let s = source_in c.args.syntax.now uses in
+    let whole : length s.nodes ≤ c.loop-leaf.leaf = omega (arith, c.in-Ok.ensures, c.len.ensures) in
+    lists_all s (senses_made c.args.unit.now c.args.results.now) c.loop-leaf.unit c.loop-leaf.leaf c.loop-leaf.list.items whole (c.loop-leaf.invariant.lists uses)
+
+pub returns-clause-bodies : goal.returns-clause-bodies
+returns-clause-bodies c = bodies_within c.loop-leaf.unit c.loop-leaf.list.items c.loop-leaf.invariant.inside

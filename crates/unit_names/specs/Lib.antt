@@ -1,0 +1,7 @@
+pub mod Internal
+pub mod Choosing
+pub mod Typing
+pub mod Storages
+pub mod Bodies
+pub mod Entries
+pub mod Literals

@@ -1,0 +1,150 @@
+// What the leaf of a name declares (C11 6.7, 6.9).
+ghost use Rattle.std.specs.Prelude.{◌≡◌, ◌<◌, ℕ, List, All, length, IfOk, IfSome, IsOkUnless};
+ghost use Rattle.std.specs.Option.{option_map};
+ghost use Rattle.c_types.specs.Table.{type_of};
+ghost use Rattle.core_tree.specs.declared.node.Unit.{Unit as UnitSpec};
+ghost use Rattle.core_nodes.specs.Standing.{IsReady, Builds};
+ghost use Rattle.c_senses.specs.Tree.{spelling_at};
+ghost use Rattle.c_senses.specs.Sense.{sense_in};
+ghost use Rattle.c_senses.specs.Right as right;
+ghost use Rattle.c_results.specs.Standing.{senses_made, IsWithin};
+ghost use Rattle.tree_reads.specs.Sources.{source_read, source_in};
+ghost use Rattle.name_places.specs.Named.{IsNamedIn};
+ghost use Rattle.symbol_lists.specs.Lists.{AreOf};
+ghost use Rattle.c_meanings.specs.Known.{AreNamed};
+ghost use Rattle.unit_finish.specs.Walked.{declared_seen};
+ghost use Rattle.unit_names.specs.Entries.{IsDeclaredIn, is_known_here, is_entity_there};
+
+use crate::bodies::body_at;
+use crate::choosing::representative;
+use crate::owners::owner_at;
+use crate::storages::storage_at;
+use crate::types::entity_type;
+use c_meanings::{Names, entity_of, is_typedef, linkage_of};
+use c_results::Made;
+use c_types::term::TypeId;
+use core_nodes::CheckFault;
+use core_tree::node::Unit;
+use name_places::{is_declaring, stands_in_declaration};
+use pta_base::Text;
+use std::alloc::Global;
+use std::str::from_utf8;
+use symbol_lists::SymbolLists;
+use tree_reads::{Syntax, place_of, spelling_of};
+use unit_parts::Declared;
+
+// Whether a leaf declares no typedef name, and is the one by which its entity is known.
+fn is_known_here(names: &Names, syntax: &Syntax, results: &[Made], leaf: u32) -> bool
+    requires names { AreNamed syntax.now results.now names.now }
+    requires leaf { leaf < length syntax.now.tree.now.nodes.items }
+    ensures { (u : UnitSpec) (uses : List (ℕ × ℕ)) →
+        result ≡ is_known_here (source_in syntax.now uses) (sense_in (senses_made u results.now)) leaf }
+{
+    !is_typedef(names, syntax, leaf) && entity_of(names, syntax, results, leaf) == leaf
+}
+
+// Whether a leaf stands in a declaration, and is the one by which its entity is known.
+fn is_entity_there(names: &Names, syntax: &Syntax, results: &[Made], leaf: u32) -> bool
+    requires names { AreNamed syntax.now results.now names.now }
+    requires leaf { leaf < length syntax.now.tree.now.nodes.items }
+    ensures { (u : UnitSpec) (uses : List (ℕ × ℕ)) →
+        result ≡ is_entity_there (source_in syntax.now uses) (senses_made u results.now) leaf }
+{
+    stands_in_declaration(syntax, results, leaf) && is_known_here(names, syntax, results, leaf)
+}
+
+/// Whether a leaf declares an object or a function, and is the one by which it is known: it is the name of a declarator, in a
+/// declaration or as a parameter of a definition, no typedef name, and of the declarations of an internal name the first (C11
+/// 6.2.2p2, 6.7, 6.9). For an internal name it goes through the declarations of its symbol before it.
+pub fn declares_entity(names: &Names, syntax: &Syntax, results: &[Made], leaf: u32) -> bool
+    requires names { AreNamed syntax.now results.now names.now }
+    requires leaf { leaf < length syntax.now.tree.now.nodes.items }
+    ensures { (u : UnitSpec) (uses : List (ℕ × ℕ)) →
+        result ≡ right.declares_entity (source_in syntax.now uses) (senses_made u results.now) leaf }
+{
+    is_declaring(syntax, results, leaf) && is_entity_there(names, syntax, results, leaf)
+}
+
+// The name of a leaf. One that is no text counts as want of memory: names are letters of ASCII.
+fn name_of(alloc: Global, syntax: &Syntax, leaf: u32) -> Result<Text, CheckFault>
+    ensures name { IfOk result (λ name. name ≡ spelling_at (source_read syntax.now) leaf) }
+    ensures memory { IsOkUnless result CheckFault.OutOfMemory }
+{
+    match from_utf8(spelling_of(syntax, leaf)) {
+        Ok(text) => Ok(Text::copy_of(alloc, text)?),
+        Err(_) => Err(CheckFault::OutOfMemory),
+    }
+}
+
+// What a leaf declares, with its type.
+fn declared_as(
+    alloc: Global,
+    names: &Names,
+    lists: &SymbolLists,
+    syntax: &Syntax,
+    results: &[Made],
+    leaf: u32,
+    ty: TypeId,
+) -> Result<Declared, CheckFault>
+    requires named { All (IsNamedIn (length syntax.now.tree.now.nodes.items)) results.now }
+    requires names { AreNamed syntax.now results.now names.now }
+    requires lists { AreOf (source_read syntax.now).declared.ordinary lists.now }
+    requires leaf { leaf < length syntax.now.tree.now.nodes.items }
+    ensures seen { (u : UnitSpec) (uses : List (ℕ × ℕ)) →
+        IfOk result (λ x.
+        declared_seen u x ≡ right.declared_as (source_in syntax.now uses) (senses_made u results.now) leaf (type_of u.types ty.0)) }
+    ensures leaf { IfOk result (λ x. x.leaf ≡ leaf) }
+    ensures within { (u : UnitSpec) → All (IsWithin u) results.now → ty.0 < length u.types.terms → IfOk result (IsDeclaredIn u) }
+    ensures memory { IsOkUnless result CheckFault.OutOfMemory }
+{
+    let at = representative(alloc, names, lists, syntax, results, leaf)?;
+    let name = name_of(alloc, syntax, leaf)?;
+    Ok(Declared {
+        leaf,
+        name,
+        place: place_of(syntax, at),
+        ty,
+        linkage: linkage_of(names, syntax, results, leaf),
+        storage: storage_at(names, syntax, results, leaf, at),
+        owner: owner_at(names, syntax, results, leaf),
+        body: body_at(syntax, results, at),
+    })
+}
+
+/// What a leaf declares as the name of an object or a function: its name and linkage, the type that its declarations give, its
+/// storage, the function that owns it, and its body (C11 6.2.2, 6.2.4, 6.2.7, 6.9); None where it declares none, where another
+/// declaration of an internal name stands before it, and where no type is made. The types that are asked for may be added to the
+/// unit. Only memory may want; a name that is no text counts as that too.
+pub fn declared_at(
+    alloc: Global,
+    unit: &mut Unit,
+    names: &Names,
+    lists: &SymbolLists,
+    syntax: &Syntax,
+    results: &[Made],
+    leaf: u32,
+) -> Result<Option<Declared>, CheckFault>
+    requires ready { IsReady unit.old }
+    requires results { All (IsWithin unit.old) results.now }
+    requires named { All (IsNamedIn (length syntax.now.tree.now.nodes.items)) results.now }
+    requires names { AreNamed syntax.now results.now names.now }
+    requires lists { AreOf (source_read syntax.now).declared.ordinary lists.now }
+    requires leaf { leaf < length syntax.now.tree.now.nodes.items }
+    ensures ready { IsReady unit.new }
+    ensures builds { Builds unit.old unit.new }
+    ensures declared { IfOk result (λ found. (uses : List (ℕ × ℕ)) →
+        option_map (declared_seen unit.new) found
+        ≡ right.declared_name (source_in syntax.now uses) (senses_made unit.old results.now) leaf) }
+    ensures leaf { IfOk result (λ found. IfSome found (λ x. x.leaf ≡ leaf)) }
+    ensures within { IfOk result (λ found. IfSome found (IsDeclaredIn unit.new)) }
+    ensures memory { IsOkUnless result CheckFault.OutOfMemory }
+{
+    if !declares_entity(names, syntax, results, leaf) {
+        return Ok(None);
+    }
+    let Some(ty) = entity_type(alloc, unit, names, lists, syntax, results, leaf)? else {
+        return Ok(None);
+    };
+    let declared = declared_as(alloc, names, lists, syntax, results, leaf, ty)?;
+    Ok(Some(declared))
+}

@@ -1,0 +1,53 @@
+// The storage of what a name declares (C11 6.2.4).
+ghost use Rattle.std.specs.Prelude.{◌≡◌, ◌<◌, ℕ, List, length};
+ghost use Rattle.core_tree.specs.declared.node.Unit.{Unit as UnitSpec};
+ghost use Rattle.c_senses.specs.Right as right;
+ghost use Rattle.c_results.specs.Standing.{senses_made};
+ghost use Rattle.tree_reads.specs.Sources.{source_in};
+ghost use Rattle.c_meanings.specs.Known.{AreNamed};
+ghost use Rattle.unit_names.specs.Storages.{internal_storage};
+
+use c_meanings::{Names, declares_function, is_internal, storage_of};
+use c_results::Made;
+use core_tree::node::Storage;
+use tree_reads::Syntax;
+
+// The storage of an internal name by that of its declarations: what is only declared has its place for the whole run, unless it is a
+// function.
+fn internal_storage(storage: Storage, is_function: bool) -> Storage
+    ensures { result ≡ internal_storage storage is_function }
+{
+    match storage {
+        Storage::Declared => {
+            if is_function {
+                Storage::Declared
+            } else {
+                Storage::Static
+            }
+        }
+        Storage::Static => Storage::Static,
+        Storage::Automatic => Storage::Automatic,
+        Storage::FunctionBody => Storage::FunctionBody,
+        Storage::Parameter => Storage::Parameter,
+    }
+}
+
+/// The storage of the object or function that a leaf declares (C11 6.2.4, 6.9.2), where `at` is the declaration at which it has its
+/// place: of an internal name that of this one, and an object has its place for the whole run; of any other name its own
+/// declaration's.
+pub fn storage_at(names: &Names, syntax: &Syntax, results: &[Made], leaf: u32, at: u32) -> Storage
+    requires names { AreNamed syntax.now results.now names.now }
+    requires leaf { leaf < length syntax.now.tree.now.nodes.items }
+    requires at { at < length syntax.now.tree.now.nodes.items }
+    ensures { (u : UnitSpec) (uses : List (ℕ × ℕ)) →
+        let s = source_in syntax.now uses in
+        let senses = senses_made u results.now in
+        at ≡ right.representative s senses leaf →
+        result ≡ right.storage_at s senses leaf }
+{
+    if !is_internal(names, syntax, results, leaf) {
+        return storage_of(names, syntax, results, leaf);
+    }
+    let storage = storage_of(names, syntax, results, at);
+    internal_storage(storage, declares_function(names, syntax, leaf))
+}

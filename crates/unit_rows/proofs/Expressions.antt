@@ -1,0 +1,109 @@
+-- Rows of expressions, and of nodes that stand for nothing.
+use Rattle.std.proofs.Common.{arith, ◌≡◌, ◌==◌, ◌<◌, ◌≤◌, ℕ, Bool, true, false, cond, ◌||◌, ◌&&◌, nat_lt, List, [], ◌∷◌, Result, All, refl, sym, ap, ◌∙◌, subst, ◌⊎◌, inl, inr}
+use Rattle.std.specs.Prelude.{nat_le}
+use Rattle.std.proofs.lemmas.Bool.{eqb-true, ltb-true, leb-true}
+use Rattle.std.proofs.lemmas.Bool.Decides.{eqb_tells}
+use Rattle.std.proofs.lemmas.List.Elements.{All-weaker}
+use Rattle.pta_base.specs.declared.kind.Kind.TheVariants.{NotBuilt}
+use Rattle.c_grammar.specs.Terminals.{contains}
+use Rattle.c_grammar.specs.Productions.{p_struct, p_primary, p_init, p_items, p_declarator, p_abstract, p_either}
+use Rattle.core_tree.specs.declared.node.Unit.{Unit}
+use Rattle.core_nodes.specs.declared.fault.CheckFault.{CheckFault}
+use Rattle.c_results.specs.declared.made.Made.{Made}
+use Rattle.c_results.specs.declared.made.Made.TheVariants as made
+use Rattle.c_results.specs.Standing.{sense_made, Rowed}
+use Rattle.c_senses.specs.Given.{Given, Refuses}
+use Rattle.c_senses.specs.Tree.{Source}
+use Rattle.c_senses.specs.World.{World}
+use Rattle.c_senses.specs.Sense.{Sense}
+use Rattle.c_senses.specs.Rows.{row_of}
+use Rattle.c_senses.specs.Expressions.{expression_row}
+use Rattle.c_rows.specs.Built.{built_primary}
+use Rattle.name_places.specs.Named.{IsNamedSense, IsNamedIn}
+use Rattle.name_uses.specs.Built.{named_row, first_is_strange}
+use Rattle.name_uses.proofs.Parts.{rows_part}
+use Rattle.row_trees.specs.Trees.{SenseHasRows}
+use Rattle.row_shapes.specs.Kept.{Keeps}
+use Rattle.row_shapes.specs.Kept as shapes
+use Rattle.unit_rows.specs.Built.{RowedAt, lists, lists_others, is_expression, may_stop}
+use Rattle.unit_rows.specs.Standing.{AreKept}
+use Rattle.unit_rows.proofs.Answers.{rowed_at, stopped_at, row_expression}
+use Rattle.unit_rows.proofs.Cover.{one_of}
+
+both_ways : (a b : Bool) → (a && b) ≡ true → a ≡ true
+both_ways true b e = refl
+both_ways false b e = cc
+
+apart : (q k : ℕ) → 31 ≤ q → k < 31 → (q == k) ≡ false
+apart q k h l = elim (eqb_tells q k) [ inl p ↦ absurd (omega (arith, h, l, p.1)) | inr p ↦ p.0 ]
+
+none : (a b : Bool) → a ≡ false → b ≡ false → (a || b) ≡ false
+none true b e f = cc
+none false b e f = f
+
+high : (q : ℕ) → is_expression q ≡ true → 31 ≤ q
+high q e = leb-true 31 q (both_ways (nat_le 31 q) (nat_le q 47) e)
+
+pub no_struct : (q : ℕ) → is_expression q ≡ true → (q == p_struct) ≡ false
+no_struct q e = apart q p_struct (high q e) (omega arith)
+
+pub no_initial : (q : ℕ) → is_expression q ≡ true → shapes.is_initial q ≡ false
+no_initial q e = none (q == p_init) (q == p_items) (apart q p_init (high q e) (omega arith)) (apart q p_items (high q e) (omega arith))
+
+pub no_declarator : (q : ℕ) → is_expression q ≡ true → shapes.is_declarator q ≡ false
+no_declarator q e =
+    none (q == p_declarator) ((q == p_abstract) || (q == p_either)) (apart q p_declarator (high q e) (omega arith))
+    (none (q == p_abstract) (q == p_either) (apart q p_abstract (high q e) (omega arith)) (apart q p_either (high q e) (omega arith)))
+
+-- the row of an expression, whose names may be said not to be built
+module _ (w : World) (s : Source) (sense : ℕ → Sense) (q at : ℕ) (xs : List ℕ) (u : Unit) (r : Result Made CheckFault) where
+  abbrev Named : Given Sense
+  Named = named_row w s sense q at xs
+
+  abbrev Whole : Given Sense
+  Whole = row_of w s sense q at xs
+
+  parts : is_expression q ≡ true → (Named ≡ expression_row w s sense q at xs) ⊎ (Named ≡ Refuses NotBuilt at) → (Named ≡ Whole) ⊎ (Named ≡ Refuses NotBuilt at)
+  parts e (inl h) = inl (h ∙ sym (row_expression w s sense q at xs e))
+  parts e (inr h) = inr h
+
+  no_primary : is_expression q ≡ true → (q == p_primary) ≡ false → Named ≡ Whole
+  no_primary e f =
+      ap (λ (b : Bool). cond (b && first_is_strange w s xs) (Refuses NotBuilt at) (cond b (built_primary w s sense at xs) (expression_row w s sense q at xs))) f
+      ∙ sym (row_expression w s sense q at xs e)
+
+  pub expression_there : is_expression q ≡ true → Rowed u r Named → RowedAt u r Whole q at
+  expression_there e h = by (q == p_primary) refl
+    where
+      by : (b : Bool) → (q == p_primary) ≡ b → RowedAt u r Whole q at
+      by true f = stopped_at u r Named Whole q at (subst (λ (p : ℕ). may_stop p ≡ true) (sym (eqb-true q p_primary f)) refl) (parts e (rows_part w s sense q at xs)) h
+      by false f = rowed_at u r Whole q at (subst (Rowed u r) (no_primary e f) h)
+
+-- what stands for nothing is no structure
+pub lists_no_struct : (q : ℕ) → lists_others q ≡ true → (q == p_struct) ≡ false
+lists_no_struct q e = by (contains lists q) (nat_lt 47 q) refl refl e
+  where
+    by : (a b : Bool) → contains lists q ≡ a → nat_lt 47 q ≡ b → (a || b) ≡ true → (q == p_struct) ≡ false
+    by true b f g h = one_of (λ p. (p == p_struct) ≡ false) q lists (refl, (refl, (refl, (refl, (refl, (refl, (refl, (refl, tt)))))))) f
+    by false true f g h = elim (eqb_tells q p_struct) [ inl p ↦ absurd (omega (arith, ltb-true 47 q g, p.1)) | inr p ↦ p.0 ]
+    by false false f g h = cc
+
+-- what is asked of the results before an expression
+pub rows_made : (count : ℕ) (u : Unit) (rs : List Made) → AreKept count u rs → All (λ m. SenseHasRows (sense_made u m)) rs
+rows_made count u rs h = All-weaker (λ (m : Made). Keeps count (sense_made u m)) (λ (m : Made). SenseHasRows (sense_made u m)) (λ m k. k.0) rs h
+
+named_in : (count : ℕ) (u : Unit) (m : Made) → IsNamedSense count (sense_made u m) → IsNamedIn count m
+named_in count u made.Nothing h = tt
+named_in count u (made.Node i) h = tt
+named_in count u (made.Typed t) h = tt
+named_in count u (made.Specifiers storage functions ty) h = tt
+named_in count u (made.Declarator name ds) h = h
+named_in count u (made.Derived d) h = tt
+named_in count u (made.Parameter name ty) h = tt
+named_in count u (made.Members members) h = tt
+named_in count u (made.Value n) h = tt
+named_in count u (made.Run nodes) h = tt
+named_in count u (made.Initial node n) h = tt
+
+pub names_in : (count : ℕ) (u : Unit) (rs : List Made) → AreKept count u rs → All (IsNamedIn count) rs
+names_in count u rs h = All-weaker (λ (m : Made). Keeps count (sense_made u m)) (IsNamedIn count) (λ m k. named_in count u m k.1.1) rs h

@@ -1,0 +1,11 @@
+use Rattle.std.proofs.Common.{refl}
+use Rattle.core_nodes.proofs.Growing.{same_builds}
+use Rattle.unit_rows.proofs.limits.all_small.Goals as goal
+
+pub returns-clause-tested : goal.returns-clause-tested
+returns-clause-tested c = record {
+  earlier = c.args.unit.now;
+  small = c.new_types_are_small.ensures.built c.requires.earlier c.if-not-new_types_are_small.false c.requires.built c.requires.long c.requires.small;
+  built = same_builds c.args.unit.now c.args.unit.now refl refl refl;
+  long = c.type_count-count.ensures.count;
+}

@@ -1,0 +1,23 @@
+-- The system of a program, and that of units.
+use Rattle.std.specs.Prelude.{◌≡◌, List, length}
+use Rattle.core_tree.specs.declared.node.Unit.{Unit}
+use Rattle.core_tree.specs.declared.node.Program.{Program}
+use Rattle.sol_model.specs.declared.system.System.{System}
+use Rattle.sol_model.specs.Systems.{IsValid, location_count}
+use Rattle.unit_link.specs.Linked.{Linked}
+use Rattle.obj_space.specs.declared.location.Location.{Location}
+use Rattle.obj_space.specs.Space.{locations_in}
+use Rattle.obj_space.specs.View.{view_of}
+use Rattle.normal_form.specs.SystemOf.{SystemOf}
+
+-- a program's locations, and its system over these
+pub record IsSystemOf (p : Program) (space : List Location) (system : System) : Type 0 where
+  pub space_is : space ≡ locations_in p
+  pub system_is : SystemOf p (view_of space) system
+  pub valid : IsValid system
+  pub count : length space ≡ location_count system
+
+-- a program that is linked from units, with its locations and its system over these
+pub record AreLinkedAs (units : List Unit) (p : Program) (space : List Location) (system : System) : Type 0 where
+  pub linked : Linked units p
+  pub system_of : IsSystemOf p space system

@@ -1,0 +1,2 @@
+pub mod Functioning
+pub mod Passing

@@ -1,0 +1,14 @@
+//! Whether a unit is valid, found without a look at each node for each other one.
+#![tactic(auto)]
+
+mod entities;
+mod functions;
+mod keys;
+mod linkages;
+mod nodes;
+mod range;
+mod sizes;
+mod trees;
+mod unit;
+
+pub use unit::valid_unit;
