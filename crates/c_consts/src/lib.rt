@@ -6,8 +6,6 @@ mod fault;
 mod numbers;
 mod operators;
 mod steps;
-#[cfg(test)]
-mod tests;
 
 pub use evaluate::constant;
 pub use fault::ConstFault;

@@ -38,6 +38,3 @@ pub fn item(production: u32, at: u32) -> Option<Item>
     }
     Some(ITEMS[(start + at) as usize])
 }
-
-#[cfg(test)]
-mod tests;

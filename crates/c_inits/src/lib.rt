@@ -9,5 +9,3 @@ pub mod filling;
 pub mod items;
 pub mod laws;
 pub mod places;
-#[cfg(test)]
-mod tests;

@@ -64,6 +64,3 @@ pub enum LexFault {
     /// Memory ran out.
     OutOfMemory,
 }
-
-#[cfg(test)]
-mod tests;

@@ -13,6 +13,3 @@ mod strings;
 pub use characters::character_value;
 pub use integers::{ConstantType, IntegerConstant, integer_constant, is_in_range};
 pub use strings::{is_narrow, push_string};
-
-#[cfg(test)]
-mod tests;

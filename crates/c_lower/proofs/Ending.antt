@@ -1,11 +1,9 @@
 -- From what the walk has made to a unit.
-use Rattle.std.proofs.Common.{◌≡◌, ℕ, ◌<◌, List, Option, All, Ok, Err, length, ◌⊎◌, inl, inr, sym, ◌∙◌, subst}
-use Rattle.std.specs.Prelude.{Result, IfOk, IfErr, MatchResult}
+use Rattle.std.proofs.Common.{◌≡◌, ℕ, ◌<◌, List, All, Ok, Err, length, inl, inr, sym, ◌∙◌, subst}
+use Rattle.std.specs.Prelude.{Result, IfOk, MatchResult}
 use Rattle.std.proofs.lemmas.List.Elements.{All-weaker}
 use Rattle.std.proofs.lemmas.List.{length-map}
 use Rattle.pta_base.specs.declared.kind.Kind.TheVariants.{NotBuilt}
-use Rattle.c_types.specs.Table.{Table}
-use Rattle.core_tree.specs.declared.node.Node.{Node}
 use Rattle.core_tree.specs.declared.node.Unit.{Unit}
 use Rattle.core_nodes.specs.Standing.{Builds}
 use Rattle.core_nodes.specs.declared.fault.CheckFault.{CheckFault}
@@ -21,13 +19,14 @@ use Rattle.name_places.specs.Named.{IsNamedIn, IsNamedSense}
 use Rattle.row_shapes.specs.Kept.{Keeps}
 use Rattle.tag_numbers.specs.declared.tags.Tags.{Tags}
 use Rattle.tag_numbers.specs.Known as known
-use Rattle.unit_parts.specs.declared.declared.Declared.{Declared}
-use Rattle.unit_finish.specs.Complete.{NoneCompletes}
+use Rattle.tag_numbers.specs.Ordered.{AreInOrder}
+use Rattle.unit_parts.specs.Renamed.{literals_in}
+use Rattle.unit_finish.specs.Complete as finish
 use Rattle.unit_finish.specs.Walked.{AreTags}
 use Rattle.unit_names.specs.Literals.{IsPast}
 use Rattle.unit_rows.specs.Standing.{AreKept, AreMade}
-use Rattle.unit_walk.specs.Walked.{IsWalked, AreDense, RefusedIn, IsUnread}
-use Rattle.c_lower.specs.Lowered.{IsLowered, IsNotLowered, EndsAt, AllFit, IsUnfinished}
+use Rattle.unit_walk.specs.Walked.{IsWalked, AreDense, RefusedIn}
+use Rattle.c_lower.specs.Lowered.{IsLowered, IsNotLowered, IsUnfinished, AreParts, declared_in}
 
 -- the name of a declarator is a node
 named_of : (count : ℕ) (u : Unit) (m : Made) → IsNamedSense count (sense_made u m) → IsNamedIn count m
@@ -69,58 +68,48 @@ tags_kept s senses old new b h = record {
 pub whole_walked : (s : Source) (u : Unit) (rs : List Made) → IsWalked s u rs → length (senses_made u rs) ≡ length s.nodes
 whole_walked s u rs h = length-map rs (sense_made u) ∙ h.whole
 
-pub all_fit : (s : Source) (u : Unit) (rs : List Made) → IsWalked s u rs → AllFit s
-all_fit s u rs h = record { senses = senses_made u rs; are_senses = h.made.senses; whole = whole_walked s u rs h }
+-- refusals of the whole
+module _ (s : Source) (name : List ℕ) (parts : AreParts s) (root : ℕ) where
+  pub unfinished_past : (fault : CheckFault) → IsPast (literals_in parts.kept.nodes.items) (length s.nodes) fault → IsUnfinished s name root fault
+  unfinished_past (BadOperand named) h = h
+  unfinished_past (Unsupported NotBuilt named) h = inr (record { parts = parts; past = h })
+  unfinished_past (Unsupported kind named) h = h
+  unfinished_past OutOfMemory h = tt
 
--- where it ends
-pub ends_past : (root count : ℕ) (fault : CheckFault) → IsPast count fault → EndsAt root count fault
-ends_past root count (BadOperand named) h = h
-ends_past root count (Unsupported NotBuilt named) h = inr h
-ends_past root count (Unsupported kind named) h = h
-ends_past root count OutOfMemory h = tt
+  unfinished_none : (fault : CheckFault) → finish.NoneCompletes name s.unit parts.walked.types parts.keys parts.kept.nodes.items (declared_in s parts) root fault → IsUnfinished s name root fault
+  unfinished_none (BadOperand named) h = h
+  unfinished_none (Unsupported NotBuilt named) h = inl (h.0, record { parts = parts; none = h.1 })
+  unfinished_none (Unsupported kind named) h = h
+  unfinished_none OutOfMemory h = tt
 
-pub ends_none : (name : List ℕ) (number : ℕ) (types : Table) (keys : List (Option (List ℕ))) (nodes : List Node) (list : List Declared) (root count : ℕ) (fault : CheckFault) → NoneCompletes name number types keys nodes list root fault → EndsAt root count fault
-ends_none name number types keys nodes list root count (BadOperand named) h = h
-ends_none name number types keys nodes list root count (Unsupported NotBuilt named) h = inl h.0
-ends_none name number types keys nodes list root count (Unsupported kind named) h = h
-ends_none name number types keys nodes list root count OutOfMemory h = tt
+  -- a unit that is right, or none that the parts complete
+  pub finished_so : (r : Result Unit CheckFault) → IfOk r (Right s name)
+      → MatchResult r (finish.Completes name s.unit parts.walked.types parts.keys parts.kept.nodes.items (declared_in s parts)) (finish.NoneCompletes name s.unit parts.walked.types parts.keys parts.kept.nodes.items (declared_in s parts) root)
+      → MatchResult r (Right s name) (IsUnfinished s name root)
+  finished_so (Ok u) right h = right
+  finished_so (Err fault) right h = unfinished_none fault h
 
-pub unfinished : (s : Source) (root : ℕ) → AllFit s → (fault : CheckFault) → EndsAt root (length s.nodes) fault → IsUnfinished s root fault
-unfinished s root fit (BadOperand named) h = h
-unfinished s root fit (Unsupported NotBuilt named) h = (fit, h)
-unfinished s root fit (Unsupported kind named) h = h
-unfinished s root fit OutOfMemory h = tt
+pub memory_unfinished : (s : Source) (name : List ℕ) (root : ℕ) (fault : CheckFault) → fault ≡ OutOfMemory → IsUnfinished s name root fault
+memory_unfinished s name root fault e = subst (IsUnfinished s name root) (sym e) tt
 
-pub memory_unfinished : (s : Source) (root : ℕ) (fault : CheckFault) → fault ≡ OutOfMemory → IsUnfinished s root fault
-memory_unfinished s root fault e = subst (IsUnfinished s root) (sym e) tt
-
-module _ {A : Type 0} (P : A → Type 0) (Q R : CheckFault → Type 0) (weaker : (f : CheckFault) → Q f → R f) where
-  pub ends_by : (r : Result A CheckFault) → MatchResult r P Q → IfErr r R
-  ends_by (Ok x) h = tt
-  ends_by (Err f) h = weaker f h
-
-  pub joined : (r : Result A CheckFault) → IfOk r P → IfErr r Q → MatchResult r P R
-  joined (Ok x) ok err = ok
-  joined (Err f) ok err = weaker f err
-
--- the numbers of the tags are dense
-dense_of : (s : Source) (t : Tags) → known.AreTags s t → AreDense s
-dense_of s t h = record {
+-- the numbers of the tags
+dense_of : (s : Source) (t : Tags) → known.AreTags s t → AreInOrder s → AreDense s
+dense_of s t h ordered = record {
   differ = h.differ;
   below = λ d is. subst (λ (n : ℕ). s.tag_number d < n) h.count (h.below d is);
   onto = λ n lt. h.onto n (subst (λ (m : ℕ). n < m) (sym h.count) lt);
+  ordered = ordered;
 }
 
 -- in the source with those numbers
-pub lowered : (s plain : Source) (f : ℕ → ℕ) (t : Tags) (name : List ℕ) (at root : ℕ) → s ≡ numbered f plain → at ≡ root → known.AreTags s t → (r : Result Unit CheckFault) → MatchResult r (Right s name) (IsUnfinished s at) → MatchResult r (IsLowered plain name) (IsNotLowered plain root)
-lowered s plain f t name at root same there tags (Ok u) h = record {
+pub lowered : (s plain : Source) (f : ℕ → ℕ) (t : Tags) (name : List ℕ) (at root : ℕ) → s ≡ numbered f plain → at ≡ root → known.AreTags s t → AreInOrder s → (r : Result Unit CheckFault) → MatchResult r (Right s name) (IsUnfinished s name at) → MatchResult r (IsLowered plain name) (IsNotLowered plain name root)
+lowered s plain f t name at root same there tags ordered (Ok u) h = record {
   tag_number = f;
-  dense = subst AreDense same (dense_of s t tags);
+  dense = subst AreDense same (dense_of s t tags ordered);
   right = subst (λ (x : Source). Right x name u) same h;
 }
-lowered s plain f t name at root same there tags (Err fault) h =
-    inr (inr (f, subst AreDense same (dense_of s t tags), subst (λ (n : ℕ). IsUnfinished (numbered f plain) n fault) there (subst (λ (x : Source). IsUnfinished x at fault) same h)))
+lowered s plain f t name at root same there tags ordered (Err fault) h =
+    inr (f, subst AreDense same (dense_of s t tags ordered), subst (λ (n : ℕ). IsUnfinished (numbered f plain) name n fault) there (subst (λ (x : Source). IsUnfinished x name at fault) same h))
 
-pub refused_first : (s : Source) (root : ℕ) (fault : CheckFault) → RefusedIn s fault ⊎ IsUnread fault → IsNotLowered s root fault
-refused_first s root fault (inl h) = inl h
-refused_first s root fault (inr h) = inr (inl h)
+pub refused_first : (s : Source) (name : List ℕ) (root : ℕ) (fault : CheckFault) → RefusedIn s fault → IsNotLowered s name root fault
+refused_first s name root fault h = inl h

@@ -1,44 +1,64 @@
 -- What it is to lower a text to its unit, and to refuse it.
-use Rattle.std.specs.Prelude.{ℕ, ◌≡◌, ◌≤◌, ⊤, List, length, ◌⊎◌}
+use Rattle.std.specs.Prelude.{ℕ, ◌≡◌, ⊤, List, ◌++◌, length, map, Option, ◌⊎◌}
 use Rattle.pta_base.specs.declared.kind.Kind.TheVariants.{NotBuilt}
 use Rattle.core_tree.specs.declared.node.Unit.{Unit}
+use Rattle.core_nodes.specs.Standing.{IsReady}
 use Rattle.core_nodes.specs.declared.fault.CheckFault.{CheckFault}
 use Rattle.core_nodes.specs.declared.fault.CheckFault.TheVariants.{Unsupported, OutOfMemory}
 use Rattle.c_senses.specs.Tree.{Source}
 use Rattle.c_senses.specs.Names.{numbered}
 use Rattle.c_senses.specs.Right.{Right}
-use Rattle.c_senses.specs.Rows.{AreSenses}
 use Rattle.c_senses.specs.Sense.{Sense}
-use Rattle.unit_walk.specs.Walked.{AreDense, RefusedIn, IsUnread}
+use Rattle.unit_parts.specs.declared.declared.Declared.{Declared}
+use Rattle.unit_parts.specs.Renamed.{literals_in}
+use Rattle.unit_finish.specs.declared.keeping.Kept.{Kept}
+use Rattle.unit_finish.specs.Complete.{IsKept, Completes}
+use Rattle.unit_finish.specs.Walked.{IsWalked, literal_entry}
+use Rattle.unit_names.specs.Literals.{IsPast}
+use Rattle.unit_walk.specs.Walked.{AreDense, RefusedIn}
 
--- the unit is what the source says, with numbers of its tags that are those below their count
+-- the unit is what the source says, with the numbers of its tags
 pub record IsLowered (s : Source) (name : List ℕ) (u : Unit) : Type 0 where
   pub tag_number : ℕ → ℕ
   pub dense : AreDense (numbered tag_number s)
   pub right : Right (numbered tag_number s) name u
 
--- at the root, or behind so many nodes
-abbrev pub EndsAt : ℕ → ℕ → CheckFault → Type 0
-EndsAt root count (Unsupported NotBuilt named) = (named ≡ root) ⊎ (count ≤ named)
-EndsAt root count OutOfMemory = ⊤
-EndsAt root count fault = ⊥
-
--- the rows of all nodes fit
-pub record AllFit (s : Source) : Type 0 where
+-- the rows of all nodes fit: their senses, a unit that has their types and nodes, the keys of the tags, what the names declare, and of the
+-- nodes those under the bodies of that
+pub record AreParts (s : Source) : Type 0 where
   pub senses : List Sense
-  pub are_senses : AreSenses s senses
-  pub whole : length senses ≡ length s.nodes
+  pub walked : Unit
+  pub keys : List (Option (List ℕ))
+  pub names : List Declared
+  pub kept : Kept
+  pub ready : IsReady walked
+  pub made : IsWalked s senses walked keys names
+  pub stay : IsKept walked.nodes.items names kept
 
--- the rows of all nodes fit, and it is refused as not built there
-abbrev pub IsUnfinished : Source → ℕ → CheckFault → Type 0
-IsUnfinished s root (Unsupported NotBuilt named) = AllFit s × ((named ≡ root) ⊎ (length s.nodes ≤ named))
-IsUnfinished s root OutOfMemory = ⊤
-IsUnfinished s root fault = ⊥
+-- what names and compound literals declare
+abbrev pub declared_in : (s : Source) → AreParts s → List Declared
+declared_in s p = p.kept.names.items ++ map (literal_entry s p.senses) (literals_in p.kept.nodes.items)
 
--- with some dense numbers of its tags
-abbrev pub UnfinishedIn : Source → ℕ → CheckFault → Type 0
-UnfinishedIn s root fault = (tag_number : ℕ → ℕ) × AreDense (numbered tag_number s) × IsUnfinished (numbered tag_number s) root fault
+-- such parts, of which no valid unit is made
+pub record NoneCompletes (s : Source) (name : List ℕ) : Type 0 where
+  pub parts : AreParts s
+  pub none : (u : Unit) → Completes name s.unit parts.walked.types parts.keys parts.kept.nodes.items (declared_in s parts) u → ⊥
 
--- a refusal by the first row that doesn't fit; for names that can't be taken; or, where all rows fit, of the whole
-abbrev pub IsNotLowered : Source → ℕ → CheckFault → Type 0
-IsNotLowered s root fault = RefusedIn s fault ⊎ (IsUnread fault ⊎ UnfinishedIn s root fault)
+-- such parts, with a compound literal there that stands at no node
+pub record StandsNowhere (s : Source) (fault : CheckFault) : Type 0 where
+  pub parts : AreParts s
+  pub past : IsPast (literals_in parts.kept.nodes.items) (length s.nodes) fault
+
+-- the rows of all nodes fit, and it is refused as not built: at the root, or at such a literal
+abbrev pub IsUnfinished : Source → List ℕ → ℕ → CheckFault → Type 0
+IsUnfinished s name root (Unsupported NotBuilt named) = ((named ≡ root) × NoneCompletes s name) ⊎ StandsNowhere s (Unsupported NotBuilt named)
+IsUnfinished s name root OutOfMemory = ⊤
+IsUnfinished s name root fault = ⊥
+
+-- with the numbers of its tags
+abbrev pub UnfinishedIn : Source → List ℕ → ℕ → CheckFault → Type 0
+UnfinishedIn s name root fault = (tag_number : ℕ → ℕ) × AreDense (numbered tag_number s) × IsUnfinished (numbered tag_number s) name root fault
+
+-- a refusal by the first row that doesn't fit, or, where all rows fit, of the whole
+abbrev pub IsNotLowered : Source → List ℕ → ℕ → CheckFault → Type 0
+IsNotLowered s name root fault = RefusedIn s fault ⊎ UnfinishedIn s name root fault

@@ -1,7 +1,8 @@
 // From the walk over a unit's tree to the unit.
-ghost use Rattle.std.specs.Prelude.{◌≡◌, ℕ, List, All, length, IfOk, IfErr, MatchResult};
+ghost use Rattle.std.specs.Prelude.{◌≡◌, ℕ, List, All, length, MatchResult};
 ghost use Rattle.core_tree.specs.declared.node.Unit.{Unit as UnitSpec};
 ghost use Rattle.core_nodes.specs.Standing.{IsReady};
+ghost use Rattle.c_lexer.specs.Cut.{IsTokens};
 ghost use Rattle.c_scope.specs.Resolves.{IsBound};
 ghost use Rattle.c_senses.specs.Names.{source_of};
 ghost use Rattle.c_senses.specs.Right.{Right};
@@ -16,7 +17,7 @@ ghost use Rattle.unit_finish.specs.Walked as finish;
 ghost use Rattle.unit_rows.specs.Standing.{Stand};
 ghost use Rattle.unit_walk.specs.Ground.{IsGround, source_ground, nodes_ground};
 ghost use Rattle.unit_walk.specs.Walked.{IsWalked};
-ghost use Rattle.c_lower.specs.Lowered.{IsLowered, IsNotLowered, EndsAt, IsUnfinished};
+ghost use Rattle.c_lower.specs.Lowered.{IsLowered, IsNotLowered, IsUnfinished};
 
 use c_grammar::Tree;
 use c_lexer::Tokens;
@@ -47,13 +48,12 @@ fn finished(
 ) -> Result<Unit, CheckFault>
     requires names { AreNamed syntax.now results.now names.now }
     requires named { All (IsNamedIn (length syntax.now.tree.now.nodes.items)) results.now }
-    ensures right { (u walked : UnitSpec) (uses : List (ℕ × ℕ)) (list : List DeclaredSpec) →
+    ensures { (u walked : UnitSpec) (uses : List (ℕ × ℕ)) (list : List DeclaredSpec) →
         let s = source_in syntax.now uses in
         IsReady walked → walked.types ≡ types → s.unit ≡ heading.unit →
         finish.IsWalked s (senses_made u results.now) walked keys.items list →
         IsKept walked.nodes.items list kept →
-        IfOk result (Right s heading.name) }
-    ensures refused { IfErr result (EndsAt heading.root (length syntax.now.tree.now.nodes.items)) }
+        MatchResult result (Right s heading.name) (IsUnfinished s heading.name heading.root) }
 {
     let nodes = kept.nodes.as_slice();
     let literals = match declared_literals(alloc, names, syntax, results, nodes) {
@@ -71,7 +71,7 @@ fn completed(alloc: Global, bound: &Bound, name: Text, walked: Walked) -> Result
     requires walked { IsWalked (source_ground walked.ground bound.now) walked.unit walked.results.items }
     ensures { let told = walked.entry.ground in
         let s = source_ground told bound.now in
-        MatchResult result (Right s name) (IsUnfinished s told.numbered.syntax.tree.now.root) }
+        MatchResult result (Right s name) (IsUnfinished s name told.numbered.syntax.tree.now.root) }
 {
     let Walked {
         ground,
@@ -104,9 +104,9 @@ fn completed(alloc: Global, bound: &Bound, name: Text, walked: Walked) -> Result
 
 /// The unit that a text stands for, where its tokens and its tree are those of a text whose names are bound, and each node stands behind
 /// its children. The text is refused at its first node, in order, whose row doesn't fit: `BadOperand` and `Unsupported` hold the kind and
-/// the node that the row names. `NotBuilt` comes at a node of whose production not each form is built; at node 0 where a name isn't spelled
-/// in ASCII or has no place among the nodes; and, where the rows of all nodes fit, at the root, where their unit would not be valid, or at
-/// a compound literal that stands at no node. Beside that only memory may want.
+/// the node that the row names. `NotBuilt` comes at a node of whose production not each form is built; and, where the rows of all nodes fit,
+/// at the root, where no valid unit is made of what they stand for, or at a compound literal that stands at no node. Beside that only
+/// memory may want. Tags have the numbers of the order of their first specifiers (C11 6.7.2.3).
 pub fn lower_unit(
     alloc: Global,
     tokens: &Tokens,
@@ -114,10 +114,11 @@ pub fn lower_unit(
     bound: &Bound,
     name: Text,
 ) -> Result<Unit, CheckFault>
+    requires tokens { IsTokens tokens.now.text.now tokens.now.list.items }
     requires bound { IsBound tokens.now tree.now bound.now }
     requires first { ChildrenFirst (source_of tokens.now tree.now) }
     ensures { MatchResult result (IsLowered (source_of tokens.now tree.now) name)
-        (IsNotLowered (source_of tokens.now tree.now) tree.now.root) }
+        (IsNotLowered (source_of tokens.now tree.now) name tree.now.root) }
 {
     match walk(alloc, tokens, tree, bound) {
         Ok(walked) => completed(alloc, bound, name, walked),

@@ -9,6 +9,3 @@ mod ways;
 pub use members::{has_members, member_of};
 pub use steps::member_refusal;
 pub use ways::way_to;
-
-#[cfg(test)]
-mod tests;

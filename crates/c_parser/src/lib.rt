@@ -105,6 +105,3 @@ pub fn parse_initialiser(
 {
     read_production(alloc, tokens, INIT, at, depth, scopes, tree)
 }
-
-#[cfg(test)]
-mod tests;

@@ -1,3 +1,4 @@
 pub mod Asserting
 pub mod Enumerating
 pub mod Tagging
+pub mod Backwards

@@ -22,18 +22,29 @@ const P_ENUMERATOR: u32 = 18;
 
 const P_CONDITIONAL: u32 = 33;
 
-// The last enumerator of a list that stands before a node.
+// Whether a node is an enumerator before another node.
+fn is_before(syntax: &Syntax, at: u32, node: u32) -> bool
+    ensures { let s = source_read syntax.now in result ≡ (tree.is_a s p_enumerator node && nat_lt node at) }
+{
+    if node >= at {
+        return false;
+    }
+    is_a(syntax, P_ENUMERATOR, node)
+}
+
+// The last enumerator of a list that stands before a node, looked for from the end.
 fn last_before(syntax: &Syntax, at: u32, list: &[u32]) -> Option<u32>
     ensures { let s = source_read syntax.now in
         result ≡ tree.last_where (λ c. tree.is_a s p_enumerator c && nat_lt c at) list.now }
 {
-    let mut last = None;
-    for node in list {
-        if is_a(syntax, P_ENUMERATOR, *node) && *node < at {
-            last = Some(*node);
+    let mut left = list.len();
+    while left > 0 {
+        left -= 1;
+        if is_before(syntax, at, list[left]) {
+            return Some(list[left]);
         }
     }
-    last
+    None
 }
 
 // The enumerator before one in its list.

@@ -7,5 +7,3 @@ pub mod layout;
 mod parts;
 pub mod table;
 pub mod term;
-#[cfg(test)]
-mod tests;

@@ -48,6 +48,3 @@ pub fn parse_unit(alloc: Global, tokens: &Tokens, unit: u32) -> Result<Tree, Par
         Err(fault) => Err(fault),
     }
 }
-
-#[cfg(test)]
-mod tests;

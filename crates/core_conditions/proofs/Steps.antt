@@ -1,5 +1,5 @@
 -- Fixed values are those whose step is.
-use Rattle.std.proofs.Common.{◌≡◌, ℕ, List, [], ◌∷◌, Option, Some, None, Bool, IsTrue, ◌↔◌, slice_get, get_or, refl, subst, All}
+use Rattle.std.proofs.Common.{◌≡◌, ℕ, List, [], ◌∷◌, Option, Some, None, ◌↔◌, slice_get, get_or, refl, subst, All}
 use Rattle.std.proofs.lemmas.Option.{slice_get_within, slice_get-get_or, get_or_from_slice_get}
 use Rattle.c_types.specs.Trees.{Ctype}
 use Rattle.c_types.specs.Table.{type_of}
@@ -105,15 +105,15 @@ step_number u n h = go (node_at u n) refl h
     go None at h = absurd h
     go (Some node) at h = number_back u n node node.kind at refl h
 
--- so a test of the step is a test of the whole
-pub number_iff : (u : CoreTrees) (n : ℕ) (node : Node) → node_at u n ≡ Some node → (r : Bool) → (IsTrue r ↔ NumberStep u (type_of u.types node.ty.0) node.kind node.children) → IsTrue r ↔ FixedNumber u n
-number_iff u n node at r k =
+-- so what says the step says the whole
+pub number_iff : (u : CoreTrees) (n : ℕ) (node : Node) → node_at u n ≡ Some node → (Q : Type 0) → (Q ↔ NumberStep u (type_of u.types node.ty.0) node.kind node.children) → Q ↔ FixedNumber u n
+number_iff u n node at Q k =
     (λ t. step_number u n (rw at (k.0 t)), λ h. k.1 (rw at at (number_step u n h)))
 
-pub place_iff : (u : CoreTrees) (n : ℕ) (node : Node) → node_at u n ≡ Some node → (r : Bool) → (IsTrue r ↔ PlaceStep u node.kind node.children) → IsTrue r ↔ FixedPlace u n
-place_iff u n node at r k =
+pub place_iff : (u : CoreTrees) (n : ℕ) (node : Node) → node_at u n ≡ Some node → (Q : Type 0) → (Q ↔ PlaceStep u node.kind node.children) → Q ↔ FixedPlace u n
+place_iff u n node at Q k =
     (λ t. step_place u n (rw at (k.0 t)), λ h. k.1 (rw at at (place_step u n h)))
 
-pub pointer_iff : (u : CoreTrees) (n : ℕ) (node : Node) → node_at u n ≡ Some node → (r : Bool) → (IsTrue r ↔ PointerStep u (type_of u.types node.ty.0) node.kind node.children) → IsTrue r ↔ FixedPointer u n
-pointer_iff u n node at r k =
+pub pointer_iff : (u : CoreTrees) (n : ℕ) (node : Node) → node_at u n ≡ Some node → (Q : Type 0) → (Q ↔ PointerStep u (type_of u.types node.ty.0) node.kind node.children) → Q ↔ FixedPointer u n
+pointer_iff u n node at Q k =
     (λ t. step_pointer u n (rw at (k.0 t)), λ h. k.1 (rw at at (pointer_step u n h)))

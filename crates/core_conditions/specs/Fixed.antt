@@ -1,11 +1,15 @@
 -- One step of the definitions of fixed values, by the kind of the node.
-use Rattle.std.specs.Prelude.{ℕ, ⊤, List, [], ◌∷◌, Option, Some, None, All}
+use Rattle.std.specs.Prelude.{ℕ, ◌+◌, IsTrue, ⊤, List, [], ◌∷◌, Option, Some, None, All}
 use Rattle.c_types.specs.Trees.{Ctype}
 use Rattle.c_types.specs.Table.{type_of}
 use Rattle.core_tree.specs.declared.node.Node.{Node}
 use Rattle.core_tree.specs.declared.node.NodeKind.{NodeKind}
 use Rattle.core_tree.specs.declared.node.NodeKind.TheVariants.{Named, Text, Literal, FunctionName, Deref, Member, Number, NullValue, AddressOf, Decay, PointerAdd, Convert, Upcast, Choose, Arith}
 use Rattle.core_tree.specs.Typed.{CoreTrees, IsInteger, IsPointer}
+use Rattle.core_conditions.specs.declared.fixed.NumberLeft.{NumberLeft}
+use Rattle.core_conditions.specs.declared.fixed.NumberLeft.TheVariants.{Told, Below}
+use Rattle.core_conditions.specs.declared.fixed.Part.{Part}
+use Rattle.core_conditions.specs.declared.fixed.Part.TheVariants.{Told as ToldPart, Place, Pointer}
 use Rattle.core_tree.specs.Valid.{FixedNumber, FixedPlace, FixedPointer, IsStaticEntity}
 
 abbrev pub NumberStep : CoreTrees → Ctype → NodeKind → List ℕ → Type 0
@@ -44,3 +48,25 @@ PointerStep u t kind children = ⊥
 abbrev pub PointerStepAt : CoreTrees → Option Node → Type 0
 PointerStepAt u None = ⊥
 PointerStepAt u (Some node) = PointerStep u (type_of u.types node.ty.0) node.kind node.children
+
+-- what is left of a number holds
+abbrev pub NumberSays : CoreTrees → NumberLeft → Type 0
+NumberSays u (Told b) = IsTrue b
+NumberSays u (Below c) = FixedNumber u c
+
+-- 0 where nothing is left, and above the node that is
+abbrev pub number_rank : NumberLeft → ℕ
+number_rank (Told b) = 0
+number_rank (Below c) = c + 1
+
+-- what is left of a place or a pointer holds
+abbrev pub PartSays : CoreTrees → Part → Type 0
+PartSays u (ToldPart b) = IsTrue b
+PartSays u (Place p) = FixedPlace u p
+PartSays u (Pointer v) = FixedPointer u v
+
+-- 0 where nothing is left, and above the node that is
+abbrev pub part_rank : Part → ℕ
+part_rank (ToldPart b) = 0
+part_rank (Place p) = p + 1
+part_rank (Pointer v) = v + 1

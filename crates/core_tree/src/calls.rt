@@ -3,7 +3,9 @@
 ghost use Rattle.std.specs.Prelude.{◌≡◌, ℕ, ◌<◌, ◌↔◌, IsTrue, All, length};
 ghost use Rattle.c_types.specs.Trees.{NoTypes, trees_at};
 ghost use Rattle.c_types.specs.Table.{type_of, types_of};
+ghost use Rattle.c_types.specs.declared.term.Form.TheVariants.{Unspecified};
 ghost use Rattle.core_tree.specs.Seen.{core_of};
+ghost use Rattle.core_tree.specs.Typed.{IsValue};
 ghost use Rattle.core_tree.specs.Rows.{CallRow, Calls, Arguments, IsFurther};
 ghost use Rattle.core_tree.specs.Range.{InRange};
 
@@ -52,6 +54,17 @@ fn calls(trees: &Trees<'_>, callee: TypeId, ty: TypeId, args: &[u32]) -> bool
     }
 }
 
+// Whether a node is an argument for a parameter of that type in a list of that form.
+fn is_argument(trees: &Trees<'_>, form: Form, node: u32, ty: TypeId) -> bool
+    requires range { InRange (core_of trees.now) }
+    requires node { node < length trees.now.nodes.now }
+    requires ty { ty.0 < length trees.now.types.now.terms }
+    ensures { IsTrue result
+        ↔ (form ≡ Unspecified → ⊥) × IsValue (core_of trees.now) node (type_of trees.now.types.now ty.0) }
+{
+    form != Form::Unspecified && is_value(trees, node, ty)
+}
+
 // Whether there is an argument of its type for each parameter, and further ones as the form says.
 fn arguments(trees: &Trees<'_>, parameters: &[TypeId], form: Form, args: &[u32]) -> bool
     requires range { InRange (core_of trees.now) }
@@ -60,17 +73,19 @@ fn arguments(trees: &Trees<'_>, parameters: &[TypeId], form: Form, args: &[u32])
     ensures { IsTrue result
         ↔ Arguments (core_of trees.now) (trees_at (types_of trees.now.types.now) parameters.now) form args.now }
 {
-    match parameters {
-        [] => further(trees, form, args),
-        [ty, rest @ ..] => match args {
-            [a, more @ ..] => {
-                form != Form::Unspecified
-                    && is_value(trees, *a, *ty)
-                    && arguments(trees, rest, form, more)
+    let mut more = args;
+    for ty in parameters {
+        match more {
+            [a, rest @ ..] => {
+                if !is_argument(trees, form, *a, *ty) {
+                    return false;
+                }
+                more = rest;
             }
-            [] => false,
-        },
+            [] => return false,
+        }
     }
+    further(trees, form, more)
 }
 
 // Whether a list may have those arguments past its parameters.

@@ -213,15 +213,19 @@ pub fn initial_values(
     ensures { IsTrue result
         ↔ InitialValues (core_of trees.now) (Some (type_of trees.now.types.now ty.0)) paths.now values.now }
 {
-    match paths {
-        [] => values.is_empty(),
-        [path, more @ ..] => match values {
-            [v, rest @ ..] => {
-                is_value_at(trees, ty, path.as_slice(), *v) && initial_values(trees, ty, more, rest)
+    let mut rest = values;
+    for path in paths {
+        match rest {
+            [v, more @ ..] => {
+                if !is_value_at(trees, ty, path.as_slice(), *v) {
+                    return false;
+                }
+                rest = more;
             }
-            [] => false,
-        },
+            [] => return false,
+        }
     }
+    rest.is_empty()
 }
 
 // Whether a node is a value of the type at the end of a path.

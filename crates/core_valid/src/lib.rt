@@ -2,8 +2,6 @@
 #![tactic(auto)]
 
 mod linkages;
-#[cfg(test)]
-mod tests;
 mod unit;
 mod valid;
 

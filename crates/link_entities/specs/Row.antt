@@ -17,8 +17,9 @@ numbers_of n = entity_in n.starts.items n.numbers.items
 abbrev pub place_of : EntityNumbers → Item → ℕ
 place_of n a = slice_index n.starts.items a.unit + a.number
 
--- what an entity of a unit is in the program
+-- what an entity of a unit is in the program; its type stands in the table
 pub record IsLinkedAs (j : Joined) (ds : List Declared) (entities : Entities) (a : Item) (x e : Entity) : Type 0 where
+  pub within : e.ty.0 < length j.table.terms
   pub name : IsExternal x → IsLinkedName j ds entities x.name e
   pub other : (IsExternal x → ⊥) → IsLinkedOther j entities a x e
 

@@ -106,7 +106,8 @@ fn linked_name(
     requires linking { IsLinking linking.now }
     requires there { entity_at linking.now.scene.now.units.now (item unit number) ≡ Some entity.now }
     requires external { IsExternal entity.now }
-    ensures { let s = linking.now.scene.now in
+    ensures within { IfOk result (λ e. e.ty.0 < length linking.now.scene.now.types.now.terms) }
+    ensures name { let s = linking.now.scene.now in
         IfOk result (IsLinkedName (joined_of s) s.declared.now (numbers_of linking.now.numbers.now) entity.now.name) }
 {
     let scene = linking.scene;

@@ -10,8 +10,6 @@ pub mod firsts;
 pub mod names;
 pub mod scene;
 mod shapes;
-#[cfg(test)]
-mod tests;
 pub mod together;
 mod uses;
 mod whole;

@@ -6,5 +6,3 @@ pub mod counts;
 pub mod labels;
 pub mod numbers;
 pub mod ready;
-#[cfg(test)]
-mod tests;

@@ -1,5 +1,5 @@
 -- The program that one unit is.
-use Rattle.std.proofs.Common.{◌≡◌, ℕ, zero, suc, ◌+◌, ◌<◌, Option, Some, None, List, [], ◌∷◌, length, map, get_or, length-append, sym, ap, subst, ◌∙◌, arith, inl, inr}
+use Rattle.std.proofs.Common.{◌≡◌, ℕ, zero, suc, ◌+◌, ◌<◌, Option, Some, None, List, [], ◌∷◌, length, map, get_or, length-append, refl, sym, ap, subst, ◌∙◌, arith, inl, inr}
 use Rattle.std.proofs.Math.Path.{fun_ext}
 use Rattle.std.proofs.lemmas.Bool.{cases_lt}
 use Rattle.std.proofs.lemmas.List.{length-map, get_or_past}
@@ -28,7 +28,9 @@ use Rattle.link_entities.specs.Row.{AreLinked, numbers_of}
 use Rattle.link_whole.specs.Entities.{AreEntitiesOf}
 use Rattle.link_whole.specs.Placed.{AreNamed, ArePlaced}
 use Rattle.link_whole.proofs.OwnTypes.{numbering_one, own_merged, renamed_own}
-use Rattle.link_whole.proofs.Numbered.{entities_linked}
+use Rattle.link_whole.proofs.Numbered.{entities_linked, types_within}
+use Rattle.linked_laws.specs.Ranges.{HasTypes}
+use Rattle.std.proofs.lemmas.Option.{slice_get_within}
 
 some_one : {X : Type 0} → {x y : X} → ◌≡◌ {A = Option X} (Some x) (Some y) → x ≡ y
 some_one h = cc
@@ -120,4 +122,28 @@ linked_alone x p list n valid ready h names types placed entities =
       nodes = nodes_linked x n p h.numbers types placed;
       entities = subst (λ (t : Table). EntitiesLinked (joined (x ∷ []) numbering_one t) h.declarations (numbers_of n) p) (sym types)
           (entities_linked (joined_by (x ∷ []) x.types (0 ∷ [])) h.declarations n p h.numbers h.one h.only linked);
+    }
+
+present : (xs : List Node) (k : ℕ) → k < length xs → (x : Node) × (slice_get xs k ≡ Some x)
+present [] k lt = absurd (omega arith)
+present (x ∷ xs) zero lt = (x, refl)
+present (x ∷ xs) (suc k) lt = present xs k (omega arith)
+
+-- the type of each node and entity of the program of one unit stands in its table
+pub types_alone : (x : Unit) (p : Program) (list : List Entity) (n : EntityNumbers) → ValidUnit x → AreEntitiesOf (joined_by (x ∷ []) x.types (0 ∷ [])) list n → p.types ≡ x.types
+    → ArePlaced n.numbers.items x.nodes.items p.nodes.items → p.entities.items ≡ list → HasTypes p
+types_alone x p list n valid h types placed entities =
+    let linked : AreLinked (joined_by (x ∷ []) x.types (0 ∷ [])) h.declarations n (length n.leaders.items) p.entities.items = subst (λ (l : List Entity). AreLinked (joined_by (x ∷ []) x.types (0 ∷ [])) h.declarations n (length n.leaders.items) l) (sym entities) h.linked in
+    record {
+      nodes = λ k node at.
+          let all = placed.all in
+          let within = slice_get_within p.nodes.items k node at in
+          let (own, own_at) = present x.nodes.items k (omega arith) in
+          let there = placed.each k own own_at in
+          let same : there.node ≡ node = some_one (sym there.node_is ∙ at) in
+          let type = there.placed.type in
+          let known = valid.trees.in_range.types k own own_at in
+          subst (λ (m : Node). m.ty.0 < length p.types.terms) same (subst (λ (t : Table). there.node.ty.0 < length t.terms) (sym types) (omega arith));
+      entities = λ e entity at.
+          subst (λ (t : Table). entity.ty.0 < length t.terms) (sym types) (types_within (joined_by (x ∷ []) x.types (0 ∷ [])) h.declarations n p h.numbers h.only linked e entity at);
     }

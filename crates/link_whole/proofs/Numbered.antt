@@ -119,3 +119,14 @@ entities_linked j ds n p are one only h = record {
         subst (λ (c : Item). IsLinkedOther j (numbers_of n) c x there) (sym same) (subst (λ (z : Entity). IsLinkedOther j (numbers_of n) b z there) (sym yx) (what.other (λ ext. internal (subst IsExternal (sym yx) ext)))),
       );
 }
+
+-- the type of each entity stands in the table
+pub types_within : (j : Joined) (ds : List Declared) (n : EntityNumbers) (p : Program) → AreEntityNumbers j.units n → OnlyNumbers j.units (numbers_of n) n.count
+    → AreLinked j ds n (length n.leaders.items) p.entities.items → (e : ℕ) (x : Entity) → slice_get p.entities.items e ≡ Some x → x.ty.0 < length j.table.terms
+types_within j ds n p are only h e x at =
+    let lt = slice_get_within p.entities.items e x at in
+    let (a, y, there_a, number) = only.only e (let c = h.count in let k = are.numbered.count_is in omega arith) in
+    let (b, z, by, led) = led_by j.units n a y are there_a in
+    let (there, is, what) = h.each b z by led.within led.leads in
+    let same : there ≡ x = some_one (sym (ap (slice_get p.entities.items) (sym number ∙ led.number) ∙ is) ∙ at) in
+    subst (λ (w : Entity). w.ty.0 < length j.table.terms) same what.within

@@ -3,7 +3,7 @@
 ghost use Rattle.std.specs.Prelude.{◌≡◌, ◌<◌, ◌^◌, ◌∷◌, [], ℕ, Some, MatchResult, IfOk, length, slice_get};
 ghost use Rattle.core_tree.specs.declared.node.Unit.{Unit as UnitSpec};
 ghost use Rattle.core_tree.specs.Range.{InRange};
-ghost use Rattle.core_tree.specs.Typed.{trees_of};
+ghost use Rattle.core_tree.specs.Typed.{trees_in, trees_of};
 ghost use Rattle.link_names.specs.Names.{AreNames};
 ghost use Rattle.link_names.specs.Said.{IsFaultUnless};
 ghost use Rattle.link_names.specs.Scene.{IsScene, joined_of};
@@ -95,8 +95,9 @@ fn program_of(
     })
 }
 
-// The entities of the program that units are whose types stand in one table, and their numbers, or the first fault.
-fn entities_of(
+/// The entities of the program that units are whose types stand in one table, and their numbers, or the first fault: of the
+/// declarations in order of unit and place, then the first use of a name that nothing defines, then the want of `main`.
+pub fn entities_of(
     alloc: Global,
     units: &[Unit],
     types: &TypeTable,
@@ -130,7 +131,10 @@ fn entities_of(
 pub fn link_one(alloc: Global, unit: Unit) -> Result<Program, LinkFault>
     requires linkable { AreLinkable (unit ∷ []) }
     requires ready { AreReady unit.types }
-    ensures { MatchResult result (Linked (unit ∷ [])) (λ fault. IsFaultUnless fault (LinksBadly (unit ∷ []) fault)) }
+    ensures linked { MatchResult result (Linked (unit ∷ [])) (λ fault. IsFaultUnless fault (LinksBadly (unit ∷ []) fault)) }
+
+    // Each type, node and entity that is named is in range, and children come first.
+    ensures range { IfOk result (λ p. InRange (trees_in p)) }
 {
     let whole = &unit;
     let (entities, numbers) = entities_of(

@@ -21,17 +21,28 @@ const WORD_EXTERN: u8 = 11;
 
 const WORD_STATIC: u8 = 25;
 
-// The last declarator among some nodes that stands before another node.
+// Whether a node is a declarator that stands before another node.
+fn is_before(syntax: &Syntax, initialiser: u32, node: u32) -> bool
+    ensures { result ≡ is_declarator_before (source_read syntax.now) initialiser node }
+{
+    if node >= initialiser {
+        return false;
+    }
+    is_a(syntax, P_DECLARATOR, node)
+}
+
+// The last declarator among some nodes that stands before another node, looked for from the end.
 fn declarator_before(syntax: &Syntax, initialiser: u32, list: &[u32]) -> Option<u32>
     ensures { result ≡ last_where (is_declarator_before (source_read syntax.now) initialiser) list.now }
 {
-    let mut found = None;
-    for node in list {
-        if is_a(syntax, P_DECLARATOR, *node) && *node < initialiser {
-            found = Some(*node);
+    let mut left = list.len();
+    while left > 0 {
+        left -= 1;
+        if is_before(syntax, initialiser, list[left]) {
+            return Some(list[left]);
         }
     }
-    found
+    None
 }
 
 /// The declarator whose initialiser a node is (C11 6.7.9), by the declarators that stand before it, else that of the declaration

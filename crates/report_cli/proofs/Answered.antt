@@ -1,5 +1,5 @@
 -- From what was read to what is told.
-use Rattle.std.proofs.Common.{◌≡◌, ℕ, ◌<◌, inl, inr, ◌≤◌, List, [], Option, Some, None, IfSome, length, slice_get, get_or, sym, ◌∙◌, ap, arith, rules, append-nil}
+use Rattle.std.proofs.Common.{◌≡◌, ℕ, ◌<◌, inl, inr, ◌≤◌, ◌^◌, List, [], Option, Some, None, IfSome, length, slice_get, sym, ◌∙◌, ap, arith, append-nil}
 use Rattle.std.specs.Borrow.{Bor}
 use Rattle.std.specs.Option.{option_map_or}
 use Rattle.std.specs.Str.Parse.{digits_value}
@@ -44,3 +44,7 @@ number_of_workers (Some text) n right is = let least = right.at_least in let mos
 -- right words name a unit
 pub some_names : (items : List (Bor (List ℕ))) (names : List (List ℕ)) → names_of items ≡ names → 1 ≤ length names → 0 < length items
 some_names items names is some = let same = length-map items (λ (b : Bor (List ℕ)). b.now) in let long = ap length is in omega arith
+
+-- right words name few units
+pub few_names : (items : List (Bor (List ℕ))) (names : List (List ℕ)) → names_of items ≡ names → length names ≤ 256 → length items ≤ 2 ^ 8
+few_names items names is few = let same = length-map items (λ (b : Bor (List ℕ)). b.now) in let long = ap length is in omega arith

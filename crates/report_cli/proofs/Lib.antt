@@ -4,6 +4,8 @@ pub mod Told
 pub mod Refused
 pub mod Lifted
 pub mod Answered
-pub mod OneAnswer
 pub mod Feeds
 pub mod Pieces
+pub mod Exclusion
+pub mod Linked
+pub mod Linkable

@@ -1,5 +1,5 @@
 -- What holds of texts that were read as far as a limit holds of the whole texts.
-use Rattle.std.proofs.Common.{◌≡◌, ℕ, ◌<◌, ◌≤◌, ◌^◌, ◌⊎◌, List, [], ◌∷◌, Option, Some, None, option_map, IfSome, map, take, length, min, refl, sym, ◌∙◌, ap, subst, inl, inr, arith, take_all, length-take}
+use Rattle.std.proofs.Common.{◌≡◌, ℕ, ◌+◌, ◌<◌, ◌≤◌, ◌^◌, ◌⊎◌, List, [], ◌∷◌, Option, Some, None, option_map, IfSome, map, take, length, min, refl, sym, ◌∙◌, ap, subst, inl, inr, arith, take_all, length-take}
 use Rattle.std.specs.Prelude.{option_and_then, zip}
 use Rattle.c_lexer.specs.declared.Token.{Token}
 use Rattle.c_lexer.specs.declared.LexFault.{LexFault}
@@ -8,13 +8,22 @@ use Rattle.c_lexer.specs.Cut.{IsFault}
 use Rattle.c_scope.specs.declared.kinds.NameFault.{NameFault}
 use Rattle.c_scope.specs.declared.kinds.NameFault.TheVariants as names
 use Rattle.c_grammar.specs.Reads.{Node, Fault, malformed, unsupported, too_deep}
-use Rattle.pointer_units.specs.declared.unit.PointerUnit.{PointerUnit}
+use Rattle.c_lexer.specs.declared.Tokens.{Tokens}
+use Rattle.c_grammar.specs.declared.trees.Tree.{Tree}
+use Rattle.core_tree.specs.declared.node.Unit.{Unit}
+use Rattle.core_tree.specs.declared.node.Program.{Program}
+use Rattle.link_names.specs.declared.fault.LinkFault.{LinkFault}
+use Rattle.link_names.specs.declared.fault.LinkFault.TheVariants as link
+use Rattle.unit_link.specs.Linked.{LinksBadly}
 use Rattle.report_cli.specs.declared.fault.UnitsFault.{UnitsFault}
 use Rattle.report_cli.specs.declared.fault.UnitsFault.TheVariants.{Refused}
 use Rattle.report_cli.specs.Faults.{IsFaultOf}
-use Rattle.report_cli.specs.Answers.{NamedText, Answer, told_units}
-use Rattle.report_cli.specs.Alone.{IsReadAs, IsRefusedAlone, FirstAlone, AreReadAlone, lexical_refusal, syntax_refusal, name_refusal}
-use Rattle.report_cli.specs.Outcome.{Denotes, IsRefusedTogether, Refuses}
+use Rattle.report_cli.specs.Answers.{NamedText, Answer, told_units, place_text}
+use Rattle.report_cli.specs.Alone.{IsReadAs, IsRefusedAlone, lexical_refusal, syntax_refusal, name_refusal}
+use Rattle.report_cli.specs.Lowered.{IsParsed, IsRightText, AreRightTexts, IsRefusedRow}
+use Rattle.report_cli.specs.Linking.{IsLinkRefusal, HaveManyNodes, HaveManyWords, link_refusal, unit_name}
+use Rattle.report_cli.specs.Unbuilt.{IsUnbuilt, AreNotBuilt, not_built}
+use Rattle.report_cli.specs.Outcome.{Denotes, IsRefusedText, FirstRefused, AreRefusedTogether, Refuses}
 
 -- the names of told units are those that were asked for
 named_first : (name : List ℕ) (names : List (List ℕ)) (o : Option (List ℕ)) (told : Option (List NamedText)) → IfSome told (λ units. names ≡ map (λ (unit : NamedText). unit.0) units)
@@ -76,37 +85,102 @@ refused_alone_whole unit answer (inr (inl h)) =
 refused_alone_whole unit answer (inr (inr h)) =
     let P : List ℕ → Type 0 = λ t. IsRefusedAlone (unit.0, t) answer in subst P (whole_text unit.1 h.1.0) (inr (inr h))
 
-first_alone_whole : (told : List NamedText) (answer : Answer) → FirstAlone (read_units told) answer → FirstAlone told answer
+parsed_whole : (number : ℕ) (unit : NamedText) (tokens : Tokens) (tree : Tree) → IsParsed number (unit.0, take 16777217 unit.1) tokens tree → take 16777217 unit.1 ≡ unit.1
+unfolding IsReadAs
+parsed_whole number unit tokens tree h = whole_text unit.1 h.read.0.0
+
+right_whole : (number : ℕ) (unit : NamedText) (u : Unit) → IsRightText number (unit.0, take 16777217 unit.1) u → IsRightText number unit u
+right_whole number unit u h =
+    let P : List ℕ → Type 0 = λ t. IsRightText number (unit.0, t) u in subst P (parsed_whole number unit h.tokens h.tree h.parsed) h
+
+rights_whole : (number : ℕ) (told : List NamedText) (us : List Unit) → AreRightTexts number (read_units told) us → AreRightTexts number told us
 unfolding read_units
-first_alone_whole [] answer h = h
-first_alone_whole (unit ∷ told) answer (inl h) = inl (refused_alone_whole unit answer h)
-first_alone_whole (unit ∷ told) answer (inr h) = inr ((h.0.0, read_as_whole unit h.0.0 h.0.1), first_alone_whole told answer h.1)
+rights_whole number [] [] h = h
+rights_whole number [] (u ∷ us) h = h
+rights_whole number (unit ∷ told) [] h = h
+rights_whole number (unit ∷ told) (u ∷ us) h = (right_whole number unit u h.0, rights_whole (number + 1) told us h.1)
 
-all_alone_whole : (told : List NamedText) → AreReadAlone (read_units told) → AreReadAlone told
+unbuilt_whole : (number : ℕ) (unit : NamedText) (answer : Answer) → IsUnbuilt number (unit.0, take 16777217 unit.1) answer → IsUnbuilt number unit answer
+unbuilt_whole number unit answer h =
+    let P : List ℕ → Type 0 = λ t. IsUnbuilt number (unit.0, t) answer in subst P (parsed_whole number unit h.tokens h.tree h.parsed) h
+
+row_whole : (number : ℕ) (unit : NamedText) (answer : Answer) → IsRefusedRow number (unit.0, take 16777217 unit.1) answer → IsRefusedRow number unit answer
+row_whole number unit answer h =
+    let P : List ℕ → Type 0 = λ t. IsRefusedRow number (unit.0, t) answer in subst P (parsed_whole number unit h.tokens h.tree h.parsed) h
+
+names_whole : (told : List NamedText) → map (λ (unit : NamedText). unit.0) (read_units told) ≡ map (λ (unit : NamedText). unit.0) told
 unfolding read_units
-all_alone_whole [] h = h
-all_alone_whole (unit ∷ told) h = ((h.0.0, read_as_whole unit h.0.0 h.0.1), all_alone_whole told h.1)
+names_whole [] = refl
+names_whole (unit ∷ told) = ap (λ (rest : List (List ℕ)). unit.0 ∷ rest) (names_whole told)
 
-together_whole : (told : List NamedText) (answer : Answer) → IsRefusedTogether (read_units told) answer → IsRefusedTogether told answer
-unfolding read_units IsReadAs
-together_whole [] answer h = h
-together_whole (unit ∷ []) answer h =
-    let P : List ℕ → Type 0 = λ t. IsRefusedTogether ((unit.0, t) ∷ []) answer in subst P (whole_text unit.1 h.1.0.0) h
-together_whole (unit ∷ second ∷ told) answer h = (all_alone_whole (unit ∷ second ∷ told) h.0, h.1)
+links_whole : (told : List NamedText) (answer : Answer) → IsLinkRefusal (read_units told) answer → IsLinkRefusal told answer
+links_whole told answer h = record {
+  units = h.units;
+  right = rights_whole 0 told h.units h.right;
+  fault = h.fault;
+  badly = h.badly;
+  answer_is = h.answer_is ∙ ap (λ (names : List (List ℕ)). link_refusal names h.fault) (names_whole told);
+}
 
-denotes_whole : (told : List NamedText) (program : PointerUnit) → Denotes (read_units told) program → Denotes told program
-unfolding Denotes read_units IsReadAs
-denotes_whole [] program denoted = denoted
-denotes_whole (unit ∷ []) program denoted =
-    let P : List ℕ → Type 0 = λ t. Denotes ((unit.0, t) ∷ []) program in subst P (whole_text unit.1 denoted.1.0.0) denoted
-denotes_whole (unit ∷ second ∷ told) program denoted = denoted
+nodes_whole : (told : List NamedText) (answer : Answer) → HaveManyNodes (read_units told) answer → HaveManyNodes told answer
+nodes_whole told answer h = record {
+  units = h.units;
+  right = rights_whole 0 told h.units h.right;
+  program = h.program;
+  linked = h.linked;
+  nodes = h.nodes;
+  many = h.many;
+  answer_is = h.answer_is;
+}
+
+words_whole : (told : List NamedText) (answer : Answer) → HaveManyWords (read_units told) answer → HaveManyWords told answer
+words_whole told answer h = record {
+  units = h.units;
+  right = rights_whole 0 told h.units h.right;
+  program = h.program;
+  linked = h.linked;
+  words = h.words;
+  many = h.many;
+  answer_is = h.answer_is;
+}
+
+text_whole : (number : ℕ) (unit : NamedText) (answer : Answer) → IsRefusedText number (unit.0, take 16777217 unit.1) answer → IsRefusedText number unit answer
+text_whole number unit answer (inl h) = inl (refused_alone_whole unit answer h)
+text_whole number unit answer (inr (inl h)) = inr (inl (row_whole number unit answer h))
+text_whole number unit answer (inr (inr h)) = inr (inr (unbuilt_whole number unit answer h))
+
+first_whole : (number : ℕ) (told : List NamedText) (answer : Answer) → FirstRefused IsRefusedText number (read_units told) answer → FirstRefused IsRefusedText number told answer
+unfolding read_units
+first_whole number [] answer h = h
+first_whole number (unit ∷ told) answer (inl h) = inl (text_whole number unit answer h)
+first_whole number (unit ∷ told) answer (inr h) = inr (h.0, right_whole number unit h.0 h.1, first_whole (number + 1) told answer h.2)
+
+not_built_whole : (told : List NamedText) (answer : Answer) → AreNotBuilt (read_units told) answer → AreNotBuilt told answer
+not_built_whole told answer h = record {
+  units = h.units;
+  right = rights_whole 0 told h.units h.right;
+  program = h.program;
+  linked = h.linked;
+  unfit = h.unfit;
+  answer_is = h.answer_is ∙ ap (λ (names : List (List ℕ)). not_built (place_text (unit_name names 0) 1 1)) (names_whole told);
+}
+
+together_whole : (told : List NamedText) (answer : Answer) → AreRefusedTogether (read_units told) answer → AreRefusedTogether told answer
+together_whole told answer (inl h) = inl (links_whole told answer h)
+together_whole told answer (inr (inl h)) = inr (inl (nodes_whole told answer h))
+together_whole told answer (inr (inr (inl h))) = inr (inr (inl (words_whole told answer h)))
+together_whole told answer (inr (inr (inr h))) = inr (inr (inr (not_built_whole told answer h)))
+
+denotes_whole : (told : List NamedText) (program : Program) → Denotes (read_units told) program → Denotes told program
+unfolding Denotes
+denotes_whole told program h = (h.0, rights_whole 0 told h.0 h.1, h.2)
 
 refuses_whole : (told : List NamedText) (answer : Answer) → Refuses (read_units told) answer → Refuses told answer
 unfolding Refuses
-refuses_whole told answer (inl h) = inl (first_alone_whole told answer h)
+refuses_whole told answer (inl h) = inl (first_whole 0 told answer h)
 refuses_whole told answer (inr h) = inr (together_whole told answer h)
 
-pub denotes_told : (names texts : List (List ℕ)) (told : List NamedText) (program : PointerUnit) → AreReadUnits names texts told → Denotes (zip names texts) program → Denotes told program
+pub denotes_told : (names texts : List (List ℕ)) (told : List NamedText) (program : Program) → AreReadUnits names texts told → Denotes (zip names texts) program → Denotes told program
 denotes_told names texts told program read denoted =
     let P : List NamedText → Type 0 = λ units. Denotes units program in denotes_whole told program (subst P (units_read names texts told read) denoted)
 
@@ -131,19 +205,19 @@ with_names text_of sliced own names texts slice Q sliced_is same slice_is read f
 
 -- the statuses of refusals
 abbrev pub IsStatus : ℕ → Type 0
-IsStatus status = (status ≡ 3) ⊎ ((status ≡ 4) ⊎ (status ≡ 6))
+IsStatus status = (status ≡ 3) ⊎ ((status ≡ 4) ⊎ ((status ≡ 5) ⊎ (status ≡ 6)))
 
 lexical_status : (unit : NamedText) (fault : LexFault) → (fault ≡ OutOfMemory → ⊥) → IsStatus (lexical_refusal unit fault).status
 lexical_status unit (BadByte at) real = inl refl
 lexical_status unit (Unended at) real = inl refl
 lexical_status unit (BadNumber at) real = inl refl
-lexical_status unit TooLong real = inr (inr refl)
+lexical_status unit TooLong real = inr (inr (inr refl))
 lexical_status unit OutOfMemory real = absurd (real refl)
 
 syntax_status : (name : List ℕ) (list : List Token) (fault : Fault) → IsStatus (syntax_refusal name list fault).status
 syntax_status name list (malformed number) = inl refl
 syntax_status name list (unsupported kind number) = inr (inl refl)
-syntax_status name list (too_deep number) = inr (inr refl)
+syntax_status name list (too_deep number) = inr (inr (inr refl))
 
 name_status : (name : List ℕ) (list : List Token) (nodes : List Node) (fault : NameFault) → (fault ≡ names.OutOfMemory → ⊥) → IsStatus (name_refusal name list nodes fault).status
 name_status name list nodes (names.Undeclared node) real = inr (inl refl)
@@ -153,23 +227,36 @@ name_status name list nodes names.OutOfMemory real = absurd (real refl)
 status_of : (answer other : Answer) → answer ≡ other → IsStatus other.status → IsStatus answer.status
 status_of answer other same h = let P : Answer → Type 0 = λ a. IsStatus a.status in subst P (sym same) h
 
-alone_status : (units : List NamedText) (answer : Answer) → FirstAlone units answer → IsStatus answer.status
+alone_status : (unit : NamedText) (answer : Answer) → IsRefusedAlone unit answer → IsStatus answer.status
 unfolding IsRefusedAlone
-alone_status [] answer h = absurd h
-alone_status (unit ∷ units) answer (inl (inl h)) = status_of answer _ h.3 (lexical_status unit h.0 h.1)
-alone_status (unit ∷ units) answer (inl (inr (inl h))) = status_of answer _ h.4 (syntax_status unit.0 h.0 h.2)
-alone_status (unit ∷ units) answer (inl (inr (inr h))) = status_of answer _ h.7 (name_status unit.0 h.0 h.2.nodes h.4 h.5)
-alone_status (unit ∷ units) answer (inr h) = alone_status units answer h.1
+alone_status unit answer (inl h) = status_of answer _ h.3 (lexical_status unit h.0 h.1)
+alone_status unit answer (inr (inl h)) = status_of answer _ h.4 (syntax_status unit.0 h.0 h.2)
+alone_status unit answer (inr (inr h)) = status_of answer _ h.7 (name_status unit.0 h.0 h.2.nodes h.4 h.5)
 
-together_status : (units : List NamedText) (answer : Answer) → IsRefusedTogether units answer → IsStatus answer.status
-together_status [] answer h = absurd h
-together_status (unit ∷ []) answer h = status_of answer _ h.2.3 (inr (inl refl))
-together_status (unit ∷ second ∷ others) answer h = status_of answer _ h.1 (inr (inl refl))
+first_status : (number : ℕ) (units : List NamedText) (answer : Answer) → FirstRefused IsRefusedText number units answer → IsStatus answer.status
+first_status number [] answer h = absurd h
+first_status number (unit ∷ units) answer (inl (inl h)) = alone_status unit answer h
+first_status number (unit ∷ units) answer (inl (inr (inl h))) = status_of answer _ h.answer_is (inr (inl refl))
+first_status number (unit ∷ units) answer (inl (inr (inr h))) = status_of answer _ h.answer_is (inr (inl refl))
+first_status number (unit ∷ units) answer (inr h) = first_status (number + 1) units answer h.2
+
+link_status : (units : List Unit) (names : List (List ℕ)) (fault : LinkFault) → LinksBadly units fault → IsStatus (link_refusal names fault).status
+link_status units names (link.Conflict name unit) h = inr (inr (inl refl))
+link_status units names (link.Twice name unit) h = inr (inr (inl refl))
+link_status units names (link.Undefined place name) h = inr (inr (inl refl))
+link_status units names link.NoMain h = inr (inr (inl refl))
+link_status units names link.OutOfMemory h = absurd h.fault_is
+
+together_status : (units : List NamedText) (answer : Answer) → AreRefusedTogether units answer → IsStatus answer.status
+together_status units answer (inl h) = status_of answer _ h.answer_is (link_status h.units (map (λ (unit : NamedText). unit.0) units) h.fault h.badly)
+together_status units answer (inr (inl h)) = status_of answer _ h.answer_is (inr (inr (inr refl)))
+together_status units answer (inr (inr (inl h))) = status_of answer _ h.answer_is (inr (inr (inr refl)))
+together_status units answer (inr (inr (inr h))) = status_of answer _ h.answer_is (inr (inl refl))
 
 -- a refusal has one of these statuses
 pub refuses_status : (units : List NamedText) (answer : Answer) → Refuses units answer → IsStatus answer.status
 unfolding Refuses
-refuses_status units answer (inl h) = alone_status units answer h
+refuses_status units answer (inl h) = first_status 0 units answer h
 refuses_status units answer (inr h) = together_status units answer h
 
 pub refused_status : (units : List NamedText) (fault : UnitsFault) (status : ℕ) (line : List ℕ) → fault ≡ Refused status line → IsFaultOf units fault → IsStatus status

@@ -1,5 +1,5 @@
 -- The units of words and texts, and their refusals.
-use Rattle.std.proofs.Common.{◌≡◌, Some, Ok, ℕ, zero, suc, ◌<◌, ◌≤◌, List, [], ◌∷◌, length, get_or, slice_get, drop, inl, inr, refl, sym, ◌∙◌, ap, subst, arith}
+use Rattle.std.proofs.Common.{◌≡◌, Some, Ok, ℕ, zero, suc, ◌+◌, ◌<◌, ◌≤◌, List, [], ◌∷◌, ◌++◌, map, length, get_or, slice_get, drop, inl, inr, refl, sym, ◌∙◌, ap, subst, arith, append_assoc, append-nil}
 use Rattle.std.specs.Prelude.{zip}
 use Rattle.std.specs.Borrow.{Bor}
 use Rattle.c_lexer.specs.declared.Token.{Token}
@@ -14,15 +14,16 @@ use Rattle.c_grammar.specs.Reads.{State, malformed, unsupported, too_deep}
 use Rattle.c_parser.specs.declared.ParseFault.{ParseFault}
 use Rattle.c_parser.specs.declared.ParseFault.TheVariants.{Malformed, Unsupported, TooDeep, OutOfMemory}
 use Rattle.c_parser.specs.Parse.{Faults}
-use Rattle.pointer_units.specs.Refusals.{IsRefusedAt}
+use Rattle.core_tree.specs.declared.node.Unit.{Unit}
 use Rattle.report_cli.specs.declared.fault.UnitsFault.{UnitsFault}
 use Rattle.report_cli.specs.declared.fault.UnitsFault.TheVariants.{Refused, Memory}
 use Rattle.report_cli.specs.Words.{names_of}
 use Rattle.report_cli.proofs.Texts.{some_same}
 use Rattle.report_cli.specs.Answers.{NamedText, Answer}
-use Rattle.report_cli.specs.Alone.{Reading, IsReadAs, IsReadAlone, IsRefusedAlone, FirstAlone, AreReadAlone, lexical_refusal, syntax_refusal, name_refusal}
-use Rattle.report_cli.specs.Outcome.{Refuses, not_built}
-use Rattle.report_cli.specs.Faults.{fault_of, IsFaultOf, IsFaultAlone, IsLexical, IsSyntactic, IsNominal}
+use Rattle.report_cli.specs.Alone.{Reading, IsRefusedAlone, lexical_refusal, syntax_refusal, name_refusal}
+use Rattle.report_cli.specs.Lowered.{IsRightText, AreRightTexts}
+use Rattle.report_cli.specs.Outcome.{IsRefusedText, FirstRefused, Refuses}
+use Rattle.report_cli.specs.Faults.{fault_of, IsFaultOf, IsFaultIn, IsFaultAlone, IsLexical, IsSyntactic, IsNominal}
 
 fault_alone : (unit : NamedText) (answer : Answer) (fault : UnitsFault) → fault ≡ fault_of answer → answer.out ≡ [] → IsRefusedAlone unit answer → IsFaultAlone unit fault
 fault_alone unit answer fault is nothing refused =
@@ -60,46 +61,10 @@ nominally unit list state (names.Redeclared node) fault tokens read said is =
     fault_alone unit (name_refusal unit.0 list state.nodes (names.Redeclared node)) fault said refl (inr (inr (list, tokens, state, read, names.Redeclared node, (λ e. cc), is (λ e. cc), refl)))
 nominally unit list state names.OutOfMemory fault tokens read said is = no_memory unit fault said
 
--- a fault of the first unit is that of all
-pub alone_first : (unit : NamedText) (units : List NamedText) (fault : UnitsFault) → IsFaultAlone unit fault → ((answer : Answer) → IsRefusedAlone unit answer → Refuses units answer) → IsFaultOf units fault
-alone_first unit units (Refused status line) alone follows = follows _ alone
-alone_first unit units Memory alone follows = tt
-
-pub alone_only : (unit : NamedText) (fault : UnitsFault) → IsFaultAlone unit fault → IsFaultOf (unit ∷ []) fault
-unfolding Refuses
-alone_only unit fault alone = alone_first unit (unit ∷ []) fault alone (λ answer refused. inl (inl refused))
-
--- a unit alone that is refused at a place
-pub unit_refused : (name text : List ℕ) (list : List Token) (line column : ℕ) (fault : UnitsFault) → fault ≡ fault_of (not_built name line column) → IsReadAs (name, text) list → IsRefusedAt text list line column → IsFaultOf ((name, text) ∷ []) fault
-unfolding Refuses
-unit_refused name text list line column fault is read refused =
-    let P : UnitsFault → Type 0 = λ f. IsFaultOf ((name, text) ∷ []) f in
-    subst P (sym is) (inr (list, read, (line, column, refused, refl)))
-
--- a second unit
-pub second_refused : (words : List (Bor (List ℕ))) (texts : List (List ℕ)) (name : List ℕ) (fault : UnitsFault) → length texts ≡ length words → 1 < length words
-    → slice_get (names_of words) 1 ≡ Some name → AreReadAlone (zip (names_of words) texts) → fault ≡ fault_of (not_built name 1 1) → IsFaultOf (zip (names_of words) texts) fault
-unfolding Refuses
-second_refused [] texts name fault count more at read is = absurd (omega arith)
-second_refused (first ∷ []) texts name fault count more at read is = absurd (omega arith)
-second_refused (first ∷ second ∷ words) [] name fault count more at read is = absurd (omega arith)
-second_refused (first ∷ second ∷ words) (text ∷ []) name fault count more at read is = absurd (omega arith)
-second_refused (first ∷ second ∷ words) (text ∷ other ∷ texts) name fault count more at read is =
-    let same : name ≡ second.now = some_same _ _ (sym at) in
-    let P : UnitsFault → Type 0 = λ f. IsFaultOf (zip (names_of (first ∷ second ∷ words)) (text ∷ other ∷ texts)) f in
-    subst P (sym (is ∙ ap (λ (n : List ℕ). fault_of (not_built n 1 1)) same)) (inr (read, refl))
-
--- a unit alone
-pub one_unit : (words : List (Bor (List ℕ))) (texts : List (List ℕ)) (word : Bor (List ℕ)) (name text : List ℕ) → length texts ≡ length words → 0 < length words → length words ≤ 1
-    → word ≡ get_or words 0 word → name ≡ word.now → text ≡ get_or texts 0 text → zip (names_of words) texts ≡ (name, text) ∷ []
-one_unit [] texts word name text count some few at name_is text_is = absurd (omega arith)
-one_unit (first ∷ second ∷ words) texts word name text count some few at name_is text_is = absurd (omega arith)
-one_unit (first ∷ []) [] word name text count some few at name_is text_is = absurd (omega arith)
-one_unit (first ∷ []) (alone ∷ other ∷ texts) word name text count some few at name_is text_is = absurd (omega arith)
-one_unit (first ∷ []) (alone ∷ []) word name text count some few at name_is text_is =
-    let name_same : first.now ≡ name = sym (name_is ∙ ap (λ (b : Bor (List ℕ)). b.now) at) in
-    let text_same : alone ≡ text = sym text_is in
-    ap (λ (n : List ℕ). (n, alone) ∷ []) name_same ∙ ap (λ (t : List ℕ). (name, t) ∷ []) text_same
+-- a refusal alone is one of the text
+pub alone_in : (number : ℕ) (text : NamedText) (fault : UnitsFault) → IsFaultAlone text fault → IsFaultIn number text fault
+alone_in number text (Refused status line) alone = inl alone
+alone_in number text Memory alone = tt
 
 -- the unit of a number, and those behind it
 pub unit_at : (words : List (Bor (List ℕ))) (texts : List (List ℕ)) (number : ℕ) (own name text : List ℕ) → length texts ≡ length words → number < length words
@@ -121,18 +86,42 @@ no_unit_left (first ∷ words) texts zero h = absurd (omega arith)
 no_unit_left (first ∷ words) [] (suc number) h = refl
 no_unit_left (first ∷ words) (text ∷ texts) (suc number) h = no_unit_left words texts number (omega arith)
 
--- how far units were read alone: what the rest of them says, all say
-pub record IsReadTo (units rest : List NamedText) : Type 0 where
-  pub refused : (answer : Answer) → FirstAlone rest answer → FirstAlone units answer
-  pub read : AreReadAlone rest → AreReadAlone units
+-- how far texts were lowered: what the rest of them says, all say
+pub record IsLoweredTo (texts rest : List NamedText) (number : ℕ) (units : List Unit) : Type 0 where
+  pub refused : (answer : Answer) → FirstRefused IsRefusedText number rest answer → FirstRefused IsRefusedText 0 texts answer
+  pub right : (us : List Unit) → AreRightTexts number rest us → AreRightTexts 0 texts (units ++ us)
 
-pub read_further : (units rest others : List NamedText) (unit : NamedText) → IsReadTo units rest → rest ≡ unit ∷ others → IsReadAlone unit → IsReadTo units others
-read_further units rest others unit so_far is alone = record {
-  refused = λ answer h. so_far.refused answer (let P : List NamedText → Type 0 = λ r. FirstAlone r answer in subst P (sym is) (inr (alone, h)));
-  read = λ h. so_far.read (let P : List NamedText → Type 0 = λ r. AreReadAlone r in subst P (sym is) (alone, h));
+pub lowered_first : (texts : List NamedText) → IsLoweredTo texts texts 0 []
+lowered_first texts = record { refused = λ answer h. h; right = λ us h. h }
+
+pub lowered_further : (texts rest others : List NamedText) (text : NamedText) (number : ℕ) (units : List Unit) (u : Unit) → IsLoweredTo texts rest number units → rest ≡ text ∷ others → IsRightText number text u
+    → IsLoweredTo texts others (number + 1) (units ++ u ∷ [])
+lowered_further texts rest others text number units u so_far is right = record {
+  refused = λ answer h. so_far.refused answer (let P : List NamedText → Type 0 = λ r. FirstRefused IsRefusedText number r answer in subst P (sym is) (inr (u, right, h)));
+  right = λ us h.
+      let P : List NamedText → Type 0 = λ r. AreRightTexts number r (u ∷ us) in
+      let Q : List Unit → Type 0 = λ l. AreRightTexts 0 texts l in
+      subst Q (sym (append_assoc units (u ∷ []) us)) (so_far.right (u ∷ us) (subst P (sym is) (right, h)));
 }
 
-pub refused_here : (units rest others : List NamedText) (unit : NamedText) (fault : UnitsFault) → IsReadTo units rest → rest ≡ unit ∷ others → IsFaultAlone unit fault → IsFaultOf units fault
+pub refused_here : (texts rest others : List NamedText) (text : NamedText) (number : ℕ) (units : List Unit) (fault : UnitsFault) → IsLoweredTo texts rest number units → rest ≡ text ∷ others
+    → IsFaultIn number text fault → IsFaultOf texts fault
 unfolding Refuses
-refused_here units rest others unit fault so_far is alone =
-    alone_first unit units fault alone (λ answer refused. inl (so_far.refused answer (let P : List NamedText → Type 0 = λ r. FirstAlone r answer in subst P (sym is) (inl refused))))
+refused_here texts rest others text number units (Refused status line) so_far is h =
+    let answer : Answer = record { status = status; out = []; err = line } in
+    let P : List NamedText → Type 0 = λ r. FirstRefused IsRefusedText number r answer in
+    inl (so_far.refused answer (subst P (sym is) (inl h)))
+refused_here texts rest others text number units Memory so_far is h = tt
+
+-- the texts are all lowered
+pub lowered_all : (texts rest : List NamedText) (number : ℕ) (units : List Unit) → IsLoweredTo texts rest number units → rest ≡ [] → AreRightTexts 0 texts units
+lowered_all texts rest number units so_far is =
+    let P : List NamedText → Type 0 = λ r. AreRightTexts number r [] in
+    let Q : List Unit → Type 0 = λ l. AreRightTexts 0 texts l in
+    subst Q (append-nil units) (so_far.right [] (subst P (sym is) tt))
+
+-- the names of words are those of their texts
+pub zip_names : (words : List (Bor (List ℕ))) (texts : List (List ℕ)) → length texts ≡ length words → names_of words ≡ map (λ (text : NamedText). text.0) (zip (names_of words) texts)
+zip_names [] texts count = refl
+zip_names (word ∷ words) [] count = absurd (omega arith)
+zip_names (word ∷ words) (text ∷ texts) count = ap (λ (rest : List (List ℕ)). word.now ∷ rest) (zip_names words texts (omega arith))

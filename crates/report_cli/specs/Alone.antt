@@ -65,11 +65,7 @@ IsReadAs unit list = IsTokens unit.1 list × ((state : State) × Reading unit.1 
 abbrev pub IsReadAlone : NamedText → Type 0
 IsReadAlone unit = (list : List Token) × IsReadAs unit list
 
--- the first of some units that is refused alone
-abbrev pub FirstAlone : List NamedText → Answer → Type 0
-FirstAlone [] answer = ⊥
-FirstAlone (unit ∷ units) answer = IsRefusedAlone unit answer ⊎ (IsReadAlone unit × FirstAlone units answer)
-
+-- each of some units is read alone
 abbrev pub AreReadAlone : List NamedText → Type 0
 AreReadAlone [] = Unit {0}
 AreReadAlone (unit ∷ units) = IsReadAlone unit × AreReadAlone units

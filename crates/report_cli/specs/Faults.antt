@@ -1,6 +1,8 @@
 -- What the fault of units says.
 use Rattle.std.specs.Prelude.{◌≡◌, List, [], ℕ}
 use Rattle.c_lexer.specs.declared.Token.{Token}
+use Rattle.c_lexer.specs.declared.Tokens.{Tokens}
+use Rattle.c_grammar.specs.declared.trees.Tree.{Tree}
 use Rattle.c_lexer.specs.declared.LexFault.{LexFault}
 use Rattle.c_lexer.specs.declared.LexFault.TheVariants.{BadByte, Unended, BadNumber, TooLong}
 use Rattle.c_lexer.specs.declared.LexFault.TheVariants as lex
@@ -11,9 +13,18 @@ use Rattle.c_parser.specs.declared.ParseFault.{ParseFault}
 use Rattle.c_parser.specs.declared.ParseFault.TheVariants.{Malformed, Unsupported, TooDeep, OutOfMemory}
 use Rattle.report_cli.specs.declared.fault.UnitsFault.{UnitsFault}
 use Rattle.report_cli.specs.declared.fault.UnitsFault.TheVariants.{Refused, Memory}
-use Rattle.report_cli.specs.Answers.{NamedText, Answer}
+use Rattle.report_cli.specs.Answers.{NamedText, Answer, place_text}
 use Rattle.report_cli.specs.Alone.{IsRefusedAlone, lexical_refusal, syntax_refusal, name_refusal}
-use Rattle.report_cli.specs.Outcome.{IsRefusedBy}
+use Rattle.pta_base.specs.declared.kind.Kind.TheVariants.{Operand}
+use Rattle.core_nodes.specs.declared.fault.CheckFault.{CheckFault}
+use Rattle.core_nodes.specs.declared.fault.CheckFault.TheVariants as check
+use Rattle.link_names.specs.declared.fault.LinkFault.TheVariants as link
+use Rattle.unit_system.specs.declared.fault.UnitFault.{UnitFault}
+use Rattle.unit_system.specs.declared.fault.UnitFault.TheVariants as unit
+use Rattle.report_cli.specs.Lowered.{kind_refusal}
+use Rattle.report_cli.specs.Linking.{link_refusal, nodes_refusal, words_refusal, unit_name}
+use Rattle.report_cli.specs.Unbuilt.{not_built}
+use Rattle.report_cli.specs.Outcome.{IsRefusedText, IsRefusedBy}
 
 -- a fault is a refusal
 abbrev pub fault_of : Answer → UnitsFault
@@ -28,6 +39,11 @@ IsFaultOf units Memory = Unit {0}
 abbrev pub IsFaultAlone : NamedText → UnitsFault → Type 0
 IsFaultAlone unit (Refused status line) = IsRefusedAlone unit (record { status = status; out = []; err = line })
 IsFaultAlone unit Memory = Unit {0}
+
+-- a refusal is that of a text, as unit of that number
+abbrev pub IsFaultIn : ℕ → NamedText → UnitsFault → Type 0
+IsFaultIn number text (Refused status line) = IsRefusedText number text (record { status = status; out = []; err = line })
+IsFaultIn number text Memory = Unit {0}
 
 -- the refusal for a lexical fault
 abbrev pub IsLexical : NamedText → LexFault → UnitsFault → Type 0
@@ -49,3 +65,18 @@ abbrev pub IsNominal : List ℕ → List Token → List Node → NameFault → U
 IsNominal name list nodes (names.Undeclared node) fault = fault ≡ fault_of (name_refusal name list nodes (names.Undeclared node))
 IsNominal name list nodes (names.Redeclared node) fault = fault ≡ fault_of (name_refusal name list nodes (names.Redeclared node))
 IsNominal name list nodes names.OutOfMemory fault = fault ≡ Memory
+
+-- the refusal for the fault of a node
+abbrev pub IsKindRefusal : List ℕ → Tokens → Tree → CheckFault → UnitsFault → Type 0
+IsKindRefusal name tokens tree (check.BadOperand node) fault = fault ≡ fault_of (kind_refusal name tokens tree Operand node)
+IsKindRefusal name tokens tree (check.Unsupported kind node) fault = fault ≡ fault_of (kind_refusal name tokens tree kind node)
+IsKindRefusal name tokens tree check.OutOfMemory fault = fault ≡ Memory
+
+-- the refusal for a fault of linking, for a limit, and for what isn't built
+abbrev pub IsSystemRefusal : List (List ℕ) → UnitFault → UnitsFault → Type 0
+IsSystemRefusal names (unit.Link link.OutOfMemory) fault = fault ≡ Memory
+IsSystemRefusal names (unit.Link cause) fault = fault ≡ fault_of (link_refusal names cause)
+IsSystemRefusal names (unit.Nodes nodes) fault = fault ≡ fault_of (nodes_refusal nodes)
+IsSystemRefusal names (unit.Words words) fault = fault ≡ fault_of (words_refusal words)
+IsSystemRefusal names unit.NotBuilt fault = fault ≡ fault_of (not_built (place_text (unit_name names 0) 1 1))
+IsSystemRefusal names unit.OutOfMemory fault = fault ≡ Memory

@@ -1,8 +1,10 @@
 pub mod Words
 pub mod Answers
 pub mod Alone
+pub mod Lowered
+pub mod Linking
+pub mod Unbuilt
 pub mod Outcome
 pub mod Outside
 pub mod Faults
 pub mod Laws
-pub mod Solved

@@ -1,55 +1,66 @@
 -- What the words and the texts of the units say of the answer.
-use Rattle.std.specs.Prelude.{◌≡◌, ◌⊎◌, ℕ, List, [], ◌∷◌, ◌++◌, codes}
-use Rattle.sol_model.specs.Families.{Family}
-use Rattle.sol_model.specs.Solutions.{IsLeast}
-use Rattle.c_lexer.specs.declared.Token.{Token}
-use Rattle.pointer_units.specs.declared.unit.PointerUnit.{PointerUnit}
-use Rattle.pointer_units.specs.Units.{Accepts}
-use Rattle.pointer_units.specs.Refusals.{IsRefusedAt}
-use Rattle.pointer_units.specs.Constraints.{system_of}
-use Rattle.pointer_units.specs.Report.{report_of}
+use Rattle.std.specs.Prelude.{◌≡◌, ◌⊎◌, ℕ, ◌+◌, List, [], ◌∷◌, codes}
+use Rattle.core_tree.specs.declared.node.Unit.{Unit}
+use Rattle.core_tree.specs.declared.node.Program.{Program}
+use Rattle.sol_model.specs.declared.system.System.{System}
+use Rattle.obj_space.specs.declared.location.Location.{Location}
+use Rattle.unit_link.specs.Linked.{Linked}
+use Rattle.unit_system.specs.Of.{IsSystemOf}
+use Rattle.unit_report.specs.Reported.{IsProgramReport}
 use Rattle.command_line.specs.Rules.{AreRight}
-use Rattle.report_cli.specs.Answers.{NamedText, Answer, refusal, place_text}
-use Rattle.report_cli.specs.Alone.{IsReadAs, FirstAlone, AreReadAlone}
+use Rattle.report_cli.specs.Answers.{NamedText, Answer, refusal}
+use Rattle.report_cli.specs.Alone.{IsRefusedAlone}
+use Rattle.report_cli.specs.Lowered.{IsRightText, AreRightTexts, IsRefusedRow}
+use Rattle.report_cli.specs.Linking.{IsLinkRefusal, HaveManyNodes, HaveManyWords}
+use Rattle.report_cli.specs.Unbuilt.{IsUnbuilt, AreNotBuilt}
 
--- the program that units denote: that of a unit alone
-unfoldable pub Denotes : List NamedText → PointerUnit → Type 0
-Denotes [] program = ⊥
-Denotes (unit ∷ []) program = (list : List Token) × IsReadAs unit list × Accepts unit.1 list program
-Denotes (unit ∷ second ∷ others) program = ⊥
+-- a program that texts denote: each is right, as a core unit, and the program is linked from these
+unfoldable pub Denotes : List NamedText → Program → Type 0
+Denotes texts program = (units : List Unit) × AreRightTexts 0 texts units × Linked units program
 
--- bytes are the report of the least solution of a program's constraints
-unfoldable pub IsReport : PointerUnit → List ℕ → Type 0
-IsReport program report = (F : Family) × IsLeast (system_of program) F × (report ≡ report_of program F)
+-- bytes are the report of the least solution of a program's system
+unfoldable pub IsReport : Program → System → List ℕ → Type 0
+IsReport program system report = (space : List Location) × IsSystemOf program space system × IsProgramReport program space system report
 
--- the refusal of a form of text that isn't built
-abbrev pub not_built : List ℕ → ℕ → ℕ → Answer
-not_built name line column = refusal 4 (place_text name line column ++ codes ": not accepted not-built")
+-- the refusal of a text that is read alone, as unit of that number: for its first row that doesn't fit, or for what isn't built
+abbrev pub IsRefusedRead : ℕ → NamedText → Answer → Type 0
+IsRefusedRead number text answer = IsRefusedRow number text answer ⊎ IsUnbuilt number text answer
 
--- what refuses units that are right alone: a second unit is refused at its start, and a unit alone at its first token that doesn't
--- fit the form that is built
-abbrev pub IsRefusedTogether : List NamedText → Answer → Type 0
-IsRefusedTogether [] answer = ⊥
-IsRefusedTogether (unit ∷ []) answer =
-    (list : List Token) × IsReadAs unit list × ((line : ℕ) × (column : ℕ) × IsRefusedAt unit.1 list line column × (answer ≡ not_built unit.0 line column))
-IsRefusedTogether (unit ∷ second ∷ others) answer = AreReadAlone (unit ∷ second ∷ others) × (answer ≡ not_built second.0 1 1)
+-- the refusal of a text, as unit of that number
+abbrev pub IsRefusedText : ℕ → NamedText → Answer → Type 0
+IsRefusedText number text answer = IsRefusedAlone text answer ⊎ IsRefusedRead number text answer
 
--- the first refusal of units: that of the first unit that is refused alone, else that of all together
+-- the refusal of the first text that isn't right, where those before it are; the first text is the unit of that number
+abbrev pub FirstRefused : (ℕ → NamedText → Answer → Type 0) → ℕ → List NamedText → Answer → Type 0
+FirstRefused IsRefused number [] answer = ⊥
+FirstRefused IsRefused number (text ∷ texts) answer =
+    IsRefused number text answer ⊎ ((u : Unit) × IsRightText number text u × FirstRefused IsRefused (number + 1) texts answer)
+
+-- the refusal of texts that are right: for a fault of linking, for a limit that their program passes, or as texts of which no program is
+-- built
+abbrev pub AreRefusedTogether : List NamedText → Answer → Type 0
+AreRefusedTogether texts answer = IsLinkRefusal texts answer ⊎ (HaveManyNodes texts answer ⊎ (HaveManyWords texts answer ⊎ AreNotBuilt texts answer))
+
+-- the first refusal of texts: that of the first one that isn't right, else that of all together
 unfoldable pub Refuses : List NamedText → Answer → Type 0
-Refuses units answer = FirstAlone units answer ⊎ IsRefusedTogether units answer
+Refuses texts answer = FirstRefused IsRefusedText 0 texts answer ⊎ AreRefusedTogether texts answer
 
--- the answer of units: the report of the program that they denote, or their first refusal
+-- the same of texts that are read alone
+abbrev pub RefusesRead : List NamedText → Answer → Type 0
+RefusesRead texts answer = FirstRefused IsRefusedRead 0 texts answer ⊎ AreRefusedTogether texts answer
+
+-- the answer of texts: the report of the program that they denote, or their first refusal
 abbrev pub OutcomeOf : List NamedText → Answer → Type 0
-OutcomeOf units answer =
-    ((program : PointerUnit) × Denotes units program × IsReport program answer.out × (answer.status ≡ 0) × (answer.err ≡ []))
-    ⊎ Refuses units answer
+OutcomeOf texts answer =
+    ((program : Program) × (system : System) × Denotes texts program × IsReport program system answer.out × (answer.status ≡ 0) × (answer.err ≡ []))
+    ⊎ Refuses texts answer
 
 -- the answer of words and of the units that they name: where the words aren't right, how the program is used
 abbrev pub Outcome : List (List ℕ) → List NamedText → Answer → Type 0
-Outcome words units answer =
+Outcome words texts answer =
     ((AreRight words → ⊥) × (answer ≡ refusal 2 (codes "usage")))
-    ⊎ (AreRight words × OutcomeOf units answer)
+    ⊎ (AreRight words × OutcomeOf texts answer)
 
 -- a refusal by its status and its line
 abbrev pub IsRefusedBy : List NamedText → ℕ → List ℕ → Type 0
-IsRefusedBy units status line = Refuses units (record { status = status; out = []; err = line })
+IsRefusedBy texts status line = Refuses texts (record { status = status; out = []; err = line })

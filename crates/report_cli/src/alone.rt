@@ -5,16 +5,18 @@ ghost use Rattle.c_mentions.specs.Syntax.{nodes_of};
 ghost use Rattle.c_lexer.specs.declared.LexFault.TheVariants.{OutOfMemory};
 ghost use Rattle.report_cli.specs.Words.{texts_of};
 ghost use Rattle.report_cli.specs.Answers.{refusal};
-ghost use Rattle.report_cli.specs.Alone.{lexical_refusal, syntax_refusal, malformed_at, token_place, IsReadAs, AreReadAlone};
+ghost use Rattle.report_cli.specs.Alone.{lexical_refusal, syntax_refusal, malformed_at, token_place, AreReadAlone};
+ghost use Rattle.report_cli.specs.Lowered.{IsParsed};
+ghost use Rattle.c_scope.specs.Resolves.{IsBound};
 ghost use Rattle.report_cli.specs.Faults.{fault_of, IsFaultAlone, IsLexical, IsNominal, IsSyntactic};
 
 use crate::fault::UnitsFault;
 use crate::places::{column_of, line_of, node_place, place_text, token_place};
-use c_grammar::SyntaxNode;
+use c_grammar::{SyntaxNode, Tree};
 use c_lexer::lexer::tokens;
 use c_lexer::{LexFault, Token, Tokens};
 use c_parser::ParseFault;
-use c_scope::{NameFault, resolve};
+use c_scope::{Bound, NameFault, resolve};
 use c_units::parse_unit;
 use pta_base::{Kind, Listing};
 use std::alloc::{AllocError, Global};
@@ -33,7 +35,7 @@ fn malformed(place: Vec<u8>) -> Result<UnitsFault, AllocError>
 }
 
 /// The refusal of a construct that isn't accepted, at a place.
-fn not_accepted(place: Vec<u8>, kind: Kind) -> Result<UnitsFault, AllocError>
+pub(crate) fn not_accepted(place: Vec<u8>, kind: Kind) -> Result<UnitsFault, AllocError>
     ensures { IfOk result (λ fault. fault ≡ fault_of (refusal 4 (place.items ++ codes ": not accepted " ++ name_of kind))) }
 {
     let mut line = place;
@@ -133,26 +135,39 @@ fn nominal(
     }
 }
 
-/// The tokens of a unit whose syntax and names are right, or the fault that refuses it alone.
+/// What was read of a unit alone: its tokens, its tree, and what its names mean.
+#[derive(Drop)]
+pub(crate) struct Read<'a> {
+    pub(crate) tokens: Tokens<'a>,
+    pub(crate) tree: Tree,
+    pub(crate) bound: Bound,
+}
+
+/// What is read of a unit of that number whose syntax and names are right, or the fault that refuses it alone.
 pub(crate) fn read_alone<'a>(
     alloc: Global,
+    number: u32,
     name: &str,
     text: &'a [u8],
-) -> Result<Tokens<'a>, UnitsFault>
-    ensures read { IfOk result (λ tokens. (tokens.text.now ≡ text.now) × IsReadAs (name.now, text.now) tokens.list.items) }
-    ensures few { IfOk result (λ tokens. length tokens.list.items ≤ length text.now + 1) }
+) -> Result<Read<'a>, UnitsFault>
+    ensures parsed { IfOk result (λ read. IsParsed number (name.now, text.now) read.tokens read.tree) }
+    ensures bound { IfOk result (λ read. IsBound read.tokens read.tree read.bound) }
     ensures refused { IfErr result (IsFaultAlone (name.now, text.now)) }
 {
     let tokens = match tokens(alloc, text) {
         Ok(tokens) => tokens,
         Err(fault) => return Err(lexical(alloc, name, text, fault)?),
     };
-    let tree = match parse_unit(alloc, &tokens, 0) {
+    let tree = match parse_unit(alloc, &tokens, number) {
         Ok(tree) => tree,
         Err(fault) => return Err(syntactic(alloc, name, tokens.list.as_slice(), fault)?),
     };
     match resolve(alloc, &tokens, &tree) {
-        Ok(_) => Ok(tokens),
+        Ok(bound) => Ok(Read {
+            tokens,
+            tree,
+            bound,
+        }),
         Err(fault) => Err(nominal(
             alloc,
             name,

@@ -2,7 +2,7 @@
 ghost use Rattle.std.specs.Prelude.{◌≡◌};
 
 use pta_base::{Listing, OutOfMemory};
-use std::alloc::AllocError;
+use std::alloc::{AllocError, AllocFailed};
 
 /// Why units have no report: they are refused with a status and a line, or memory wanted.
 #[derive(Drop)]
@@ -27,6 +27,16 @@ impl From<OutOfMemory> for UnitsFault {
     ghost from_gives = { λ _ e. e ≡ Memory };
 
     fn from(_: OutOfMemory) -> Self {
+        UnitsFault::Memory
+    }
+}
+
+impl<T: Drop> From<AllocFailed<T>> for UnitsFault {
+    ghost use Rattle.report_cli.specs.declared.fault.UnitsFault.TheVariants.{Memory};
+
+    ghost from_gives = { λ _ e. e ≡ Memory };
+
+    fn from(_: AllocFailed<T>) -> Self {
         UnitsFault::Memory
     }
 }

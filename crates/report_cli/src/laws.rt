@@ -1,11 +1,8 @@
 // Laws of the outcome: these functions do nothing, and their contracts are the laws.
-ghost use Rattle.report_cli.specs.Laws.{OneOutcome};
+ghost use Rattle.report_cli.specs.Laws.{OneAlone};
 
-use pointer_units::laws::one_unit;
-
-/// Words and texts have one answer at most: their status, what is written, and the line of a refusal.
-pub fn one_outcome()
-    ensures { OneOutcome }
-{
-    one_unit();
-}
+/// Units have one first refusal alone at most: its status and its line; and none where each is read alone.
+#[tactic(auto, using(crate::proofs::Exclusion::one_alone_first))]
+pub fn one_alone()
+    ensures { OneAlone }
+{}

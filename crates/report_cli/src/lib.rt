@@ -5,18 +5,13 @@ mod alone;
 mod fault;
 mod input;
 pub mod laws;
-#[cfg(test)]
-mod name_tests;
+mod lowered;
 mod output;
 mod places;
 mod reading;
+mod refusals;
 mod solved;
-mod solving;
-#[cfg(test)]
-mod tests;
 mod top;
-#[cfg(test)]
-mod worker_tests;
 
-pub use solving::Solved;
 pub use top::analyse;
+pub use unit_report::Solved;

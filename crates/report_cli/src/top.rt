@@ -1,24 +1,26 @@
 // The top call.
-ghost use Rattle.std.specs.Prelude.{◌≡◌, ◌≢◌, ◌⊎◌, ℕ, ◌<◌, ◌≤◌, None, Some, List, length, zip, IfOk, IfSome, Contains};
+ghost use Rattle.std.specs.Prelude.{◌≡◌, ◌≢◌, ◌⊎◌, ℕ, ◌<◌, ◌≤◌, ◌^◌, None, Some, List, length, zip, IfOk, IfSome, Contains};
 ghost use Rattle.pta_base.specs.Outside.{HasRisen, IsSteady};
-ghost use Rattle.pointer_units.specs.declared.unit.PointerUnit.{PointerUnit};
+ghost use Rattle.core_tree.specs.declared.node.Program.{Program};
+ghost use Rattle.sol_model.specs.declared.system.System.{System};
 ghost use Rattle.command_line.specs.Rules.{AreRight};
+ghost use Rattle.command_line.specs.Distinct.{AreDistinct};
 ghost use Rattle.report_cli.specs.Words.{names_of, names_read, texts_of};
 ghost use Rattle.report_cli.specs.Answers.{told_units, Answer};
-ghost use Rattle.report_cli.specs.Outcome.{Denotes, IsReport, IsRefusedBy, Outcome};
+ghost use Rattle.report_cli.specs.Alone.{AreReadAlone};
+ghost use Rattle.report_cli.specs.Outcome.{Denotes, IsReport, IsRefusedBy, RefusesRead, Outcome};
 ghost use Rattle.report_cli.specs.Outside.{Grows, GrowsInPart, Receives, source_fault, sink_fault, out_of_memory, usage_line};
-ghost use Rattle.report_cli.specs.Solved.{IsKept};
-ghost use Rattle.pointer_units.specs.Constraints.{system_of};
+ghost use Rattle.unit_report.specs.Solved.{IsKept};
 
 use crate::fault::UnitsFault;
 use crate::output::{say, write_text};
 use crate::reading::{ReadingFault, name_at, read_units};
 use crate::solved::report_of_units;
-use crate::solving::Solved;
 use command_line::{Command, WordsFault, parse_words};
 use pta_base::{Gate, Listing, Sink, Units};
 use std::alloc::{AllocError, Global};
 use std::thread::Threads;
+use unit_report::Solved;
 
 /// A text of this many bytes is too long, so that no more of it needs to be read.
 const LIMIT: usize = 16_777_217;
@@ -92,14 +94,17 @@ fn answer_units<R: Threads + Sync, O: Sink, E: Sink, G: Gate + Sync>(
     gate: &G,
     kept: &mut Option<Solved>,
 ) -> u8
-    requires present { 0 < length command.now.units.items }
+    requires distinct { AreDistinct (names_of command.now.units.items) }
+    requires few { length command.now.units.items ≤ 2 ^ 8 }
     requires workers { (0 < command.now.workers) × (command.now.workers ≤ 64) }
     requires count { length texts.now ≡ length command.now.units.items }
-    ensures listed { (result ≡ 0) ⊎ (((result ≡ 3) ⊎ ((result ≡ 4) ⊎ (result ≡ 6))) ⊎ ((result ≡ 8) ⊎ (result ≡ 9))) }
-    ensures delivered { result ≡ 0 → (program : PointerUnit) × (report : List ℕ) × Denotes (zip (names_of command.now.units.items) texts.now) program × IsReport program report
-        × Grows (O.written out.old) (O.written out.new) report × (E.written err.new ≡ E.written err.old) × IsKept (system_of program) kept.new }
+    ensures listed { (result ≡ 0) ⊎ (((result ≡ 3) ⊎ ((result ≡ 4) ⊎ ((result ≡ 5) ⊎ (result ≡ 6)))) ⊎ ((result ≡ 8) ⊎ (result ≡ 9))) }
+    ensures delivered { result ≡ 0 → (program : Program) × (system : System) × (report : List ℕ)
+        × Denotes (zip (names_of command.now.units.items) texts.now) program × IsReport program system report
+        × Grows (O.written out.old) (O.written out.new) report × (E.written err.new ≡ E.written err.old) × IsKept system kept.new }
     ensures unsolved { result ≢ 0 → kept.new ≡ kept.old }
-    ensures broken { result ≡ 8 → (program : PointerUnit) × (report : List ℕ) × Denotes (zip (names_of command.now.units.items) texts.now) program × IsReport program report
+    ensures broken { result ≡ 8 → (program : Program) × (system : System) × (report : List ℕ)
+        × Denotes (zip (names_of command.now.units.items) texts.now) program × IsReport program system report
         × GrowsInPart (O.written out.old) (O.written out.new) report }
     ensures refused { result ≢ 0 → result ≢ 8 → result ≢ 9 → (line : List ℕ) × IsRefusedBy (zip (names_of command.now.units.items) texts.now) result line
         × Receives (E.written err.old) (E.written err.new) (E.faults err.old) (E.faults err.new) line }
@@ -136,11 +141,12 @@ fn answer_units<R: Threads + Sync, O: Sink, E: Sink, G: Gate + Sync>(
 /// Does all that the program does: reads the units that the words name, writes the report of their program to `out` or the line of
 /// a refusal to `err`, and answers the status. The words are `--workers N` and units, in any order (`command_line`). The statuses are
 /// 0 for a report that was written whole, 2 for words that aren't right, 3 for a text that has no tokens (C11 6.4) or whose tokens are
-/// no unit (C11 6.9), 4 for a construct that isn't accepted or a form of text that isn't built, 6 for a text of more than 2^24 bytes
-/// or more than 256 constructs that nest, each at its place, 7 for a unit that could not be read, 8 for a report that could not be
-/// written and 9 for want of memory. All memory is taken before the first byte is written. The system is solved on shared rows by as
-/// many workers as the words say, 1 where they don't; each passes the gate before each of its pieces. `kept` has to be None; with
-/// status 0 it holds the system, its table and the seat that solved it, and with any other status it stays None.
+/// no unit (C11 6.9), 4 for a construct that isn't accepted or a form of text that isn't built, 5 for units that don't link, 6 for a text
+/// of more than 2^24 bytes, more than 256 constructs that nest, or a program of more than 2^24 nodes or words of rows, 7 for a unit that
+/// could not be read, 8 for a report that could not be written and 9 for want of memory. All memory is taken before the first byte is
+/// written. The system is solved on shared rows by as many workers as the words say, 1 where they don't; each passes the gate before each
+/// of its pieces. `kept` has to be None; with status 0 it holds the system, its table and the seat that solved it, and with any other
+/// status it stays None. Several units aren't built.
 pub fn analyse<R: Threads + Sync, U: Units, O: Sink, E: Sink, G: Gate + Sync>(
     rt: &R,
     alloc: Global,
@@ -156,7 +162,7 @@ pub fn analyse<R: Threads + Sync, U: Units, O: Sink, E: Sink, G: Gate + Sync>(
     // Status 0 means that the bytes written are the report of the least solution of the constraints of the program that
     // the units denote.
     ensures headline { result ≡ 0 → IfSome (told_units (U.text units.old) (names_read (texts_of words.now))) (λ told.
-        (program : PointerUnit) × (report : List ℕ) × Denotes told program × IsReport program report
+        (program : Program) × (system : System) × (report : List ℕ) × Denotes told program × IsReport program system report
         × Grows (O.written out.old) (O.written out.new) report) }
 
     // Where neither the outside nor memory failed, the answer is that of the words and the texts.
@@ -166,20 +172,23 @@ pub fn analyse<R: Threads + Sync, U: Units, O: Sink, E: Sink, G: Gate + Sync>(
         × Receives (E.written err.old) (E.written err.new) (E.faults err.old) (E.faults err.new) answer.err) }
     ensures said { result ≡ 2 → Receives (E.written err.old) (E.written err.new) (E.faults err.old) (E.faults err.new) usage_line }
     ensures usage { (result ≡ 2 → AreRight (texts_of words.now) → ⊥) × (AreRight (texts_of words.now) ⊎ ((result ≡ 2) ⊎ (result ≡ 9))) }
-    ensures listed { (result ≡ 0) ⊎ ((result ≡ 2) ⊎ (((result ≡ 3) ⊎ ((result ≡ 4) ⊎ (result ≡ 6))) ⊎ ((result ≡ 7) ⊎ ((result ≡ 8) ⊎ (result ≡ 9))))) }
+    ensures listed { (result ≡ 0) ⊎ ((result ≡ 2) ⊎ (((result ≡ 3) ⊎ ((result ≡ 4) ⊎ ((result ≡ 5) ⊎ (result ≡ 6)))) ⊎ ((result ≡ 7) ⊎ ((result ≡ 8) ⊎ (result ≡ 9))))) }
     ensures unwritten { result ≢ 0 → result ≢ 8 → O.written out.new ≡ O.written out.old }
 
     // With status 0 the program's own system was solved on the table that is left, by its seat and those split from it, which were joined
     // into it; with any other status nothing is left.
     ensures solved { result ≡ 0 → IfSome (told_units (U.text units.old) (names_read (texts_of words.now))) (λ told.
-        (program : PointerUnit) × Denotes told program × IsKept (system_of program) kept.new) }
+        (program : Program) × (system : System) × (report : List ℕ) × Denotes told program × IsReport program system report
+        × Grows (O.written out.old) (O.written out.new) report × IsKept system kept.new) }
     ensures unsolved { result ≢ 0 → kept.new ≡ None }
 
-    // Where the words are right, the texts denote a program, and the outside doesn't fail, the report is written.
+    // Where the words are right, each text is that of a unit in which no name is undeclared or redeclared, and the outside doesn't fail, the
+    // answer is a report, or the first refusal of such texts by their rows, by linking or by a limit.
     ensures complete { IfSome (told_units (U.text units.old) (names_read (texts_of words.now))) (λ told. AreRight (texts_of words.now)
-        → (program : PointerUnit) → Denotes told program
+        → AreReadAlone told
         → ((name : List ℕ) → Contains (names_read (texts_of words.now)) name → IsSteady (U.faults units.old name) (U.faults units.new name))
-        → IsSteady (O.faults out.old) (O.faults out.new) → (result ≡ 0) ⊎ (result ≡ 9)) }
+        → IsSteady (O.faults out.old) (O.faults out.new)
+        → (result ≡ 0) ⊎ ((result ≡ 9) ⊎ ((answer : Answer) × RefusesRead told answer × (result ≡ answer.status)))) }
 
     // The outside: each of its statuses has its cause, and each of its faults its status.
     ensures source { result ≡ 7 → (name : List ℕ) × Contains (names_read (texts_of words.now)) name × HasRisen (U.faults units.old name) (U.faults units.new name)
@@ -189,7 +198,7 @@ pub fn analyse<R: Threads + Sync, U: Units, O: Sink, E: Sink, G: Gate + Sync>(
         × Receives (E.written err.old) (E.written err.new) (E.faults err.old) (E.faults err.new) sink_fault }
     ensures sink_risen { O.faults out.old < O.faults out.new → result ≡ 8 }
     ensures broken { result ≡ 8 → IfSome (told_units (U.text units.old) (names_read (texts_of words.now))) (λ told.
-        (program : PointerUnit) × (report : List ℕ) × Denotes told program × IsReport program report
+        (program : Program) × (system : System) × (report : List ℕ) × Denotes told program × IsReport program system report
         × GrowsInPart (O.written out.old) (O.written out.new) report) }
     ensures memory { result ≡ 9 → Receives (E.written err.old) (E.written err.new) (E.faults err.old) (E.faults err.new) out_of_memory }
 {

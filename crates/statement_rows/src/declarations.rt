@@ -1,11 +1,8 @@
 // The rows of declarations: the initialisers that run where they stand (C11 6.7.9, 6.8p3).
-ghost use Rattle.std.specs.Prelude.{◌≡◌, ◌<◌, ◌++◌, ◌&&◌, ℕ, List, nat_lt, map, length, slice_get, All, Some, IfOk, IfSome, OnOk, IsOkUnless};
+ghost use Rattle.std.specs.Prelude.{◌≡◌, ◌<◌, ◌++◌, ℕ, List, map, length, slice_get, All, Some, IfOk, IfSome, OnOk, IsOkUnless};
 ghost use Rattle.core_tree.specs.declared.node.Unit.{Unit as UnitSpec};
-ghost use Rattle.c_grammar.specs.Productions.{p_declarator};
 ghost use Rattle.c_senses.specs.World.{World};
-ghost use Rattle.c_senses.specs.Tree as tree;
 ghost use Rattle.c_senses.specs.Tree.{Source, children_at};
-ghost use Rattle.c_senses.specs.Entities as entities;
 ghost use Rattle.c_senses.specs.Sense.{Sense, sense_in};
 ghost use Rattle.c_senses.specs.Statements as spec;
 ghost use Rattle.sense_laws.specs.Senses.{ChildrenFirst};
@@ -20,38 +17,9 @@ use crate::kinds::NameKinds;
 use crate::objects::{is_automatic_object, name_at};
 use c_results::{Made, made_at};
 use core_nodes::CheckFault;
+use name_places::initialised_by;
 use std::alloc::Global;
-use tree_reads::{Syntax, child_of, children_of, is_a};
-
-const P_DECLARATOR: u32 = 19;
-
-// The last declarator of a list that stands before an initialiser.
-fn declarator_before(syntax: &Syntax, list: &[u32], init: u32) -> Option<u32>
-    ensures { result ≡ tree.last_where (λ c. tree.is_a (source_read syntax.now) p_declarator c && nat_lt c init) list.now }
-{
-    let mut found = None;
-    for node in list {
-        if is_a(syntax, P_DECLARATOR, *node) && *node < init {
-            found = Some(*node);
-        }
-    }
-    found
-}
-
-// The declarator whose initialiser a node is: the last one before it, or the first of the declaration whose rest it begins.
-fn initialised_by(syntax: &Syntax, init: u32) -> Option<u32>
-    requires { init < length syntax.now.tree.now.nodes.items }
-    ensures { (sense : ℕ → Sense) → result ≡ entities.initialised_by (source_read syntax.now) sense init }
-{
-    let parent = syntax.parent_of(init)?;
-    match declarator_before(syntax, children_of(syntax, parent), init) {
-        Some(declarator) => Some(declarator),
-        None => {
-            let declaration = syntax.parent_of(parent)?;
-            child_of(syntax, P_DECLARATOR, declaration)
-        }
-    }
-}
+use tree_reads::{Syntax, children_of};
 
 // Whether an initialiser runs where it stands: it is one of an automatic object.
 fn runs_initialiser(syntax: &Syntax, results: &[Made], kinds: &NameKinds, init: u32) -> bool

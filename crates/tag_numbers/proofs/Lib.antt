@@ -1,4 +1,5 @@
 pub mod Listing
 pub mod Places
+pub mod Ordering
 pub mod Numbering
 pub mod Knowing

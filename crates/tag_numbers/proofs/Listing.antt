@@ -39,6 +39,10 @@ all_append test (x ∷ xs) ys = elim (test x) as (λ b. cond b (x ∷ all_where 
   | false ↦ all_append test xs ys
 ]
 
+-- those that pass, with a node more
+pub all_next : (test : ℕ → Bool) (n : ℕ) → all_where test (numbers_from 0 (n + 1)) ≡ all_where test (numbers_from 0 n) ++ cond (test n) (n ∷ []) []
+all_next test n = ap (all_where test) (numbers_next n) ∙ all_append test (numbers_from 0 n) (n ∷ [])
+
 any_one : (wanted passes : ℕ → Bool) (x : ℕ) → any_where wanted (all_where passes (x ∷ [])) ≡ (passes x && wanted x)
 any_one wanted passes x = elim (passes x) as (λ b. any_where wanted (cond b (x ∷ []) []) ≡ (b && wanted x)) [ true ↦ or_false (wanted x) | false ↦ refl ]
 

@@ -1,7 +1,8 @@
 -- Numbers of tags, one specifier more at a time.
 use Rattle.std.proofs.Common.{arith, ◌≡◌, ℕ, zero, suc, ◌+◌, ◌<◌, ◌≤◌, Bool, true, false, ◌&&◌, List, [], ◌∷◌, ◌++◌, Option, Some, None, cond, refl, sym, ap, ◌∙◌, ◌⊎◌, inl, inr, subst, length, get_or, slice_get, length-append}
-use Rattle.std.specs.Prelude.{◌==◌, slice_index, max, unwrap_or}
+use Rattle.std.specs.Prelude.{◌==◌, slice_index, max, position, unwrap_or}
 use Rattle.std.proofs.lemmas.Bool.Decides.{nat_tests, leb_tells}
+use Rattle.std.proofs.lemmas.Bool.{eq-eqb, ne_eqb}
 use Rattle.std.proofs.lemmas.List.{get_or_append_left}
 use Rattle.c_grammar.specs.Productions.{p_struct}
 use Rattle.c_senses.specs.Tree.{Source, is_a, numbers_from}
@@ -12,7 +13,9 @@ use Rattle.c_tags.specs.Seen.{IsSeen}
 use Rattle.c_senses.specs.Right.{is_tag, TagsDiffer}
 use Rattle.tag_numbers.specs.Numbers.{AreNumbered, AreSeen}
 use Rattle.tag_numbers.specs.Known.{AreTagNumbers}
+use Rattle.tag_numbers.specs.Ordered.{AreInOrder, place_of_tag}
 use Rattle.tag_numbers.proofs.Listing.{any_here, any_found}
+use Rattle.tag_numbers.proofs.Ordering.{first_not, first_here, not_structure, not_again, is_new, place_is, no_place, listed_is}
 
 below_or_here : (j i : ℕ) → j < i + 1 → (j < i) ⊎ (j ≡ i)
 below_or_here j i h = elim (leb_tells (suc j) i) [ inl less ↦ let lt = less.1 in inl (omega arith) | inr more ↦ let ge = more.1 in inr (omega arith) ]
@@ -33,6 +36,7 @@ module _ (s : Source) (numbers : ℕ → Option ℕ) (firsts : List ℕ) (i : �
     known = are.known;
     least = λ j k h t e. elim (below_or_here j i h) [ inl less ↦ are.least j k less t e | inr same ↦ absurd (let u : is_a s p_struct i ≡ true = ap (is_a s p_struct) (sym same) ∙ t in cc) ];
     within = are.within;
+    all = are.all ∙ sym (first_not s i (not_structure s i not_one));
   }
 
   -- a specifier whose tag has a number
@@ -47,6 +51,10 @@ module _ (s : Source) (numbers : ℕ → Option ℕ) (firsts : List ℕ) (i : �
       | inr same ↦ omega (arith, (are.firsts_are k ((are.back (tag_declared s j) k e).0)).0)
     ];
     within = are.within;
+    all =
+        let b = are.back (tag_declared s i) n known in
+        let f = are.firsts_are n b.0 in
+        are.all ∙ sym (first_not s i (not_again s i (slice_index firsts n) f.0 f.1 b.1));
   }
 
 index_left : (xs : List ℕ) (y k : ℕ) → k < length xs → slice_index (xs ++ y ∷ []) k ≡ slice_index xs k
@@ -102,6 +110,12 @@ module _ (s : Source) (numbers more : ℕ → Option ℕ) (firsts : List ℕ) (i
       | inl less ↦ let e : tag_declared s (slice_index (firsts ++ i ∷ []) k) ≡ tag_declared s (slice_index firsts k) = ap (tag_declared s) (index_left firsts i k less) in omega (arith, e, are.within k less)
       | inr same ↦ let e : tag_declared s (slice_index (firsts ++ i ∷ []) k) ≡ d = ap (λ (x : ℕ). tag_declared s (slice_index (firsts ++ i ∷ []) x)) same ∙ (ap (tag_declared s) (index_last firsts i) ∙ declared) in omega (arith, e)
     ];
+    all =
+        ap (λ (list : List ℕ). list ++ i ∷ []) are.all
+        ∙ sym (first_here s i (is_new s i structure (λ j lt t same.
+        let (k, e) = are.each j lt t in
+        let f : numbers (tag_declared s j) ≡ None = ap numbers (same ∙ declared) ∙ no_number in
+        cc)));
   }
 
 pub numbered_none : (s : Source) (numbers : ℕ → Option ℕ) → ((q : ℕ) → numbers q ≡ None) → AreNumbered s numbers [] 0
@@ -112,6 +126,7 @@ numbered_none s numbers none = record {
   known = λ k h. absurd (omega arith);
   least = λ j k h t e. absurd (omega arith);
   within = λ k h. absurd (omega arith);
+  all = refl;
 }
 
 same_number : (n : ℕ) → (n == n) ≡ true
@@ -146,7 +161,7 @@ among_from_below s k (suc n) i low high t =
     ]
 
 -- what follows for the source with these numbers
-module _ (s : Source) (numbers : ℕ → Option ℕ) (firsts list : List ℕ) (are : AreNumbered s numbers firsts (length s.nodes)) (listed : (d : ℕ) → d < length s.nodes → get_or list d d ≡ unwrap_or (numbers d) 0) where
+module _ (s : Source) (numbers : ℕ → Option ℕ) (firsts list : List ℕ) (are : AreNumbered s numbers firsts (length s.nodes)) (long : length list ≡ length s.nodes) (listed : (d : ℕ) → d < length s.nodes → get_or list d d ≡ unwrap_or (numbers d) 0) where
   abbrev with_numbers : Source
   with_numbers = numbered (λ node. get_or list node node) s
 
@@ -203,6 +218,29 @@ module _ (s : Source) (numbers : ℕ → Option ℕ) (firsts list : List ℕ) (a
   pub count : length firsts ≡ tags_below with_numbers
   count = omega (arith, count_to (length firsts) (omega arith), among_below with_numbers (length firsts) 0 (length s.nodes) (λ i low high t. each_below i (omega arith) t))
 
+  -- the number of a tag is the place of its first specifier
+  is_of : ℕ → ℕ → Bool
+  is_of d i = tag_declared s i == d
+
+  place_by : (d : ℕ) (o : Option ℕ) → numbers d ≡ o → position (is_of d) firsts ≡ o
+  unfolding is_of
+  place_by d None e = no_place (is_of d) firsts (λ j h. ne_eqb (tag_declared s (slice_index firsts j)) d (λ same. let f : numbers d ≡ Some j = ap numbers (sym same) ∙ are.known j h in cc))
+  place_by d (Some k) e =
+      let b = are.back d k e in
+      place_is (is_of d) firsts k b.0 (eq-eqb (tag_declared s (slice_index firsts k)) d b.1)
+      (λ j h. ne_eqb (tag_declared s (slice_index firsts j)) d (λ same.
+      let f : numbers d ≡ Some j = ap numbers (sym same) ∙ are.known j (omega (arith, b.0)) in
+      let g : j ≡ k = cc in
+      omega (arith, g)))
+
+  in_order : AreInOrder with_numbers
+  unfolding is_of
+  in_order = record {
+    each = λ d.
+        listed_is list (length s.nodes) d (unwrap_or (place_of_tag s d) 0) long
+        (λ lt. listed d lt ∙ ap (λ (o : Option ℕ). unwrap_or o 0) (sym (place_by d (numbers d) refl) ∙ ap (λ (xs : List ℕ). position (λ i. tag_declared s i == d) xs) are.all));
+  }
+
   -- all that is known of the numbers
   pub tag_numbers : AreTagNumbers with_numbers firsts
   tag_numbers = record {
@@ -216,6 +254,7 @@ module _ (s : Source) (numbers : ℕ → Option ℕ) (firsts list : List ℕ) (a
         let f : tag_of with_numbers i ≡ k = number_is (tag_declared s i) k e in
         let g : slice_index firsts (tag_of with_numbers i) ≡ slice_index firsts k = ap (slice_index firsts) f in
         omega (arith, g, are.least i k h t e);
+    ordered = in_order;
   }
 
 slice_get_last : {X : Type 0} (xs : List X) (y : X) (i : ℕ) (e : X) → slice_get (xs ++ y ∷ []) i ≡ Some e → (slice_get xs i ≡ Some e) ⊎ ((i ≡ length xs) × (y ≡ e))

@@ -9,6 +9,7 @@ use Rattle.c_senses.specs.Right.{is_tag, TagsDiffer}
 use Rattle.c_senses.specs.Entities.{is_completed_somewhere}
 use Rattle.c_tags.specs.declared.specifiers.SeenTag.{SeenTag}
 use Rattle.c_tags.specs.Seen.{IsSeen}
+use Rattle.tag_numbers.specs.Ordered.{AreInOrder}
 use Rattle.tag_numbers.specs.declared.tags.Tags.{Tags}
 
 -- the numbers of a source's structures and unions are those below the number of their first specifiers, each of one tag
@@ -20,6 +21,8 @@ pub record AreTagNumbers (s : Source) (firsts : List ℕ) : Type 0 where
   -- the first specifier of each tag
   pub firsts_are : (n : ℕ) → n < length firsts → (is_a s p_struct (slice_index firsts n) ≡ true) × (tag_of s (slice_index firsts n) ≡ n)
   pub least : (i : ℕ) → i < length s.nodes → is_a s p_struct i ≡ true → slice_index firsts (tag_of s i) ≤ i
+  -- in their order
+  pub ordered : AreInOrder s
 
 -- what is known of the tags
 pub record AreTags (s : Source) (t : Tags) : Type 0 where

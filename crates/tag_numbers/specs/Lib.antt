@@ -1,3 +1,4 @@
 pub mod Firsts
+pub mod Ordered
 pub mod Numbers
 pub mod Known

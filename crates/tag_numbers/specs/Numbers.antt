@@ -6,6 +6,7 @@ use Rattle.c_senses.specs.Tree.{Source, is_a, any_where, child_of, numbers_from}
 use Rattle.c_senses.specs.Tags.{tag_declared, tag_of, has_list, is_tag_specifier, specifiers_before}
 use Rattle.c_tags.specs.declared.specifiers.SeenTag.{SeenTag}
 use Rattle.c_tags.specs.Seen.{IsSeen}
+use Rattle.tag_numbers.specs.Ordered.{first_specifiers}
 use Rattle.tag_numbers.specs.declared.numbers.Numbering.{Numbering}
 
 -- the specifiers before node `i` have given their tags the numbers, by the nodes by which tags are known; the first specifier of each
@@ -17,6 +18,7 @@ pub record AreNumbered (s : Source) (numbers : ℕ → Option ℕ) (firsts : Lis
   pub known : (k : ℕ) → k < length firsts → numbers (tag_declared s (slice_index firsts k)) ≡ Some k
   pub least : (j k : ℕ) → j < i → is_a s p_struct j ≡ true → numbers (tag_declared s j) ≡ Some k → slice_index firsts k ≤ j
   pub within : (k : ℕ) → k < length firsts → tag_declared s (slice_index firsts k) < length s.nodes
+  pub all : firsts ≡ first_specifiers s i
 
 abbrev pub AreNumbers : Source → Numbering → ℕ → Type 0
 AreNumbers s n i = AreNumbered s (number_at n.numbers) n.firsts.items i

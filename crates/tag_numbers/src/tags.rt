@@ -10,6 +10,7 @@ ghost use Rattle.c_tags.specs.Seen.{IsSeen};
 ghost use Rattle.tree_reads.specs.Sources.{source_in};
 ghost use Rattle.tag_numbers.specs.Known.{AreTagNumbers, AreTags};
 ghost use Rattle.tag_numbers.specs.Firsts.{Declares};
+ghost use Rattle.tag_numbers.specs.Ordered.{AreInOrder};
 
 use crate::declaring::{Declaring, meanings};
 use crate::numbers::{by_node, number_all};
@@ -116,6 +117,7 @@ pub fn number_tags<'a>(
     ensures tokens { IfOk result (λ n. n.syntax.tokens.now ≡ syntax.entry.tokens.now) }
     ensures tree { IfOk result (λ n. n.syntax.tree.now ≡ syntax.entry.tree.now) }
     ensures tags { IfOk result (λ n. AreTags (source_in n.syntax bound.now.uses.items) n.tags) }
+    ensures ordered { IfOk result (λ n. AreInOrder (source_in n.syntax bound.now.uses.items)) }
 {
     let declaring = meanings(alloc, bound)?;
     let (syntax, firsts) = with_numbers(alloc, syntax, &declaring)?;

@@ -2,4 +2,6 @@
 #![tactic(auto)]
 
 pub mod cases;
+pub mod names;
+pub mod spans;
 pub mod uses;

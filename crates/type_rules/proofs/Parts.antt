@@ -1,5 +1,6 @@
 -- A path that has left a type stays out of it.
-use Rattle.std.proofs.Common.{arith, ◌≡◌, ◌≤◌, List, [], ◌∷◌, Option, Some, None, length, get_or, refl, ap, ◌∙◌}
+use Rattle.std.proofs.Common.{arith, ◌≡◌, ℕ, ◌+◌, ◌<◌, ◌≤◌, List, [], ◌∷◌, Option, Some, None, length, get_or, drop, refl, ap, ◌∙◌}
+use Rattle.std.proofs.lemmas.List.{at_drop_more}
 use Rattle.c_types.specs.declared.term.PathStep.{PathStep}
 use Rattle.c_types.specs.Table.{Table}
 use Rattle.c_types.specs.Paths.{part_type, type_at_path}
@@ -12,10 +13,11 @@ pub none_below : (table : Table) (rest : List PathStep) → type_at_path table N
 none_below table [] = refl
 none_below table (step ∷ rest) = none_below table rest
 
--- a path whose first step leaves the type
-pub left_path : (table : Table) (t : Ctype) (path : List PathStep) (d : PathStep) → 1 ≤ length path → part_type table t (get_or path 0 d) ≡ None → type_at_path table (Some t) path ≡ None
-left_path table t [] d h e = absurd (omega arith)
-left_path table t (step ∷ rest) d h e = ap (λ (o : Option Ctype). type_at_path table o rest) e ∙ none_below table rest
+-- a path whose next step leaves the type
+pub left_at : (table : Table) (t : Ctype) (path : List PathStep) (k : ℕ) (d : PathStep) → k < length path → part_type table t (get_or path k d) ≡ None → type_at_path table (Some t) (drop k path) ≡ None
+left_at table t path k d h e =
+    at_drop_more (λ (rest : List PathStep). type_at_path table (Some t) rest) path k d h
+    ∙ (ap (λ (o : Option Ctype). type_at_path table o (drop (k + 1) path)) e ∙ none_below table (drop (k + 1) path))
 
 -- a function with a parameter isn't one without
 pub more_types : (trees : List Ctype) (ids : List TypeId) → 1 ≤ length ids → trees_at trees ids ≡ NoTypes → ⊥

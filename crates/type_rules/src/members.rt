@@ -94,11 +94,12 @@ pub fn at_path(types: &TypeTable, whole: TypeId, path: &[PathStep]) -> Option<Ty
         ≡ type_at_path types.now (Some (type_of types.now whole.0)) path.now }
     ensures known { IfSome result (λ part. part.0 < length types.now.terms) }
 {
-    match path {
-        [] => Some(whole),
-        [step, rest @ ..] => match part_of(types, whole, *step) {
-            Some(part) => at_path(types, part, rest),
-            None => None,
-        },
+    let mut part = whole;
+    for step in path {
+        match part_of(types, part, *step) {
+            Some(below) => part = below,
+            None => return None,
+        }
     }
+    Some(part)
 }

@@ -2,6 +2,9 @@
 #![tactic(auto)]
 
 ghost use Rattle.std.specs.Prelude.{◌≡◌, ◌↔◌, ℕ, IsTrue, MatchResult};
+ghost use Rattle.core_tree.specs.Valid.{ValidUnit};
+ghost use Rattle.core_nodes.specs.declared.fault.CheckFault.TheVariants.{OutOfMemory};
+ghost use Rattle.c_senses.specs.Right.{InitialisesOnce};
 ghost use Rattle.leaf_maps.specs.Numbers.{number_at};
 ghost use Rattle.unit_parts.specs.Entities.{numbering_of};
 ghost use Rattle.unit_finish.specs.Complete.{IsNamedWhole, Completes, NoneCompletes};
@@ -9,7 +12,6 @@ ghost use Rattle.unit_finish.specs.Complete.{IsNamedWhole, Completes, NoneComple
 use c_types::table::TypeTable;
 use core_nodes::CheckFault;
 use core_tree::node::{Node, Unit};
-use core_valid::valid_unit;
 use leaf_maps::LeafMap;
 use pta_base::{Kind, Text};
 use std::alloc::Global;
@@ -17,6 +19,7 @@ use unit_parts::{
     Declared, all_known, are_apart, entities_of, initialises_once, numbering, owners_known,
     rename_all,
 };
+use unit_valid::valid_unit;
 
 /// The name and the number of a unit, and the syntax node at which it is refused.
 #[derive(Drop)]
@@ -32,6 +35,21 @@ fn is_named_whole(numbers: &LeafMap, nodes: &[Node], list: &[Declared]) -> bool
     ensures { IsTrue result ↔ IsNamedWhole nodes.now list.now }
 {
     are_apart(numbers, list) && owners_known(numbers, list) && all_known(numbers, nodes)
+}
+
+// Whether each Initialise is its entity's body in a unit, and the unit is valid.
+fn is_right(alloc: Global, unit: &Unit) -> Result<bool, CheckFault>
+    ensures { MatchResult result
+        (λ right. IsTrue right ↔ (InitialisesOnce unit.now × ValidUnit unit.now))
+        (λ fault. fault ≡ OutOfMemory) }
+{
+    if !initialises_once(unit) {
+        return Ok(false);
+    }
+    match valid_unit(alloc, unit) {
+        Ok(valid) => Ok(valid),
+        Err(_) => Err(CheckFault::OutOfMemory),
+    }
 }
 
 /// The unit of some nodes, which name entities by their leaves, and of what is declared there: each entity has its position in the list as
@@ -66,7 +84,8 @@ pub fn complete(
         nodes,
         entities,
     };
-    if initialises_once(&unit) && valid_unit(&unit) {
+    let right = is_right(alloc, &unit)?;
+    if right {
         return Ok(unit);
     }
     Err(CheckFault::Unsupported(Kind::NotBuilt, root))

@@ -2,3 +2,4 @@ pub mod Terms
 pub mod Within
 pub mod Staying
 pub mod Specifiers
+pub mod Testing

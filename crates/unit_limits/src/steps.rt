@@ -54,11 +54,12 @@ fn completed_type(syntax: &Syntax, at: u32, made: &Made) -> Option<TypeId>
 }
 
 /// Whether a unit's types are still small once the row of node `at` is made, before which it had `from` types: its new types are, and so
-/// is the structure or union that the node completes. Where they are, a small table stays small over what the row adds to the unit. It
-/// takes a step for each new type, and for each member of that structure or union.
+/// is the structure or union that the node completes. Where they are, a small table stays small over what the row adds to the unit; it is
+/// false only where the table isn't small. It takes a step for each new type, and for each member of that structure or union.
 pub fn stays_small_behind(unit: &Unit, from: u32, syntax: &Syntax, at: u32, made: &Made) -> bool
     requires { IsWithin unit.now made.now }
-    ensures { (old : UnitSpec) (w : World) (uses : List (ℕ × ℕ)) (sense : ℕ → Sense) →
+    ensures small { IsSmallTable unit.now.types → IsTrue result }
+    ensures kept { (old : UnitSpec) (w : World) (uses : List (ℕ × ℕ)) (sense : ℕ → Sense) →
         let s = source_in syntax.now uses in
         IsTrue result →
         (is_a s p_struct at ≡ true → struct_row w s sense at ≡ Fits (sense_made unit.now made.now)) →

@@ -74,7 +74,7 @@ pub fn literal_entries(
     requires named { All (IsNamedIn (length syntax.now.tree.now.nodes.items)) results.now }
     ensures entries { (u : UnitSpec) (uses : List (ℕ × ℕ)) →
         IfOk result (λ list. list.items ≡ map (literal_entry (source_in syntax.now uses) (senses_made u results.now)) literals.now) }
-    ensures refused { IfErr result (IsPast (length syntax.now.tree.now.nodes.items)) }
+    ensures refused { IfErr result (IsPast literals.now (length syntax.now.tree.now.nodes.items)) }
 {
     let mut list = Vec::new(alloc);
     for literal in literals {

@@ -44,7 +44,7 @@ pub fn declared_literals(
     ensures entries { (u : UnitSpec) (uses : List (ℕ × ℕ)) →
         IfOk result (λ list.
         list.items ≡ map (literal_entry (source_in syntax.now uses) (senses_made u results.now)) (renamed.literals_in nodes.now)) }
-    ensures refused { IfErr result (IsPast (length syntax.now.tree.now.nodes.items)) }
+    ensures refused { IfErr result (IsPast (renamed.literals_in nodes.now) (length syntax.now.tree.now.nodes.items)) }
 {
     let literals = literals_in(alloc, nodes)?;
     literal_entries(alloc, names, syntax, results, literals.as_slice())

@@ -1,7 +1,6 @@
-//! From a unit that can be linked to its report.
+//! From units that can be linked to their report.
 
-ghost use Rattle.std.specs.Prelude.{◌≡◌, ◌<◌, ◌≤◌, ◌∷◌, [], IfErr, IfOk};
-ghost use Rattle.link_program.specs.Ready.{AreReady};
+ghost use Rattle.std.specs.Prelude.{◌≡◌, ◌<◌, ◌≤◌, IfErr, IfOk};
 ghost use Rattle.sol_model.specs.declared.system.System.{System};
 ghost use Rattle.unit_link.specs.Needs.{AreLinkable};
 ghost use Rattle.unit_system.specs.Of.{IsSystemOf};
@@ -43,22 +42,22 @@ pub fn report_of_system<R: Threads + Sync, G: Gate + Sync>(
     Ok((text, solved))
 }
 
-/// The report of the program that one unit is, with the system that was solved for it by so many workers on shared rows; or the first
-/// fault of linking the unit, or the limit that its program passes first. The text stands whole in memory before any of it is written.
-pub fn report_of_unit<R: Threads + Sync, G: Gate + Sync>(
+/// The report of the program that valid units of distinct names are, with the system that was solved for it by so many workers; or the
+/// first fault of linking the units, or the limit that their program passes first. The text stands whole in memory before any of it is
+/// written.
+pub fn report_of_units<R: Threads + Sync, G: Gate + Sync>(
     rt: &R,
     alloc: Global,
-    unit: Unit,
+    units: Vec<Unit>,
     workers: u32,
     gate: &G,
 ) -> Result<(Vec<u8>, Solved), UnitFault>
-    requires linkable { AreLinkable (unit ∷ []) }
-    requires ready { AreReady unit.types }
+    requires linkable { AreLinkable units.items }
     requires workers { (0 < workers) × (workers ≤ 64) }
-    ensures reported { IfOk result (λ found. (system : System) × IsUnitReport (unit ∷ []) system found.0.items × IsSolved system found.1) }
-    ensures refused { IfErr result (IsFaultOf (unit ∷ [])) }
+    ensures reported { IfOk result (λ found. (system : System) × IsUnitReport units.items system found.0.items × IsSolved system found.1) }
+    ensures refused { IfErr result (IsFaultOf units.items) }
 {
-    let made = linked_system(alloc, unit)?;
+    let made = linked_system(alloc, units)?;
     let found = report_of_system(rt, alloc, made, workers, gate)?;
     Ok(found)
 }

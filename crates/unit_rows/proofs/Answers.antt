@@ -1,13 +1,12 @@
 -- What a row's answer shows.
-use Rattle.std.proofs.Common.{◌≡◌, ◌==◌, ℕ, zero, suc, All, ◌++◌, Bool, true, false, cond, ◌||◌, List, [], ◌∷◌, Result, Ok, Err, IfOk, IsTrue, refl, sym, ap, ◌∙◌, subst, ◌⊎◌, inl, inr}
-use Rattle.std.specs.Prelude.{nat_le, ◌&&◌}
+use Rattle.std.proofs.Common.{◌≡◌, ◌==◌, ℕ, zero, suc, All, ◌++◌, Bool, true, false, cond, ◌||◌, List, [], ◌∷◌, Result, Ok, Err, IfOk, refl, sym, ap, ◌∙◌, subst, ◌⊎◌, inl, inr}
 use Rattle.std.proofs.lemmas.Bool.{eqb-true, eq-eqb}
-use Rattle.pta_base.specs.declared.kind.Kind.{Kind}
 use Rattle.pta_base.specs.declared.kind.Kind.TheVariants.{NotBuilt}
 use Rattle.core_tree.specs.declared.node.Unit.{Unit}
 use Rattle.c_grammar.specs.Terminals.{contains}
 use Rattle.c_grammar.specs.Productions.{p_struct, p_enum}
-use Rattle.c_senses.specs.Tags.{is_tag_specifier}
+use Rattle.c_senses.specs.Tags.{is_tag_specifier, struct_row}
+use Rattle.struct_rows.specs.Built.{built_struct}
 use Rattle.constant_values.specs.Constants as constants
 use Rattle.name_places.specs.Named.{IsNamedSense, IsNamedIn}
 use Rattle.c_results.specs.declared.made.Made.TheVariants as made
@@ -22,10 +21,10 @@ use Rattle.core_nodes.specs.Standing.{Builds}
 use Rattle.c_results.specs.declared.made.Made.{Made}
 use Rattle.c_results.specs.Standing.{sense_made, senses_made, Rowed}
 use Rattle.c_senses.specs.Given.{Given, Fits, Refuses}
-use Rattle.c_senses.specs.Tree.{Source, production_at, is_a}
+use Rattle.c_senses.specs.Tree.{Source, production_at, children_at, is_a}
 use Rattle.c_senses.specs.World.{World}
 use Rattle.c_senses.specs.Sense.{Sense, Nothing, IsCore, IsType, IsSpecified, IsDeclarator, IsDerivation, IsParameter, IsMembers, IsValue, IsRun, IsInitial, sense_in}
-use Rattle.c_senses.specs.Rows.{row_of, declaring_row, declarator_row}
+use Rattle.c_senses.specs.Rows.{row_of, declaring_row, declarator_row, world_at}
 use Rattle.c_senses.specs.Expressions.{expression_row}
 use Rattle.row_trees.specs.Trees.{SenseHasRows}
 use Rattle.row_shapes.specs.Kept.{Keeps}
@@ -35,29 +34,37 @@ use Rattle.sense_laws.specs.Sound.{Gives}
 use Rattle.statement_rows.specs.Told.{IsStatementPart}
 use Rattle.unit_worlds.specs.Growing.{Grows, completed_at}
 use Rattle.unit_worlds.proofs.Sensing.{none_at}
-use Rattle.unit_rows.specs.Built.{RowedAt, lists_others, is_part, is_derivation, is_statement, is_plain, is_limited, is_member, is_declarator, is_initial, is_expression, may_stop}
+use Rattle.unit_rows.specs.Built.{RowedAt, IsLargeBehind, Stops, is_part, is_derivation, is_statement, is_plain, is_limited, is_member, is_declarator, is_initial, is_expression}
 use Rattle.unit_rows.proofs.Cover.{AllOf, one_of}
 
 -- an exact answer is one that may say that a node isn't built
-pub rowed_at : (u : Unit) (r : Result Made CheckFault) (g : Given Sense) (p at : ℕ) → Rowed u r g → RowedAt u r g p at
-rowed_at u (Ok m) g p at h = h
-rowed_at u (Err (BadOperand node)) g p at h = h
-rowed_at u (Err (Unsupported NotBuilt node)) g p at h = inl h
-rowed_at u (Err (Unsupported kind node)) g p at h = h
-rowed_at u (Err OutOfMemory) g p at h = tt
+pub rowed_at : (u : Unit) (r : Result Made CheckFault) (g : Given Sense) (S : Type 0) (at : ℕ) → Rowed u r g → RowedAt u r g S at
+rowed_at u (Ok m) g S at h = h
+rowed_at u (Err (BadOperand node)) g S at h = h
+rowed_at u (Err (Unsupported NotBuilt node)) g S at h = inl h
+rowed_at u (Err (Unsupported kind node)) g S at h = h
+rowed_at u (Err OutOfMemory) g S at h = tt
 
--- and so is one that may say so itself, of another form of the row
-pub stopped_at : (u : Unit) (r : Result Made CheckFault) (f g : Given Sense) (p at : ℕ) → may_stop p ≡ true → (f ≡ g) ⊎ (f ≡ Refuses NotBuilt at) → Rowed u r f → RowedAt u r g p at
-stopped_at u r f g p at e (inl same) h = rowed_at u r g p at (subst (Rowed u r) same h)
-stopped_at u (Ok m) f g p at e (inr none) h = let no : Refuses NotBuilt at ≡ Fits (sense_made u m) = sym none ∙ h in cc
-stopped_at u (Err (BadOperand node)) f g p at e (inr none) h = let no : f ≡ Refuses _ node = h in cc
-stopped_at u (Err (Unsupported NotBuilt node)) f g p at e (inr none) h = let no : Refuses NotBuilt at ≡ Refuses NotBuilt node = sym none ∙ h in inr (cc, e)
-stopped_at u (Err (Unsupported kind node)) f g p at e (inr none) h = let no : Refuses NotBuilt at ≡ Refuses kind node = sym none ∙ h in cc
-stopped_at u (Err OutOfMemory) f g p at e (inr none) h = tt
+-- and so is one that may say so itself, of another form of the row, where there is a reason
+pub stopped_at : (u : Unit) (r : Result Made CheckFault) (f g : Given Sense) (S : Type 0) (at : ℕ) → (f ≡ g) ⊎ (f ≡ Refuses NotBuilt at) → (r ≡ Err (Unsupported NotBuilt at) → f ≡ Refuses NotBuilt at → S) → Rowed u r f → RowedAt u r g S at
+stopped_at u r f g S at (inl same) why h = rowed_at u r g S at (subst (Rowed u r) same h)
+stopped_at u (Ok m) f g S at (inr none) why h = let no : Refuses NotBuilt at ≡ Fits (sense_made u m) = sym none ∙ h in cc
+stopped_at u (Err (BadOperand node)) f g S at (inr none) why h = let no : f ≡ Refuses _ node = h in cc
+stopped_at u (Err (Unsupported NotBuilt node)) f g S at (inr none) why h =
+    let both : Refuses NotBuilt at ≡ Refuses NotBuilt node = sym none ∙ h in
+    let same : node ≡ at = cc in
+    inr (same, why (ap (λ (n : ℕ). Err (Unsupported NotBuilt n)) same) none)
+stopped_at u (Err (Unsupported kind node)) f g S at (inr none) why h = let no : Refuses NotBuilt at ≡ Refuses kind node = sym none ∙ h in cc
+stopped_at u (Err OutOfMemory) f g S at (inr none) why h = tt
 
-pub fits_there : (u : Unit) (r : Result Made CheckFault) (g : Given Sense) (p at : ℕ) (P : Sense → Type 0) → RowedAt u r g p at → Gives P g → IfOk r (λ m. P (sense_made u m))
-fits_there u (Ok m) g p at P h gives = subst (Gives P) h gives
-fits_there u (Err fault) g p at P h gives = tt
+-- for a reason that is one of others
+pub stopped_more : (u : Unit) (r : Result Made CheckFault) (g : Given Sense) (S T : Type 0) (at : ℕ) → (S → T) → RowedAt u r g S at → RowedAt u r g T at
+stopped_more u (Ok m) g S T at more h = h
+stopped_more u (Err (BadOperand node)) g S T at more h = h
+stopped_more u (Err (Unsupported NotBuilt node)) g S T at more (inl h) = inl h
+stopped_more u (Err (Unsupported NotBuilt node)) g S T at more (inr h) = inr (h.0, more h.1)
+stopped_more u (Err (Unsupported kind node)) g S T at more h = h
+stopped_more u (Err OutOfMemory) g S T at more h = tt
 
 pub row_declaring : (w : World) (s : Source) (sense : ℕ → Sense) (p at : ℕ) (xs : List ℕ) → is_expression p ≡ false → row_of w s sense p at xs ≡ declaring_row w s sense p at xs
 row_declaring w s sense p at xs e = ap (λ (b : Bool). cond b (expression_row w s sense p at xs) (declaring_row w s sense p at xs)) e
@@ -135,18 +142,34 @@ kept_at count u (m ∷ rs) h (suc i) = kept_at count u rs (All-tail (λ (r : Mad
 given_there : (u : Unit) (m : Made) (g : Given Sense) (P : Sense → Type 0) → g ≡ Fits (sense_made u m) → P (sense_made u m) → Gives P g
 given_there u m g P e h = subst (Gives P) (sym e) h
 
-pub keeps_there : (count : ℕ) (u v : Unit) (rs : List Made) (w : World) (s : Source) (p at : ℕ) (xs : List ℕ) (r : Result Made CheckFault) → AreKept count u rs
-    → RowedAt v r (row_of w s (sense_in (senses_made u rs)) p at xs) p at
+pub keeps_there : (S : Type 0) (count : ℕ) (u v : Unit) (rs : List Made) (w : World) (s : Source) (p at : ℕ) (xs : List ℕ) (r : Result Made CheckFault) → AreKept count u rs
+    → RowedAt v r (row_of w s (sense_in (senses_made u rs)) p at xs) S at
     → IfOk r (λ m. is_expression p ≡ true → SenseHasRows (sense_made v m))
     → IfOk r (λ m. shapes.is_initial p ≡ true → HasAllRows (sense_made v m))
     → IfOk r (λ m. shapes.is_declarator p ≡ true → IsNamedSense count (sense_made v m))
     → IfOk r (λ m. Keeps count (sense_made v m))
-keeps_there count u v rs w s p at xs (Err fault) kept row rows initial named = tt
-keeps_there count u v rs w s p at xs (Ok m) kept row rows initial named =
+keeps_there S count u v rs w s p at xs (Err fault) kept row rows initial named = tt
+keeps_there S count u v rs w s p at xs (Ok m) kept row rows initial named =
     let g = row_of w s (sense_in (senses_made u rs)) p at xs in
     subst (Gives (Keeps count)) row
     (rows_keep count w s (sense_in (senses_made u rs)) (kept_at count u rs kept) p at xs
     (λ e. given_there v m g SenseHasRows row (rows e)) (λ e. given_there v m g HasAllRows row (initial e)) (λ e. given_there v m g (IsNamedSense count) row (named e)))
+
+-- a structure or union, by the reasons of its own row
+pub structure_there : (w : World) (s : Source) (u v : Unit) (rs : List Made) (at : ℕ) (r : Result Made CheckFault) → production_at s at ≡ p_struct
+    → RowedAt v r (struct_row (world_at s (senses_made u rs) at) s (sense_in (senses_made u rs)) at)
+    (IsLargeBehind s u v (sense_in (senses_made u rs)) (struct_row (world_at s (senses_made u rs) at) s (sense_in (senses_made u rs)) at) at ⊎ (built_struct (world_at s (senses_made u rs) at) s (sense_in (senses_made u rs)) at ≡ Refuses NotBuilt at)) at
+    → RowedAt v r (row_of (world_at s (senses_made u rs) at) s (sense_in (senses_made u rs)) (production_at s at) at (children_at s at)) (Stops s u v rs at) at
+structure_there w s u v rs at r e h =
+    subst (λ (p : ℕ). RowedAt v r (row_of (world_at s (senses_made u rs) at) s (sense_in (senses_made u rs)) p at (children_at s at)) (Stops s u v rs at) at) (sym e)
+    (stopped_more v r (struct_row (world_at s (senses_made u rs) at) s (sense_in (senses_made u rs)) at)
+    (IsLargeBehind s u v (sense_in (senses_made u rs)) (struct_row (world_at s (senses_made u rs) at) s (sense_in (senses_made u rs)) at) at ⊎ (built_struct (world_at s (senses_made u rs) at) s (sense_in (senses_made u rs)) at ≡ Refuses NotBuilt at))
+    (Stops s u v rs at) at why h)
+  where
+    why : IsLargeBehind s u v (sense_in (senses_made u rs)) (struct_row (world_at s (senses_made u rs) at) s (sense_in (senses_made u rs)) at) at ⊎ (built_struct (world_at s (senses_made u rs) at) s (sense_in (senses_made u rs)) at ≡ Refuses NotBuilt at) → Stops s u v rs at
+    why (inl large) =
+        inr (inl (e, subst (λ (p : ℕ). IsLargeBehind s u v (sense_in (senses_made u rs)) (row_of (world_at s (senses_made u rs) at) s (sense_in (senses_made u rs)) p at (children_at s at)) at) (sym e) large))
+    why (inr untaken) = inr (inr (inl (e, untaken)))
 
 -- a form of a row that fits
 pub fits_whole : (f g : Given Sense) (at : ℕ) (x : Sense) → (f ≡ g) ⊎ (f ≡ Refuses NotBuilt at) → f ≡ Fits x → g ≡ Fits x
@@ -182,9 +205,6 @@ pub plain_own : (p : ℕ) → is_plain p ≡ true → Other p
 plain_own p e = by_plain Other p (other_part p) (other_derivation p) (other_statement p) e
 
 -- what asks for types within the limits
-abbrev pub Limited : ℕ → Type 0
-Limited p = (is_expression p ≡ false) × (may_stop p ≡ true)
-
 abbrev pub of_limited : List ℕ
 of_limited = 12 ∷ 13 ∷ 14 ∷ 15 ∷ 19 ∷ 20 ∷ 21 ∷ 25 ∷ 26 ∷ 28 ∷ []
 
@@ -208,10 +228,8 @@ limited_in p e = orders (12 == p) (p == 12) (13 == p) (14 == p) (15 == p) (19 ==
     orders false false false false false false false false false true i t z = refl
     orders false false false false false false false false false false i t z = z
 
-pub limited_so : (p : ℕ) → is_limited p ≡ true → Limited p
-limited_so p e =
-    one_of Limited p of_limited
-    ((refl, refl), ((refl, refl), ((refl, refl), ((refl, refl), ((refl, refl), ((refl, refl), ((refl, refl), ((refl, refl), ((refl, refl), ((refl, refl), tt)))))))))) (limited_in p e)
+pub limited_so : (p : ℕ) → is_limited p ≡ true → is_expression p ≡ false
+limited_so p e = one_of (λ q. is_expression q ≡ false) p of_limited (refl, (refl, (refl, (refl, (refl, (refl, (refl, (refl, (refl, (refl, tt)))))))))) (limited_in p e)
 
 -- a row of a declaration, by the production and the children that were read
 pub row_at : (w : World) (s : Source) (sense : ℕ → Sense) (p q at : ℕ) (xs ys : List ℕ) → p ≡ q → xs ≡ ys → is_expression q ≡ false → declaring_row w s sense p at xs ≡ row_of w s sense q at ys

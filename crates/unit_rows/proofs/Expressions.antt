@@ -1,5 +1,5 @@
 -- Rows of expressions, and of nodes that stand for nothing.
-use Rattle.std.proofs.Common.{arith, ◌≡◌, ◌==◌, ◌<◌, ◌≤◌, ℕ, Bool, true, false, cond, ◌||◌, ◌&&◌, nat_lt, List, [], ◌∷◌, Result, All, refl, sym, ap, ◌∙◌, subst, ◌⊎◌, inl, inr}
+use Rattle.std.proofs.Common.{arith, ◌≡◌, ◌==◌, ◌<◌, ◌≤◌, ℕ, Bool, true, false, cond, ◌||◌, ◌&&◌, nat_lt, List, Result, Err, All, refl, sym, ap, ◌∙◌, subst, ◌⊎◌, inl, inr}
 use Rattle.std.specs.Prelude.{nat_le}
 use Rattle.std.proofs.lemmas.Bool.{eqb-true, ltb-true, leb-true}
 use Rattle.std.proofs.lemmas.Bool.Decides.{eqb_tells}
@@ -9,6 +9,7 @@ use Rattle.c_grammar.specs.Terminals.{contains}
 use Rattle.c_grammar.specs.Productions.{p_struct, p_primary, p_init, p_items, p_declarator, p_abstract, p_either}
 use Rattle.core_tree.specs.declared.node.Unit.{Unit}
 use Rattle.core_nodes.specs.declared.fault.CheckFault.{CheckFault}
+use Rattle.core_nodes.specs.declared.fault.CheckFault.TheVariants.{Unsupported}
 use Rattle.c_results.specs.declared.made.Made.{Made}
 use Rattle.c_results.specs.declared.made.Made.TheVariants as made
 use Rattle.c_results.specs.Standing.{sense_made, Rowed}
@@ -19,13 +20,14 @@ use Rattle.c_senses.specs.Sense.{Sense}
 use Rattle.c_senses.specs.Rows.{row_of}
 use Rattle.c_senses.specs.Expressions.{expression_row}
 use Rattle.c_rows.specs.Built.{built_primary}
+use Rattle.expression_rows.specs.Built.{built_row}
 use Rattle.name_places.specs.Named.{IsNamedSense, IsNamedIn}
 use Rattle.name_uses.specs.Built.{named_row, first_is_strange}
 use Rattle.name_uses.proofs.Parts.{rows_part}
 use Rattle.row_trees.specs.Trees.{SenseHasRows}
 use Rattle.row_shapes.specs.Kept.{Keeps}
 use Rattle.row_shapes.specs.Kept as shapes
-use Rattle.unit_rows.specs.Built.{RowedAt, lists, lists_others, is_expression, may_stop}
+use Rattle.unit_rows.specs.Built.{RowedAt, lists, lists_others, is_expression}
 use Rattle.unit_rows.specs.Standing.{AreKept}
 use Rattle.unit_rows.proofs.Answers.{rowed_at, stopped_at, row_expression}
 use Rattle.unit_rows.proofs.Cover.{one_of}
@@ -72,12 +74,25 @@ module _ (w : World) (s : Source) (sense : ℕ → Sense) (q at : ℕ) (xs : Lis
       ap (λ (b : Bool). cond (b && first_is_strange w s xs) (Refuses NotBuilt at) (cond b (built_primary w s sense at xs) (expression_row w s sense q at xs))) f
       ∙ sym (row_expression w s sense q at xs e)
 
-  pub expression_there : is_expression q ≡ true → Rowed u r Named → RowedAt u r Whole q at
-  expression_there e h = by (q == p_primary) refl
+  -- a primary that isn't read
+  abbrev Built : Given Sense
+  Built = built_row w s sense q at xs
+
+  unread : (Q : Type 0) → (q == p_primary) ≡ true → (Q → Rowed u r Built) → r ≡ Err (Unsupported NotBuilt at) → (q ≡ p_primary) × (Q → built_primary w s sense at xs ≡ Refuses NotBuilt at)
+  unread Q f built e = (
+    eqb-true q p_primary f,
+    λ h.
+        let primary : built_primary w s sense at xs ≡ Built = sym (ap (λ (b : Bool). cond b (built_primary w s sense at xs) (expression_row w s sense q at xs)) f) in
+        let refused : Built ≡ Refuses NotBuilt at = subst (λ (x : Result Made CheckFault). Rowed u x Built) e (built h) in
+        primary ∙ refused,
+  )
+
+  pub expression_there : (Q : Type 0) → is_expression q ≡ true → Rowed u r Named → (Q → Rowed u r Built) → RowedAt u r Whole ((q ≡ p_primary) × (Q → built_primary w s sense at xs ≡ Refuses NotBuilt at)) at
+  expression_there Q e h built = by (q == p_primary) refl
     where
-      by : (b : Bool) → (q == p_primary) ≡ b → RowedAt u r Whole q at
-      by true f = stopped_at u r Named Whole q at (subst (λ (p : ℕ). may_stop p ≡ true) (sym (eqb-true q p_primary f)) refl) (parts e (rows_part w s sense q at xs)) h
-      by false f = rowed_at u r Whole q at (subst (Rowed u r) (no_primary e f) h)
+      by : (b : Bool) → (q == p_primary) ≡ b → RowedAt u r Whole ((q ≡ p_primary) × (Q → built_primary w s sense at xs ≡ Refuses NotBuilt at)) at
+      by true f = stopped_at u r Named Whole ((q ≡ p_primary) × (Q → built_primary w s sense at xs ≡ Refuses NotBuilt at)) at (parts e (rows_part w s sense q at xs)) (λ x none. unread Q f built x) h
+      by false f = rowed_at u r Whole ((q ≡ p_primary) × (Q → built_primary w s sense at xs ≡ Refuses NotBuilt at)) at (subst (Rowed u r) (no_primary e f) h)
 
 -- what stands for nothing is no structure
 pub lists_no_struct : (q : ℕ) → lists_others q ≡ true → (q == p_struct) ≡ false

@@ -1,19 +1,22 @@
 -- The rows of a unit's nodes as they are built: each is the row of its production, but that at some nodes it may be said that what stands
--- there isn't built.
-use Rattle.std.specs.Prelude.{ℕ, ◌≡◌, ◌<◌, Bool, true, IsTrue, ◌==◌, nat_lt, nat_le, ◌||◌, ◌&&◌, List, [], ◌∷◌, length, slice_get, Some, ◌⊎◌, Result, Ok, Err}
+-- there isn't built, and why.
+use Rattle.std.specs.Prelude.{ℕ, ◌≡◌, Bool, true, ◌==◌, nat_lt, nat_le, ◌||◌, ◌&&◌, List, [], ◌∷◌, ◌⊎◌, Result, Err}
 use Rattle.pta_base.specs.declared.kind.Kind.TheVariants.{NotBuilt}
 use Rattle.c_grammar.specs.Terminals.{contains}
-use Rattle.c_grammar.specs.declared.trees.SyntaxNode.{SyntaxNode}
 use Rattle.c_grammar.specs.Productions.{p_unit, p_external, p_rest, p_declaration, p_asm_name, p_storage, p_function, p_qualifier, p_struct, p_members, p_member, p_field, p_enumerators, p_assert, p_specs, p_align, p_type, p_enum, p_enumerator, p_suffix, p_parameter, p_type_name, p_declarator, p_abstract, p_either, p_init, p_items, p_item, p_designator, p_block, p_statement, p_expression, p_primary}
 use Rattle.core_tree.specs.declared.node.Unit.{Unit}
 use Rattle.core_nodes.specs.declared.fault.CheckFault.{CheckFault}
 use Rattle.core_nodes.specs.declared.fault.CheckFault.TheVariants.{Unsupported}
 use Rattle.c_results.specs.declared.made.Made.{Made}
-use Rattle.c_results.specs.Standing.{Rowed}
-use Rattle.c_senses.specs.Tree.{Source}
-use Rattle.c_senses.specs.Given.{Given, Refuses}
-use Rattle.c_senses.specs.Sense.{Sense}
-use Rattle.c_senses.specs.Rows.{row, AreSenses}
+use Rattle.c_results.specs.Standing.{sense_made, senses_made, Rowed}
+use Rattle.c_senses.specs.Tree.{Source, production_at, children_at}
+use Rattle.c_senses.specs.Given.{Given, Fits, Refuses}
+use Rattle.c_senses.specs.Sense.{Sense, sense_in}
+use Rattle.c_senses.specs.Rows.{world_at, row_of, AreSenses}
+use Rattle.c_rows.specs.Built.{built_primary}
+use Rattle.struct_rows.specs.Built.{built_struct}
+use Rattle.unit_worlds.specs.Growing.{Grows, completed_at}
+use Rattle.unit_limits.specs.Small.{IsSmallTable}
 
 -- the productions of nodes that stand for nothing of their own, and a leaf's
 abbrev pub lists : List ℕ
@@ -21,28 +24,6 @@ lists = p_unit ∷ p_external ∷ p_asm_name ∷ p_storage ∷ p_function ∷ p_
 
 abbrev pub lists_others : ℕ → Bool
 lists_others production = contains lists production || nat_lt p_primary production
-
--- the productions at whose nodes it may be said that what stands there isn't built: structures whose members may not stand, or with a
--- member that ends in an array without a length; members, declarators and initialisers where a type isn't known to be within the limits;
--- and primaries with constants and strings that no reading of a text takes
-abbrev pub partial : List ℕ
-partial = p_struct ∷ p_members ∷ p_member ∷ p_field ∷ p_declarator ∷ p_abstract ∷ p_either ∷ p_init ∷ p_items ∷ p_designator ∷ p_primary ∷ []
-
-abbrev pub may_stop : ℕ → Bool
-may_stop production = contains partial production
-
--- what a call answers of the row of a node
-abbrev pub RowedAt : Unit → Result Made CheckFault → Given Sense → ℕ → ℕ → Type 0
-RowedAt u (Err (Unsupported NotBuilt node)) g production at = (g ≡ Refuses NotBuilt node) ⊎ ((node ≡ at) × (may_stop production ≡ true))
-RowedAt u r g production at = Rowed u r g
-
--- the rows fit up to a node, of which it is said that it isn't built
-pub record StopsAt (s : Source) (named : ℕ) : Type 0 where
-  pub senses : List Sense
-  pub before : AreSenses s senses
-  pub node : SyntaxNode
-  pub stands : slice_get s.nodes (length senses) ≡ Some node
-  pub stops : (row s senses (length senses) node ≡ Refuses NotBuilt named) ⊎ ((named ≡ length senses) × (may_stop node.production ≡ true))
 
 -- a part of specifiers, or an assertion; a part of a declarator; a statement, a block, a declaration or the rest of one; an expression
 abbrev pub is_part : ℕ → Bool
@@ -73,3 +54,37 @@ is_plain production = is_part production || (is_derivation production || is_stat
 
 abbrev pub is_limited : ℕ → Bool
 is_limited production = (production == p_struct) || (is_member production || (is_declarator production || is_initial production))
+
+-- what a call answers of the row of a node, of which it may be said for some reason that what stands there isn't built
+abbrev pub RowedAt : Unit → Result Made CheckFault → Given Sense → Type 0 → ℕ → Type 0
+RowedAt u (Err (Unsupported NotBuilt node)) g why at = (g ≡ Refuses NotBuilt node) ⊎ ((node ≡ at) × why)
+RowedAt u r g why at = Rowed u r g
+
+-- the unit is `v` behind a row that fits, which completes what the node does, and has types that aren't small
+pub record IsLargeBehind (s : Source) (u v : Unit) (sense : ℕ → Sense) (row : Given Sense) (at : ℕ) : Type 0 where
+  pub made : Made
+  pub fits : row ≡ Fits (sense_made v made)
+  pub grows : Grows u v (completed_at s sense at)
+  pub large : IsSmallTable v.types → ⊥
+
+-- why it may be said of a node, where its unit was `u` and is `v`: its types aren't small, before the row of a node that asks for that or
+-- behind that of a structure or union; the members of one aren't such as are taken; or a constant or string isn't read
+module _ (s : Source) (u v : Unit) (results : List Made) (at : ℕ) where
+  abbrev pub IsLarge : Type 0
+  IsLarge = (is_limited (production_at s at) ≡ true) × (IsSmallTable u.types → ⊥)
+
+  abbrev pub IsLargeStructure : Type 0
+  IsLargeStructure =
+      let senses = senses_made u results in
+      (production_at s at ≡ p_struct) × IsLargeBehind s u v (sense_in senses) (row_of (world_at s senses at) s (sense_in senses) (production_at s at) at (children_at s at)) at
+
+  abbrev pub IsUntaken : Type 0
+  IsUntaken = let senses = senses_made u results in (production_at s at ≡ p_struct) × (built_struct (world_at s senses at) s (sense_in senses) at ≡ Refuses NotBuilt at)
+
+  abbrev pub IsUnread : Type 0
+  IsUnread =
+      let senses = senses_made u results in
+      (production_at s at ≡ p_primary) × (AreSenses s senses → built_primary (world_at s senses at) s (sense_in senses) at (children_at s at) ≡ Refuses NotBuilt at)
+
+  abbrev pub Stops : Type 0
+  Stops = IsLarge ⊎ (IsLargeStructure ⊎ (IsUntaken ⊎ IsUnread))

@@ -1,5 +1,5 @@
 -- What is known while the rows of a unit's nodes are made.
-use Rattle.std.specs.Prelude.{ℕ, ◌≡◌, List, length, All}
+use Rattle.std.specs.Prelude.{ℕ, List, length, All}
 use Rattle.core_tree.specs.declared.node.Unit.{Unit}
 use Rattle.core_nodes.specs.Standing.{IsReady, Knows}
 use Rattle.c_results.specs.declared.made.Made.{Made}

@@ -6,10 +6,12 @@ ghost use Rattle.unit_rows.specs.Limits.{AreTested};
 use core_tree::node::Unit;
 use unit_limits::new_types_are_small;
 
-/// Tests the types of a unit that weren't tested yet, and notes that they are. True: each type of the unit is within the limits.
+/// Tests the types of a unit that weren't tested yet, and notes that they are. True: each type of the unit is within the limits,
+/// and false: one isn't.
 pub(crate) fn all_small(unit: &Unit, tested: &mut u32) -> bool
     requires { AreTested unit.now tested.old }
     ensures small { result ≡ true → IsSmallTable unit.now.types }
+    ensures large { IsSmallTable unit.now.types → result ≡ true }
     ensures count { result ≡ true → tested.new ≡ length unit.now.types.terms }
     ensures tested { AreTested unit.now tested.new }
 {

@@ -12,7 +12,7 @@ ghost use Rattle.row_shapes.specs.Kept.{Keeps};
 ghost use Rattle.struct_rows.specs.Built.{HasTagTypes};
 ghost use Rattle.unit_limits.specs.Small.{IsSmallTable};
 ghost use Rattle.unit_worlds.specs.Growing.{Grows, completed_at};
-ghost use Rattle.unit_rows.specs.Built.{RowedAt, lists_others, is_part, is_derivation, is_statement, is_plain, is_expression, is_member, is_declarator, is_limited};
+ghost use Rattle.unit_rows.specs.Built.{RowedAt, Stops, lists_others, is_part, is_derivation, is_statement, is_plain, is_expression, is_member, is_declarator, is_limited};
 ghost use Rattle.unit_rows.specs.Limits.{AreTested};
 ghost use Rattle.unit_rows.specs.Standing.{IsKnown, Stand, ChoicesFit, source_known, nodes_known, world_there, row_there};
 
@@ -233,7 +233,7 @@ fn limited(
         IfOk result (λ m. Grows unit.old unit.new (completed_at (source_known known.now) sense at)) }
     ensures tested { IfOk result (λ m. AreTested unit.new tested.new) }
     ensures row { let s = source_known known.now in
-        RowedAt unit.new result (row_there known.now unit.old results.now at) (production_at s at) at }
+        RowedAt unit.new result (row_there known.now unit.old results.now at) (Stops s unit.old unit.new results.now at) at }
 {
     let syntax = &known.numbered.syntax;
     let production = production_of(syntax, at);
@@ -287,8 +287,9 @@ fn declared(
 }
 
 /// What a node stands for, by its production (C11 6.5 to 6.9), over what was made for the nodes before it and the cases and defaults before
-/// it: exactly the row of its production, where an answer comes. At some nodes (`partial`) it may be `NotBuilt`. Beside that only memory
-/// may want. `tested` counts the types of the unit that are known to be within the limits.
+/// it: exactly the row of its production, where an answer comes. It may be `NotBuilt` at the node where types that were made aren't within
+/// the limits, where the members of a structure or union aren't such as are taken, and for constants and strings that no reading of a text
+/// takes (`Stops`). Beside that only memory may want. `tested` counts the types of the unit that are known to be within the limits.
 pub fn row(
     alloc: Global,
     unit: &mut Unit,
@@ -313,7 +314,7 @@ pub fn row(
         IfOk result (λ m. Grows unit.old unit.new (completed_at (source_known known.now) sense at)) }
     ensures tested { IfOk result (λ m. AreTested unit.new tested.new) }
     ensures row { let s = source_known known.now in
-        RowedAt unit.new result (row_there known.now unit.old results.now at) (production_at s at) at }
+        RowedAt unit.new result (row_there known.now unit.old results.now at) (Stops s unit.old unit.new results.now at) at }
 {
     let syntax = &known.numbered.syntax;
     let production = production_of(syntax, at);

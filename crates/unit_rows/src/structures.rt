@@ -1,15 +1,17 @@
 // Rows of structures and unions.
-ghost use Rattle.std.specs.Prelude.{◌≡◌, length, IfOk, All, true};
+ghost use Rattle.std.specs.Prelude.{◌≡◌, ◌⊎◌, length, IfOk, All, true};
 ghost use Rattle.c_grammar.specs.Productions.{p_struct};
+ghost use Rattle.pta_base.specs.declared.kind.Kind.TheVariants.{NotBuilt};
+ghost use Rattle.c_senses.specs.Given.{Refuses};
 ghost use Rattle.c_senses.specs.Tree.{is_a};
 ghost use Rattle.c_senses.specs.Sense.{sense_in};
 ghost use Rattle.c_senses.specs.Tags.{struct_row};
 ghost use Rattle.core_nodes.specs.Standing.{IsReady, Knows};
 ghost use Rattle.c_results.specs.Standing.{senses_made, IsWithin};
-ghost use Rattle.struct_rows.specs.Built.{HasTagTypes};
+ghost use Rattle.struct_rows.specs.Built.{HasTagTypes, built_struct};
 ghost use Rattle.unit_limits.specs.Small.{IsSmallTable};
 ghost use Rattle.unit_worlds.specs.Growing.{Grows, completed_at};
-ghost use Rattle.unit_rows.specs.Built.{RowedAt};
+ghost use Rattle.unit_rows.specs.Built.{RowedAt, IsLargeBehind};
 ghost use Rattle.unit_rows.specs.Limits.{AreTested};
 ghost use Rattle.unit_rows.specs.Standing.{IsKnown, source_known, world_there};
 
@@ -23,7 +25,7 @@ use struct_rows::struct_row;
 use unit_limits::stays_small_behind;
 
 /// The row of a specifier of a structure or union (C11 6.7.2.1, 6.7.2.3), in a unit whose types are within the limits, which they are then
-/// still.
+/// still. It is `NotBuilt` where they would not be, and where its members aren't such as are taken.
 pub(crate) fn structure(
     alloc: Global,
     unit: &mut Unit,
@@ -47,7 +49,9 @@ pub(crate) fn structure(
     ensures tested { IfOk result (λ m. AreTested unit.new tested.new) }
     ensures row { let sense = sense_in (senses_made unit.old results.now) in
         let w = world_there known.now unit.old results.now at in
-        RowedAt unit.new result (struct_row w (source_known known.now) sense at) p_struct at }
+        let s = source_known known.now in
+        RowedAt unit.new result (struct_row w s sense at)
+        (IsLargeBehind s unit.old unit.new sense (struct_row w s sense at) at ⊎ (built_struct w s sense at ≡ Refuses NotBuilt at)) at }
 {
     let syntax = &known.numbered.syntax;
     let tag = known.numbered.tags.seen_at(at);

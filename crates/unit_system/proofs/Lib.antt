@@ -1,3 +1,3 @@
-pub mod Kept
-pub mod Alone
+pub mod Numbering
+pub mod Invalid
 pub mod Refused

@@ -11,5 +11,5 @@ pub program_refused : (units : List Unit) (p : Program) (fault : UnitFault) → 
 program_refused units p (Link fault) linked h = absurd h
 program_refused units p (Nodes nodes) linked h = (p, linked, h)
 program_refused units p (Words words) linked h = (p, linked, h)
-program_refused units p NotBuilt linked h = tt
+program_refused units p NotBuilt linked h = (p, linked, h)
 program_refused units p OutOfMemory linked h = tt

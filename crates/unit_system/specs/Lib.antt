@@ -1,3 +1,3 @@
-pub mod Ready
+pub mod Numbered
 pub mod Of
 pub mod Faults

@@ -1,12 +1,11 @@
-//! The system of the program that one unit is, or the first fault of linking it, or the limit that it passes.
+//! The system of the program that units are, or the first fault of linking them, or the limit that it passes.
 #![tactic(auto)]
 
 mod fault;
+pub mod laws;
 mod linking;
 mod range;
-mod ready;
 mod systems;
 
 pub use fault::UnitFault;
-pub use ready::ready_unit;
 pub use systems::{UnitSystem, linked_system};

@@ -1,7 +1,6 @@
-//! The program that one unit is.
+//! The program that units are.
 
-ghost use Rattle.std.specs.Prelude.{◌∷◌, [], List, MatchResult};
-ghost use Rattle.link_program.specs.Ready.{AreReady};
+ghost use Rattle.std.specs.Prelude.{List, MatchResult};
 ghost use Rattle.link_names.specs.Said.{IsFaultUnless};
 ghost use Rattle.unit_link.specs.Linked.{Linked, LinksBadly};
 ghost use Rattle.unit_link.specs.Needs.{AreLinkable};
@@ -11,7 +10,7 @@ ghost use Rattle.unit_system.specs.Faults.{IsFaultOf};
 use crate::fault::UnitFault;
 use core_tree::{Program, Unit};
 use link_names::LinkFault;
-use link_whole::link_one;
+use link_units::link;
 use std::alloc::Global;
 
 // A fault of linking as one of units.
@@ -27,13 +26,12 @@ fn fault_of(fault: LinkFault) -> UnitFault
     }
 }
 
-/// The program that one unit is, or the first fault of linking it.
-pub(crate) fn linked(alloc: Global, unit: Unit) -> Result<Program, UnitFault>
-    requires linkable { AreLinkable (unit ∷ []) }
-    requires ready { AreReady unit.types }
-    ensures { MatchResult result (Linked (unit ∷ [])) (IsFaultOf (unit ∷ [])) }
+/// The program that units are, or the first fault of linking them.
+pub(crate) fn linked(alloc: Global, units: Vec<Unit>) -> Result<Program, UnitFault>
+    requires { AreLinkable units.items }
+    ensures { MatchResult result (Linked units.items) (IsFaultOf units.items) }
 {
-    match link_one(alloc, unit) {
+    match link(alloc, units) {
         Ok(program) => Ok(program),
         Err(fault) => Err(fault_of(fault)),
     }

@@ -1,13 +1,14 @@
 //! The system of a program.
 
-ghost use Rattle.std.specs.Prelude.{◌≡◌, ◌∷◌, [], ◌↔◌, IsTrue, MatchResult};
+ghost use Rattle.std.specs.Prelude.{◌≡◌, ◌↔◌, IsTrue, MatchResult};
 ghost use Rattle.core_tree.specs.declared.node.Program.{Program as ProgramSpec};
 ghost use Rattle.core_tree.specs.Range.{InRange};
 ghost use Rattle.core_tree.specs.Typed.{trees_in};
-ghost use Rattle.link_program.specs.Ready.{AreReady};
-ghost use Rattle.obj_space.specs.Space.{locations_in};
+ghost use Rattle.obj_space.specs.Space.{AreTyped, HasTrees, locations_in};
 ghost use Rattle.obj_space.specs.View.{view_of};
 ghost use Rattle.unit_link.specs.Needs.{AreLinkable};
+ghost use Rattle.system_laws.specs.Parts.{HasBody};
+ghost use Rattle.call_laws.specs.Values.{AreCallsOfValues};
 ghost use Rattle.constraints.specs.System.{IsFaultOf as IsSystemFault};
 ghost use Rattle.unit_system.specs.Of.{AreLinkedAs, IsSystemOf};
 ghost use Rattle.unit_system.specs.Faults.{IsFaultOf, IsProgramFault};
@@ -33,18 +34,6 @@ pub struct UnitSystem {
     pub system: System,
 }
 
-// Whether all that a program names is in range.
-fn is_in_range(program: &Program) -> bool
-    ensures { IsTrue result ↔ InRange (trees_in program.now) }
-{
-    let trees = Trees {
-        types: &program.types,
-        nodes: program.nodes.as_slice(),
-        entities: program.entities.as_slice(),
-    };
-    in_range(&trees)
-}
-
 // A limit that a program passes as a fault of units.
 fn fault_of(fault: SystemFault) -> UnitFault
     ensures { (p : ProgramSpec) → IsSystemFault p (view_of (locations_in p)) fault → IsProgramFault p result }
@@ -60,11 +49,12 @@ fn fault_of(fault: SystemFault) -> UnitFault
 fn system_over(alloc: Global, program: &Program, space: &Space) -> Result<System, UnitFault>
     requires range { InRange (trees_in program.now) }
     requires space { space.now ≡ locations_in program.now }
+    requires body { HasBody program.now }
+    requires values { AreCallsOfValues program.now }
+    requires typed { AreTyped program.now.types space.now }
+    requires trees { HasTrees program.now.types space.now }
     ensures { MatchResult result (IsSystemOf program.now space.now) (IsProgramFault program.now) }
 {
-    if space.count() == 0 {
-        return Err(UnitFault::NotBuilt);
-    }
     let normal = normalise(alloc, program, space)?;
     let system = match system(alloc, program, space, &normal) {
         Ok(system) => system,
@@ -76,8 +66,22 @@ fn system_over(alloc: Global, program: &Program, space: &Space) -> Result<System
     Ok(system)
 }
 
+// Whether all that a program names is in range.
+fn is_in_range(program: &Program) -> bool
+    ensures { IsTrue result ↔ InRange (trees_in program.now) }
+{
+    let trees = Trees {
+        types: &program.types,
+        nodes: program.nodes.as_slice(),
+        entities: program.entities.as_slice(),
+    };
+    in_range(&trees)
+}
+
 // The locations of a program, and its system over these.
 fn system_of(alloc: Global, program: &Program) -> Result<(Space, System), UnitFault>
+    requires body { HasBody program.now }
+    requires values { AreCallsOfValues program.now }
     ensures { MatchResult result (λ made. IsSystemOf program.now made.0 made.1) (IsProgramFault program.now) }
 {
     if !is_in_range(program) {
@@ -88,15 +92,15 @@ fn system_of(alloc: Global, program: &Program) -> Result<(Space, System), UnitFa
     Ok((space, system))
 }
 
-/// The program that one unit is, its locations and its system over these; or the first fault of linking it, or the limit that its program
-/// passes first: 2^24 nodes, then 2^24 words of rows. Not built is a program in which a number is out of range, or that has no location, or
-/// whose system isn't valid.
-pub fn linked_system(alloc: Global, unit: Unit) -> Result<UnitSystem, UnitFault>
-    requires linkable { AreLinkable (unit ∷ []) }
-    requires ready { AreReady unit.types }
-    ensures { MatchResult result (λ made. AreLinkedAs (unit ∷ []) made.program made.space made.system) (IsFaultOf (unit ∷ [])) }
+/// The program that valid units of distinct names are, its locations and its system over these; or the first fault of linking them, or
+/// the limit that their program passes first: 2^24 nodes, then 2^24 words of rows. Not built is a program in which a number of a type, a
+/// node or an entity is out of range, or one within the limits with a system in which a member of a type, a row of a parameter, or a
+/// number of a constraint is.
+pub fn linked_system(alloc: Global, units: Vec<Unit>) -> Result<UnitSystem, UnitFault>
+    requires { AreLinkable units.items }
+    ensures { MatchResult result (λ made. AreLinkedAs units.items made.program made.space made.system) (IsFaultOf units.items) }
 {
-    let program = linked(alloc, unit)?;
+    let program = linked(alloc, units)?;
     match system_of(alloc, &program) {
         Ok((space, system)) => Ok(UnitSystem {
             program,

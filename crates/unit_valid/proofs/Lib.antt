@@ -1,2 +1,5 @@
 pub mod Functioning
 pub mod Passing
+pub mod Labelling
+pub mod Declaring
+pub mod Keying

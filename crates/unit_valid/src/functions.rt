@@ -1,14 +1,15 @@
 // What the function around a node asks of it: the label of each goto, and the type of what is returned.
 #![tactic(auto)]
 
-ghost use Rattle.std.specs.Prelude.{◌≡◌, ◌<◌, ◌↔◌, IsTrue, All, length};
+ghost use Rattle.std.specs.Prelude.{◌≡◌, ◌<◌, ◌↔◌, Some, IsTrue, All, length};
 ghost use Rattle.core_tree.specs.declared.node.NodeKind.TheVariants.{Return};
 ghost use Rattle.core_tree.specs.Seen.{core_of};
-ghost use Rattle.core_tree.specs.Range.{InRange, ChildOnce};
+ghost use Rattle.core_tree.specs.Range.{InRange, node_at};
 ghost use Rattle.core_tree.specs.Valid.{Bodied, ReturnsRight, FitsFunctions};
 ghost use Rattle.tree_conditions.specs.View.{IsView};
+ghost use Rattle.unit_valid.specs.Labels.{AreLabels};
 
-use core_conditions::bodies::fits_functions as fits_each_function;
+use crate::labels::{Labels, jumps_fit};
 use core_tree::node::{Entity, Node, NodeKind};
 use tree_conditions::view::{View, function_around};
 use type_rules::conversions::is_result_of;
@@ -50,19 +51,19 @@ fn returns_fit(view: &View<'_>, n: usize, node: &Node) -> bool
     )
 }
 
-/// Whether a node fits the function in whose body it stands, if it stands in one. For a goto it looks at each function and each node.
-pub(crate) fn fits_functions(view: &View<'_>, n: usize, node: &Node) -> bool
+/// Whether a node fits the function in whose body it stands, if it stands in one.
+pub(crate) fn fits_functions(view: &View<'_>, labels: &Labels, n: usize, node: &Node) -> bool
     requires view { IsView view.now }
     requires range { InRange (core_of view.now.trees) }
-    requires once { ChildOnce (core_of view.now.trees) }
     requires bodied { Bodied (core_of view.now.trees) }
-    requires types { All (λ entity. entity.ty.0 < length view.now.trees.types.now.terms) view.now.trees.entities.now }
+    requires labels { AreLabels (core_of view.now.trees) view.now.tops.now labels.now }
+    requires at { node_at (core_of view.now.trees) n ≡ Some node.now }
     requires node { n < length view.now.trees.nodes.now }
     requires children { All (λ c. c < length view.now.trees.nodes.now) node.now.children }
     ensures { IsTrue result ↔ FitsFunctions (core_of view.now.trees) n node.now }
 {
     match &node.kind {
-        NodeKind::Goto(_) => fits_each_function(&view.trees, n, node),
+        NodeKind::Goto(name) => jumps_fit(view, labels, n, node, name),
         NodeKind::Return => returns_fit(view, n, node),
         _ => true,
     }

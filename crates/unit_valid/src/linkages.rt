@@ -1,16 +1,18 @@
 // What linkages a unit's entities may have, and what type a use of them (C11 6.2.2).
 #![tactic(auto)]
 
-ghost use Rattle.std.specs.Prelude.{◌≡◌, ℕ, ◌<◌, ◌↔◌, List, IsTrue, IfSome, All, length};
+ghost use Rattle.std.specs.Prelude.{◌≡◌, ◌<◌, ◌^◌, ◌↔◌, IsTrue, IfOk, IfSome, All, length};
 ghost use Rattle.c_types.specs.Table.{type_of};
 ghost use Rattle.core_tree.specs.Seen.{core_of};
 ghost use Rattle.core_tree.specs.Range.{EachNode, EachEntity, InRange, entity_at, named_by};
-ghost use Rattle.core_tree.specs.Linkages.{HasNoLinkage, MakesUnlinked, DeclaresAs, IsDeclaredAs, IsUseIn, UsesDeclared, NodeLinkage, EntityLinkage, Linkages};
+ghost use Rattle.unit_valid.specs.Declarations.{AreDeclarations};
+ghost use Rattle.core_tree.specs.Linkages.{HasNoLinkage, MakesUnlinked, IsUseIn, UsesDeclared, NodeLinkage, EntityLinkage, Linkages};
 
+use crate::declarations::{Declarations, declarations_of, is_declared_as};
 use c_types::term::TypeId;
 use core_tree::node::{Entity, Linkage, Node, NodeKind, Storage};
 use core_tree::trees::Trees;
-use pta_base::Text;
+use std::alloc::{AllocError, Global};
 
 // Whether an entity, if it is an automatic object or a parameter, has no linkage.
 fn entity_linkage(entity: &Entity) -> bool
@@ -41,72 +43,55 @@ fn makes_unlinked(trees: &Trees<'_>, kind: &NodeKind) -> bool
     }
 }
 
-// Whether an entity declares a name, with external linkage, as of a type.
-fn declares_as(trees: &Trees<'_>, name: &Text, ty: TypeId, entity: &Entity) -> bool
-    requires ty { ty.0 < length trees.now.types.now.terms }
-    requires entity { entity.now.ty.0 < length trees.now.types.now.terms }
-    ensures { IsTrue result ↔ DeclaresAs (core_of trees.now) name.now (type_of trees.now.types.now ty.0) entity.now }
-{
-    matches!(entity.linkage, Linkage::External)
-        && entity.name.as_str() == name.as_str()
-        && trees.types.same(entity.ty, ty)
-}
-
-// Whether some external declaration of a name has a type.
-fn is_declared_as(trees: &Trees<'_>, name: &Text, ty: TypeId) -> bool
-    requires ty { ty.0 < length trees.now.types.now.terms }
-    requires types { All (λ entity. entity.ty.0 < length trees.now.types.now.terms) trees.now.entities.now }
-    ensures { IsTrue result ↔ IsDeclaredAs (core_of trees.now) name.now (type_of trees.now.types.now ty.0) }
-{
-    trees
-        .entities
-        .iter()
-        .any(|entity| declares_as(trees, name, ty, entity))
-}
-
 // Whether an entity, if it has external linkage, is declared as of a type.
-fn is_use_in(trees: &Trees<'_>, ty: TypeId, e: u32) -> bool
+fn is_use_in(trees: &Trees<'_>, declared: &Declarations, ty: TypeId, e: u32) -> bool
+    requires declared { AreDeclarations (core_of trees.now) declared.now }
     requires ty { ty.0 < length trees.now.types.now.terms }
-    requires types { All (λ entity. entity.ty.0 < length trees.now.types.now.terms) trees.now.entities.now }
     requires entity { e < length trees.now.entities.now }
     ensures { IsTrue result
         ↔ IsUseIn (core_of trees.now) (type_of trees.now.types.now ty.0) (entity_at (core_of trees.now) e) }
 {
     let entity = &trees.entities[e as usize];
-    !matches!(entity.linkage, Linkage::External) || is_declared_as(trees, &entity.name, ty)
+    match entity.linkage {
+        Linkage::External => is_declared_as(trees, declared, e, entity, ty),
+        _ => true,
+    }
 }
 
 // Whether a kind, if it is a use of an entity with external linkage, has the type of a declaration.
-fn uses_declared(trees: &Trees<'_>, ty: TypeId, kind: &NodeKind) -> bool
+fn uses_declared(trees: &Trees<'_>, declared: &Declarations, ty: TypeId, kind: &NodeKind) -> bool
+    requires declared { AreDeclarations (core_of trees.now) declared.now }
     requires ty { ty.0 < length trees.now.types.now.terms }
-    requires types { All (λ entity. entity.ty.0 < length trees.now.types.now.terms) trees.now.entities.now }
     requires named { IfSome (named_by kind.now) (λ e. e < length trees.now.entities.now) }
     ensures { IsTrue result ↔ UsesDeclared (core_of trees.now) (type_of trees.now.types.now ty.0) kind.now }
 {
     match kind {
-        NodeKind::Named(e) | NodeKind::FunctionName(e) => is_use_in(trees, ty, *e),
+        NodeKind::Named(e) | NodeKind::FunctionName(e) => is_use_in(trees, declared, ty, *e),
         _ => true,
     }
 }
 
 // Whether a node makes and uses entities of the linkage that they may have.
-fn node_linkage(trees: &Trees<'_>, node: &Node) -> bool
+fn node_linkage(trees: &Trees<'_>, declared: &Declarations, node: &Node) -> bool
+    requires declared { AreDeclarations (core_of trees.now) declared.now }
     requires ty { node.now.ty.0 < length trees.now.types.now.terms }
-    requires types { All (λ entity. entity.ty.0 < length trees.now.types.now.terms) trees.now.entities.now }
     requires named { IfSome (named_by node.now.kind) (λ e. e < length trees.now.entities.now) }
     ensures { IsTrue result ↔ NodeLinkage (core_of trees.now) node.now }
 {
-    makes_unlinked(trees, &node.kind) && uses_declared(trees, node.ty, &node.kind)
+    makes_unlinked(trees, &node.kind) && uses_declared(trees, declared, node.ty, &node.kind)
 }
 
 // Whether each node makes and uses entities of the linkage that they may have.
-fn node_linkages(trees: &Trees<'_>) -> bool
-    requires types { All (λ entity. entity.ty.0 < length trees.now.types.now.terms) trees.now.entities.now }
+fn node_linkages(trees: &Trees<'_>, declared: &Declarations) -> bool
+    requires declared { AreDeclarations (core_of trees.now) declared.now }
     requires nodes { All (λ node. node.ty.0 < length trees.now.types.now.terms) trees.now.nodes.now }
     requires named { All (λ node. IfSome (named_by node.kind) (λ e. e < length trees.now.entities.now)) trees.now.nodes.now }
     ensures { IsTrue result ↔ EachNode (core_of trees.now) (λ n node. NodeLinkage (core_of trees.now) node) }
 {
-    trees.nodes.iter().all(|node| node_linkage(trees, node))
+    trees
+        .nodes
+        .iter()
+        .all(|node| node_linkage(trees, declared, node))
 }
 
 // Whether each entity has a linkage that it may have.
@@ -117,9 +102,15 @@ fn entity_linkages(trees: &Trees<'_>) -> bool
 }
 
 /// Whether linkages are what they may be in a unit, and uses of external names have the types of their declarations.
-pub(crate) fn linkages(trees: &Trees<'_>) -> bool
-    requires { InRange (core_of trees.now) }
-    ensures { IsTrue result ↔ Linkages (core_of trees.now) }
+/// Only memory may want.
+pub(crate) fn linkages(alloc: Global, trees: &Trees<'_>) -> Result<bool, AllocError>
+    requires range { InRange (core_of trees.now) }
+    requires entities { length trees.now.entities.now < 2 ^ 32 }
+    ensures { IfOk result (λ holds. IsTrue holds ↔ Linkages (core_of trees.now)) }
 {
-    entity_linkages(trees) && node_linkages(trees)
+    if !entity_linkages(trees) {
+        return Ok(false);
+    }
+    let declared = declarations_of(alloc, trees)?;
+    Ok(node_linkages(trees, &declared))
 }

@@ -9,6 +9,7 @@ ghost use Rattle.tree_conditions.specs.View.{IsView};
 ghost use Rattle.unit_valid.specs.Passes.{ViewPasses, TreesRight};
 
 use crate::entities::{all_bodied, entities_pass};
+use crate::labels::labels_of;
 use crate::nodes::nodes_pass;
 use crate::range::in_range;
 use core_tree::trees::Trees;
@@ -33,7 +34,8 @@ fn view_passes(alloc: Global, view: &View<'_>) -> Result<bool, AllocError>
     if !all_bodied(view) {
         return Ok(false);
     }
-    if !nodes_pass(view) {
+    let labels = labels_of(alloc, view)?;
+    if !nodes_pass(view, &labels) {
         return Ok(false);
     }
     let told = told_uses(alloc, &view.trees)?;

@@ -31,32 +31,39 @@ fn unit_checked(alloc: Global, unit: &Unit) -> Result<bool, AllocError>
 }
 
 // Whether a unit has a key or none for each of its tags, and no key twice.
-fn unit_keyed(unit: &Unit) -> bool
-    ensures { IsTrue result ↔ Keyed unit.now.types.tags unit.now.tags.items }
+fn unit_keyed(alloc: Global, unit: &Unit) -> Result<bool, AllocError>
+    ensures { IfOk result (λ holds. IsTrue holds ↔ Keyed unit.now.types.tags unit.now.tags.items) }
 {
-    keyed(unit.types.tag_count(), unit.tags.as_slice())
+    keyed(alloc, unit.types.tag_count(), unit.tags.as_slice())
 }
 
 // Whether the linkages of a unit are what they may be.
-fn unit_linkages(unit: &Unit) -> bool
-    requires { InRange (trees_of unit.now) }
-    ensures { IsTrue result ↔ Linkages (trees_of unit.now) }
+fn unit_linkages(alloc: Global, unit: &Unit) -> Result<bool, AllocError>
+    requires range { InRange (trees_of unit.now) }
+    requires entities { length unit.now.entities.items < 2 ^ 32 }
+    ensures { IfOk result (λ holds. IsTrue holds ↔ Linkages (trees_of unit.now)) }
 {
     let trees = Trees {
         types: &unit.types,
         nodes: unit.nodes.as_slice(),
         entities: unit.entities.as_slice(),
     };
-    linkages(&trees)
+    linkages(alloc, &trees)
 }
 
 // Whether all holds of a unit that is asked of units alone.
-fn unit_alone(unit: &Unit) -> bool
-    requires { InRange (trees_of unit.now) }
-    ensures { IsTrue result
-        ↔ (Keyed unit.now.types.tags unit.now.tags.items × Linkages (trees_of unit.now)) }
+fn unit_alone(alloc: Global, unit: &Unit) -> Result<bool, AllocError>
+    requires range { InRange (trees_of unit.now) }
+    requires entities { length unit.now.entities.items < 2 ^ 32 }
+    ensures { IfOk result (λ holds. IsTrue holds
+        ↔ (Keyed unit.now.types.tags unit.now.tags.items × Linkages (trees_of unit.now))) }
 {
-    unit_keyed(unit) && unit_linkages(unit)
+    let keyed = unit_keyed(alloc, unit)?;
+    if !keyed {
+        return Ok(false);
+    }
+    let linked = unit_linkages(alloc, unit)?;
+    Ok(linked)
 }
 
 /// Whether a unit is valid: each node stands over its children in the row of its kind, each type, node and entity that is
@@ -73,5 +80,6 @@ pub fn valid_unit(alloc: Global, unit: &Unit) -> Result<bool, OutOfMemory>
     if !valid {
         return Ok(false);
     }
-    Ok(unit_alone(unit))
+    let alone = unit_alone(alloc, unit)?;
+    Ok(alone)
 }

@@ -9,9 +9,12 @@ use Rattle.c_types.specs.Table.{TagMembers, type_of, members_among}
 use Rattle.c_types.specs.Layout.{extent_of, looked_up, laid_out}
 use Rattle.core_tree.specs.declared.node.Unit.{Unit}
 use Rattle.c_inits.specs.Made.{TagParts}
+use Rattle.c_grammar.specs.Productions.{p_struct}
 use Rattle.c_grammar.specs.declared.trees.SyntaxNode.{SyntaxNode}
+use Rattle.c_rows.specs.Built.{built_primary}
+use Rattle.struct_rows.specs.Built.{built_struct}
 use Rattle.c_senses.specs.Given.{Given, Fits, Refuses}
-use Rattle.c_senses.specs.Tree.{Source, production_at, children_at, production_of}
+use Rattle.c_senses.specs.Tree.{Source, production_at, children_at, production_of, children_of}
 use Rattle.c_senses.specs.Tags.{tags_below}
 use Rattle.c_senses.specs.Sense.{Sense, sense_in}
 use Rattle.c_senses.specs.Rows.{world_at, row_of, AreSenses, RefusedAt}
@@ -28,11 +31,12 @@ use Rattle.row_shapes.specs.Kept.{Keeps}
 use Rattle.unit_worlds.specs.Growing.{Grows, completed_at}
 use Rattle.unit_worlds.proofs.Sensing.{no_senses, row_as, senses_more}
 use Rattle.unit_worlds.proofs.Worlds.{known_one}
-use Rattle.unit_rows.specs.Built.{RowedAt, StopsAt, may_stop}
+use Rattle.unit_rows.specs.Built as rows
+use Rattle.unit_rows.specs.Built.{is_limited}
 use Rattle.unit_limits.specs.Small.{IsSmallTable}
 use Rattle.unit_rows.specs.Limits.{AreTested}
 use Rattle.unit_rows.specs.Standing.{Stand, AreMade}
-use Rattle.unit_walk.specs.Walked.{RefusedBy}
+use Rattle.unit_walk.specs.Walked.{IsLargeBehind, IsStopped, StopsAt, RefusedBy}
 use Rattle.unit_walk.proofs.Keeping.{mades_grown, withins_grown, kept_grown}
 
 -- before the first row
@@ -130,27 +134,63 @@ module _ (s : Source) (u : Unit) (rs : List Made) (made : AreMade s u rs) where
     production_here : production_at s at ≡ here.0.production
     production_here = ap (λ (i : ℕ). production_at s i) (sym (so_many ∙ long)) ∙ ap production_of here.1
 
-    stops : (named : ℕ) → (Whole s u rs at ≡ Refuses NotBuilt named) ⊎ ((named ≡ at) × (may_stop (production_at s at) ≡ true)) → StopsAt s named
-    stops named (inl e) = record {
-      senses = senses_made u rs;
-      before = made.senses;
-      node = here.0;
-      stands = here.1;
-      stops = inl (row_as s (senses_made u rs) here.0 here.1 ∙ at_end (Whole s u rs) (Refuses NotBuilt named) e);
-    }
-    stops named (inr h) = record {
-      senses = senses_made u rs;
-      before = made.senses;
-      node = here.0;
-      stands = here.1;
-      stops = inr (h.0 ∙ sym (so_many ∙ long), sym (ap may_stop production_here) ∙ h.1);
-    }
+    children_here : children_at s at ≡ here.0.children.items
+    children_here = ap (λ (i : ℕ). children_at s i) (sym (so_many ∙ long)) ∙ ap children_of here.1
 
-    pub refused : (v : Unit) (fault : CheckFault) → RowedAt v (Err fault) (Whole s u rs at) (production_at s at) at → RefusedBy s fault
-    refused v (BadOperand named) e = refuses_at Operand named e
-    refused v (Unsupported NotBuilt named) e = stops named e
-    refused v (Unsupported kind named) e = refuses_at kind named e
-    refused v OutOfMemory e = tt
+    -- why, behind the senses so far
+    module _ (first : ChildrenFirst s) (v : Unit) (within : All (IsWithin u) rs) where
+      large_behind : (production_at s at ≡ p_struct) → rows.IsLargeBehind s u v (sense_in (senses_made u rs)) (Whole s u rs at) at → IsLargeBehind s (senses_made u rs) here.0
+      large_behind e h =
+          let m : Made = h.made in
+          let fits : Whole s u rs (length rs) ≡ Fits (sense_made v h.made) = subst (λ (i : ℕ). Whole s u rs i ≡ Fits (sense_made v h.made)) (sym long) h.fits in
+          let grows : Grows u v (completed_at s (sense_in (senses_made u rs)) (length rs)) = subst (λ (i : ℕ). Grows u v (completed_at s (sense_in (senses_made u rs)) i)) (sym long) h.grows in
+          record {
+            structure = sym production_here ∙ e;
+            sense = sense_made v h.made;
+            fits = row_as s (senses_made u rs) here.0 here.1 ∙ at_end (Whole s u rs) (Fits (sense_made v h.made)) h.fits;
+            large = record {
+              unit = v;
+              results = rs ++ h.made ∷ [];
+              made = made_more first v h.made (rs ++ h.made ∷ []) refl within (omega (arith, long, inside)) fits grows;
+              senses_are = senses_pushed first v h.made (rs ++ h.made ∷ []) refl within (omega (arith, long, inside)) fits grows;
+              large = h.large;
+            };
+          }
+
+      unread : built_primary (world_at s (senses_made u rs) at) s (sense_in (senses_made u rs)) at (children_at s at) ≡ Refuses NotBuilt at
+          → built_primary (world_at s (senses_made u rs) (length (senses_made u rs))) s (sense_in (senses_made u rs)) (length (senses_made u rs)) here.0.children.items ≡ Refuses NotBuilt (length (senses_made u rs))
+      unread e =
+          subst (λ (xs : List ℕ). built_primary (world_at s (senses_made u rs) (length (senses_made u rs))) s (sense_in (senses_made u rs)) (length (senses_made u rs)) xs ≡ Refuses NotBuilt (length (senses_made u rs))) children_here
+          (subst (λ (i : ℕ). built_primary (world_at s (senses_made u rs) i) s (sense_in (senses_made u rs)) i (children_at s at) ≡ Refuses NotBuilt i) (sym (so_many ∙ long)) e)
+
+      stopped : rows.Stops s u v rs at → IsStopped s (senses_made u rs) here.0
+      stopped (inl h) = inl (subst (λ (p : ℕ). is_limited p ≡ true) production_here h.0, record { unit = u; results = rs; made = made; senses_are = refl; large = h.1 })
+      stopped (inr (inl h)) = inr (inl (large_behind h.0 h.1))
+      stopped (inr (inr (inl h))) =
+          inr (inr (inl (sym production_here ∙ h.0, subst (λ (i : ℕ). built_struct (world_at s (senses_made u rs) i) s (sense_in (senses_made u rs)) i ≡ Refuses NotBuilt i) (sym (so_many ∙ long)) h.1)))
+      stopped (inr (inr (inr h))) = inr (inr (inr (sym production_here ∙ h.0, unread (h.1 made.senses))))
+
+      stops : (named : ℕ) → (Whole s u rs at ≡ Refuses NotBuilt named) ⊎ ((named ≡ at) × rows.Stops s u v rs at) → StopsAt s named
+      stops named (inl e) = record {
+        senses = senses_made u rs;
+        before = made.senses;
+        node = here.0;
+        stands = here.1;
+        stops = inl (row_as s (senses_made u rs) here.0 here.1 ∙ at_end (Whole s u rs) (Refuses NotBuilt named) e);
+      }
+      stops named (inr h) = record {
+        senses = senses_made u rs;
+        before = made.senses;
+        node = here.0;
+        stands = here.1;
+        stops = inr (h.0 ∙ sym (so_many ∙ long), stopped h.1);
+      }
+
+      pub refused : (fault : CheckFault) → rows.RowedAt v (Err fault) (Whole s u rs at) (rows.Stops s u v rs at) at → RefusedBy s fault
+      refused (BadOperand named) e = refuses_at Operand named e
+      refused (Unsupported NotBuilt named) e = stops named e
+      refused (Unsupported kind named) e = refuses_at kind named e
+      refused OutOfMemory e = tt
 
 -- the results stand with one more
 pub stand_more : (count : ℕ) (u v : Unit) (es : List TagParts) → Grows u v es → IsReady v → (rs more : List Made) (m : Made) → more ≡ rs ++ m ∷ [] → Stand count u rs → IsWithin v m → Keeps count (sense_made v m) → Stand count v more

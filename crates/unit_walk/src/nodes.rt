@@ -14,7 +14,8 @@ use unit_choices::{no_choices, note};
 use unit_rows::{Known, row};
 
 /// What each node of a unit stands for, over what was made for those before it (C11 6.5 to 6.9). The unit's table of types has all tags of
-/// structures and unions before the first row, none of them complete. A refusal is that of the first node whose row doesn't fit.
+/// structures and unions before the first row, none of them complete. A refusal is that of the first node whose row doesn't fit, or says
+/// why what stands there isn't built (`StopsAt`).
 pub fn walk_nodes(alloc: Global, unit: &mut Unit, known: &Known) -> Result<Vec<Made>, CheckFault>
     requires known { IsKnown known.now }
     requires ready { IsReady unit.old }

@@ -1,18 +1,20 @@
 // A unit of the source, from its tokens and its tree.
-ghost use Rattle.std.specs.Prelude.{◌≡◌, ◌⊎◌, ℕ, List, [], IfOk, IfErr, IsOkUnless, MatchResult};
+ghost use Rattle.std.specs.Prelude.{◌≡◌, ℕ, List, [], IfOk, IsOkUnless, MatchResult};
 ghost use Rattle.core_tree.specs.declared.node.Unit.{Unit as UnitSpec};
 ghost use Rattle.core_nodes.specs.declared.fault.CheckFault.TheVariants.{OutOfMemory};
 ghost use Rattle.core_nodes.specs.Standing.{IsReady};
+ghost use Rattle.c_lexer.specs.Cut.{IsTokens};
 ghost use Rattle.c_scope.specs.Resolves.{IsBound};
 ghost use Rattle.c_senses.specs.Names.{source_of, numbered};
 ghost use Rattle.sense_laws.specs.Senses.{ChildrenFirst};
 ghost use Rattle.struct_rows.specs.Built.{HasTagTypes};
 ghost use Rattle.tag_numbers.specs.Known.{AreTags};
+ghost use Rattle.tag_numbers.specs.Ordered.{AreInOrder};
 ghost use Rattle.tree_reads.specs.Sources.{source_in, number_in};
 ghost use Rattle.unit_limits.specs.Small.{IsSmallTable};
 ghost use Rattle.unit_rows.specs.Standing.{Stand};
 ghost use Rattle.unit_walk.specs.Ground.{IsGround, source_ground, nodes_ground};
-ghost use Rattle.unit_walk.specs.Walked.{IsWalked, RefusedIn, IsUnread};
+ghost use Rattle.unit_walk.specs.Walked.{IsWalked, RefusedIn};
 
 use crate::nodes::walk_nodes;
 use c_grammar::Tree;
@@ -23,14 +25,14 @@ use c_scope::Bound;
 use core_nodes::CheckFault;
 use core_tree::node::Unit;
 use name_sayings::open_names;
-use pta_base::{Kind, Text};
+use pta_base::Text;
 use statement_rows::NameKinds;
 use std::alloc::Global;
 use symbol_lists::SymbolLists;
 use tag_numbers::{Numbered, number_tags};
 use tag_types::open_types;
 use tree_reads::Syntax;
-use unit_choices::{name_kinds, names_are_ascii};
+use unit_choices::name_kinds;
 use unit_rows::Known;
 
 /// What is known of a unit before its rows, and owned.
@@ -51,19 +53,21 @@ pub struct Walked<'a> {
     pub results: Vec<Made>,
 }
 
-// What is known of a unit before its rows, where its names can be taken.
+// What is known of a unit before its rows. Only memory may want: names of a text are spelled in ASCII, and declared at nodes.
 fn ground_of<'a>(
     alloc: Global,
     tokens: &'a Tokens<'a>,
     tree: &'a Tree,
     bound: &Bound,
 ) -> Result<Ground<'a>, CheckFault>
+    requires tokens { IsTokens tokens.now.text.now tokens.now.list.items }
     requires bound { IsBound tokens.now tree.now bound.now }
     requires first { ChildrenFirst (source_of tokens.now tree.now) }
     ensures tokens { IfOk result (λ g. g.numbered.syntax.tokens.now ≡ tokens.now) }
     ensures tree { IfOk result (λ g. g.numbered.syntax.tree.now ≡ tree.now) }
     ensures ground { (u : UnitSpec) → IfOk result (λ g. IsGround g bound.now) }
-    ensures unread { IfErr result IsUnread }
+    ensures ordered { IfOk result (λ g. AreInOrder (source_ground g bound.now)) }
+    ensures memory { IsOkUnless result OutOfMemory }
 {
     let Ok(syntax) = Syntax::new(alloc, tokens, tree) else {
         return Err(CheckFault::OutOfMemory);
@@ -79,9 +83,6 @@ fn ground_of<'a>(
         Ok(kinds) => kinds,
         Err(fault) => return Err(fault),
     };
-    if !names_are_ascii(&numbered.syntax) {
-        return Err(CheckFault::Unsupported(Kind::NotBuilt, 0));
-    }
     Ok(Ground {
         numbered,
         names,
@@ -118,14 +119,16 @@ fn open_unit(alloc: Global, numbered: &Numbered) -> Result<Unit, CheckFault>
 }
 
 /// What each node of a unit stands for (C11 6.5 to 6.9), where its tokens and its tree are those of a text whose names are bound; the unit
-/// has no name yet. It is refused as the first node is whose row doesn't fit; `NotBuilt` comes at a node of whose production not each form
-/// is built, or at node 0 where a name isn't spelled in ASCII or has no place among the nodes. Beside that only memory may want.
+/// has no name yet. It is refused as the first node is whose row doesn't fit; `NotBuilt` comes at a node whose types aren't within the limits,
+/// whose members aren't such as are taken, or whose constant or string isn't read (`StopsAt`). Beside that only memory may want. Tags have
+/// the numbers of the order of their first specifiers.
 pub fn walk<'a>(
     alloc: Global,
     tokens: &'a Tokens<'a>,
     tree: &'a Tree,
     bound: &Bound,
 ) -> Result<Walked<'a>, CheckFault>
+    requires tokens { IsTokens tokens.now.text.now tokens.now.list.items }
     requires bound { IsBound tokens.now tree.now bound.now }
     requires first { ChildrenFirst (source_of tokens.now tree.now) }
     ensures ground { IfOk result (λ w. IsGround w.ground bound.now) }
@@ -134,10 +137,11 @@ pub fn walk<'a>(
     ensures source { IfOk result (λ w.
         source_ground w.ground bound.now
         ≡ numbered (number_in w.ground.numbered.syntax.tag_numbers.items) (source_of tokens.now tree.now)) }
+    ensures ordered { IfOk result (λ w. AreInOrder (source_ground w.ground bound.now)) }
     ensures stand { IfOk result (λ w. Stand (nodes_ground w.ground) w.unit w.results.items) }
     ensures walked { MatchResult result
         (λ w. IsWalked (source_ground w.ground bound.now) w.unit w.results.items)
-        (λ fault. RefusedIn (source_of tokens.now tree.now) fault ⊎ IsUnread fault) }
+        (RefusedIn (source_of tokens.now tree.now)) }
 {
     let ground = match ground_of(alloc, tokens, tree, bound) {
         Ok(ground) => ground,

@@ -1,13 +1,11 @@
 use Rattle.std.proofs.Common.{◌≡◌, List, All, length, refl, sym, subst}
 use Rattle.c_results.specs.declared.made.Made.{Made}
 use Rattle.c_results.specs.Standing.{senses_made}
-use Rattle.c_senses.specs.Right.{Right}
 use Rattle.c_senses.specs.Rows.{AreSenses}
 use Rattle.name_places.specs.Named.{IsNamedIn}
 use Rattle.unit_finish.specs.Walked.{AreTags}
 use Rattle.unit_walk.specs.Ground.{source_ground, nodes_ground}
-use Rattle.c_lower.specs.Lowered.{EndsAt, IsUnfinished}
-use Rattle.c_lower.proofs.Ending.{all_named, tags_walked, tags_kept, whole_walked, all_fit, unfinished, joined}
+use Rattle.c_lower.proofs.Ending.{all_named, tags_walked, tags_kept, whole_walked}
 use Rattle.c_lower.proofs.lowering.completed.Goals as goal
 
 pub declared_names-requires-clause-named : goal.declared_names-requires-clause-named
@@ -36,8 +34,7 @@ returns c =
     let new = c.declared_names.new.unit in
     let walked = c.requires.walked in
     let given = c.as_slice-made.ensures.value in
-    joined (Right s c.args.name) (EndsAt root (nodes_ground g)) (IsUnfinished s root) (unfinished s root (all_fit s u rs walked)) c.finished.result
-    (c.finished.ensures.right u new c.args.bound.now.uses.items c.in_ok-list.list.items c.in_ok-list.ensures.ready refl refl
+    c.finished.ensures u new c.args.bound.now.uses.items c.in_ok-list.list.items c.in_ok-list.ensures.ready refl refl
     (record {
       are_senses = subst (λ (l : List Made). AreSenses s (senses_made u l)) (sym given) walked.made.senses;
       whole = subst (λ (l : List Made). length (senses_made u l) ≡ length s.nodes) (sym given) (whole_walked s u rs walked);
@@ -47,5 +44,4 @@ returns c =
       keys_right = c.in-Ok.ensures.right u;
       are_names = c.in_ok-list.ensures.names c.args.bound.now.uses.items;
     })
-    c.in_ok-kept.ensures.kept)
-    c.finished.ensures.refused
+    c.in_ok-kept.ensures.kept

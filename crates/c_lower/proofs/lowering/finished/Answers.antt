@@ -1,31 +1,38 @@
-use Rattle.std.proofs.Common.{List, length, map, ap, ◌∙◌, ◌++◌}
+use Rattle.std.proofs.Common.{ℕ, List, map, ap, ◌∙◌, ◌++◌, length, sym, subst}
+use Rattle.std.specs.Prelude.{MatchResult}
+use Rattle.c_types.specs.Table.{Table}
 use Rattle.core_tree.specs.declared.node.Node.{Node}
 use Rattle.c_results.specs.Standing.{senses_made}
 use Rattle.tree_reads.specs.Sources.{source_in}
+use Rattle.unit_parts.specs.declared.declared.Declared.{Declared}
 use Rattle.unit_parts.specs.Renamed.{literals_in}
 use Rattle.unit_finish.specs.Complete.{Completes, NoneCompletes}
 use Rattle.unit_finish.specs.Walked.{literal_entry}
-use Rattle.c_lower.specs.Lowered.{EndsAt}
-use Rattle.c_lower.proofs.Ending.{ends_past, ends_none, ends_by}
+use Rattle.unit_names.specs.Literals.{IsPast}
+use Rattle.c_lower.specs.Lowered.{AreParts}
+use Rattle.c_lower.proofs.Ending.{finished_so, unfinished_past}
 use Rattle.c_lower.proofs.lowering.finished.Goals as goal
 
-pub returns-clause-right : goal.returns-clause-right
-returns-clause-right c = λ u walked uses list ready types number is_walked is_kept.
+pub returns : goal.returns
+returns c = λ u walked uses list ready types number is_walked is_kept.
     let s = source_in c.args.syntax.now uses in
     let senses = senses_made u c.args.results.now in
-    c.finish.ensures.right s senses walked list ready types number is_walked is_kept
-    (c.in-Ok.ensures.entries u uses ∙ ap (λ (nodes : List Node). map (literal_entry s senses) (literals_in nodes)) c.as_slice-nodes.ensures.value)
-
-pub returns-clause-refused : goal.returns-clause-refused
-returns-clause-refused c =
     let h = c.args.heading in
-    let n = length c.args.syntax.now.tree.now.nodes.items in
     let nodes = c.args.kept.nodes.items in
-    let list = c.args.kept.names.items ++ c.in-Ok.literals.items in
-    ends_by (Completes h.name h.unit c.args.types c.args.keys.items nodes list)
-    (NoneCompletes h.name h.unit c.args.types c.args.keys.items nodes list h.root)
-    (EndsAt h.root n) (ends_none h.name h.unit c.args.types c.args.keys.items nodes list h.root n) c.finish.result c.finish.ensures.completes
+    let entries = c.in-Ok.ensures.entries u uses ∙ ap (λ (nodes : List Node). map (literal_entry s senses) (literals_in nodes)) c.as_slice-nodes.ensures.value in
+    let parts : AreParts s = record { senses = senses; walked = walked; keys = c.args.keys.items; names = list; kept = c.args.kept; ready = ready; made = is_walked; stay = is_kept } in
+    let right = c.finish.ensures.right s senses walked list ready types number is_walked is_kept entries in
+    finished_so s h.name parts h.root c.finish.result right
+    (subst (λ (n : ℕ). MatchResult c.finish.result (Completes h.name n walked.types c.args.keys.items nodes (c.args.kept.names.items ++ map (literal_entry s senses) (literals_in nodes))) (NoneCompletes h.name n walked.types c.args.keys.items nodes (c.args.kept.names.items ++ map (literal_entry s senses) (literals_in nodes)) h.root)) (sym number)
+    (subst (λ (t : Table). MatchResult c.finish.result (Completes h.name h.unit t c.args.keys.items nodes (c.args.kept.names.items ++ map (literal_entry s senses) (literals_in nodes))) (NoneCompletes h.name h.unit t c.args.keys.items nodes (c.args.kept.names.items ++ map (literal_entry s senses) (literals_in nodes)) h.root)) (sym types)
+    (subst (λ (l : List Declared). MatchResult c.finish.result (Completes h.name h.unit c.args.types c.args.keys.items nodes (c.args.kept.names.items ++ l)) (NoneCompletes h.name h.unit c.args.types c.args.keys.items nodes (c.args.kept.names.items ++ l) h.root)) entries
+    c.finish.ensures.completes)))
 
-pub returns-in-Err-clause-refused : goal.returns-in-Err-clause-refused
-returns-in-Err-clause-refused c =
-    ends_past c.args.heading.root (length c.args.syntax.now.tree.now.nodes.items) c.in-Err.fault c.in-Err.ensures.refused
+pub returns-in-Err : goal.returns-in-Err
+returns-in-Err c = λ u walked uses list ready types number is_walked is_kept.
+    let s = source_in c.args.syntax.now uses in
+    let senses = senses_made u c.args.results.now in
+    let h = c.args.heading in
+    let parts : AreParts s = record { senses = senses; walked = walked; keys = c.args.keys.items; names = list; kept = c.args.kept; ready = ready; made = is_walked; stay = is_kept } in
+    unfinished_past s h.name parts h.root c.in-Err.fault
+    (subst (λ (ns : List Node). IsPast (literals_in ns) (length c.args.syntax.now.tree.now.nodes.items) c.in-Err.fault) c.as_slice-nodes.ensures.value c.in-Err.ensures.refused)

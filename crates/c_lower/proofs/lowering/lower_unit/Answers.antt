@@ -11,7 +11,7 @@ returns-in-Ok c =
     let g = c.in-Ok.walked.ground in
     let tree = g.numbered.syntax.tree.now in
     lowered (source_ground g c.args.bound.now) (source_of c.args.tokens.now c.args.tree.now) (number_in g.numbered.syntax.tag_numbers.items) g.numbered.tags c.args.name tree.root c.args.tree.now.root
-    c.in-Ok.ensures.source (ap (λ (t : Tree). t.root) c.in-Ok.ensures.tree) c.in-Ok.ensures.ground.tags c.completed.result c.completed.ensures
+    c.in-Ok.ensures.source (ap (λ (t : Tree). t.root) c.in-Ok.ensures.tree) c.in-Ok.ensures.ground.tags c.in-Ok.ensures.ordered c.completed.result c.completed.ensures
 
 pub returns-in-Err : goal.returns-in-Err
-returns-in-Err c = refused_first (source_of c.args.tokens.now c.args.tree.now) c.args.tree.now.root c.in-Err.fault c.in-Err.ensures.walked
+returns-in-Err c = refused_first (source_of c.args.tokens.now c.args.tree.now) c.args.name c.args.tree.now.root c.in-Err.fault c.in-Err.ensures.walked

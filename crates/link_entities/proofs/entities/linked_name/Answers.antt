@@ -62,8 +62,8 @@ bounds-linking-first-2 c =
     let all = c.requires.linking.uses.all in
     omega arith
 
-pub returns : goal.returns
-returns c =
+pub returns-clause-name : goal.returns-clause-name
+returns-clause-name c =
     let k = c.args.linking.now in
     let f = found c.args.linking.now c.args.unit c.args.number c.args.entity.now c.find_name.result c.as_str.result.now c.in-Some.first c.requires.linking c.requires.there c.requires.external c.find_name.ensures c.as_str.ensures c.in-Some.is in
     let says = said_read k c.args.entity.now.name c.in-Some.first c.index.result.now c.requires.linking f c.index.ensures in

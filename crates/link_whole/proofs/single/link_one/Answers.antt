@@ -7,7 +7,8 @@ use Rattle.link_program.specs.Merging.{AreMerged}
 use Rattle.link_whole.specs.Entities.{AreEntitiesOf}
 use Rattle.link_whole.specs.Placed.{AreNamed, ArePlaced}
 use Rattle.link_whole.proofs.OwnTypes.{one_merged}
-use Rattle.link_whole.proofs.Alone.{named_nodes, linked_alone}
+use Rattle.link_whole.proofs.Alone.{named_nodes, linked_alone, types_alone}
+use Rattle.linked_laws.proofs.Ranges.{in_range}
 use Rattle.link_whole.proofs.single.link_one.Goals as goal
 
 pub entities_of-requires : goal.entities_of-requires
@@ -35,8 +36,8 @@ program_of-requires-clause-named c =
     let h = subst (λ (l : List Unit). AreEntitiesOf (joined_by l x.types c.as_slice.result.now) c.in_ok-entities.entities.items n) c.from_ref.ensures.value c.in_ok-entities.ensures in
     subst (λ (l : List ℕ). AreNamed (length l) x.nodes.items) (sym c.as_slice-2.ensures.value) (named_nodes x n valid h.numbers)
 
-pub returns : goal.returns
-returns c =
+pub returns-clause-linked : goal.returns-clause-linked
+returns-clause-linked c =
     let x = c.args.unit in
     let valid = c.requires.linkable.valid 0 x refl in
     let n = c.in_ok-entities.numbers in
@@ -45,3 +46,16 @@ returns c =
     let k = subst (λ (s : List ℕ). AreEntitiesOf (joined_by (x ∷ []) x.types s) list n) c.as_slice.ensures h in
     let placed = subst (λ (l : List ℕ). ArePlaced l x.nodes.items c.in_ok-program.program.nodes.items) c.as_slice-2.ensures.value c.in_ok-program.ensures.nodes in
     linked_alone x c.in_ok-program.program list n valid c.requires.ready k c.in_ok-program.ensures.names c.in_ok-program.ensures.types placed c.in_ok-program.ensures.entities
+
+pub returns-clause-range : goal.returns-clause-range
+returns-clause-range c =
+    let x = c.args.unit in
+    let valid = c.requires.linkable.valid 0 x refl in
+    let n = c.in_ok-entities.numbers in
+    let list = c.in_ok-entities.entities.items in
+    let h = subst (λ (l : List Unit). AreEntitiesOf (joined_by l x.types c.as_slice.result.now) list n) c.from_ref.ensures.value c.in_ok-entities.ensures in
+    let k = subst (λ (s : List ℕ). AreEntitiesOf (joined_by (x ∷ []) x.types s) list n) c.as_slice.ensures h in
+    let placed = subst (λ (l : List ℕ). ArePlaced l x.nodes.items c.in_ok-program.program.nodes.items) c.as_slice-2.ensures.value c.in_ok-program.ensures.nodes in
+    let p = c.in_ok-program.program in
+    let linked = linked_alone x p list n valid c.requires.ready k c.in_ok-program.ensures.names c.in_ok-program.ensures.types placed c.in_ok-program.ensures.entities in
+    in_range (x ∷ []) p c.requires.linkable linked (types_alone x p list n valid k c.in_ok-program.ensures.types placed c.in_ok-program.ensures.entities)

@@ -36,15 +36,19 @@ returns-in-Err-parse_unit-clause-refused c =
     syntactically (c.args.name.now, c.args.text.now) c.in-Ok.tokens.list.items c.in-Err-parse_unit.fault _ c.in-Ok.ensures.tokens.1
     (subst Q c.as_slice.ensures.value c.in_ok-syntactic-in-Err-parse_unit.ensures) (subst P text c.in-Err-parse_unit.ensures)
 
-pub returns-in-Ok-resolve-clause-read : goal.returns-in-Ok-resolve-clause-read
+pub returns-in-Ok-resolve-clause-parsed : goal.returns-in-Ok-resolve-clause-parsed
 unfolding IsReadAs
-returns-in-Ok-resolve-clause-read c =
+returns-in-Ok-resolve-clause-parsed c =
     let text = c.in-Ok.ensures.tokens.0 in
     let list = c.in-Ok.tokens.list.items in
     let unit = c.in-Ok-parse_unit.ensures.0 in
     let P : List ℕ → Type 0 = λ t. Reading t list (Ok unit.0) in
     let right = of_read c.args.text.now c.in-Ok.tokens.text.now list (nodes_of c.in-Ok-parse_unit.tree.nodes.items) unit.0.nodes None text unit.2 c.in-Ok-resolve.ensures.right in
-    (text, (c.in-Ok.ensures.tokens.1, (unit.0, subst P text unit.1, right)))
+    record {
+      text_is = text;
+      read = (c.in-Ok.ensures.tokens.1, (unit.0, subst P text unit.1, right));
+      tree_is = c.in-Ok-parse_unit.ensures;
+    }
 
 pub returns-clause-refused : goal.returns-clause-refused
 returns-clause-refused c =

@@ -1,40 +1,46 @@
-use Rattle.std.proofs.Common.{◌≡◌, ℕ, List, [], Some, inl, inr, refl, ap, subst, arith, codes, Err, slice_get}
+use Rattle.std.proofs.Common.{◌≡◌, ℕ, List, [], Some, inl, inr, refl, sym, ap, subst, arith, codes, Err, slice_get}
 use Rattle.std.specs.Prelude.{Contains}
 use Rattle.sol_model.proofs.Members.{Contains-at}
 use Rattle.command_line.specs.Rules.{AreRight}
+use Rattle.command_line.specs.Distinct.{AreDistinct}
 use Rattle.report_cli.specs.Words.{names_of, names_read, texts_of}
-use Rattle.report_cli.specs.Answers.{NamedText, told_units, refusal}
+use Rattle.report_cli.specs.Answers.{Answer, told_units, refusal}
 use Rattle.report_cli.specs.Outside.{Receives, source_fault}
 use Rattle.report_cli.proofs.Lifted.{IsStatus, with_names, denotes_told, refuses_told}
-use Rattle.report_cli.proofs.OneAnswer.{denotes_or_refuses}
-use Rattle.report_cli.proofs.Answered.{not_risen, grows_nothing, receives_nothing, always, same_name, number_of_workers, some_names}
+use Rattle.report_cli.proofs.Exclusion.{refuses_read}
+use Rattle.report_cli.proofs.Answered.{not_risen, grows_nothing, receives_nothing, always, same_name, number_of_workers, few_names}
 use Rattle.report_cli.proofs.top.analyse.Goals as goal
 
 -- the statuses of refusals are those of no other answer
 no_success : (status : ℕ) → IsStatus status → status ≡ 0 → ⊥
 no_success status (inl three) e = omega arith
 no_success status (inr (inl four)) e = omega arith
-no_success status (inr (inr six)) e = omega arith
+no_success status (inr (inr (inl five))) e = omega arith
+no_success status (inr (inr (inr six))) e = omega arith
 
 no_two : (status : ℕ) → IsStatus status → status ≡ 2 → ⊥
 no_two status (inl three) e = omega arith
 no_two status (inr (inl four)) e = omega arith
-no_two status (inr (inr six)) e = omega arith
+no_two status (inr (inr (inl five))) e = omega arith
+no_two status (inr (inr (inr six))) e = omega arith
 
 no_seven : (status : ℕ) → IsStatus status → status ≡ 7 → ⊥
 no_seven status (inl three) e = omega arith
 no_seven status (inr (inl four)) e = omega arith
-no_seven status (inr (inr six)) e = omega arith
+no_seven status (inr (inr (inl five))) e = omega arith
+no_seven status (inr (inr (inr six))) e = omega arith
 
 no_eight : (status : ℕ) → IsStatus status → status ≡ 8 → ⊥
 no_eight status (inl three) e = omega arith
 no_eight status (inr (inl four)) e = omega arith
-no_eight status (inr (inr six)) e = omega arith
+no_eight status (inr (inr (inl five))) e = omega arith
+no_eight status (inr (inr (inr six))) e = omega arith
 
 no_nine : (status : ℕ) → IsStatus status → status ≡ 9 → ⊥
 no_nine status (inl three) e = omega arith
 no_nine status (inr (inl four)) e = omega arith
-no_nine status (inr (inr six)) e = omega arith
+no_nine status (inr (inr (inl five))) e = omega arith
+no_nine status (inr (inr (inr six))) e = omega arith
 
 pub returns-in-Err-Usage-clause-outcome : goal.returns-in-Err-Usage-clause-outcome
 returns-in-Err-Usage-clause-outcome g c not7 not8 not9 =
@@ -53,25 +59,44 @@ returns-in-Err-Source-clause-source g c seven =
     let C : List (List ℕ) → Type 0 = λ n. Contains n given.0 in
     (given.0, subst C c.in-Ok.ensures.ok.says.units (Contains-at names c.in-Err-Source.number given.0 at), given.2, subst P name_is (c.source_fault.ensures.said seven))
 
+pub returns-in-Err-Source-clause-complete : goal.returns-in-Err-Source-clause-complete
+returns-in-Err-Source-clause-complete g c =
+    always (told_units (g.U.Units.text c.args.units.now) (names_read (texts_of c.args.words.now))) _
+    (λ told words alone sources sink. elim c.source_fault.ensures.status [
+      | inl seven ↦
+          let names : List (List ℕ) = names_of c.in-Ok.command.units.items in
+          let given = c.in-Err-Source.ensures.cause c.in-Err-Source.number (ap Err c.in-Err-Source.field-0-is) in
+          let sliced : names_of c.as_slice-names.result.now ≡ names = ap names_of c.as_slice-names.ensures.value in
+          let A : List (List ℕ) → Type 0 = λ n. slice_get n c.in-Err-Source.number ≡ Some given.0 in
+          let at : slice_get names c.in-Err-Source.number ≡ Some given.0 = subst A sliced given.1 in
+          let C : List (List ℕ) → Type 0 = λ n. Contains n given.0 in
+          absurd (not_risen _ _ (sources given.0 (subst C c.in-Ok.ensures.ok.says.units (Contains-at names c.in-Err-Source.number given.0 at))) given.2)
+      | inr nine ↦ inr (inl nine)
+    ])
+
 pub answer_units-requires-clause-workers : goal.answer_units-requires-clause-workers
 answer_units-requires-clause-workers g c κs within = number_of_workers _ _ c.in-Ok.ensures.ok.right.rules.workers c.in-Ok.ensures.ok.says.workers
 
-pub answer_units-requires-clause-present : goal.answer_units-requires-clause-present
-answer_units-requires-clause-present g c κs within = some_names _ _ c.in-Ok.ensures.ok.says.units c.in-Ok.ensures.ok.right.rules.units.present
+pub answer_units-requires-clause-distinct : goal.answer_units-requires-clause-distinct
+answer_units-requires-clause-distinct g c κs within =
+    let D : List (List ℕ) → Type 0 = AreDistinct in subst D (sym c.in-Ok.ensures.ok.says.units) c.in-Ok.ensures.ok.right.rules.units.distinct
+
+pub answer_units-requires-clause-few : goal.answer_units-requires-clause-few
+answer_units-requires-clause-few g c κs within = few_names _ _ c.in-Ok.ensures.ok.says.units c.in-Ok.ensures.ok.right.rules.units.few
 
 pub returns-clause-headline : goal.returns-clause-headline
 returns-clause-headline g c zero =
     with_names (g.U.Units.text c.args.units.now) _ (names_of c.in-Ok.command.units.items) (names_read (texts_of c.args.words.now)) _ c.as_slice.result.now _
     (ap names_of c.as_slice-names.ensures.value) c.in-Ok.ensures.ok.says.units c.as_slice.ensures.value c.in-Ok-read_units.ensures.texts
     (λ told read. let given = c.answer_units.ensures.delivered zero in
-    (given.0, given.1, denotes_told (names_of c.in-Ok.command.units.items) c.as_slice.result.now told given.0 read given.2, given.3, given.4))
+    (given.0, given.1, given.2, denotes_told (names_of c.in-Ok.command.units.items) c.as_slice.result.now told given.0 read given.3, given.4, given.5))
 
 pub returns-clause-broken : goal.returns-clause-broken
 returns-clause-broken g c eight =
     with_names (g.U.Units.text c.args.units.now) _ (names_of c.in-Ok.command.units.items) (names_read (texts_of c.args.words.now)) _ c.as_slice.result.now _
     (ap names_of c.as_slice-names.ensures.value) c.in-Ok.ensures.ok.says.units c.as_slice.ensures.value c.in-Ok-read_units.ensures.texts
     (λ told read. let given = c.answer_units.ensures.broken eight in
-    (given.0, given.1, denotes_told (names_of c.in-Ok.command.units.items) c.as_slice.result.now told given.0 read given.2, given.3, given.4))
+    (given.0, given.1, given.2, denotes_told (names_of c.in-Ok.command.units.items) c.as_slice.result.now told given.0 read given.3, given.4, given.5))
 
 pub returns-clause-outcome : goal.returns-clause-outcome
 returns-clause-outcome g c not7 not8 not9 =
@@ -81,11 +106,11 @@ returns-clause-outcome g c not7 not8 not9 =
     (λ told read. elim c.answer_units.ensures.listed [
       | inl zero ↦
           let given = c.answer_units.ensures.delivered zero in (
-            record { status = 0; out = given.1; err = [] },
-            inr (words, inl (given.0, denotes_told (names_of c.in-Ok.command.units.items) c.as_slice.result.now told given.0 read given.2, given.3, refl, refl)),
+            record { status = 0; out = given.2; err = [] },
+            inr (words, inl (given.0, given.1, denotes_told (names_of c.in-Ok.command.units.items) c.as_slice.result.now told given.0 read given.3, given.4, refl, refl)),
             zero,
-            given.4,
-            receives_nothing _ _ _ _ given.5,
+            given.5,
+            receives_nothing _ _ _ _ given.6,
           )
       | inr (inl refused) ↦
           let not0 : c.answer_units.result ≡ 0 → ⊥ = no_success _ refused in
@@ -131,13 +156,14 @@ pub returns-clause-complete : goal.returns-clause-complete
 returns-clause-complete g c =
     with_names (g.U.Units.text c.args.units.now) _ (names_of c.in-Ok.command.units.items) (names_read (texts_of c.args.words.now)) _ c.as_slice.result.now _
     (ap names_of c.as_slice-names.ensures.value) c.in-Ok.ensures.ok.says.units c.as_slice.ensures.value c.in-Ok-read_units.ensures.texts
-    (λ told read words program denoted sources sink. elim c.answer_units.ensures.listed [
+    (λ told read words alone sources sink. elim c.answer_units.ensures.listed [
       | inl zero ↦ inl zero
       | inr (inl refused) ↦
           let given = c.answer_units.ensures.refused (no_success _ refused) (no_eight _ refused) (no_nine _ refused) in
-          absurd (denotes_or_refuses told program _ denoted (refuses_told (names_of c.in-Ok.command.units.items) c.as_slice.result.now told _ read given.1))
+          let answer : Answer = record { status = c.answer_units.result; out = []; err = given.0 } in
+          inr (inr (answer, refuses_read told answer alone (refuses_told (names_of c.in-Ok.command.units.items) c.as_slice.result.now told answer read given.1), refl))
       | inr (inr (inl eight)) ↦ absurd (not_risen _ _ sink (c.answer_units.ensures.cause eight))
-      | inr (inr (inr nine)) ↦ inr nine
+      | inr (inr (inr nine)) ↦ inr (inl nine)
     ])
 
 pub returns-clause-solved : goal.returns-clause-solved
@@ -145,7 +171,7 @@ returns-clause-solved g c zero =
     with_names (g.U.Units.text c.args.units.now) _ (names_of c.in-Ok.command.units.items) (names_read (texts_of c.args.words.now)) _ c.as_slice.result.now _
     (ap names_of c.as_slice-names.ensures.value) c.in-Ok.ensures.ok.says.units c.as_slice.ensures.value c.in-Ok-read_units.ensures.texts
     (λ told read. let given = c.answer_units.ensures.delivered zero in
-    (given.0, denotes_told (names_of c.in-Ok.command.units.items) c.as_slice.result.now told given.0 read given.2, given.6))
+    (given.0, given.1, given.2, denotes_told (names_of c.in-Ok.command.units.items) c.as_slice.result.now told given.0 read given.3, given.4, given.5, given.7))
 
 pub returns-clause-said : goal.returns-clause-said
 returns-clause-said g c two = elim c.answer_units.ensures.listed [

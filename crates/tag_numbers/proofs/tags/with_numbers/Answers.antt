@@ -14,4 +14,5 @@ returns-clause-numbers c = λ uses h.
     subst (λ (s : Source). AreTagNumbers s c.in_ok-numbering.numbering.firsts.items) (sym source)
     (tag_numbers old (number_at c.in_ok-numbering.numbering.numbers) c.in_ok-numbering.numbering.firsts.items c.in_ok-numbers.numbers.items
     (c.in_ok-numbering.ensures uses (record { uses = h.uses; firsts = λ leaf. h.firsts leaf ∙ ap (λ (s : Source). first_for s.declared.tags leaf) source }))
+    (c.in_ok-numbers.ensures.long ∙ ap length c.as_slice-nodes.ensures.value)
     (λ d inside. c.in_ok-numbers.ensures.each d (omega (arith, inside, ap length c.as_slice-nodes.ensures.value))))

@@ -1,20 +1,20 @@
-use Rattle.std.proofs.Common.{◌≡◌, ℕ, true, IfOk, refl, sym, ◌∙◌, subst}
+use Rattle.std.proofs.Common.{◌≡◌, ℕ, true, IfOk, inl, inr, refl, sym, ◌∙◌, subst}
+use Rattle.std.proofs.lemmas.Bool.{both_ways}
 use Rattle.c_senses.specs.Given.{Given}
 use Rattle.c_senses.specs.Sense.{Sense, sense_in}
 use Rattle.c_senses.specs.Tree.{production_at, children_at}
 use Rattle.c_senses.specs.Rows.{row_of}
 use Rattle.c_grammar.specs.Productions.{p_struct}
-use Rattle.c_results.specs.declared.made.Made.{Made}
 use Rattle.c_results.specs.Standing.{sense_made, senses_made, Rowed}
 use Rattle.name_places.specs.Named.{IsNamedSense}
 use Rattle.row_trees.specs.Trees.{SenseHasRows}
 use Rattle.row_shapes.specs.Kept as shapes
 use Rattle.statement_rows.specs.Kept.{HasAllRows}
 use Rattle.unit_limits.proofs.Within.{results_around}
-use Rattle.unit_rows.specs.Built.{RowedAt, is_member, is_declarator, is_initial, is_limited, is_expression}
+use Rattle.unit_rows.specs.Built.{Stops, is_member, is_declarator, is_initial, is_limited, is_expression}
 use Rattle.unit_rows.specs.Limits.{AreTested}
 use Rattle.unit_rows.specs.Standing.{source_known, nodes_known, world_there}
-use Rattle.unit_rows.proofs.Answers.{rowed_at, keeps_there, unless, given, anyway, of_member, of_declarator, of_initial, initial_there, declarator_there, limited_so, row_at, row_declaring, tested_on, named_sense}
+use Rattle.unit_rows.proofs.Answers.{rowed_at, structure_there, keeps_there, unless, given, anyway, of_member, of_declarator, of_initial, initial_there, declarator_there, limited_so, row_at, row_declaring, tested_on, named_sense}
 use Rattle.unit_rows.proofs.rows.limited.Goals as goal
 
 pub returns-then-production-eq-P_STRUCT-clause-keeps : goal.returns-then-production-eq-P_STRUCT-clause-keeps
@@ -28,11 +28,23 @@ returns-then-production-eq-P_STRUCT-clause-keeps c =
     let q = production_at s at in
     let ys = children_at s at in
     let struct : q ≡ p_struct = sym c.production_of-production.ensures ∙ c.if-production-eq-P_STRUCT.true in
-    keeps_there (nodes_known k) c.args.unit.now c.structure.new.unit rs w s q at ys c.structure.result c.requires.stand.kept
-    (subst (λ (p : ℕ). RowedAt c.structure.new.unit c.structure.result (row_of w s S p at ys) p at) (sym struct) c.structure.ensures.row)
-    (unless (is_expression q) (limited_so q c.requires.limited).0 c.structure.result (λ m. SenseHasRows (sense_made c.structure.new.unit m)))
+    keeps_there (Stops s c.args.unit.now c.structure.new.unit rs at) (nodes_known k) c.args.unit.now c.structure.new.unit rs w s q at ys c.structure.result c.requires.stand.kept
+    (structure_there w s c.args.unit.now c.structure.new.unit rs at c.structure.result struct c.structure.ensures.row)
+    (unless (is_expression q) (limited_so q c.requires.limited) c.structure.result (λ m. SenseHasRows (sense_made c.structure.new.unit m)))
     (subst (λ (p : ℕ). IfOk c.structure.result (λ m. shapes.is_initial p ≡ true → HasAllRows (sense_made c.structure.new.unit m))) (sym struct) (unless (shapes.is_initial p_struct) refl c.structure.result (λ m. HasAllRows (sense_made c.structure.new.unit m))))
     (subst (λ (p : ℕ). IfOk c.structure.result (λ m. shapes.is_declarator p ≡ true → IsNamedSense (nodes_known k) (sense_made c.structure.new.unit m))) (sym struct) (unless (shapes.is_declarator p_struct) refl c.structure.result (λ m. IsNamedSense (nodes_known k) (sense_made c.structure.new.unit m))))
+
+pub returns-then-production-eq-P_STRUCT-clause-row : goal.returns-then-production-eq-P_STRUCT-clause-row
+returns-then-production-eq-P_STRUCT-clause-row c =
+    let k = c.args.known.now in
+    let s = source_known k in
+    let at = c.args.at in
+    let rs = c.args.results.now in
+    let struct : production_at s at ≡ p_struct = sym c.production_of-production.ensures ∙ c.if-production-eq-P_STRUCT.true in
+    structure_there (world_there k c.args.unit.now rs at) s c.args.unit.now c.structure.new.unit rs at c.structure.result struct c.structure.ensures.row
+
+pub returns-then-not-all_small-clause-row : goal.returns-then-not-all_small-clause-row
+returns-then-not-all_small-clause-row c = inr (refl, inl (c.requires.limited, λ small. both_ways c.all_small.result c.if-not-all_small.true (c.all_small.ensures.large small)))
 
 pub returns-then-is_member-clause-keeps : goal.returns-then-is_member-clause-keeps
 returns-then-is_member-clause-keeps c =
@@ -45,12 +57,12 @@ returns-then-is_member-clause-keeps c =
     let q = production_at s at in
     let ys = children_at s at in
     let kind : is_member q ≡ true = subst (λ (p : ℕ). is_member p ≡ true) c.production_of-production.ensures (sym c.is_member.ensures ∙ c.if-is_member.true) in
-    keeps_there (nodes_known k) c.args.unit.now c.member.new.unit rs w s q at ys c.member.result c.requires.stand.kept
-    (rowed_at c.member.new.unit c.member.result (row_of w s S q at ys) q at
+    keeps_there (Stops s c.args.unit.now c.member.new.unit rs at) (nodes_known k) c.args.unit.now c.member.new.unit rs w s q at ys c.member.result c.requires.stand.kept
+    (rowed_at c.member.new.unit c.member.result (row_of w s S q at ys) (Stops s c.args.unit.now c.member.new.unit rs at) at
     (subst (λ (g : Given Sense). Rowed c.member.new.unit c.member.result g)
-    (row_at w s S c.production_of-production.result q at c.children_of-children.result.now ys c.production_of-production.ensures c.children_of-children.ensures (limited_so q c.requires.limited).0)
+    (row_at w s S c.production_of-production.result q at c.children_of-children.result.now ys c.production_of-production.ensures c.children_of-children.ensures (limited_so q c.requires.limited))
     (c.member.ensures.row w k.bound.now.uses.items c.requires.knows (results_around w c.args.unit.now rs (c.all_small.ensures.small c.if-not-all_small.false) c.requires.knows c.requires.stand.within).flexible)))
-    (unless (is_expression q) (limited_so q c.requires.limited).0 c.member.result (λ m. SenseHasRows (sense_made c.member.new.unit m)))
+    (unless (is_expression q) (limited_so q c.requires.limited) c.member.result (λ m. SenseHasRows (sense_made c.member.new.unit m)))
     (unless (shapes.is_initial q) (of_member q kind).0 c.member.result (λ m. HasAllRows (sense_made c.member.new.unit m)))
     (unless (shapes.is_declarator q) (of_member q kind).1.0 c.member.result (λ m. IsNamedSense (nodes_known k) (sense_made c.member.new.unit m)))
 
@@ -64,9 +76,9 @@ returns-then-is_member-clause-row c =
     let w = world_there k c.args.unit.now rs at in
     let q = production_at s at in
     let ys = children_at s at in
-    rowed_at c.member.new.unit c.member.result (row_of w s S q at ys) q at
+    rowed_at c.member.new.unit c.member.result (row_of w s S q at ys) (Stops s c.args.unit.now c.member.new.unit rs at) at
     (subst (λ (g : Given Sense). Rowed c.member.new.unit c.member.result g)
-    (row_at w s S c.production_of-production.result q at c.children_of-children.result.now ys c.production_of-production.ensures c.children_of-children.ensures (limited_so q c.requires.limited).0)
+    (row_at w s S c.production_of-production.result q at c.children_of-children.result.now ys c.production_of-production.ensures c.children_of-children.ensures (limited_so q c.requires.limited))
     (c.member.ensures.row w k.bound.now.uses.items c.requires.knows (results_around w c.args.unit.now rs (c.all_small.ensures.small c.if-not-all_small.false) c.requires.knows c.requires.stand.within).flexible))
 
 pub returns-then-is_member-clause-tested : goal.returns-then-is_member-clause-tested
@@ -89,12 +101,12 @@ returns-then-is_declarator-clause-keeps c =
     let q = production_at s at in
     let ys = children_at s at in
     let kind : is_declarator q ≡ true = subst (λ (p : ℕ). is_declarator p ≡ true) c.production_of-production.ensures (sym c.is_declarator.ensures ∙ c.if-is_declarator.true) in
-    keeps_there (nodes_known k) c.args.unit.now c.declared_name.new.unit rs w s q at ys c.declared_name.result c.requires.stand.kept
-    (rowed_at c.declared_name.new.unit c.declared_name.result (row_of w s S q at ys) q at
+    keeps_there (Stops s c.args.unit.now c.declared_name.new.unit rs at) (nodes_known k) c.args.unit.now c.declared_name.new.unit rs w s q at ys c.declared_name.result c.requires.stand.kept
+    (rowed_at c.declared_name.new.unit c.declared_name.result (row_of w s S q at ys) (Stops s c.args.unit.now c.declared_name.new.unit rs at) at
     (subst (λ (g : Given Sense). Rowed c.declared_name.new.unit c.declared_name.result g)
-    (declarator_there w s S q q at c.children_of-children.result.now ys kind c.children_of-children.ensures (limited_so q c.requires.limited).0)
+    (declarator_there w s S q q at c.children_of-children.result.now ys kind c.children_of-children.ensures (limited_so q c.requires.limited))
     (c.declared_name.ensures.row w c.requires.knows)))
-    (unless (is_expression q) (limited_so q c.requires.limited).0 c.declared_name.result (λ m. SenseHasRows (sense_made c.declared_name.new.unit m)))
+    (unless (is_expression q) (limited_so q c.requires.limited) c.declared_name.result (λ m. SenseHasRows (sense_made c.declared_name.new.unit m)))
     (unless (shapes.is_initial q) (of_declarator q kind).0 c.declared_name.result (λ m. HasAllRows (sense_made c.declared_name.new.unit m)))
     (given c.declared_name.result (λ m. IsNamedSense (nodes_known k) (sense_made c.declared_name.new.unit m)) (shapes.is_declarator q) (named_sense (nodes_known k) c.declared_name.new.unit c.declared_name.result (c.declared_name.ensures.named w c.requires.knows)))
 
@@ -109,9 +121,9 @@ returns-then-is_declarator-clause-row c =
     let q = production_at s at in
     let ys = children_at s at in
     let kind : is_declarator q ≡ true = subst (λ (p : ℕ). is_declarator p ≡ true) c.production_of-production.ensures (sym c.is_declarator.ensures ∙ c.if-is_declarator.true) in
-    rowed_at c.declared_name.new.unit c.declared_name.result (row_of w s S q at ys) q at
+    rowed_at c.declared_name.new.unit c.declared_name.result (row_of w s S q at ys) (Stops s c.args.unit.now c.declared_name.new.unit rs at) at
     (subst (λ (g : Given Sense). Rowed c.declared_name.new.unit c.declared_name.result g)
-    (declarator_there w s S q q at c.children_of-children.result.now ys kind c.children_of-children.ensures (limited_so q c.requires.limited).0)
+    (declarator_there w s S q q at c.children_of-children.result.now ys kind c.children_of-children.ensures (limited_so q c.requires.limited))
     (c.declared_name.ensures.row w c.requires.knows))
 
 pub returns-clause-keeps : goal.returns-clause-keeps
@@ -127,11 +139,11 @@ returns-clause-keeps c =
     let kind : is_initial q ≡ true =
     subst (λ (p : ℕ). is_initial p ≡ true) c.production_of-production.ensures
     (initial_there c.production_of-production.result (subst (λ (p : ℕ). is_limited p ≡ true) (sym c.production_of-production.ensures) c.requires.limited) c.if-production-eq-P_STRUCT.false (sym c.is_member.ensures ∙ c.if-is_member.false) (sym c.is_declarator.ensures ∙ c.if-is_declarator.false)) in
-    keeps_there (nodes_known k) c.args.unit.now c.initial_row.new.unit rs w s q at ys c.initial_row.result c.requires.stand.kept
-    (rowed_at c.initial_row.new.unit c.initial_row.result (row_of w s S q at ys) q at
-    (subst (λ (g : Given Sense). Rowed c.initial_row.new.unit c.initial_row.result g) (sym (row_declaring w s S q at ys (limited_so q c.requires.limited).0))
+    keeps_there (Stops s c.args.unit.now c.initial_row.new.unit rs at) (nodes_known k) c.args.unit.now c.initial_row.new.unit rs w s q at ys c.initial_row.result c.requires.stand.kept
+    (rowed_at c.initial_row.new.unit c.initial_row.result (row_of w s S q at ys) (Stops s c.args.unit.now c.initial_row.new.unit rs at) at
+    (subst (λ (g : Given Sense). Rowed c.initial_row.new.unit c.initial_row.result g) (sym (row_declaring w s S q at ys (limited_so q c.requires.limited)))
     (c.initial_row.ensures.row w c.requires.knows c.requires.fills)))
-    (unless (is_expression q) (limited_so q c.requires.limited).0 c.initial_row.result (λ m. SenseHasRows (sense_made c.initial_row.new.unit m)))
+    (unless (is_expression q) (limited_so q c.requires.limited) c.initial_row.result (λ m. SenseHasRows (sense_made c.initial_row.new.unit m)))
     (given c.initial_row.result (λ m. HasAllRows (sense_made c.initial_row.new.unit m)) (shapes.is_initial q) c.initial_row.ensures.kept)
     (unless (shapes.is_declarator q) (of_initial q kind).0 c.initial_row.result (λ m. IsNamedSense (nodes_known k) (sense_made c.initial_row.new.unit m)))
 
@@ -145,6 +157,6 @@ returns-clause-row c =
     let w = world_there k c.args.unit.now rs at in
     let q = production_at s at in
     let ys = children_at s at in
-    rowed_at c.initial_row.new.unit c.initial_row.result (row_of w s S q at ys) q at
-    (subst (λ (g : Given Sense). Rowed c.initial_row.new.unit c.initial_row.result g) (sym (row_declaring w s S q at ys (limited_so q c.requires.limited).0))
+    rowed_at c.initial_row.new.unit c.initial_row.result (row_of w s S q at ys) (Stops s c.args.unit.now c.initial_row.new.unit rs at) at
+    (subst (λ (g : Given Sense). Rowed c.initial_row.new.unit c.initial_row.result g) (sym (row_declaring w s S q at ys (limited_so q c.requires.limited)))
     (c.initial_row.ensures.row w c.requires.knows c.requires.fills))

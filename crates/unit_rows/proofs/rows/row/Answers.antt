@@ -1,22 +1,25 @@
-use Rattle.std.proofs.Common.{◌≡◌, ℕ, true, false, refl, sym, ◌∙◌, subst}
+use Rattle.std.proofs.Common.{◌≡◌, ℕ, true, false, inr, refl, sym, ◌∙◌, subst}
 use Rattle.core_nodes.proofs.Growing.{same_builds}
-use Rattle.c_senses.specs.Sense.{Sense, sense_in}
+use Rattle.c_senses.specs.Sense.{sense_in}
 use Rattle.c_senses.specs.Tree.{production_at, children_at}
-use Rattle.c_senses.specs.Rows.{row_of}
-use Rattle.c_results.specs.declared.made.Made.{Made}
+use Rattle.pta_base.specs.declared.kind.Kind.TheVariants.{NotBuilt}
+use Rattle.c_grammar.specs.Productions.{p_primary}
+use Rattle.c_rows.specs.Built.{built_primary}
+use Rattle.c_senses.specs.Given.{Refuses}
+use Rattle.c_senses.specs.Rows.{row_of, AreSenses}
 use Rattle.c_results.specs.Standing.{sense_made, senses_made}
 use Rattle.name_places.specs.Named.{IsNamedSense}
 use Rattle.row_trees.specs.Trees.{SenseHasRows}
 use Rattle.row_shapes.specs.Kept as shapes
 use Rattle.statement_rows.specs.Kept.{HasAllRows}
 use Rattle.unit_worlds.specs.Growing.{Grows, completed_at}
-use Rattle.unit_rows.specs.Built.{lists_others, is_expression, is_plain}
+use Rattle.unit_rows.specs.Built.{Stops, lists_others, is_expression, is_plain}
 use Rattle.unit_rows.specs.Limits.{AreTested}
 use Rattle.unit_rows.specs.Standing.{source_known, nodes_known, world_there}
 use Rattle.unit_rows.proofs.Nothing.{nothing_of}
 use Rattle.unit_rows.proofs.Cover.{limited_there}
 use Rattle.unit_rows.proofs.Expressions.{expression_there, no_struct, no_initial, no_declarator, lists_no_struct, rows_made, names_in}
-use Rattle.unit_rows.proofs.Answers.{rowed_at, keeps_there, unless, given, anyway, plain_other, plain_own, tested_on, grows_so}
+use Rattle.unit_rows.proofs.Answers.{rowed_at, stopped_more, keeps_there, unless, given, anyway, plain_other, plain_own, tested_on, grows_so}
 use Rattle.unit_rows.proofs.rows.row.Goals as goal
 
 pub returns-then-is_list-clause-row : goal.returns-then-is_list-clause-row
@@ -62,7 +65,9 @@ returns-then-is_expression-clause-row c =
     let ys = children_at s at in
     let p = c.production_of-production.ensures in
     let kind : is_expression q ≡ true = subst (λ (x : ℕ). is_expression x ≡ true) p (sym c.is_expression.ensures ∙ c.if-is_expression.true) in
-    expression_there w s S q at ys c.expression.new.unit c.expression.result kind (c.expression.ensures.row k.bound.now.uses.items c.requires.known.pairs c.requires.knows)
+    stopped_more c.expression.new.unit c.expression.result (row_of w s S q at ys) ((q ≡ p_primary) × (AreSenses s (senses_made u rs) → built_primary w s S at ys ≡ Refuses NotBuilt at)) (Stops s u c.expression.new.unit rs at) at (λ why. inr (inr (inr why)))
+    (expression_there w s S q at ys c.expression.new.unit c.expression.result (AreSenses s (senses_made u rs)) kind (c.expression.ensures.row k.bound.now.uses.items c.requires.known.pairs c.requires.knows)
+    (λ are. c.expression.ensures.built k.bound.now.uses.items c.requires.known.pairs are c.requires.knows))
 
 pub returns-then-is_expression-clause-keeps : goal.returns-then-is_expression-clause-keeps
 returns-then-is_expression-clause-keeps c =
@@ -77,8 +82,8 @@ returns-then-is_expression-clause-keeps c =
     let ys = children_at s at in
     let p = c.production_of-production.ensures in
     let kind : is_expression q ≡ true = subst (λ (x : ℕ). is_expression x ≡ true) p (sym c.is_expression.ensures ∙ c.if-is_expression.true) in
-    keeps_there (nodes_known k) u c.expression.new.unit rs w s q at ys c.expression.result c.requires.stand.kept
-    (expression_there w s S q at ys c.expression.new.unit c.expression.result kind (c.expression.ensures.row k.bound.now.uses.items c.requires.known.pairs c.requires.knows))
+    keeps_there ((q ≡ p_primary) × (⊥ → built_primary w s S at ys ≡ Refuses NotBuilt at)) (nodes_known k) u c.expression.new.unit rs w s q at ys c.expression.result c.requires.stand.kept
+    (expression_there w s S q at ys c.expression.new.unit c.expression.result ⊥ kind (c.expression.ensures.row k.bound.now.uses.items c.requires.known.pairs c.requires.knows) (λ no. absurd no))
     (given c.expression.result (λ m. SenseHasRows (sense_made c.expression.new.unit m)) (is_expression q) c.expression.ensures.rows)
     (unless (shapes.is_initial q) (no_initial q kind) c.expression.result (λ m. HasAllRows (sense_made c.expression.new.unit m)))
     (unless (shapes.is_declarator q) (no_declarator q kind) c.expression.result (λ m. IsNamedSense (nodes_known k) (sense_made c.expression.new.unit m)))
@@ -124,7 +129,7 @@ returns-then-is_plain-clause-row c =
     let q = production_at s at in
     let ys = children_at s at in
     let p = c.production_of-production.ensures in
-    rowed_at c.declared.new.unit c.declared.result (row_of w s S q at ys) q at c.declared.ensures.row
+    rowed_at c.declared.new.unit c.declared.result (row_of w s S q at ys) (Stops s u c.declared.new.unit rs at) at c.declared.ensures.row
 
 pub returns-then-is_plain-clause-keeps : goal.returns-then-is_plain-clause-keeps
 returns-then-is_plain-clause-keeps c =
@@ -139,8 +144,8 @@ returns-then-is_plain-clause-keeps c =
     let ys = children_at s at in
     let p = c.production_of-production.ensures in
     let kind : is_plain q ≡ true = subst (λ (x : ℕ). is_plain x ≡ true) p (sym c.is_plain.ensures ∙ c.if-is_plain.true) in
-    keeps_there (nodes_known k) u c.declared.new.unit rs w s q at ys c.declared.result c.requires.stand.kept
-    (rowed_at c.declared.new.unit c.declared.result (row_of w s S q at ys) q at c.declared.ensures.row)
+    keeps_there (Stops s u c.declared.new.unit rs at) (nodes_known k) u c.declared.new.unit rs w s q at ys c.declared.result c.requires.stand.kept
+    (rowed_at c.declared.new.unit c.declared.result (row_of w s S q at ys) (Stops s u c.declared.new.unit rs at) at c.declared.ensures.row)
     (unless (is_expression q) (plain_other q kind) c.declared.result (λ m. SenseHasRows (sense_made c.declared.new.unit m)))
     (unless (shapes.is_initial q) (plain_own q kind).0 c.declared.result (λ m. HasAllRows (sense_made c.declared.new.unit m)))
     (unless (shapes.is_declarator q) (plain_own q kind).1.0 c.declared.result (λ m. IsNamedSense (nodes_known k) (sense_made c.declared.new.unit m)))

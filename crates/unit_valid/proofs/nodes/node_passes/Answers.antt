@@ -1,14 +1,10 @@
-use Rattle.std.proofs.Common.{Option, length, get_or, sym, subst}
+use Rattle.std.proofs.Common.{Option, get_or, sym, subst}
 use Rattle.std.proofs.lemmas.Option.{slice_get-get_or}
 use Rattle.core_tree.specs.declared.node.Node.{Node}
 use Rattle.core_tree.specs.Seen.{core_of}
-use Rattle.tree_passes.proofs.Rising.{child_once}
 use Rattle.unit_valid.specs.Passes.{NodePassesIn}
 use Rattle.unit_valid.proofs.Passing.{children_within, uses_within}
 use Rattle.unit_valid.proofs.nodes.node_passes.Goals as goal
-
-pub node_fits-requires-clause-once : goal.node_fits-requires-clause-once
-node_fits-requires-clause-once c = let u = core_of c.args.view.now.trees in child_once u c.args.view.now.ladder.now.parents.items (length u.nodes) c.requires.view.ladder.parents
 
 pub node_fits-requires-clause-ty : goal.node_fits-requires-clause-ty
 node_fits-requires-clause-ty c =

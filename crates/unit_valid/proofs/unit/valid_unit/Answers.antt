@@ -8,6 +8,6 @@ returns-then-not-valid c =
 
 pub returns : goal.returns
 returns c = (
-  λ t. let alone = c.unit_alone.ensures.0 t in record { trees = checked_valid (trees_of c.args.unit.now) (c.in_ok-valid.ensures.0 c.if-not-valid.false); keys = alone.0; linkages = alone.1 },
-  λ h. c.unit_alone.ensures.1 (h.keys, h.linkages),
+  λ t. let alone = c.in_ok-alone.ensures.0 t in record { trees = checked_valid (trees_of c.args.unit.now) (c.in_ok-valid.ensures.0 c.if-not-valid.false); keys = alone.0; linkages = alone.1 },
+  λ h. c.in_ok-alone.ensures.1 (h.keys, h.linkages),
 )

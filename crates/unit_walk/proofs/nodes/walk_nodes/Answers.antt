@@ -2,7 +2,6 @@ use Rattle.std.proofs.Common.{arith, ◌≡◌, ◌∙◌, ◌+◌, ℕ, List, [
 use Rattle.c_results.specs.declared.made.Made.{Made}
 use Rattle.c_senses.specs.Given.{Fits}
 use Rattle.c_senses.specs.Sense.{Sense, sense_in}
-use Rattle.c_senses.specs.Tree.{production_at}
 use Rattle.c_senses.specs.Rows.{world_at}
 use Rattle.c_initials.specs.Filling.{Fills}
 use Rattle.c_results.specs.Standing.{sense_made, senses_made, IsWithin}
@@ -10,7 +9,7 @@ use Rattle.statement_rows.specs.Told.{IsTold}
 use Rattle.filling_laws.proofs.Worlds.{fills_first}
 use Rattle.struct_rows.proofs.Growing.{tag_types_grow}
 use Rattle.unit_worlds.specs.Growing.{Grows, completed_at}
-use Rattle.unit_rows.specs.Built.{RowedAt}
+use Rattle.unit_rows.specs.Built.{RowedAt, Stops}
 use Rattle.unit_rows.specs.Standing.{Stand, AreMade, source_known, nodes_known}
 use Rattle.unit_walk.proofs.Keeping.{entities_grown}
 use Rattle.unit_walk.proofs.Walking.{stand_empty, made_empty, Whole, length_made, made_there, refused, stand_more, tested_first, senses_with, fills_more}
@@ -96,8 +95,8 @@ returns-in-Err-clause-walked c =
     let rs = c.loop-at.results.items in
     let inv = c.loop-at.invariant in
     let row =
-    subst (λ (l : List Made). RowedAt v (Err c.in-Err.fault) (Whole s u l at) (production_at s at) at) c.as_slice-before.ensures.value c.in-Err.ensures.row in
-    refused s u rs inv.made at inv.long (omega (arith, c.loop-at-test.true)) v c.in-Err.fault row
+    subst (λ (l : List Made). RowedAt v (Err c.in-Err.fault) (Whole s u l at) (Stops s u v l at) at) c.as_slice-before.ensures.value c.in-Err.ensures.row in
+    refused s u rs inv.made at inv.long (omega (arith, c.loop-at-test.true)) c.requires.known.ordered v inv.stand.within c.in-Err.fault row
 
 pub returns-clause-walked : goal.returns-clause-walked
 returns-clause-walked c =

@@ -1,5 +1,5 @@
-use Rattle.std.proofs.Common.{inl, inr}
-use Rattle.unit_walk.proofs.Sources.{source_same, refused_in, unread_memory}
+use Rattle.c_senses.specs.Names.{source_of}
+use Rattle.unit_walk.proofs.Sources.{source_same, refused_in, memory_refused}
 use Rattle.unit_walk.proofs.units.walk.Goals as goal
 
 pub walk_nodes-requires-clause-known : goal.walk_nodes-requires-clause-known
@@ -9,7 +9,10 @@ pub returns-in-Ok-walk_nodes-clause-ground : goal.returns-in-Ok-walk_nodes-claus
 returns-in-Ok-walk_nodes-clause-ground c = c.in-Ok.ensures.ground c.in-Ok-open_unit.unit
 
 pub returns-in-Err-open_unit-clause-walked : goal.returns-in-Err-open_unit-clause-walked
-returns-in-Err-open_unit-clause-walked c = inr (unread_memory c.in-Err-open_unit.fault c.in-Err-open_unit.ensures.memory)
+returns-in-Err-open_unit-clause-walked c = memory_refused (source_of c.args.tokens.now c.args.tree.now) c.in-Err-open_unit.fault c.in-Err-open_unit.ensures.memory
+
+pub returns-in-Err-clause-walked : goal.returns-in-Err-clause-walked
+returns-in-Err-clause-walked c = memory_refused (source_of c.args.tokens.now c.args.tree.now) c.in-Err.fault c.in-Err.ensures.memory
 
 pub returns-in-Ok-walk_nodes-clause-source : goal.returns-in-Ok-walk_nodes-clause-source
 returns-in-Ok-walk_nodes-clause-source c =
@@ -19,4 +22,4 @@ pub returns-clause-walked : goal.returns-clause-walked
 returns-clause-walked c =
     let n = c.in-Ok.ground.numbered in
     let ground = c.in-Ok.ensures.ground c.in-Ok-open_unit.unit in
-    inl (refused_in n.syntax c.args.tokens.now c.args.tree.now c.args.bound.now c.in-Ok.ensures.tokens c.in-Ok.ensures.tree c.requires.bound n.tags c.in-Err-walk_nodes.fault ground.tags c.in-Err-walk_nodes.ensures.walked)
+    refused_in n.syntax c.args.tokens.now c.args.tree.now c.args.bound.now c.in-Ok.ensures.tokens c.in-Ok.ensures.tree c.requires.bound n.tags c.in-Err-walk_nodes.fault ground.tags c.in-Ok.ensures.ordered c.in-Err-walk_nodes.ensures.walked

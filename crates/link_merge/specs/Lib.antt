@@ -1,0 +1,6 @@
+pub mod Codes
+pub mod Keys
+pub mod Tags
+pub mod Counted
+pub mod Complete
+pub mod Classes

@@ -1,0 +1,38 @@
+use Rattle.std.proofs.Common.{ℕ, List, sym, subst, arith}
+use Rattle.core_tree.specs.declared.node.Unit.{Unit}
+use Rattle.core_tree.specs.declared.node.Program.{Program}
+use Rattle.link_types.specs.Starts.{AreSums}
+use Rattle.link_program.specs.Checked.{joined_by}
+use Rattle.link_program.specs.Merging.{AreMerged}
+use Rattle.link_whole.specs.Entities.{AreEntitiesOf}
+use Rattle.link_units.specs.Nodes.{node_counts_of}
+use Rattle.link_units.proofs.Growing.{are_merged_grown}
+use Rattle.link_units.proofs.Noding.{units_placeable}
+use Rattle.link_units.proofs.Whole.{linked_all}
+use Rattle.link_units.proofs.linking.link_merged.Goals as goal
+
+pub entities_of-requires-clause-merged : goal.entities_of-requires-clause-merged
+entities_of-requires-clause-merged c =
+    let units = c.args.units.items in
+    subst (λ (l : List Unit). AreMerged l c.args.type_starts.now c.ready.new.types) (sym c.as_slice-2.ensures.value)
+    (are_merged_grown units c.args.type_starts.now c.args.merged c.ready.new.types c.type_count-old.ensures.made c.in_ok-ready.ensures.grown c.requires.merged)
+
+pub names_and_nodes-requires-clause-placeable : goal.names_and_nodes-requires-clause-placeable
+names_and_nodes-requires-clause-placeable c =
+    let units = c.args.units.items in
+    let merged = are_merged_grown units c.args.type_starts.now c.args.merged c.ready.new.types c.type_count-old.ensures.made c.in_ok-ready.ensures.grown c.requires.merged in
+    let h = subst (λ (l : List Unit). AreEntitiesOf (joined_by l c.ready.new.types c.args.type_starts.now) c.in_ok-entities.entities.items c.in_ok-entities.numbers) c.as_slice-2.ensures.value c.in_ok-entities.ensures in
+    let count = c.type_count-now.ensures.count in
+    units_placeable units c.args.type_starts.now c.in_ok-entities.numbers c.ready.new.types c.requires.linkable merged (omega arith) h.numbers
+
+pub returns : goal.returns
+returns c =
+    let units = c.args.units.items in
+    let starts = c.as_slice-first.result.now in
+    let n = c.in_ok-entities.numbers in
+    let p : Program = record { names = c.in_ok-names.names; types = c.ready.new.types; nodes = c.in_ok-names.nodes; entities = c.in_ok-entities.entities } in
+    let merged = are_merged_grown units c.args.type_starts.now c.args.merged c.ready.new.types c.type_count-old.ensures.made c.in_ok-ready.ensures.grown c.requires.merged in
+    let h = subst (λ (l : List Unit). AreEntitiesOf (joined_by l c.ready.new.types c.args.type_starts.now) c.in_ok-entities.entities.items n) c.as_slice-2.ensures.value c.in_ok-entities.ensures in
+    let own = subst (λ (l : List Unit). AreSums (node_counts_of l) c.in_ok-node_starts.node_starts.items) c.as_slice.ensures.value c.in_ok-node_starts.ensures in
+    let sums = subst (λ (l : List ℕ). AreSums (node_counts_of units) l) (sym c.as_slice-first.ensures.value) own in
+    linked_all units c.args.type_starts.now starts n p c.requires.linkable c.in_ok-ready.ensures.ready merged sums h c.in_ok-names.ensures.names c.in_ok-names.ensures.nodes

@@ -1,0 +1,72 @@
+//! Linking units (C11 5.1.1.2).
+
+ghost use Rattle.std.specs.Prelude.{IfOk, MatchResult};
+ghost use Rattle.link_types.specs.Starts.{AreSums};
+ghost use Rattle.link_units.specs.Nodes.{node_counts_of};
+ghost use Rattle.link_names.specs.Said.{IsFaultUnless};
+ghost use Rattle.link_program.specs.Merging.{AreMerged};
+ghost use Rattle.unit_link.specs.Linked.{Linked, LinksBadly};
+ghost use Rattle.unit_link.specs.Needs.{AreLinkable};
+
+use crate::nodes::names_and_nodes;
+use c_types::table::TypeTable;
+use core_tree::{Program, Unit};
+use link_merge::merge;
+use link_names::LinkFault;
+use link_program::counts::node_counts;
+use link_program::ready::ready;
+use link_types::starts::starts;
+use link_whole::single::entities_of;
+use pta_base::OutOfMemory;
+use std::alloc::Global;
+
+// Where each unit's nodes begin in the program.
+fn node_starts_of(alloc: Global, units: &[Unit]) -> Result<Vec<u32>, OutOfMemory>
+    ensures { IfOk result (λ list. AreSums (node_counts_of units.now) list.items) }
+{
+    let counts = node_counts(alloc, units)?;
+    starts(alloc, counts.as_slice())
+}
+
+// The program of units whose types stand in one table, or the first fault.
+fn link_merged(
+    alloc: Global,
+    units: Vec<Unit>,
+    merged: TypeTable,
+    type_starts: &[u32],
+) -> Result<Program, LinkFault>
+    requires linkable { AreLinkable units.items }
+    requires merged { AreMerged units.items type_starts.now merged }
+    ensures { MatchResult result (Linked units.items) (λ fault. IsFaultUnless fault (LinksBadly units.items fault)) }
+{
+    if units.len() > u32::MAX as usize {
+        return Err(LinkFault::OutOfMemory);
+    }
+    let mut types = merged;
+    let _old = types.type_count();
+    ready(alloc, &mut types)?;
+    let _now = types.type_count();
+    let node_starts = node_starts_of(alloc, units.as_slice())?;
+    let (entities, numbers) = entities_of(alloc, units.as_slice(), &types, type_starts)?;
+    let first = node_starts.as_slice();
+    let (names, nodes) = names_and_nodes(alloc, units, type_starts, first, &numbers)?;
+    Ok(Program {
+        names,
+        types,
+        nodes,
+        entities,
+    })
+}
+
+/// Links valid units of distinct names into one program: one object or function for each external name, every other one of
+/// each unit, all their nodes in order, and their types in one table, in which the structures and unions that they share
+/// are one. Or the first fault: of the declarations in order of unit and place (a type that doesn't agree with the earlier
+/// ones or lacks a library name's shape, before a second definition), then the first use of a name that nothing defines,
+/// then the want of `main` (C11 6.2.7p2, 6.9p5, 5.1.2.2.1).
+pub fn link(alloc: Global, units: Vec<Unit>) -> Result<Program, LinkFault>
+    requires { AreLinkable units.items }
+    ensures { MatchResult result (Linked units.items) (λ fault. IsFaultUnless fault (LinksBadly units.items fault)) }
+{
+    let (types, type_starts) = merge(alloc, units.as_slice())?;
+    link_merged(alloc, units, types, type_starts.as_slice())
+}

@@ -1,0 +1,11 @@
+//! Parts of linking, and the locations of programs that are made by hand.
+#![tactic(auto)]
+
+#[cfg(test)]
+mod beginnings;
+#[cfg(test)]
+mod locations;
+#[cfg(test)]
+mod numbering;
+#[cfg(test)]
+mod signatures;

@@ -1,0 +1,155 @@
+-- The refusals of a text that is read alone, and those of texts that are right.
+use Rattle.std.proofs.Common.{◌≡◌, ◌⊎◌, ℕ, List, [], map, inl, inr, refl, sym, subst}
+use Rattle.pta_base.specs.declared.kind.Kind.{Kind}
+use Rattle.pta_base.specs.declared.kind.Kind.TheVariants.{Operand, NotBuilt}
+use Rattle.c_lexer.specs.declared.Tokens.{Tokens}
+use Rattle.c_lexer.specs.Cut.{IsTokens}
+use Rattle.c_grammar.specs.declared.trees.Tree.{Tree}
+use Rattle.core_nodes.specs.declared.fault.CheckFault.{CheckFault}
+use Rattle.core_nodes.specs.declared.fault.CheckFault.TheVariants as check
+use Rattle.core_tree.specs.declared.node.Unit.{Unit}
+use Rattle.core_tree.specs.declared.node.Program.{Program}
+use Rattle.sol_model.specs.declared.system.System.{System}
+use Rattle.c_senses.specs.Tree.{Source}
+use Rattle.c_senses.specs.Names.{source_of, numbered}
+use Rattle.c_senses.specs.Rows.{RefusedAt}
+use Rattle.c_senses.specs.Right.{Right}
+use Rattle.unit_walk.specs.Walked.{AreDense}
+use Rattle.c_lower.specs.Lowered.{IsLowered, IsNotLowered}
+use Rattle.link_names.specs.declared.fault.LinkFault.{LinkFault}
+use Rattle.link_names.specs.declared.fault.LinkFault.TheVariants as link
+use Rattle.unit_link.specs.Linked.{LinksBadly}
+use Rattle.obj_space.specs.declared.location.Location.{Location}
+use Rattle.unit_system.specs.declared.fault.UnitFault.{UnitFault}
+use Rattle.unit_system.specs.declared.fault.UnitFault.TheVariants as unit
+use Rattle.unit_system.specs.Faults as core
+use Rattle.unit_system.specs.Of.{AreLinkedAs, IsSystemOf}
+use Rattle.unit_report.specs.Reported.{IsProgramReport}
+use Rattle.report_cli.specs.declared.fault.UnitsFault.{UnitsFault}
+use Rattle.report_cli.specs.declared.fault.UnitsFault.TheVariants.{Memory}
+use Rattle.report_cli.specs.Answers.{NamedText, Answer}
+use Rattle.report_cli.specs.Alone.{IsReadAs}
+use Rattle.report_cli.specs.Lowered.{IsParsed, IsRightText, AreRightTexts, kind_refusal}
+use Rattle.report_cli.specs.Linking.{link_refusal}
+use Rattle.report_cli.specs.Outcome.{Denotes, IsReport, IsRefusedText, Refuses, AreRefusedTogether}
+use Rattle.report_cli.specs.Faults.{fault_of, IsFaultOf, IsFaultIn, IsKindRefusal, IsSystemRefusal}
+
+-- a refusal of a text
+refused_in : (number : ℕ) (text : NamedText) (answer : Answer) (fault : UnitsFault) → fault ≡ fault_of answer → answer.out ≡ [] → IsRefusedText number text answer → IsFaultIn number text fault
+refused_in number text answer fault is nothing refused =
+    let P : UnitsFault → Type 0 = λ f. IsFaultIn number text f in
+    let Q : List ℕ → Type 0 = λ out. IsRefusedText number text (record { status = answer.status; out = out; err = answer.err }) in
+    subst P (sym is) (subst Q nothing refused)
+
+memory_in : (number : ℕ) (text : NamedText) (fault : UnitsFault) → fault ≡ Memory → IsFaultIn number text fault
+memory_in number text fault is = let P : UnitsFault → Type 0 = λ f. IsFaultIn number text f in subst P (sym is) tt
+
+-- the first node, in order, whose row doesn't fit
+FirstRow : Source → Kind → ℕ → Type 0
+FirstRow s kind node = (tag_number : ℕ → ℕ) × AreDense (numbered tag_number s) × RefusedAt (numbered tag_number s) kind node
+
+-- a fault of a node is that of the first node whose row doesn't fit, or what isn't built
+row_or_not : (s : Source) (name : List ℕ) (root : ℕ) (kind : Kind) (node : ℕ) → IsNotLowered s name root (check.Unsupported kind node) → (kind ≡ NotBuilt) ⊎ FirstRow s kind node
+unfolding FirstRow
+row_or_not s name root NotBuilt node h = inl refl
+row_or_not s name root kind node (inl h) = inr h
+row_or_not s name root kind node (inr h) = absurd h.2
+
+module _ (number : ℕ) (text : NamedText) (tokens : Tokens) (tree : Tree) (parsed : IsParsed number text tokens tree) where
+  refusal_at : Kind → ℕ → Answer
+  refusal_at kind node = kind_refusal text.0 tokens tree kind node
+
+  row_refused : (kind : Kind) (node : ℕ) → FirstRow (source_of tokens tree) kind node → IsRefusedText number text (refusal_at kind node)
+  unfolding refusal_at FirstRow
+  row_refused kind node h =
+      inr (inl (record { tokens = tokens; tree = tree; parsed = parsed; tag_number = h.0; dense = h.1; kind = kind; node = node; refused = h.2; answer_is = refl }))
+
+  unbuilt_refused : (node : ℕ) → IsNotLowered (source_of tokens tree) text.0 tree.root (check.Unsupported NotBuilt node) → IsRefusedText number text (refusal_at NotBuilt node)
+  unfolding refusal_at
+  unbuilt_refused node h = inr (inr (record { tokens = tokens; tree = tree; parsed = parsed; node = node; unbuilt = h; answer_is = refl }))
+
+  kind_refused : (kind : Kind) (node : ℕ) → IsNotLowered (source_of tokens tree) text.0 tree.root (check.Unsupported kind node) → (kind ≡ NotBuilt) ⊎ FirstRow (source_of tokens tree) kind node
+      → IsRefusedText number text (refusal_at kind node)
+  kind_refused kind node h (inl unbuilt) =
+      let P : Kind → Type 0 = λ k. IsNotLowered (source_of tokens tree) text.0 tree.root (check.Unsupported k node) in
+      let Q : Kind → Type 0 = λ k. IsRefusedText number text (refusal_at k node) in
+      subst Q (sym unbuilt) (unbuilt_refused node (subst P unbuilt h))
+  kind_refused kind node h (inr first) = row_refused kind node first
+
+  operand_refused : (node : ℕ) → IsNotLowered (source_of tokens tree) text.0 tree.root (check.BadOperand node) → IsRefusedText number text (refusal_at Operand node)
+  unfolding FirstRow
+  operand_refused node (inl h) = row_refused Operand node h
+  operand_refused node (inr h) = absurd h.2
+
+  -- the fault of a node refuses a text
+  node_refused : (cause : CheckFault) (fault : UnitsFault) → IsNotLowered (source_of tokens tree) text.0 tree.root cause
+      → IsKindRefusal text.0 tokens tree cause fault → IsFaultIn number text fault
+  unfolding refusal_at
+  node_refused (check.BadOperand node) fault h is = refused_in number text (refusal_at Operand node) fault is refl (operand_refused node h)
+  node_refused (check.Unsupported kind node) fault h is =
+      refused_in number text (refusal_at kind node) fault is refl (kind_refused kind node h (row_or_not (source_of tokens tree) text.0 tree.root kind node h))
+  node_refused check.OutOfMemory fault h is = memory_in number text fault is
+
+  -- the same under a name that is the text's
+  pub named_refused : (name : List ℕ) (cause : CheckFault) (fault : UnitsFault) → name ≡ text.0 → IsNotLowered (source_of tokens tree) name tree.root cause
+      → IsKindRefusal text.0 tokens tree cause fault → IsFaultIn number text fault
+  named_refused name cause fault is h said = let P : List ℕ → Type 0 = λ n. IsNotLowered (source_of tokens tree) n tree.root cause in node_refused cause fault (subst P is h) said
+
+  -- its tokens are those of the text that they hold
+  pub cut_tokens : IsTokens tokens.text.now tokens.list.items
+  unfolding IsReadAs
+  cut_tokens = let P : List ℕ → Type 0 = λ t. IsTokens t tokens.list.items in subst P (sym parsed.text_is) parsed.read.0
+
+  -- the unit that a source is lowered to is that of its text
+  pub lowered_right : (name : List ℕ) (u : Unit) → name ≡ text.0 → IsLowered (source_of tokens tree) name u → IsRightText number text u
+  lowered_right name u is h =
+      let P : List ℕ → Type 0 = λ n. Right (numbered h.tag_number (source_of tokens tree)) n u in
+      record { tokens = tokens; tree = tree; parsed = parsed; tag_number = h.tag_number; dense = h.dense; right = subst P is h.right }
+
+-- a refusal of texts that are right
+refused_so : (texts : List NamedText) (answer : Answer) (fault : UnitsFault) → fault ≡ fault_of answer → answer.out ≡ [] → AreRefusedTogether texts answer → IsFaultOf texts fault
+unfolding Refuses
+refused_so texts answer fault is nothing refused =
+    let P : UnitsFault → Type 0 = λ f. IsFaultOf texts f in
+    let Q : List ℕ → Type 0 = λ out. AreRefusedTogether texts (record { status = answer.status; out = out; err = answer.err }) in
+    subst P (sym is) (inr (subst Q nothing refused))
+
+memory_so : (texts : List NamedText) (fault : UnitsFault) → fault ≡ Memory → IsFaultOf texts fault
+memory_so texts fault is = let P : UnitsFault → Type 0 = λ f. IsFaultOf texts f in subst P (sym is) tt
+
+module _ (texts : List NamedText) (units : List Unit) (right : AreRightTexts 0 texts units) where
+  abbrev names : List (List ℕ)
+  names = map (λ (text : NamedText). text.0) texts
+
+  badly_refused : (cause : LinkFault) (fault : UnitsFault) → LinksBadly units cause → fault ≡ fault_of (link_refusal names cause) → (link_refusal names cause).out ≡ [] → IsFaultOf texts fault
+  badly_refused cause fault badly is nothing =
+      refused_so texts (link_refusal names cause) fault is nothing (inl (record { units = units; right = right; fault = cause; badly = badly; answer_is = refl }))
+
+  -- a fault of linking, a limit, and what isn't built
+  all_refused : (cause : UnitFault) (fault : UnitsFault) → core.IsFaultOf units cause → IsSystemRefusal names cause fault → IsFaultOf texts fault
+  all_refused (unit.Link (link.Conflict name k)) fault h is = badly_refused (link.Conflict name k) fault h is refl
+  all_refused (unit.Link (link.Twice name k)) fault h is = badly_refused (link.Twice name k) fault h is refl
+  all_refused (unit.Link (link.Undefined place name)) fault h is = badly_refused (link.Undefined place name) fault h is refl
+  all_refused (unit.Link link.NoMain) fault h is = badly_refused link.NoMain fault h is refl
+  all_refused (unit.Link link.OutOfMemory) fault h is = memory_so texts fault is
+  all_refused (unit.Nodes nodes) fault h is =
+      refused_so texts _ fault is refl (inr (inl (record { units = units; right = right; program = h.0; linked = h.1; nodes = nodes; many = h.2; answer_is = refl })))
+  all_refused (unit.Words words) fault h is =
+      refused_so texts _ fault is refl (inr (inr (inl (record { units = units; right = right; program = h.0; linked = h.1; words = words; many = h.2; answer_is = refl }))))
+  all_refused unit.NotBuilt fault h is =
+      refused_so texts _ fault is refl (inr (inr (inr (record { units = units; right = right; program = h.0; linked = h.1; unfit = h.2; answer_is = refl }))))
+  all_refused unit.OutOfMemory fault h is = memory_so texts fault is
+
+  -- the same under names that are the texts'
+  pub system_refused : (given : List (List ℕ)) (cause : UnitFault) (fault : UnitsFault) → given ≡ names → core.IsFaultOf units cause → IsSystemRefusal given cause fault → IsFaultOf texts fault
+  system_refused given cause fault named h is = let P : List (List ℕ) → Type 0 = λ n. IsSystemRefusal n cause fault in all_refused cause fault h (subst P named is)
+
+  -- the program of the units is that which their texts denote
+  pub denoted : (program : Program) (space : List Location) (system : System) → AreLinkedAs units program space system → Denotes texts program × IsSystemOf program space system
+  unfolding Denotes
+  denoted program space system h = ((units, right, h.linked), h.system_of)
+
+-- the report of a program's system
+pub reported : (program : Program) (space : List Location) (system : System) (report : List ℕ) → IsSystemOf program space system → IsProgramReport program space system report → IsReport program system report
+unfolding IsReport
+reported program space system report h k = (space, h, k)

@@ -1,0 +1,25 @@
+use Rattle.c_senses.specs.Names.{source_of}
+use Rattle.report_cli.proofs.Refused.{alone_in}
+use Rattle.report_cli.proofs.Linked.{named_refused, lowered_right, cut_tokens}
+use Rattle.report_cli.proofs.lowered.lowered.Goals as goal
+
+pub returns-in-Err-clause-refused : goal.returns-in-Err-clause-refused
+returns-in-Err-clause-refused c = alone_in c.args.number (c.args.name.now, c.args.text.now) c.in-Err.fault c.in-Err.ensures.refused
+
+pub lower_unit-requires-clause-first : goal.lower_unit-requires-clause-first
+lower_unit-requires-clause-first c = c.children_first.ensures c.in-Ok.read.tokens c.args.number c.in-Ok.read.tree (source_of c.in-Ok.read.tokens c.in-Ok.read.tree).tag_number c.in-Ok.ensures.parsed.tree_is
+
+pub returns-in-Ok-lower_unit : goal.returns-in-Ok-lower_unit
+returns-in-Ok-lower_unit c = record {
+  right = lowered_right c.args.number (c.args.name.now, c.args.text.now) c.in-Ok.read.tokens c.in-Ok.read.tree c.in-Ok.ensures.parsed c.in_ok-title.title c.in-Ok-lower_unit.unit c.in_ok-title.ensures
+      c.in-Ok-lower_unit.ensures;
+  refused = tt;
+}
+
+pub returns-clause-refused : goal.returns-clause-refused
+returns-clause-refused c =
+    named_refused c.args.number (c.args.name.now, c.args.text.now) c.in-Ok.read.tokens c.in-Ok.read.tree c.in-Ok.ensures.parsed c.in_ok-title.title c.in-Err-lower_unit.fault _ c.in_ok-title.ensures c.in-Err-lower_unit.ensures
+    c.in_ok-row_refusal-in-Err-lower_unit.ensures
+
+pub lower_unit-requires-clause-tokens : goal.lower_unit-requires-clause-tokens
+lower_unit-requires-clause-tokens c = cut_tokens c.args.number (c.args.name.now, c.args.text.now) c.in-Ok.read.tokens c.in-Ok.read.tree c.in-Ok.ensures.parsed

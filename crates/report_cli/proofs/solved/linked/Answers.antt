@@ -1,0 +1,11 @@
+use Rattle.report_cli.specs.Words.{names_of}
+use Rattle.report_cli.proofs.Linked.{system_refused, denoted}
+use Rattle.report_cli.proofs.solved.linked.Goals as goal
+
+pub returns-in-Ok-clause-linked : goal.returns-in-Ok-clause-linked
+returns-in-Ok-clause-linked c texts right =
+    let made = c.in-Ok.made in denoted texts c.args.units.items right made.program made.space made.system c.in-Ok.ensures
+
+pub returns-in_ok-system_refusal-in-Err-clause-refused : goal.returns-in_ok-system_refusal-in-Err-clause-refused
+returns-in_ok-system_refusal-in-Err-clause-refused c texts named right =
+    system_refused texts c.args.units.items right (names_of c.args.names.now) c.in-Err.fault _ named c.in-Err.ensures c.in_ok-system_refusal-in-Err.ensures
