@@ -15,6 +15,3 @@ mod values;
 pub use command::Command;
 pub use fault::WordsFault;
 pub use parse::parse_words;
-
-#[cfg(test)]
-mod tests;

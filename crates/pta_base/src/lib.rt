@@ -12,8 +12,6 @@ mod memory_units;
 mod outside;
 mod place;
 mod real;
-#[cfg(test)]
-mod tests;
 mod text;
 
 pub use effect::Effect;

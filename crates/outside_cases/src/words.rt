@@ -1,4 +1,5 @@
-use crate::{WordsFault, parse_words};
+// Words of the command line that are taken, and words that are refused.
+use command_line::{WordsFault, parse_words};
 use std::alloc::{AllocError, Global};
 
 fn words(alloc: Global, texts: &[&str]) -> Result<Vec<String>, AllocError> {

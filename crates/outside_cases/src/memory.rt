@@ -1,5 +1,5 @@
 // Worked calls of the kinds in memory, and each call that takes memory.
-use crate::{Failed, Kind, Listing, MemorySink, MemoryUnits, Sink, Text, Units};
+use pta_base::{Failed, Kind, Listing, MemorySink, MemoryUnits, Sink, Text, Units};
 use std::test::Fail;
 
 #[test]

@@ -1,0 +1,9 @@
+//! Calls that reach the outside: files, memory that stands for them, and the words of a command line.
+#![tactic(auto)]
+
+#[cfg(test)]
+mod files;
+#[cfg(test)]
+mod memory;
+#[cfg(test)]
+mod words;
