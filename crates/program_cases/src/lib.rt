@@ -1,0 +1,13 @@
+//! Whole programs: texts of C11 by the top call, against reports and refusals that were worked out on paper.
+#![tactic(auto)]
+
+#[cfg(test)]
+mod calls;
+#[cfg(test)]
+mod outside;
+#[cfg(test)]
+mod rows;
+#[cfg(test)]
+mod tests;
+#[cfg(test)]
+mod workers;
