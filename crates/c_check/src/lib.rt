@@ -7,8 +7,6 @@ pub mod laws;
 mod lookups;
 mod names;
 mod rows;
-#[cfg(test)]
-mod tests;
 mod walk;
 
 pub use core_nodes::CheckFault;

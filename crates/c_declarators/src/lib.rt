@@ -7,8 +7,6 @@ mod parameters;
 mod parts;
 mod specifiers;
 mod suffixes;
-#[cfg(test)]
-mod tests;
 mod types;
 mod words;
 

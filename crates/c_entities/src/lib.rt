@@ -4,8 +4,6 @@
 mod declaring;
 mod initialisers;
 mod own;
-#[cfg(test)]
-mod tests;
 mod types;
 mod words;
 

@@ -1,5 +1,6 @@
 pub mod Pairs
 pub mod Tests
 pub mod Lists
+pub mod Fronts
 pub mod Values
 pub mod Keeping

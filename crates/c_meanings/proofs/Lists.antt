@@ -73,11 +73,11 @@ module _ (s : Source) (sense : ℕ → Sense) where
   some_earlier test xs d e = some-push test xs d ∙ (ap (λ (b : Bool). some_such s sense test xs || b) e ∙ or-false (some_such s sense test xs))
 
   -- the first of those that are kept
-  kept-append : (test : Declared → Bool) (xs ys : List Declared) → keep s sense test (xs ++ ys) ≡ keep s sense test xs ++ keep s sense test ys
+  pub kept-append : (test : Declared → Bool) (xs ys : List Declared) → keep s sense test (xs ++ ys) ≡ keep s sense test xs ++ keep s sense test ys
   kept-append test [] ys = refl
   kept-append test (x ∷ xs) ys = keep_by (test x) x (keep s sense test xs) (keep s sense test ys) (keep s sense test (xs ++ ys)) (kept-append test xs ys)
 
-  first_behind : (leaf : ℕ) (xs ys : List Declared) (d : Declared) → first_of s sense leaf (xs ++ d ∷ ys) ≡ first_of s sense d.node xs
+  pub first_behind : (leaf : ℕ) (xs ys : List Declared) (d : Declared) → first_of s sense leaf (xs ++ d ∷ ys) ≡ first_of s sense d.node xs
   first_behind leaf [] ys d = refl
   first_behind leaf (x ∷ xs) ys d = refl
 

@@ -34,3 +34,15 @@ with_third A B C k = by A B ∙ ap (λ (x : Bool). A && (B && not x)) (sym k)
     by true true = refl
     by true false = refl
     by false y = refl
+
+-- two tests in either order
+pub and_turned : (A B : Bool) → (A && B) ≡ (B && A)
+and_turned true true = refl
+and_turned true false = refl
+and_turned false true = refl
+and_turned false false = refl
+
+-- neither of two
+pub or_none : (A B : Bool) → false ≡ (A || B) → false ≡ A
+or_none true B e = e
+or_none false B e = refl

@@ -4,14 +4,16 @@
 mod linkage;
 mod meanings;
 mod names;
+mod statics;
 mod storage;
 mod types;
 
-pub use linkage::{entity_of, is_internal, linkage_of};
+pub use linkage::{entity_of, is_internal, is_internal_after, linkage_of};
 pub use meanings::{Meaning, declared_meaning, meaning_at, meaning_of, named_by};
 pub use names::{
     Names, before_in_scope, declared_at, declares_function, is_linked, is_typedef, linked_before,
     names_of_unit,
 };
+pub use statics::{StaticSeen, nothing_seen};
 pub use storage::{is_automatic, is_static_object, storage_of};
 pub use types::type_behind;

@@ -6,8 +6,6 @@ mod derivation;
 mod made;
 mod members;
 mod parts;
-#[cfg(test)]
-mod tests;
 
 pub use copies::{copied_at, copied_member};
 pub use derivation::Derivation;

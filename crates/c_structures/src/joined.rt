@@ -1,9 +1,9 @@
 // The rows of lists of members, of their declarations and of fields.
-ghost use Rattle.std.specs.Prelude.{◌≡◌, ◌<◌, ◌⊎◌, ℕ, List, [], Some, length, IfOk, IfSome, All};
+ghost use Rattle.std.specs.Prelude.{◌≡◌, ◌<◌, ◌⊎◌, ℕ, List, Some, length, IfOk, IfSome, All};
 ghost use Rattle.c_grammar.specs.Productions.{p_members, p_member, p_field};
 ghost use Rattle.c_senses.specs.World.{World};
 ghost use Rattle.c_senses.specs.Sense.{sense_in};
-ghost use Rattle.c_senses.specs.Tree.{parent_of};
+ghost use Rattle.c_senses.specs.Tree.{parent_of, production_at, children_at};
 ghost use Rattle.c_senses.specs.Tags as spec;
 ghost use Rattle.c_senses.specs.Rows.{declaring_row};
 ghost use Rattle.core_nodes.specs.Standing.{IsReady, Knows, Builds};
@@ -21,13 +21,11 @@ use c_results::Made;
 use core_nodes::CheckFault;
 use core_tree::node::Unit;
 use std::alloc::Global;
-use tree_reads::Syntax;
+use tree_reads::{Syntax, children_of, production_of};
 
 const P_MEMBERS: u32 = 13;
 
 const P_MEMBER: u32 = 14;
-
-const P_FIELD: u32 = 15;
 
 // The row of a field, where the members before it are gathered anew.
 fn gathered_field(
@@ -35,6 +33,7 @@ fn gathered_field(
     unit: &mut Unit,
     syntax: &Syntax,
     results: &[Made],
+    unions: &[bool],
     at: u32,
 ) -> Result<Made, CheckFault>
     requires ready { IsReady unit.old }
@@ -46,14 +45,14 @@ fn gathered_field(
     ensures within { IfOk result (IsWithin unit.new) }
     ensures row { (w : World) (uses : List (ℕ × ℕ)) →
         Knows w unit.old →
-        AreFlexible w [] →
+        AreFlexible w unions.now →
         let sense = sense_in (senses_made unit.old results.now) in
         Rowed unit.new result (spec.field_row w (source_in syntax.now uses) sense at) }
 {
     let Ok(before) = members_before(alloc, syntax, results, at) else {
         return Err(CheckFault::OutOfMemory);
     };
-    field_row(alloc, unit, syntax, results, &[], &before, at)
+    field_row(alloc, unit, syntax, results, unions, &before, at)
 }
 
 // The declaration and the list in which a field stands.
@@ -77,6 +76,7 @@ fn listed_field(
     unit: &mut Unit,
     syntax: &Syntax,
     results: &[Made],
+    unions: &[bool],
     lists: &mut MemberLists,
     at: u32,
 ) -> Result<Made, CheckFault>
@@ -91,20 +91,20 @@ fn listed_field(
     ensures lists { AreLists syntax.now results.now lists.new }
     ensures row { (w : World) (uses : List (ℕ × ℕ)) →
         Knows w unit.old →
-        AreFlexible w [] →
+        AreFlexible w unions.now →
         let sense = sense_in (senses_made unit.old results.now) in
         Rowed unit.new result (spec.field_row w (source_in syntax.now uses) sense at) }
 {
     let Some((list, member)) = list_around(syntax, at) else {
-        return gathered_field(alloc, unit, syntax, results, at);
+        return gathered_field(alloc, unit, syntax, results, unions, at);
     };
     let Some(begun) = lists.found(alloc, syntax, list, member) else {
-        return gathered_field(alloc, unit, syntax, results, at);
+        return gathered_field(alloc, unit, syntax, results, unions, at);
     };
     let Ok(before) = moved(alloc, syntax, results, begun, list, at) else {
         return Err(CheckFault::OutOfMemory);
     };
-    let made = field_row(alloc, unit, syntax, results, &[], &before, at);
+    let made = field_row(alloc, unit, syntax, results, unions, &before, at);
     let kept = lists.keep(list, before);
     if kept {
         made
@@ -113,71 +113,43 @@ fn listed_field(
     }
 }
 
-/// The row of a list of members, of a declaration of members or of a field (C11 6.7.2.1), in a unit whose structures end in no array
-/// without a length: exactly `declaring_row`, with the refusals of `members_row`, `member_declaration` and `field_row`. The members before
-/// a field are gathered anew, as `members_before` says.
-pub fn member(
-    alloc: Global,
-    unit: &mut Unit,
-    syntax: &Syntax,
-    results: &[Made],
-    production: u32,
-    at: u32,
-    children: &[u32],
-) -> Result<Made, CheckFault>
-    requires ready { IsReady unit.old }
-    requires results { All (IsWithin unit.old) results.now }
-    requires rows { All (HasConstants unit.old) results.now }
-    requires at { at < length syntax.now.tree.now.nodes.items }
-    requires production { (production ≡ p_members) ⊎ ((production ≡ p_member) ⊎ (production ≡ p_field)) }
-    ensures ready { IsReady unit.new }
-    ensures builds { Builds unit.old unit.new }
-    ensures within { IfOk result (IsWithin unit.new) }
-    ensures row { (w : World) (uses : List (ℕ × ℕ)) →
-        Knows w unit.old →
-        AreFlexible w [] →
-        let sense = sense_in (senses_made unit.old results.now) in
-        Rowed unit.new result (declaring_row w (source_in syntax.now uses) sense production at children.now) }
-{
-    if production == P_MEMBERS {
-        return members_row(alloc, results, children);
-    }
-    if production == P_MEMBER {
-        return member_declaration(alloc, unit, syntax, results, &[], at, children);
-    }
-    gathered_field(alloc, unit, syntax, results, at)
-}
-
-/// The row of a list of members, of a declaration of members or of a field, exactly as `member` gives it, with what is kept of the lists
-/// of members that are being gone through: each field costs about as much as its name. What is kept stays right while more is made.
+/// The row of a list of members, of a declaration of members or of a field (C11 6.7.2.1), by the node's production: exactly
+/// `declaring_row`, with the refusals of `members_row`, `member_declaration` and `field_row`. `unions` are the tags whose members are or hold
+/// a structure that ends in an array without a length. With what is kept of the lists of members that are being gone through, each field
+/// costs about as much as its name; what is kept stays right while more is made.
 pub fn listed_member(
     alloc: Global,
     unit: &mut Unit,
     syntax: &Syntax,
     results: &[Made],
+    unions: &[bool],
     lists: &mut MemberLists,
-    production: u32,
     at: u32,
-    children: &[u32],
 ) -> Result<Made, CheckFault>
     requires ready { IsReady unit.old }
     requires results { All (IsWithin unit.old) results.now }
     requires rows { All (HasConstants unit.old) results.now }
     requires lists { AreLists syntax.now results.now lists.old }
     requires at { at < length syntax.now.tree.now.nodes.items }
-    requires production { (production ≡ p_members) ⊎ ((production ≡ p_member) ⊎ (production ≡ p_field)) }
+    requires production { let p = production_at (source_read syntax.now) at in (p ≡ p_members) ⊎ ((p ≡ p_member) ⊎ (p ≡ p_field)) }
     ensures ready { IsReady unit.new }
     ensures builds { Builds unit.old unit.new }
     ensures within { IfOk result (IsWithin unit.new) }
     ensures lists { AreLists syntax.now results.now lists.new }
     ensures row { (w : World) (uses : List (ℕ × ℕ)) →
         Knows w unit.old →
-        AreFlexible w [] →
+        AreFlexible w unions.now →
+        let s = source_in syntax.now uses in
         let sense = sense_in (senses_made unit.old results.now) in
-        Rowed unit.new result (declaring_row w (source_in syntax.now uses) sense production at children.now) }
+        Rowed unit.new result (declaring_row w s sense (production_at s at) at (children_at s at)) }
 {
-    if production == P_FIELD {
-        return listed_field(alloc, unit, syntax, results, lists, at);
+    let production = production_of(syntax, at);
+    if production == P_MEMBERS {
+        return members_row(alloc, results, children_of(syntax, at));
     }
-    member(alloc, unit, syntax, results, production, at, children)
+    if production == P_MEMBER {
+        let children = children_of(syntax, at);
+        return member_declaration(alloc, unit, syntax, results, unions, at, children);
+    }
+    listed_field(alloc, unit, syntax, results, unions, lists, at)
 }

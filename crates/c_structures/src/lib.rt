@@ -15,7 +15,7 @@ mod rows;
 pub use before::{Cursor, MembersBefore};
 pub use earlier::members_before;
 pub use fields::plain_field;
-pub use joined::{listed_member, member};
+pub use joined::listed_member;
 pub use lists::MemberLists;
 pub use members::{member_declaration, members_among, members_row};
 pub use names::MemberNames;

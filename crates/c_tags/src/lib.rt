@@ -4,8 +4,6 @@
 mod assertions;
 mod enumerations;
 mod specifiers;
-#[cfg(test)]
-mod tests;
 
 pub use assertions::{align_specifier, assert_row};
 pub use enumerations::enumerator_row;

@@ -27,7 +27,7 @@ bare_command name rules = record {
 -- the options of the program
 abbrev pub program_command : App
 program_command = bare_command (codes "pta")
-    (value_option (codes "workers") ∷ positional_words (codes "unit") ∷ [])
+    (value_option (codes "workers") ∷ value_option (codes "ask") ∷ positional_words (codes "unit") ∷ [])
 
 -- clap takes the words
 abbrev pub IsTaken : List Text → Type 0

@@ -42,13 +42,22 @@ pub record AreUnits (units : List Text) : Type 0 where
 abbrev pub unit_words : List Row → List Text
 unit_words rows = unwrap_or (all_of (codes "unit") rows) []
 
+-- the word that names a script of questions, where one does
+abbrev pub script_word : List Row → Option Text
+script_word rows = first_of (codes "ask") rows
+
 -- the option's number is well formed and in the range
 abbrev pub IsNumberIn : ℕ → ℕ → Option Text → Type 0
 IsNumberIn least most text = IfSome text (IsDecimalIn least most)
 
--- what was found keeps the rules
+-- the option's word is a well-formed unit word
+abbrev pub IsNameIn : Option Text → Type 0
+IsNameIn text = IfSome text IsUnitWord
+
+-- what was found keeps the rules; the name that is asked for may be that of a unit too
 pub record KeepsRules (rows : List Row) : Type 0 where
   pub workers : IsNumberIn 1 64 (first_of (codes "workers") rows)
+  pub ask : IsNameIn (script_word rows)
   pub units : AreUnits (unit_words rows)
 
 -- clap takes the words, and they keep the rules

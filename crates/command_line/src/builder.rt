@@ -44,5 +44,6 @@ pub(crate) fn program<'a>(alloc: Global) -> Result<Command<'a>, AllocError>
 {
     let command = bare(alloc, "pta");
     let command = with_option(alloc, command, "workers")?;
+    let command = with_option(alloc, command, "ask")?;
     with_words(alloc, command, "unit")
 }

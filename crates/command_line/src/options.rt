@@ -1,11 +1,12 @@
 //! The values of the options, by their names.
-ghost use Rattle.std.specs.Prelude.{◌≡◌, IfOk, IfErr};
+ghost use Rattle.std.specs.Prelude.{◌≡◌, IfOk, IfErr, option_map};
 ghost use Rattle.clap.specs.Words.{first_of, found_of, rows_of};
 ghost use Rattle.command_line.specs.Meaning.{number_of};
-ghost use Rattle.command_line.specs.Rules.{IsNumberIn};
+ghost use Rattle.command_line.specs.Rules.{IsNameIn, IsNumberIn};
 
 use crate::fault::WordsFault;
 use crate::number::decimal_in;
+use crate::unit_word::is_unit_word;
 use crate::values::text_of;
 use clap::ArgMatches;
 
@@ -27,4 +28,22 @@ pub(crate) fn number(
         Some(number) => Ok(Some(number)),
         None => Err(WordsFault::Usage),
     }
+}
+
+/// The name of an option, where it stands.
+pub(crate) fn name<'a>(
+    matches: &ArgMatches<'a>,
+    option: &str,
+) -> Result<Option<&'a str>, WordsFault>
+    ensures right { IfOk result (λ name. IsNameIn (first_of option.now (rows_of (found_of matches.now)))
+        × (option_map (λ s. s.now) name ≡ first_of option.now (rows_of (found_of matches.now)))) }
+    ensures wrong { IfErr result (λ fault. IsNameIn (first_of option.now (rows_of (found_of matches.now))) → ⊥) }
+{
+    let Some(text) = text_of(matches, option) else {
+        return Ok(None);
+    };
+    if is_unit_word(text) {
+        return Ok(Some(text));
+    }
+    Err(WordsFault::Usage)
 }

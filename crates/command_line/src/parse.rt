@@ -9,7 +9,7 @@ ghost use Rattle.command_line.specs.Rules.{AreRight, AreUnits, IsNumberIn, Keeps
 
 use crate::command::Command;
 use crate::fault::WordsFault;
-use crate::options::number;
+use crate::options::{name, number};
 use crate::reading::read;
 use crate::unit_word::are_units;
 use crate::values::words_of;
@@ -64,14 +64,19 @@ fn command_of<'a>(alloc: Global, matches: &ArgMatches<'a>) -> Result<Command<'a>
     ensures usage { IfErr result (λ fault. fault ≡ WordsFault.Usage → KeepsRules (rows_of (found_of matches.now)) → ⊥) }
 {
     let workers = workers(matches)?;
+    let ask = name(matches, "ask")?;
     let units = units(alloc, matches)?;
-    Ok(Command { workers, units })
+    Ok(Command {
+        workers,
+        ask,
+        units,
+    })
 }
 
 /// The command that the words give, without the program's name. `Usage` comes exactly where they break a rule: an option
-/// that isn't `--workers`, one that stands twice or lacks its value, a number that isn't 1 to 10 digits or is out of 1 to 64,
-/// no unit or more than 256, a name that isn't 1 to 255 bytes out of letters, digits, `.`, `_`, `-` and `/` or begins with
-/// `-`, and a unit twice. Any words may meet want of memory.
+/// that isn't `--workers` or `--ask`, one that stands twice or lacks its value, a number that isn't 1 to 10 digits or is out
+/// of 1 to 64, no unit or more than 256, a name of a unit or of a script that isn't 1 to 255 bytes out of letters, digits, `.`,
+/// `_`, `-` and `/` or begins with `-`, and a unit twice. A script may have the name of a unit. Any words may meet want of memory.
 pub fn parse_words<'a>(alloc: Global, words: &'a [String]) -> Result<Command<'a>, WordsFault>
     ensures ok { IfOk result (λ command. IsCommandOf (map string_bytes words.entry.now) command) }
     ensures usage { IfErr result (λ fault. fault ≡ WordsFault.Usage → AreRight (map string_bytes words.entry.now) → ⊥) }

@@ -29,10 +29,9 @@ pub(crate) fn read_row(
     ensures others { (other k : _) → other ≢ row → k < width → slice_index (view seat.new).seen (other * width + k) ≡ slice_index (view seat.old).seen (other * width + k) }
 {
     let first = row as usize * width;
-    let mut words = Vec::new(alloc);
+    let mut words = vec![in alloc; 0u64; width]?;
     for k in 0..width {
-        words.reserve(1)?;
-        words.push_reserved(table.look(seat, first + k));
+        words[k] = table.look(seat, first + k);
     }
     Ok(words)
 }

@@ -16,7 +16,7 @@ use std::alloc::Global;
 
 /// Reads a row, and adds what is in it and not in `done` to each target of the row's edges. Some rule must demand each
 /// edge of the book from what the seat has seen. The seat must have seen the words of `done` in the row, and in each
-/// target of its edges. The number of steps that add is at most the number of members that are done now and weren't
+/// target of its edges. Where the row has nothing new, no edge is gone along. The number of steps that add is at most the number of members that are done now and weren't
 /// before, times the number of the row's edges. After want of memory the seat has only seen and added more.
 pub fn propagate(
     alloc: Global,
@@ -40,6 +40,13 @@ pub fn propagate(
 {
     let now = read_row(alloc, table, seat, row, done.len())?;
     let mut grown = Vec::new(alloc);
+    if now.as_slice() == done {
+        return Ok(Turn {
+            row,
+            done: now,
+            grown,
+        });
+    }
     for to in book.targets(row) {
         grown.reserve(1)?;
         if carry(table, seat, row, *to, done, now.as_slice()) {

@@ -13,6 +13,3 @@ mod set;
 pub use book::PairBook;
 pub use members::in_order;
 pub use set::PairSet;
-
-#[cfg(test)]
-mod tests;

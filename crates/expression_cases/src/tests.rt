@@ -337,141 +337,170 @@ fn refusal(alloc: Global, text: &[u8]) -> Result<Option<Refusal>, Fail> {
     Ok(refusal)
 }
 
-// A size leaves nothing but its number: the operand isn't evaluated, and an array stays one (C11 6.5.3.4p2, 6.3.2.1p3).
+// Texts with their core nodes, written by hand.
+static TREES: [(&[u8], &[Shape<'static>]); 20] = [
+    // A size leaves nothing but its number: the operand isn't evaluated, and an array stays one (C11 6.5.3.4p2, 6.3.2.1p3).
+    (b"sizeof a", &[(b'4', 1, &[])]),
+    (b"sizeof e", &[(b'4', 1, &[])]),
+    (b"sizeof(a+b)", &[(b'4', 1, &[])]),
+    (b"sizeof \"abc\"", &[(b'4', 1, &[])]),
+    (b"sizeof p", &[(b'8', 1, &[])]),
+    // Constants of octal digits, and characters, of which a tab is 9 in ASCII (C11 6.4.4.1, 6.4.4.4).
+    (b"07", &[(b'7', 1, &[])]),
+    (b"'\\t'", &[(b'9', 1, &[])]),
+    // A string in parentheses is a string, and strings side by side are one, at the place of the first (C11 5.1.1.2p6, 6.5.1p5).
+    (b"(\"xy\")", &[(b'T', 2, &[])]),
+    (b"\"ab\" \"c\"", &[(b'T', 1, &[])]),
+    (b"&e", &[(b'e', 2, &[]), (b'&', 1, &[0])]),
+    // A product is made before the sum that it is part of (C11 6.5.5, 6.5.6).
+    (
+        b"a+b*2",
+        &[
+            (b'a', 1, &[]),
+            (b'b', 3, &[]),
+            (b'2', 5, &[]),
+            (b'F', 3, &[1]),
+            (b'x', 4, &[3, 2]),
+            (b'F', 1, &[0]),
+            (b'+', 2, &[5, 4]),
+        ],
+    ),
+    // An assignment that computes takes the place itself and the right operand's value (C11 6.5.16.2).
+    (
+        b"a+=b",
+        &[
+            (b'a', 1, &[]),
+            (b'b', 4, &[]),
+            (b'F', 4, &[1]),
+            (b'u', 2, &[0, 2]),
+        ],
+    ),
+    // What counts up a pointer is under the star (C11 6.5.2.4, 6.5.3.2).
+    (
+        b"*p++",
+        &[
+            (b'c', 2, &[]),
+            (b'1', 3, &[]),
+            (b'U', 3, &[0, 1]),
+            (b'*', 1, &[2]),
+        ],
+    ),
+    // An integer may stand before the brackets; the pointer comes first (C11 6.5.2.1p2).
+    (
+        b"a[p]",
+        &[
+            (b'a', 1, &[]),
+            (b'c', 3, &[]),
+            (b'F', 1, &[0]),
+            (b'F', 3, &[1]),
+            (b'P', 2, &[3, 2]),
+            (b'*', 2, &[4]),
+        ],
+    ),
+    // The right operand of && stands in a branch alone (C11 6.5.13p4).
+    (
+        b"a&&b",
+        &[
+            (b'a', 1, &[]),
+            (b'b', 4, &[]),
+            (b'F', 1, &[0]),
+            (b'F', 4, &[1]),
+            (b'1', 2, &[]),
+            (b'0', 2, &[]),
+            (b'?', 2, &[3, 4, 5]),
+            (b'0', 2, &[]),
+            (b'?', 2, &[2, 6, 7]),
+        ],
+    ),
+    // A constant 0 that is assigned to a pointer, or stands beside one, is a null value, also where it has to be computed
+    // (C11 6.3.2.3p3, 6.5.16.1p1).
+    (
+        b"p=1-1",
+        &[(b'c', 1, &[]), (b'N', 4, &[]), (b'A', 2, &[0, 1])],
+    ),
+    // Beside a pointer to void the other one is converted (C11 6.5.9p5).
+    (
+        b"p==v",
+        &[
+            (b'c', 1, &[]),
+            (b'd', 4, &[]),
+            (b'F', 1, &[0]),
+            (b'F', 4, &[1]),
+            (b'C', 1, &[2]),
+            (b'=', 2, &[4, 3]),
+        ],
+    ),
+    // Beside a pointer the constant 0 of a choice becomes one (C11 6.5.15p6).
+    (
+        b"a?p:0",
+        &[
+            (b'a', 1, &[]),
+            (b'c', 3, &[]),
+            (b'F', 1, &[0]),
+            (b'F', 3, &[1]),
+            (b'N', 5, &[]),
+            (b'?', 2, &[2, 3, 4]),
+        ],
+    ),
+    // A call takes the value of what is called and of each argument, one past the list too, and one for a parameter is converted to its type
+    // (C11 6.5.2.2p4, p7).
+    (
+        b"f(p,a)",
+        &[
+            (b'f', 1, &[]),
+            (b'c', 3, &[]),
+            (b'a', 5, &[]),
+            (b'D', 1, &[0]),
+            (b'F', 3, &[1]),
+            (b'F', 5, &[2]),
+            (b'(', 2, &[3, 4, 5]),
+        ],
+    ),
+    (
+        b"f(0)",
+        &[
+            (b'f', 1, &[]),
+            (b'D', 1, &[0]),
+            (b'N', 3, &[]),
+            (b'(', 2, &[1, 2]),
+        ],
+    ),
+];
+
 #[test]
-fn sizes(rt: HostRuntime) -> Result<(), Fail> {
-    let alloc = rt.alloc();
-    assert!(rt; gives(alloc, b"sizeof a", &[(b'4', 1, &[])])?);
-    assert!(rt; gives(alloc, b"sizeof e", &[(b'4', 1, &[])])?);
-    assert!(rt; gives(alloc, b"sizeof(a+b)", &[(b'4', 1, &[])])?);
-    assert!(rt; gives(alloc, b"sizeof \"abc\"", &[(b'4', 1, &[])])?);
-    assert!(rt; gives(alloc, b"sizeof p", &[(b'8', 1, &[])])?);
+fn trees(rt: HostRuntime) -> Result<(), Fail> {
+    for (text, shapes) in &TREES {
+        assert!(rt; gives(rt.alloc(), text, shapes)?, "{text:?}");
+    }
     Ok(())
 }
 
-// A product is made before the sum that it is part of (C11 6.5.5, 6.5.6).
-#[test]
-fn sums_and_products(rt: HostRuntime) -> Result<(), Fail> {
-    let alloc = rt.alloc();
-    let shapes: [Shape<'_>; 7] = [
-        (b'a', 1, &[]),
-        (b'b', 3, &[]),
-        (b'2', 5, &[]),
-        (b'F', 3, &[1]),
-        (b'x', 4, &[3, 2]),
-        (b'F', 1, &[0]),
-        (b'+', 2, &[5, 4]),
-    ];
-    assert!(rt; gives(alloc, b"a+b*2", &shapes)?);
-    Ok(())
-}
+// Texts that are refused, with the kind and the column of the first node in the tree's order that doesn't fit (C11 6.5.2.2p1, p2,
+// 6.5.2.3p1, p2, 6.5.3.2p1, p2, 6.5.3.4p1, 6.5.5p2, 6.5.8p2, 6.5.9p2, 6.5.15p3, 6.5.16.1p1).
+static REFUSALS: [(&[u8], Kind, u32); 13] = [
+    (b"&1", Kind::Operand, 1),
+    (b"a+sizeof *v", Kind::Operand, 10),
+    (b"p*a+&2", Kind::Operand, 1),
+    (b"a=p", Kind::Operand, 1),
+    (b"a?p:1", Kind::Operand, 1),
+    (b"f()", Kind::Operand, 2),
+    (b"f(a)", Kind::NumberToPointer, 2),
+    (b"a(p)", Kind::Operand, 2),
+    (b"a.b", Kind::Operand, 2),
+    (b"p->b", Kind::Operand, 2),
+    (b"p<v", Kind::Operand, 1),
+    (b"p==1", Kind::Operand, 1),
+    (b"*a", Kind::Operand, 1),
+];
 
-// An assignment that computes takes the place itself and the right operand's value (C11 6.5.16.2).
-#[test]
-fn assignment_that_adds(rt: HostRuntime) -> Result<(), Fail> {
-    let alloc = rt.alloc();
-    let shapes: [Shape<'_>; 4] = [
-        (b'a', 1, &[]),
-        (b'b', 4, &[]),
-        (b'F', 4, &[1]),
-        (b'u', 2, &[0, 2]),
-    ];
-    assert!(rt; gives(alloc, b"a+=b", &shapes)?);
-    Ok(())
-}
-
-// What counts up a pointer is under the star, and a string in parentheses is a string (C11 6.5.2.4, 6.5.3.2, 6.5.1p5).
-#[test]
-fn stars_and_strings(rt: HostRuntime) -> Result<(), Fail> {
-    let alloc = rt.alloc();
-    let shapes: [Shape<'_>; 4] = [
-        (b'c', 2, &[]),
-        (b'1', 3, &[]),
-        (b'U', 3, &[0, 1]),
-        (b'*', 1, &[2]),
-    ];
-    assert!(rt; gives(alloc, b"*p++", &shapes)?);
-    assert!(rt; gives(alloc, b"(\"xy\")", &[(b'T', 2, &[])])?);
-    assert!(rt; gives(alloc, b"&e", &[(b'e', 2, &[]), (b'&', 1, &[0])])?);
-    Ok(())
-}
-
-// The first node in the tree's order that doesn't fit is named (C11 6.5.3.2p1, p2, 6.5.3.4p1, 6.5.5p2).
 #[test]
 fn refusals(rt: HostRuntime) -> Result<(), Fail> {
-    let alloc = rt.alloc();
-    assert_eq!(rt; refusal(alloc, b"&1")?, Some((Kind::Operand, 1)));
-    assert_eq!(rt; refusal(alloc, b"a+sizeof *v")?, Some((Kind::Operand, 10)));
-    assert_eq!(rt; refusal(alloc, b"p*a+&2")?, Some((Kind::Operand, 1)));
-    assert_eq!(rt; refusal(alloc, b"a=p")?, Some((Kind::Operand, 1)));
-    assert_eq!(rt; refusal(alloc, b"a?p:1")?, Some((Kind::Operand, 1)));
-    Ok(())
-}
-
-// A constant 0 that is assigned to a pointer, or stands beside one, is a null value, also where it has to be computed (C11 6.3.2.3p3,
-// 6.5.9p5, 6.5.16.1p1).
-#[test]
-fn null_constants(rt: HostRuntime) -> Result<(), Fail> {
-    let alloc = rt.alloc();
-    let assigned: [Shape<'_>; 3] = [(b'c', 1, &[]), (b'N', 4, &[]), (b'A', 2, &[0, 1])];
-    let equated: [Shape<'_>; 4] = [
-        (b'c', 1, &[]),
-        (b'F', 1, &[0]),
-        (b'N', 5, &[]),
-        (b'=', 2, &[1, 2]),
-    ];
-    assert!(rt; gives(alloc, b"p=1-1", &assigned)?);
-    assert!(rt; gives(alloc, b"p==1-1", &equated)?);
-    Ok(())
-}
-
-// Beside a pointer the constant 0 of a choice becomes one (C11 6.5.15p6).
-#[test]
-fn choice_of_a_pointer(rt: HostRuntime) -> Result<(), Fail> {
-    let alloc = rt.alloc();
-    let shapes: [Shape<'_>; 6] = [
-        (b'a', 1, &[]),
-        (b'c', 3, &[]),
-        (b'F', 1, &[0]),
-        (b'F', 3, &[1]),
-        (b'N', 5, &[]),
-        (b'?', 2, &[2, 3, 4]),
-    ];
-    assert!(rt; gives(alloc, b"a?p:0", &shapes)?);
-    Ok(())
-}
-
-// A call takes the value of what is called and of each argument: one for a parameter is converted to its type, and one past the list is
-// passed as it is (C11 6.5.2.2p4, p7).
-#[test]
-fn calls(rt: HostRuntime) -> Result<(), Fail> {
-    let alloc = rt.alloc();
-    let passed: [Shape<'_>; 7] = [
-        (b'f', 1, &[]),
-        (b'c', 3, &[]),
-        (b'a', 5, &[]),
-        (b'D', 1, &[0]),
-        (b'F', 3, &[1]),
-        (b'F', 5, &[2]),
-        (b'(', 2, &[3, 4, 5]),
-    ];
-    let null: [Shape<'_>; 4] = [
-        (b'f', 1, &[]),
-        (b'D', 1, &[0]),
-        (b'N', 3, &[]),
-        (b'(', 2, &[1, 2]),
-    ];
-    assert!(rt; gives(alloc, b"f(p,a)", &passed)?);
-    assert!(rt; gives(alloc, b"f(0)", &null)?);
-    Ok(())
-}
-
-// An argument for each parameter, which fits its type; and what is called is a function (C11 6.5.2.2p1, p2).
-#[test]
-fn refused_calls(rt: HostRuntime) -> Result<(), Fail> {
-    let alloc = rt.alloc();
-    assert_eq!(rt; refusal(alloc, b"f()")?, Some((Kind::Operand, 2)));
-    assert_eq!(rt; refusal(alloc, b"f(a)")?, Some((Kind::NumberToPointer, 2)));
-    assert_eq!(rt; refusal(alloc, b"a(p)")?, Some((Kind::Operand, 2)));
+    for (text, kind, column) in &REFUSALS {
+        assert_eq!(rt;
+            refusal(rt.alloc(), text)?,
+            Some((*kind, *column)),
+            "{text:?}"
+        );
+    }
     Ok(())
 }

@@ -2,3 +2,4 @@ pub mod Adding
 pub mod Growing
 pub mod Noding
 pub mod Whole
+pub mod Typing

@@ -1,6 +1,8 @@
 //! Linking units (C11 5.1.1.2).
 
 ghost use Rattle.std.specs.Prelude.{IfOk, MatchResult};
+ghost use Rattle.core_tree.specs.Range.{InRange};
+ghost use Rattle.core_tree.specs.Typed.{trees_in};
 ghost use Rattle.link_types.specs.Starts.{AreSums};
 ghost use Rattle.link_units.specs.Nodes.{node_counts_of};
 ghost use Rattle.link_names.specs.Said.{IsFaultUnless};
@@ -37,7 +39,10 @@ fn link_merged(
 ) -> Result<Program, LinkFault>
     requires linkable { AreLinkable units.items }
     requires merged { AreMerged units.items type_starts.now merged }
-    ensures { MatchResult result (Linked units.items) (λ fault. IsFaultUnless fault (LinksBadly units.items fault)) }
+    ensures linked { MatchResult result (Linked units.items) (λ fault. IsFaultUnless fault (LinksBadly units.items fault)) }
+
+    // Each type, node and entity that is named is in range, and children come first.
+    ensures range { IfOk result (λ p. InRange (trees_in p)) }
 {
     if units.len() > u32::MAX as usize {
         return Err(LinkFault::OutOfMemory);
@@ -65,7 +70,10 @@ fn link_merged(
 /// then the want of `main` (C11 6.2.7p2, 6.9p5, 5.1.2.2.1).
 pub fn link(alloc: Global, units: Vec<Unit>) -> Result<Program, LinkFault>
     requires { AreLinkable units.items }
-    ensures { MatchResult result (Linked units.items) (λ fault. IsFaultUnless fault (LinksBadly units.items fault)) }
+    ensures linked { MatchResult result (Linked units.items) (λ fault. IsFaultUnless fault (LinksBadly units.items fault)) }
+
+    // Each type, node and entity that is named is in range, and children come first.
+    ensures range { IfOk result (λ p. InRange (trees_in p)) }
 {
     let (types, type_starts) = merge(alloc, units.as_slice())?;
     link_merged(alloc, units, types, type_starts.as_slice())

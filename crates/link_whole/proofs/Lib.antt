@@ -1,4 +1,2 @@
-pub mod OwnTypes
-pub mod PlacedNodes
+pub mod Sizes
 pub mod Numbered
-pub mod Alone

@@ -1,7 +1,4 @@
-//! One program out of one unit, or its first fault of linking.
+//! The entities of the program that units are, or the first fault of linking them.
 #![tactic(auto)]
 
-pub mod nodes;
 pub mod single;
-
-pub use single::link_one;

@@ -1,25 +1,23 @@
-//! Linking one unit (C11 5.1.1.2, 6.2.2).
+//! The entities of the program that units are (C11 5.1.1.2, 6.2.2).
 
-ghost use Rattle.std.specs.Prelude.{◌≡◌, ◌<◌, ◌^◌, ◌∷◌, [], ℕ, Some, MatchResult, IfOk, length, slice_get};
+ghost use Rattle.std.specs.Prelude.{◌≡◌, ◌<◌, ◌^◌, ℕ, Some, MatchResult, IfOk, length, slice_get};
 ghost use Rattle.core_tree.specs.declared.node.Unit.{Unit as UnitSpec};
 ghost use Rattle.core_tree.specs.Range.{InRange};
-ghost use Rattle.core_tree.specs.Typed.{trees_in, trees_of};
+ghost use Rattle.core_tree.specs.Typed.{trees_of};
 ghost use Rattle.link_names.specs.Names.{AreNames};
 ghost use Rattle.link_names.specs.Said.{IsFaultUnless};
 ghost use Rattle.link_names.specs.Scene.{IsScene, joined_of};
-ghost use Rattle.unit_link.specs.Linked.{Linked, LinksBadly};
+ghost use Rattle.unit_link.specs.Linked.{LinksBadly};
 ghost use Rattle.unit_link.specs.Needs.{AreLinkable};
 ghost use Rattle.link_program.specs.Ready.{AreReady};
 ghost use Rattle.link_program.specs.Rows.{AreEntityNumbers};
 ghost use Rattle.link_entities.specs.Row.{AreLinked};
-ghost use Rattle.link_whole.specs.Placed.{AreNamed, ArePlaced};
 ghost use Rattle.link_program.specs.Checked.{joined_by};
 ghost use Rattle.link_program.specs.Merging.{AreMerged};
 ghost use Rattle.link_whole.specs.Entities.{AreEntitiesOf};
 
-use crate::nodes::placed_nodes;
 use c_types::table::TypeTable;
-use core_tree::{Entity, Program, Unit};
+use core_tree::{Entity, Unit};
 use link_entities::entities::{Linking, linked_entities};
 use link_entities::uses::first_uses;
 use link_makers::makers::makers_of;
@@ -30,7 +28,6 @@ use link_program::numbers::{EntityNumbers, entity_numbers};
 use link_types::starts::starts;
 use pta_base::OutOfMemory;
 use std::alloc::Global;
-use std::slice;
 
 // The program's entities.
 fn entities_in(
@@ -63,38 +60,6 @@ fn entities_in(
     linked_entities(alloc, &linking)
 }
 
-// The program of a unit with those entities.
-fn program_of(
-    alloc: Global,
-    unit: Unit,
-    numbers: &[u32],
-    entities: Vec<Entity>,
-) -> Result<Program, OutOfMemory>
-    requires few { length unit.nodes.items < 2 ^ 32 }
-    requires named { AreNamed (length numbers.now) unit.nodes.items }
-    ensures names { IfOk result (λ p. p.names.items ≡ unit.name ∷ []) }
-    ensures types { IfOk result (λ p. p.types ≡ unit.types) }
-    ensures nodes { IfOk result (λ p. ArePlaced numbers.now unit.nodes.items p.nodes.items) }
-    ensures entities { IfOk result (λ p. p.entities.items ≡ entities.items) }
-{
-    let Unit {
-        name,
-        types,
-        tags: _,
-        nodes,
-        entities: _,
-    } = unit;
-    let nodes = placed_nodes(alloc, nodes, numbers)?;
-    let mut names = Vec::new(alloc);
-    names.push(name)?;
-    Ok(Program {
-        names,
-        types,
-        nodes,
-        entities,
-    })
-}
-
 /// The entities of the program that units are whose types stand in one table, and their numbers, or the first fault: of the
 /// declarations in order of unit and place, then the first use of a name that nothing defines, then the want of `main`.
 pub fn entities_of(
@@ -122,27 +87,4 @@ pub fn entities_of(
     };
     let entities = entities_in(alloc, &scene, &names, &numbers)?;
     Ok((entities, numbers))
-}
-
-/// The program that one unit is: one object or function for each of its external names, every other entity and all nodes as they are,
-/// over the unit's own types; or the first fault: of the declarations in order of place (a type that doesn't agree with the earlier ones
-/// or lacks a library name's shape, before a second definition), then the first use of a name that nothing defines, then the want of
-/// `main`. The unit's table has to have each signature and each array of one element that the program may need.
-pub fn link_one(alloc: Global, unit: Unit) -> Result<Program, LinkFault>
-    requires linkable { AreLinkable (unit ∷ []) }
-    requires ready { AreReady unit.types }
-    ensures linked { MatchResult result (Linked (unit ∷ [])) (λ fault. IsFaultUnless fault (LinksBadly (unit ∷ []) fault)) }
-
-    // Each type, node and entity that is named is in range, and children come first.
-    ensures range { IfOk result (λ p. InRange (trees_in p)) }
-{
-    let whole = &unit;
-    let (entities, numbers) = entities_of(
-        alloc,
-        slice::from_ref(whole),
-        &whole.types,
-        [0].as_slice(),
-    )?;
-    let program = program_of(alloc, unit, numbers.numbers.as_slice(), entities)?;
-    Ok(program)
 }

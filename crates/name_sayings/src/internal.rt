@@ -10,7 +10,7 @@ ghost use Rattle.c_meanings.specs.Known.{AreNamed};
 ghost use Rattle.c_named.specs.Lists.{leaves_of};
 ghost use Rattle.name_sayings.specs.Listed.{AreListed, leaf_if, internal_of};
 
-use c_meanings::{Names, declared_at, is_internal};
+use c_meanings::{Names, declared_at, is_internal_after, nothing_seen};
 use c_results::Made;
 use core_nodes::CheckFault;
 use std::alloc::Global;
@@ -47,6 +47,7 @@ fn internal_of(
     ensures memory { IsOkUnless result CheckFault.OutOfMemory }
 {
     let mut list = Vec::new(alloc);
+    let mut seen = nothing_seen();
     for place in 0..u32::MAX {
         let Some(other) = lists.get(symbol, place) else {
             return Ok(list);
@@ -54,7 +55,7 @@ fn internal_of(
         if other == leaf {
             return Ok(list);
         }
-        let wanted = is_internal(names, syntax, results, other);
+        let wanted = is_internal_after(names, syntax, results, &mut seen, other);
         add_if(&mut list, wanted, other)?;
     }
     Err(CheckFault::OutOfMemory)

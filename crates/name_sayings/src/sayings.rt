@@ -13,7 +13,10 @@ ghost use Rattle.c_named.specs.Said.{IsSaid, IsSaidIn};
 ghost use Rattle.name_sayings.specs.Listed.{AreListed};
 
 use crate::internal::internal_before;
-use c_meanings::{Names, before_in_scope, declares_function, is_internal, is_linked, is_typedef};
+use c_meanings::{
+    Names, before_in_scope, declares_function, is_internal, is_internal_after, is_linked,
+    is_typedef, nothing_seen,
+};
 use c_named::Said;
 use c_results::Made;
 use c_scope::Declared;
@@ -47,8 +50,9 @@ fn same_internal(
     ensures { (u : UnitSpec) (w : World) (uses : List (ℕ × ℕ)) →
         result ≡ spec.same_internal w (source_in syntax.now uses) (sense_in (senses_made u results.now)) internal declarations.now }
 {
+    let mut seen = nothing_seen();
     for declared in declarations {
-        if is_internal(names, syntax, results, declared.node) != internal {
+        if is_internal_after(names, syntax, results, &mut seen, declared.node) != internal {
             return false;
         }
     }

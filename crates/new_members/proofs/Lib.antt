@@ -4,3 +4,4 @@ pub mod Answering
 pub mod Taking
 pub mod Bits
 pub mod Renewals
+pub mod Unread

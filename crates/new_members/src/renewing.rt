@@ -94,9 +94,8 @@ fn renew_readers(
     Ok(())
 }
 
-/// Adds the members that words have to a row, and adds the edges that rules demand of the rows now and hadn't before to
-/// a book, and such facts to a list. `readers` has the constraints that read each row.
-pub fn renew(
+/// What `renew` does to a row that constraints read.
+fn renew_read(
     alloc: Global,
     book: &mut PairBook,
     facts: &mut Vec<(u32, u32)>,
@@ -132,4 +131,39 @@ pub fn renew(
             new: new.as_slice(),
         },
     )
+}
+
+/// Adds the members that words have to a row, and adds the edges that rules demand of the rows now and hadn't before to
+/// a book, and such facts to a list. `readers` has the constraints that read each row. Where the row has these members
+/// already, nothing is done; and of a row that none reads, no members are listed.
+pub fn renew(
+    alloc: Global,
+    book: &mut PairBook,
+    facts: &mut Vec<(u32, u32)>,
+    system: &System,
+    readers: &PairBook,
+    rows: &mut Rows,
+    row: u32,
+    words: &[u64],
+) -> Result<(), OutOfMemory>
+    requires valid { IsValid system.now }
+    requires fits { Fits system.now rows.old }
+    requires readers { (at number : ℕ) → (Contains readers.now (at, number) ↔ IsReader system.now at number) }
+    requires row { IsRow system.now row }
+    requires sized { length words.now ≡ width_of system.now }
+    requires known { (location : ℕ) → IsIn words.now location → IsLocation system.now location }
+    ensures fits { OnOk result (Fits system.now rows.new) }
+    ensures has { OnOk result ((other location : ℕ) → (Has (members rows.new) other location ↔ (Has (members rows.old) other location ⊎ ((other ≡ row) × IsIn words.now location)))) }
+    ensures kept { OnOk result (Extends book.old book.new) }
+    ensures book { OnOk result (Renews book.old book.new (IsEdge system.now (members rows.old)) (IsEdge system.now (members rows.new))) }
+    ensures facts { OnOk result (Renews facts.old.items facts.new.items (IsFact system.now (members rows.old)) (IsFact system.now (members rows.new))) }
+{
+    if row_words(rows, row) == words {
+        return Ok(());
+    }
+    if readers.targets(row).is_empty() {
+        take_row(system, rows, row, words);
+        return Ok(());
+    }
+    renew_read(alloc, book, facts, system, readers, rows, row, words)
 }

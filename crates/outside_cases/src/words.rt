@@ -28,6 +28,24 @@ fn taken(rt: HostRuntime) {
     };
     assert_eq!(rt; command.workers, 7);
     assert!(rt; command.units.as_slice() == ["b.i", "dir/a-1_x.i"].as_slice());
+    assert!(rt; command.ask.is_none());
+}
+
+#[test]
+fn scripts(rt: HostRuntime) {
+    let alloc = rt.alloc();
+    let words = words(alloc, &["a.i", "--ask", "a.i"]).expect(&rt, "memory");
+    let Ok(command) = parse_words(alloc, words.as_slice()) else {
+        panic!(rt; "refused");
+    };
+    assert!(rt; command.ask == Some("a.i"));
+    assert!(rt; command.units.as_slice() == ["a.i"].as_slice());
+    assert!(rt; !is_refused(alloc, &["--ask=s", "a.i"]).expect(&rt, "memory"));
+    assert!(rt; is_refused(alloc, &["--ask", "s"]).expect(&rt, "memory"));
+    assert!(rt; is_refused(alloc, &["--ask", "-s", "a.i"]).expect(&rt, "memory"));
+    assert!(rt; is_refused(alloc, &["--ask", "s$", "a.i"]).expect(&rt, "memory"));
+    assert!(rt; is_refused(alloc, &["--ask", "s", "a.i", "--ask", "s"]).expect(&rt, "memory"));
+    assert!(rt; is_refused(alloc, &["--as", "s", "a.i"]).expect(&rt, "memory"));
 }
 
 #[test]

@@ -70,7 +70,7 @@ begins : (n l : ℕ) (space : List Location) (key : ObjectKey) → first_from n 
 begins n l [] key e = absurd (none_some e)
 begins n l (x ∷ rest) key e = begins_by n l x rest key (same_object x.key key) refl e (begins (n + 1) l rest key)
 
-is_first : (space : List Location) (key : ObjectKey) (l : ℕ) → first_from 0 space key ≡ Some l → IsFirst space key l
+pub is_first : (space : List Location) (key : ObjectKey) (l : ℕ) → first_from 0 space key ≡ Some l → IsFirst space key l
 is_first space key l e =
     let b = begins 0 l space key e in
     let same : l ≡ b.at = (let q = b.place in omega arith) in
@@ -81,7 +81,7 @@ some_nodes : (b : Bool) (ns : List Ctype) (i : ℕ) (t : Ctype) → slice_get (c
 some_nodes true ns i t e = e
 some_nodes false ns i t e = absurd (none_some e)
 
-all_nodes : (o : Option Extent) (i : ℕ) (t : Ctype) → slice_get (nodes_in o) i ≡ Some t → slice_get (tree_nodes o) i ≡ Some t
+pub all_nodes : (o : Option Extent) (i : ℕ) (t : Ctype) → slice_get (nodes_in o) i ≡ Some t → slice_get (tree_nodes o) i ≡ Some t
 all_nodes None i t e = absurd (none_some e)
 all_nodes (Some x) i t e = some_nodes _ x.nodes i t e
 

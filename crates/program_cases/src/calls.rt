@@ -27,12 +27,24 @@ pub(crate) fn answer_at<R: Threads + Sync + AllocGlobal, G: Gate + Sync>(
     failing: (&[u64], &[u64]),
     gate: &G,
 ) -> Result<Answered, Fail> {
-    let named = vec![in rt.alloc();
-        (
+    answer_over(rt, words, &[(name, text)], failing, gate)
+}
+
+/// The same where texts stand under several names.
+pub(crate) fn answer_over<R: Threads + Sync + AllocGlobal, G: Gate + Sync>(
+    rt: &R,
+    words: &[String],
+    texts: &[(&str, &str)],
+    failing: (&[u64], &[u64]),
+    gate: &G,
+) -> Result<Answered, Fail> {
+    let mut named = Vec::new(rt.alloc());
+    for (name, text) in texts {
+        named.push((
             name.to_string(rt.alloc())?,
             text.as_bytes().to_vec(rt.alloc())?,
-        ),
-    ]?;
+        ))?;
+    }
     let mut units = MemoryUnits::new(named, failing.0.to_vec(rt.alloc())?);
     let Ok(mut out) = MemorySink::new(rt.alloc(), 65536, failing.1.to_vec(rt.alloc())?) else {
         return Err(Fail::from("no memory"));

@@ -2,11 +2,15 @@
 #![tactic(auto)]
 
 #[cfg(test)]
+mod asking;
+#[cfg(test)]
 mod calls;
 #[cfg(test)]
 mod outside;
 #[cfg(test)]
 mod rows;
+#[cfg(test)]
+mod several;
 #[cfg(test)]
 mod tests;
 #[cfg(test)]

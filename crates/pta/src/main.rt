@@ -1,4 +1,4 @@
-// Reads the units that the words name, and writes the report of their program.
+// Reads the units that the words name, and writes the report of their program, or the answers to a script of questions on it.
 #![tactic(auto)]
 
 use pta_base::{FileUnits, Gate, StreamSink};

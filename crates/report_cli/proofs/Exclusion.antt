@@ -12,7 +12,8 @@ use Rattle.report_cli.specs.Answers.{NamedText, Answer}
 use Rattle.report_cli.specs.Laws.{OneAlone}
 use Rattle.report_cli.specs.Alone.{Reading, IsReadAs, IsRefusedAlone, AreReadAlone, lexical_refusal, syntax_refusal, name_refusal}
 use Rattle.report_cli.specs.Lowered.{IsRightText}
-use Rattle.report_cli.specs.Outcome.{IsRefusedText, IsRefusedRead, FirstRefused, Refuses, RefusesRead}
+use Rattle.report_cli.specs.Outcome.{IsRefusedText, IsRefusedRead, FirstRefused, Refuses, RefusesRead, RefusesTold, RefusesToldRead}
+use Rattle.report_cli.specs.Told.{Told}
 
 -- a unit has one list of tokens
 one_list : (unit : NamedText) (one other : List Token) → IsReadAs unit one → IsReadAs unit other → one ≡ other
@@ -107,7 +108,11 @@ first_read number (text ∷ texts) answer alone (inl (inl h)) = absurd (alone_or
 first_read number (text ∷ texts) answer alone (inl (inr h)) = inl h
 first_read number (text ∷ texts) answer alone (inr h) = inr (h.0, h.1, first_read (number + 1) texts answer alone.1 h.2)
 
-pub refuses_read : (texts : List NamedText) (answer : Answer) → AreReadAlone texts → Refuses texts answer → RefusesRead texts answer
+refuses_read : (texts : List NamedText) (answer : Answer) → AreReadAlone texts → Refuses texts answer → RefusesRead texts answer
 unfolding Refuses
 refuses_read texts answer alone (inl h) = inl (first_read 0 texts answer alone h)
 refuses_read texts answer alone (inr h) = inr h
+
+pub told_read : (told : Told) (answer : Answer) → AreReadAlone told.units → RefusesTold told answer → RefusesToldRead told answer
+told_read told answer alone (inl h) = inl (refuses_read told.units answer alone h)
+told_read told answer alone (inr h) = inr h

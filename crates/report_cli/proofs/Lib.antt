@@ -9,3 +9,4 @@ pub mod Pieces
 pub mod Exclusion
 pub mod Linked
 pub mod Linkable
+pub mod Scripted

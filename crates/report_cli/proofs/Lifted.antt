@@ -1,5 +1,5 @@
 -- What holds of texts that were read as far as a limit holds of the whole texts.
-use Rattle.std.proofs.Common.{◌≡◌, ℕ, ◌+◌, ◌<◌, ◌≤◌, ◌^◌, ◌⊎◌, List, [], ◌∷◌, Option, Some, None, option_map, IfSome, map, take, length, min, refl, sym, ◌∙◌, ap, subst, inl, inr, arith, take_all, length-take}
+use Rattle.std.proofs.Common.{◌≡◌, ℕ, ◌+◌, ◌<◌, ◌≤◌, ◌^◌, ◌⊎◌, List, [], ◌∷◌, zero, suc, Option, Some, None, option_map, IfSome, map, take, slice_get, length, min, refl, sym, ◌∙◌, ap, subst, inl, inr, arith, take_all, length-take}
 use Rattle.std.specs.Prelude.{option_and_then, zip}
 use Rattle.c_lexer.specs.declared.Token.{Token}
 use Rattle.c_lexer.specs.declared.LexFault.{LexFault}
@@ -17,13 +17,23 @@ use Rattle.link_names.specs.declared.fault.LinkFault.TheVariants as link
 use Rattle.unit_link.specs.Linked.{LinksBadly}
 use Rattle.report_cli.specs.declared.fault.UnitsFault.{UnitsFault}
 use Rattle.report_cli.specs.declared.fault.UnitsFault.TheVariants.{Refused}
-use Rattle.report_cli.specs.Faults.{IsFaultOf}
+use Rattle.sol_model.specs.declared.system.System.{System}
+use Rattle.obj_space.specs.declared.location.Location.{Location}
+use Rattle.std.specs.Borrow.{Bor}
+use Rattle.std.proofs.lemmas.List.{length-map}
+use Rattle.command_line.specs.Language.{found_in}
+use Rattle.command_line.specs.Meaning.{Says}
+use Rattle.command_line.specs.declared.command.Command.{Command}
+use Rattle.report_cli.specs.Words.{names_read, units_read, with_script}
+use Rattle.report_cli.specs.Told.{Told, parted, names_for, told_as, told_for}
+use Rattle.report_cli.specs.Printed.{AreAnswersTo, IsPrinted, IsLongScript, HasRefusedLine, IsUnbuiltScript, IsRefusedScript}
+use Rattle.report_cli.specs.Faults.{IsFaultOfTold}
 use Rattle.report_cli.specs.Answers.{NamedText, Answer, told_units, place_text}
 use Rattle.report_cli.specs.Alone.{IsReadAs, IsRefusedAlone, lexical_refusal, syntax_refusal, name_refusal}
 use Rattle.report_cli.specs.Lowered.{IsParsed, IsRightText, AreRightTexts, IsRefusedRow}
 use Rattle.report_cli.specs.Linking.{IsLinkRefusal, HaveManyNodes, HaveManyWords, link_refusal, unit_name}
 use Rattle.report_cli.specs.Unbuilt.{IsUnbuilt, AreNotBuilt, not_built}
-use Rattle.report_cli.specs.Outcome.{Denotes, IsRefusedText, FirstRefused, AreRefusedTogether, Refuses}
+use Rattle.report_cli.specs.Outcome.{Denotes, IsRefusedText, FirstRefused, AreRefusedTogether, Refuses, RefusesScript, RefusesTold}
 
 -- the names of told units are those that were asked for
 named_first : (name : List ℕ) (names : List (List ℕ)) (o : Option (List ℕ)) (told : Option (List NamedText)) → IfSome told (λ units. names ≡ map (λ (unit : NamedText). unit.0) units)
@@ -47,7 +57,7 @@ whole_text text short =
 abbrev pub AreReadUnits : List (List ℕ) → List (List ℕ) → List NamedText → Type 0
 AreReadUnits names texts told = (names ≡ map (λ (unit : NamedText). unit.0) told) × (texts ≡ map (λ (unit : NamedText). take 16777217 unit.1) told)
 
-read_units : (told : List NamedText) → List NamedText
+pub read_units : (told : List NamedText) → List NamedText
 read_units [] = []
 read_units (unit ∷ told) = (unit.0, take 16777217 unit.1) ∷ read_units told
 
@@ -56,8 +66,8 @@ unfolding read_units
 zip_read [] = refl
 zip_read (unit ∷ told) = ap (λ (rest : List NamedText). (unit.0, take 16777217 unit.1) ∷ rest) (zip_read told)
 
-units_read : (names texts : List (List ℕ)) (told : List NamedText) → AreReadUnits names texts told → zip names texts ≡ read_units told
-units_read names texts told read = ap (λ (n : List (List ℕ)). zip n texts) read.0 ∙ ap (zip (map (λ (unit : NamedText). unit.0) told)) read.1 ∙ zip_read told
+zip_is_read : (names texts : List (List ℕ)) (told : List NamedText) → AreReadUnits names texts told → zip names texts ≡ read_units told
+zip_is_read names texts told read = ap (λ (n : List (List ℕ)). zip n texts) read.0 ∙ ap (zip (map (λ (unit : NamedText). unit.0) told)) read.1 ∙ zip_read told
 
 read_as_whole : (unit : NamedText) (list : List Token) → IsReadAs (unit.0, take 16777217 unit.1) list → IsReadAs unit list
 unfolding IsReadAs
@@ -180,13 +190,94 @@ unfolding Refuses
 refuses_whole told answer (inl h) = inl (first_whole 0 told answer h)
 refuses_whole told answer (inr h) = inr (together_whole told answer h)
 
-pub denotes_told : (names texts : List (List ℕ)) (told : List NamedText) (program : Program) → AreReadUnits names texts told → Denotes (zip names texts) program → Denotes told program
-denotes_told names texts told program read denoted =
-    let P : List NamedText → Type 0 = λ units. Denotes units program in denotes_whole told program (subst P (units_read names texts told read) denoted)
+-- what was read of what is told: its units as far as they were read, and its script
+pub cut : NamedText → NamedText
+cut text = (text.0, take 16777217 text.1)
 
-pub refuses_told : (names texts : List (List ℕ)) (told : List NamedText) (answer : Answer) → AreReadUnits names texts told → Refuses (zip names texts) answer → Refuses told answer
-refuses_told names texts told answer read refused =
-    let P : List NamedText → Type 0 = λ units. Refuses units answer in refuses_whole told answer (subst P (units_read names texts told read) refused)
+pub record IsReadOf (read told : Told) : Type 0 where
+  pub units : read.units ≡ read_units told.units
+  pub script : read.script ≡ option_map cut told.script
+
+take_read : (n : ℕ) (texts : List NamedText) → take n (read_units texts) ≡ read_units (take n texts)
+unfolding read_units
+take_read zero texts = refl
+take_read (suc n) [] = refl
+take_read (suc n) (text ∷ texts) = ap (λ (rest : List NamedText). (text.0, take 16777217 text.1) ∷ rest) (take_read n texts)
+
+script_read : (n : ℕ) (texts : List NamedText) → slice_get (read_units texts) n ≡ option_map cut (slice_get texts n)
+unfolding read_units cut
+script_read n [] = refl
+script_read zero (text ∷ texts) = refl
+script_read (suc n) (text ∷ texts) = script_read n texts
+
+parted_read : (names texts : List (List ℕ)) (told : List NamedText) (m n : ℕ) → m ≡ n → AreReadUnits names texts told → IsReadOf (parted m (zip names texts)) (parted n told)
+parted_read names texts told m n same read =
+    let is : zip names texts ≡ read_units told = zip_is_read names texts told read in record {
+      units = ap (λ (k : ℕ). take k (zip names texts)) same ∙ ap (take n) is ∙ take_read n told;
+      script = ap (λ (k : ℕ). slice_get (zip names texts) k) same ∙ ap (λ (l : List NamedText). slice_get l n) is ∙ script_read n told;
+    }
+
+pub told_denotes : (read told : Told) (program : Program) → IsReadOf read told → Denotes read.units program → Denotes told.units program
+told_denotes read told program of denoted =
+    let P : List NamedText → Type 0 = λ units. Denotes units program in denotes_whole told.units program (subst P of.units denoted)
+
+-- what is printed for a script as far as it was read
+answers_whole : (script : NamedText) (program : Program) (system : System) (text : List ℕ) → AreAnswersTo (take 16777217 script.1) program system text → AreAnswersTo script.1 program system text
+unfolding AreAnswersTo
+answers_whole script program system text h =
+    let P : List ℕ → Type 0 = λ t. AreAnswersTo t program system text in subst P (whole_text script.1 h.0) h
+
+printed_whole : (script : Option NamedText) (program : Program) (system : System) (text : List ℕ) → IsPrinted (option_map cut script) program system text → IsPrinted script program system text
+unfolding cut
+printed_whole None program system text h = h
+printed_whole (Some script) program system text h = answers_whole script program system text h
+
+pub told_prints : (read told : Told) (program : Program) (system : System) (text : List ℕ) → IsReadOf read told → IsPrinted read.script program system text → IsPrinted told.script program system text
+told_prints read told program system text of printed =
+    let P : Option NamedText → Type 0 = λ script. IsPrinted script program system text in printed_whole told.script program system text (subst P of.script printed)
+
+-- the same of a script's refusal
+long_whole : (script : NamedText) (answer : Answer) → IsLongScript (script.0, take 16777217 script.1) answer → IsLongScript script answer
+long_whole script answer h =
+    let size : length (take 16777217 script.1) ≡ min 16777217 (length script.1) = simp length-take in
+    record { long = (let long = h.long in omega arith); answer_is = h.answer_is }
+
+line_whole : (program : Program) (space : List Location) (system : System) (script : NamedText) (answer : Answer)
+    → HasRefusedLine program space system (script.0, take 16777217 script.1) answer → HasRefusedLine program space system script answer
+line_whole program space system script answer h =
+    let P : List ℕ → Type 0 = λ t. HasRefusedLine program space system (script.0, t) answer in subst P (whole_text script.1 h.short) h
+
+shared_whole : (names : List (List ℕ)) (space : List Location) (script : NamedText) (answer : Answer) → IsUnbuiltScript names space (script.0, take 16777217 script.1) answer → IsUnbuiltScript names space script answer
+shared_whole names space script answer h =
+    let P : List ℕ → Type 0 = λ t. IsUnbuiltScript names space (script.0, t) answer in subst P (whole_text script.1 h.short) h
+
+script_whole : (names : List (List ℕ)) (program : Program) (space : List Location) (system : System) (script : NamedText) (answer : Answer)
+    → IsRefusedScript names program space system (script.0, take 16777217 script.1) answer → IsRefusedScript names program space system script answer
+script_whole names program space system script answer (inl h) = inl (long_whole script answer h)
+script_whole names program space system script answer (inr (inl h)) = inr (inl (line_whole program space system script answer h))
+script_whole names program space system script answer (inr (inr h)) = inr (inr (shared_whole names space script answer h))
+
+script_refused_whole : (told : List NamedText) (script : Option NamedText) (answer : Answer) → RefusesScript (read_units told) (option_map cut script) answer → RefusesScript told script answer
+unfolding cut
+script_refused_whole told None answer h = h
+script_refused_whole told (Some script) answer h = record {
+  program = h.program;
+  denoted = denotes_whole told h.program h.denoted;
+  space = h.space;
+  system = h.system;
+  system_of = h.system_of;
+  refused =
+      let P : List (List ℕ) → Type 0 = λ names. IsRefusedScript names h.program h.space h.system script answer in
+      subst P (names_whole told) (script_whole (map (λ (unit : NamedText). unit.0) (read_units told)) h.program h.space h.system script answer h.refused);
+}
+
+pub told_refuses : (read told : Told) (answer : Answer) → IsReadOf read told → RefusesTold read answer → RefusesTold told answer
+told_refuses read told answer of (inl h) =
+    let P : List NamedText → Type 0 = λ units. Refuses units answer in inl (refuses_whole told.units answer (subst P of.units h))
+told_refuses read told answer of (inr h) =
+    let P : List NamedText → Type 0 = λ units. RefusesScript units read.script answer in
+    let Q : Option NamedText → Type 0 = λ script. RefusesScript (read_units told.units) script answer in
+    inr (script_refused_whole told.units told.script answer (subst Q of.script (subst P of.units h)))
 
 -- what follows from the told texts and what was read of them
 with_told : (told : Option (List NamedText)) (names texts : List (List ℕ)) (Q : List NamedText → Type 0) → IfSome told (λ units. names ≡ map (λ (unit : NamedText). unit.0) units)
@@ -195,7 +286,7 @@ with_told None names texts Q named read follows = tt
 with_told (Some units) names texts Q named read follows = follows units (named, read)
 
 -- the same of names that are equal, and of what is equal to what was read
-pub with_names : (text_of : List ℕ → Option (List ℕ)) (sliced own names : List (List ℕ)) (texts slice : List (List ℕ)) (Q : List NamedText → Type 0) → sliced ≡ own → own ≡ names → slice ≡ texts
+with_names : (text_of : List ℕ → Option (List ℕ)) (sliced own names : List (List ℕ)) (texts slice : List (List ℕ)) (Q : List NamedText → Type 0) → sliced ≡ own → own ≡ names → slice ≡ texts
     → IfSome (told_units text_of sliced) (λ units. texts ≡ map (λ (unit : NamedText). take 16777217 unit.1) units) → ((units : List NamedText) → AreReadUnits own slice units → Q units) → IfSome (told_units text_of names) Q
 with_names text_of sliced own names texts slice Q sliced_is same slice_is read follows =
     let P : List (List ℕ) → Type 0 = λ n. IfSome (told_units text_of n) Q in
@@ -203,21 +294,44 @@ with_names text_of sliced own names texts slice Q sliced_is same slice_is read f
     let R : List (List ℕ) → Type 0 = λ t. IfSome (told_units text_of own) (λ units. t ≡ map (λ (unit : NamedText). take 16777217 unit.1) units) in
     subst P same (with_told (told_units text_of own) own slice Q (names_told text_of own) (subst R (sym slice_is) (subst N sliced_is read)) follows)
 
+-- what follows of what is told from what follows of the texts
+with_parted : (told : Option (List NamedText)) (n : ℕ) (Q : Told → Type 0) → IfSome told (λ units. Q (parted n units)) → IfSome (option_map (parted n) told) Q
+with_parted None n Q h = tt
+with_parted (Some units) n Q h = h
+
+-- the names that a command reads are those that its words ask for, and its units are as many
+pub names_asked : (words : List (List ℕ)) (command : Command) → Says (found_in words) command → names_for command ≡ names_read words
+names_asked words command says =
+    ap (λ (units : List (List ℕ)). with_script units (option_map (λ (b : Bor (List ℕ)). b.now) command.ask)) says.units ∙ ap (with_script (units_read words)) says.ask
+
+pub units_asked : (words : List (List ℕ)) (command : Command) → Says (found_in words) command → length command.units.items ≡ length (units_read words)
+units_asked words command says = sym (length-map command.units.items (λ (b : Bor (List ℕ)). b.now)) ∙ ap length says.units
+
+-- what follows of what a call is told from what was read
+pub with_told_for : (text_of : List ℕ → Option (List ℕ)) (words : List (List ℕ)) (command : Command) (sliced texts slice : List (List ℕ)) (Q : Told → Type 0) → Says (found_in words) command
+    → sliced ≡ names_for command → slice ≡ texts → IfSome (told_units text_of sliced) (λ units. texts ≡ map (λ (unit : NamedText). take 16777217 unit.1) units)
+    → ((told : Told) → IsReadOf (told_as command slice) told → Q told) → IfSome (told_for text_of words) Q
+with_told_for text_of words command sliced texts slice Q says names slice_is read follows =
+    let n : ℕ = length (units_read words) in
+    with_parted (told_units text_of (names_read words)) n Q
+    (with_names text_of sliced (names_for command) (names_read words) texts slice (λ units. Q (parted n units)) names (names_asked words command says) slice_is read
+    (λ units h. follows (parted n units) (parted_read (names_for command) slice units (length command.units.items) n (units_asked words command says) h)))
+
 -- the statuses of refusals
 abbrev pub IsStatus : ℕ → Type 0
-IsStatus status = (status ≡ 3) ⊎ ((status ≡ 4) ⊎ ((status ≡ 5) ⊎ (status ≡ 6)))
+IsStatus status = (status ≡ 3) ⊎ ((status ≡ 4) ⊎ ((status ≡ 5) ⊎ ((status ≡ 6) ⊎ (status ≡ 10))))
 
 lexical_status : (unit : NamedText) (fault : LexFault) → (fault ≡ OutOfMemory → ⊥) → IsStatus (lexical_refusal unit fault).status
 lexical_status unit (BadByte at) real = inl refl
 lexical_status unit (Unended at) real = inl refl
 lexical_status unit (BadNumber at) real = inl refl
-lexical_status unit TooLong real = inr (inr (inr refl))
+lexical_status unit TooLong real = inr (inr (inr (inl refl)))
 lexical_status unit OutOfMemory real = absurd (real refl)
 
 syntax_status : (name : List ℕ) (list : List Token) (fault : Fault) → IsStatus (syntax_refusal name list fault).status
 syntax_status name list (malformed number) = inl refl
 syntax_status name list (unsupported kind number) = inr (inl refl)
-syntax_status name list (too_deep number) = inr (inr (inr refl))
+syntax_status name list (too_deep number) = inr (inr (inr (inl refl)))
 
 name_status : (name : List ℕ) (list : List Token) (nodes : List Node) (fault : NameFault) → (fault ≡ names.OutOfMemory → ⊥) → IsStatus (name_refusal name list nodes fault).status
 name_status name list nodes (names.Undeclared node) real = inr (inl refl)
@@ -249,17 +363,30 @@ link_status units names link.OutOfMemory h = absurd h.fault_is
 
 together_status : (units : List NamedText) (answer : Answer) → AreRefusedTogether units answer → IsStatus answer.status
 together_status units answer (inl h) = status_of answer _ h.answer_is (link_status h.units (map (λ (unit : NamedText). unit.0) units) h.fault h.badly)
-together_status units answer (inr (inl h)) = status_of answer _ h.answer_is (inr (inr (inr refl)))
-together_status units answer (inr (inr (inl h))) = status_of answer _ h.answer_is (inr (inr (inr refl)))
+together_status units answer (inr (inl h)) = status_of answer _ h.answer_is (inr (inr (inr (inl refl))))
+together_status units answer (inr (inr (inl h))) = status_of answer _ h.answer_is (inr (inr (inr (inl refl))))
 together_status units answer (inr (inr (inr h))) = status_of answer _ h.answer_is (inr (inl refl))
 
--- a refusal has one of these statuses
-pub refuses_status : (units : List NamedText) (answer : Answer) → Refuses units answer → IsStatus answer.status
+refuses_status : (units : List NamedText) (answer : Answer) → Refuses units answer → IsStatus answer.status
 unfolding Refuses
 refuses_status units answer (inl h) = first_status 0 units answer h
 refuses_status units answer (inr h) = together_status units answer h
 
-pub refused_status : (units : List NamedText) (fault : UnitsFault) (status : ℕ) (line : List ℕ) → fault ≡ Refused status line → IsFaultOf units fault → IsStatus status
-refused_status units fault status line is refused =
-    let P : UnitsFault → Type 0 = λ f. IsFaultOf units f in
-    refuses_status units (record { status = status; out = []; err = line }) (subst P is refused)
+refused_script_status : (names : List (List ℕ)) (program : Program) (space : List Location) (system : System) (script : NamedText) (answer : Answer) → IsRefusedScript names program space system script answer → IsStatus answer.status
+refused_script_status names program space system script answer (inl h) = status_of answer _ h.answer_is (inr (inr (inr (inl refl))))
+refused_script_status names program space system script answer (inr (inl h)) = status_of answer _ h.answer_is (inr (inr (inr (inr refl))))
+refused_script_status names program space system script answer (inr (inr h)) = status_of answer _ h.answer_is (inr (inl refl))
+
+script_status : (units : List NamedText) (script : Option NamedText) (answer : Answer) → RefusesScript units script answer → IsStatus answer.status
+script_status units None answer h = absurd h
+script_status units (Some script) answer h = refused_script_status (map (λ (unit : NamedText). unit.0) units) h.program h.space h.system script answer h.refused
+
+-- a refusal has one of these statuses
+pub told_status : (told : Told) (answer : Answer) → RefusesTold told answer → IsStatus answer.status
+told_status told answer (inl h) = refuses_status told.units answer h
+told_status told answer (inr h) = script_status told.units told.script answer h
+
+pub refused_status : (told : Told) (fault : UnitsFault) (status : ℕ) (line : List ℕ) → fault ≡ Refused status line → IsFaultOfTold told fault → IsStatus status
+refused_status told fault status line is refused =
+    let P : UnitsFault → Type 0 = λ f. IsFaultOfTold told f in
+    told_status told (record { status = status; out = []; err = line }) (subst P is refused)

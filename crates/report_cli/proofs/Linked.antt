@@ -29,9 +29,10 @@ use Rattle.report_cli.specs.declared.fault.UnitsFault.{UnitsFault}
 use Rattle.report_cli.specs.declared.fault.UnitsFault.TheVariants.{Memory}
 use Rattle.report_cli.specs.Answers.{NamedText, Answer}
 use Rattle.report_cli.specs.Alone.{IsReadAs}
+use Rattle.report_cli.specs.Printed.{IsReport}
 use Rattle.report_cli.specs.Lowered.{IsParsed, IsRightText, AreRightTexts, kind_refusal}
 use Rattle.report_cli.specs.Linking.{link_refusal}
-use Rattle.report_cli.specs.Outcome.{Denotes, IsReport, IsRefusedText, Refuses, AreRefusedTogether}
+use Rattle.report_cli.specs.Outcome.{Denotes, IsRefusedText, Refuses, AreRefusedTogether}
 use Rattle.report_cli.specs.Faults.{fault_of, IsFaultOf, IsFaultIn, IsKindRefusal, IsSystemRefusal}
 
 -- a refusal of a text

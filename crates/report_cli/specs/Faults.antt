@@ -1,5 +1,5 @@
 -- What the fault of units says.
-use Rattle.std.specs.Prelude.{◌≡◌, List, [], ℕ}
+use Rattle.std.specs.Prelude.{◌≡◌, ◌++◌, List, [], ℕ, codes, decimal}
 use Rattle.c_lexer.specs.declared.Token.{Token}
 use Rattle.c_lexer.specs.declared.Tokens.{Tokens}
 use Rattle.c_grammar.specs.declared.trees.Tree.{Tree}
@@ -13,7 +13,7 @@ use Rattle.c_parser.specs.declared.ParseFault.{ParseFault}
 use Rattle.c_parser.specs.declared.ParseFault.TheVariants.{Malformed, Unsupported, TooDeep, OutOfMemory}
 use Rattle.report_cli.specs.declared.fault.UnitsFault.{UnitsFault}
 use Rattle.report_cli.specs.declared.fault.UnitsFault.TheVariants.{Refused, Memory}
-use Rattle.report_cli.specs.Answers.{NamedText, Answer, place_text}
+use Rattle.report_cli.specs.Answers.{NamedText, Answer, place_text, refusal}
 use Rattle.report_cli.specs.Alone.{IsRefusedAlone, lexical_refusal, syntax_refusal, name_refusal}
 use Rattle.pta_base.specs.declared.kind.Kind.TheVariants.{Operand}
 use Rattle.core_nodes.specs.declared.fault.CheckFault.{CheckFault}
@@ -24,7 +24,14 @@ use Rattle.unit_system.specs.declared.fault.UnitFault.TheVariants as unit
 use Rattle.report_cli.specs.Lowered.{kind_refusal}
 use Rattle.report_cli.specs.Linking.{link_refusal, nodes_refusal, words_refusal, unit_name}
 use Rattle.report_cli.specs.Unbuilt.{not_built}
-use Rattle.report_cli.specs.Outcome.{IsRefusedText, IsRefusedBy}
+use Rattle.core_tree.specs.declared.node.Program.{Program}
+use Rattle.sol_model.specs.declared.system.System.{System}
+use Rattle.obj_space.specs.declared.location.Location.{Location}
+use Rattle.unit_answers.specs.declared.fault.AnswersFault.{AnswersFault}
+use Rattle.unit_answers.specs.declared.fault.AnswersFault.TheVariants as answers
+use Rattle.report_cli.specs.Told.{Told}
+use Rattle.report_cli.specs.Printed.{IsRefusedScript}
+use Rattle.report_cli.specs.Outcome.{IsRefusedText, IsRefusedBy, Refuses}
 
 -- a fault is a refusal
 abbrev pub fault_of : Answer → UnitsFault
@@ -32,8 +39,18 @@ fault_of answer = Refused answer.status answer.err
 
 -- a refusal is that of the units; want of memory says nothing of them
 abbrev pub IsFaultOf : List NamedText → UnitsFault → Type 0
-IsFaultOf units (Refused status line) = IsRefusedBy units status line
+IsFaultOf units (Refused status line) = Refuses units (record { status = status; out = []; err = line })
 IsFaultOf units Memory = Unit {0}
+
+-- a refusal is that of what is told
+abbrev pub IsFaultOfTold : Told → UnitsFault → Type 0
+IsFaultOfTold told (Refused status line) = IsRefusedBy told status line
+IsFaultOfTold told Memory = Unit {0}
+
+-- a refusal is that of a script on a program of units with these names
+abbrev pub IsFaultOfScript : List (List ℕ) → Program → List Location → System → NamedText → UnitsFault → Type 0
+IsFaultOfScript names program space system script (Refused status line) = IsRefusedScript names program space system script (record { status = status; out = []; err = line })
+IsFaultOfScript names program space system script Memory = Unit {0}
 
 -- a refusal is that of a unit alone
 abbrev pub IsFaultAlone : NamedText → UnitsFault → Type 0
@@ -80,3 +97,9 @@ IsSystemRefusal names (unit.Nodes nodes) fault = fault ≡ fault_of (nodes_refus
 IsSystemRefusal names (unit.Words words) fault = fault ≡ fault_of (words_refusal words)
 IsSystemRefusal names unit.NotBuilt fault = fault ≡ fault_of (not_built (place_text (unit_name names 0) 1 1))
 IsSystemRefusal names unit.OutOfMemory fault = fault ≡ Memory
+
+-- the refusal for the fault of a script
+abbrev pub IsAnswersRefusal : List (List ℕ) → AnswersFault → UnitsFault → Type 0
+IsAnswersRefusal names (answers.Question number) fault = fault ≡ fault_of (refusal 10 (codes "question " ++ decimal number))
+IsAnswersRefusal names answers.NotBuilt fault = fault ≡ fault_of (not_built (place_text (unit_name names 0) 1 1))
+IsAnswersRefusal names answers.OutOfMemory fault = fault ≡ Memory

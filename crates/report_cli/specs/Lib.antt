@@ -4,7 +4,10 @@ pub mod Alone
 pub mod Lowered
 pub mod Linking
 pub mod Unbuilt
+pub mod Told
+pub mod Printed
 pub mod Outcome
 pub mod Outside
 pub mod Faults
+pub mod Scripts
 pub mod Laws

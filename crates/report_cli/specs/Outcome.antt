@@ -1,26 +1,23 @@
--- What the words and the texts of the units say of the answer.
-use Rattle.std.specs.Prelude.{◌≡◌, ◌⊎◌, ℕ, ◌+◌, List, [], ◌∷◌, codes}
+-- What the words, the texts of the units and the script of questions say of the answer.
+use Rattle.std.specs.Prelude.{◌≡◌, ◌⊎◌, ℕ, ◌+◌, List, [], ◌∷◌, Option, Some, None, map, codes}
 use Rattle.core_tree.specs.declared.node.Unit.{Unit}
 use Rattle.core_tree.specs.declared.node.Program.{Program}
 use Rattle.sol_model.specs.declared.system.System.{System}
 use Rattle.obj_space.specs.declared.location.Location.{Location}
 use Rattle.unit_link.specs.Linked.{Linked}
 use Rattle.unit_system.specs.Of.{IsSystemOf}
-use Rattle.unit_report.specs.Reported.{IsProgramReport}
 use Rattle.command_line.specs.Rules.{AreRight}
 use Rattle.report_cli.specs.Answers.{NamedText, Answer, refusal}
 use Rattle.report_cli.specs.Alone.{IsRefusedAlone}
 use Rattle.report_cli.specs.Lowered.{IsRightText, AreRightTexts, IsRefusedRow}
 use Rattle.report_cli.specs.Linking.{IsLinkRefusal, HaveManyNodes, HaveManyWords}
 use Rattle.report_cli.specs.Unbuilt.{IsUnbuilt, AreNotBuilt}
+use Rattle.report_cli.specs.Told.{Told}
+use Rattle.report_cli.specs.Printed.{IsPrinted, IsRefusedScript}
 
 -- a program that texts denote: each is right, as a core unit, and the program is linked from these
 unfoldable pub Denotes : List NamedText → Program → Type 0
 Denotes texts program = (units : List Unit) × AreRightTexts 0 texts units × Linked units program
-
--- bytes are the report of the least solution of a program's system
-unfoldable pub IsReport : Program → System → List ℕ → Type 0
-IsReport program system report = (space : List Location) × IsSystemOf program space system × IsProgramReport program space system report
 
 -- the refusal of a text that is read alone, as unit of that number: for its first row that doesn't fit, or for what isn't built
 abbrev pub IsRefusedRead : ℕ → NamedText → Answer → Type 0
@@ -49,18 +46,39 @@ Refuses texts answer = FirstRefused IsRefusedText 0 texts answer ⊎ AreRefusedT
 abbrev pub RefusesRead : List NamedText → Answer → Type 0
 RefusesRead texts answer = FirstRefused IsRefusedRead 0 texts answer ⊎ AreRefusedTogether texts answer
 
--- the answer of texts: the report of the program that they denote, or their first refusal
-abbrev pub OutcomeOf : List NamedText → Answer → Type 0
-OutcomeOf texts answer =
-    ((program : Program) × (system : System) × Denotes texts program × IsReport program system answer.out × (answer.status ≡ 0) × (answer.err ≡ []))
-    ⊎ Refuses texts answer
+-- a script is refused on the program that texts denote
+pub record IsScriptRefusal (texts : List NamedText) (script : NamedText) (answer : Answer) : Type 0 where
+  pub program : Program
+  pub denoted : Denotes texts program
+  pub space : List Location
+  pub system : System
+  pub system_of : IsSystemOf program space system
+  pub refused : IsRefusedScript (map (λ (text : NamedText). text.0) texts) program space system script answer
 
--- the answer of words and of the units that they name: where the words aren't right, how the program is used
-abbrev pub Outcome : List (List ℕ) → List NamedText → Answer → Type 0
-Outcome words texts answer =
+abbrev pub RefusesScript : List NamedText → Option NamedText → Answer → Type 0
+RefusesScript texts None answer = ⊥
+RefusesScript texts (Some script) answer = IsScriptRefusal texts script answer
+
+-- the first refusal of what is told: that of the units, else that of the script on their program
+abbrev pub RefusesTold : Told → Answer → Type 0
+RefusesTold told answer = Refuses told.units answer ⊎ RefusesScript told.units told.script answer
+
+-- the same of units whose texts are read alone
+abbrev pub RefusesToldRead : Told → Answer → Type 0
+RefusesToldRead told answer = RefusesRead told.units answer ⊎ RefusesScript told.units told.script answer
+
+-- the answer of what is told: what is printed of the program that the units denote, or the first refusal
+abbrev pub OutcomeOf : Told → Answer → Type 0
+OutcomeOf told answer =
+    ((program : Program) × (system : System) × Denotes told.units program × IsPrinted told.script program system answer.out × (answer.status ≡ 0) × (answer.err ≡ []))
+    ⊎ RefusesTold told answer
+
+-- the answer of words and of what is told of the names that they ask for: where the words aren't right, how the program is used
+abbrev pub Outcome : List (List ℕ) → Told → Answer → Type 0
+Outcome words told answer =
     ((AreRight words → ⊥) × (answer ≡ refusal 2 (codes "usage")))
-    ⊎ (AreRight words × OutcomeOf texts answer)
+    ⊎ (AreRight words × OutcomeOf told answer)
 
 -- a refusal by its status and its line
-abbrev pub IsRefusedBy : List NamedText → ℕ → List ℕ → Type 0
-IsRefusedBy texts status line = Refuses texts (record { status = status; out = []; err = line })
+abbrev pub IsRefusedBy : Told → ℕ → List ℕ → Type 0
+IsRefusedBy told status line = RefusesTold told (record { status = status; out = []; err = line })

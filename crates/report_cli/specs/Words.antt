@@ -1,9 +1,9 @@
 -- The words of the command line, and what right words ask for.
-use Rattle.std.specs.Prelude.{ℕ, List, map, string_bytes, String}
+use Rattle.std.specs.Prelude.{ℕ, List, [], ◌∷◌, ◌++◌, map, string_bytes, String, Option, Some, None}
 use Rattle.std.specs.Borrow.{Bor}
 use Rattle.std.specs.declared.alloc.Global.{Global}
 use Rattle.command_line.specs.Language.{found_in}
-use Rattle.command_line.specs.Rules.{unit_words}
+use Rattle.command_line.specs.Rules.{script_word, unit_words}
 
 -- the bytes of words
 abbrev pub texts_of : List (String Global) → List (List ℕ)
@@ -14,5 +14,18 @@ abbrev pub names_of : List (Bor (List ℕ)) → List (List ℕ)
 names_of names = map (λ name. name.now) names
 
 -- the names of the units that words ask for, in order
+abbrev pub units_read : List (List ℕ) → List (List ℕ)
+units_read words = unit_words (found_in words)
+
+-- the name of the script of questions, where words ask for one
+abbrev pub script_read : List (List ℕ) → Option (List ℕ)
+script_read words = script_word (found_in words)
+
+-- the names of units, and behind them that of a script where there is one
+abbrev pub with_script : List (List ℕ) → Option (List ℕ) → List (List ℕ)
+with_script units None = units
+with_script units (Some script) = units ++ script ∷ []
+
+-- the names that words ask for, in the order in which they are read
 abbrev pub names_read : List (List ℕ) → List (List ℕ)
-names_read words = unit_words (found_in words)
+names_read words = with_script (units_read words) (script_read words)

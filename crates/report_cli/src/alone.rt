@@ -62,7 +62,7 @@ fn too_deep(place: Vec<u8>) -> Result<UnitsFault, AllocError>
 }
 
 /// The refusal of a text that is too long.
-fn too_large(alloc: Global, name: &str) -> Result<UnitsFault, AllocError>
+pub(crate) fn too_large(alloc: Global, name: &str) -> Result<UnitsFault, AllocError>
     ensures { IfOk result (λ fault. fault ≡ fault_of (refusal 6 (name.now ++ codes ": too large text 16777217"))) }
 {
     let mut line = Vec::from_slice(alloc, name.as_bytes())?;

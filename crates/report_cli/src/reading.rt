@@ -3,8 +3,10 @@ ghost use Rattle.std.specs.Prelude.{◌≡◌, ℕ, ◌<◌, ◌≤◌, List, So
 ghost use Rattle.pta_base.specs.Outside.{HasRisen};
 ghost use Rattle.report_cli.specs.Words.{names_of};
 ghost use Rattle.report_cli.specs.Answers.{told_units};
+ghost use Rattle.report_cli.specs.Told.{names_for};
 
 use crate::input::{ReadFault, read_text};
+use command_line::Command;
 use pta_base::{Listing, Units};
 use std::alloc::{AllocError, AllocFailed, Global};
 
@@ -53,6 +55,20 @@ pub(crate) fn name_at<'a>(names: &[&'a str], number: usize) -> &'a str
     ensures { slice_get (names_of names.now) number ≡ Some result.now }
 {
     names[number]
+}
+
+/// The names that a command reads: those of its units in order, and then that of its script.
+pub(crate) fn names_for<'a>(
+    alloc: Global,
+    command: &Command<'a>,
+) -> Result<Vec<&'a str>, AllocError>
+    ensures { IfOk result (λ names. names_of names.items ≡ names_for command.now) }
+{
+    let mut names = Vec::from_slice(alloc, command.units.as_slice())?;
+    if let Some(script) = command.ask {
+        names.push(script)?;
+    }
+    Ok(names)
 }
 
 /// Reads the texts of the names in order, of each at most so many bytes.

@@ -7,7 +7,7 @@ ghost use Rattle.report_cli.specs.Answers.{place_text, refusal};
 ghost use Rattle.report_cli.specs.Lowered.{kind_refusal};
 ghost use Rattle.report_cli.specs.Linking.{unit_name, link_refusal};
 ghost use Rattle.report_cli.specs.Unbuilt.{not_built};
-ghost use Rattle.report_cli.specs.Faults.{fault_of, IsKindRefusal, IsSystemRefusal};
+ghost use Rattle.report_cli.specs.Faults.{fault_of, IsAnswersRefusal, IsKindRefusal, IsSystemRefusal};
 
 use crate::alone::not_accepted;
 use crate::fault::UnitsFault;
@@ -21,6 +21,7 @@ use link_names::LinkFault;
 use pta_base::{Kind, Listing, OutOfMemory, Place, Text};
 use std::alloc::{AllocError, Global};
 use tree_reads::Syntax;
+use unit_answers::AnswersFault;
 use unit_system::UnitFault;
 
 /// A refusal with that status and line, to which its line feed is added.
@@ -179,5 +180,25 @@ pub(crate) fn system_refusal(
         UnitFault::Words(words) => too_large(alloc, b"too large rows ", words),
         UnitFault::NotBuilt => not_built(place_text(alloc, unit_name(names, 0), 1, 1)?),
         UnitFault::OutOfMemory => Ok(UnitsFault::Memory),
+    }
+}
+
+/// The refusal for the fault of a script on units with these names.
+pub(crate) fn answers_refusal(
+    alloc: Global,
+    names: &[&str],
+    fault: AnswersFault,
+) -> Result<UnitsFault, AllocError>
+    ensures { IfOk result (IsAnswersRefusal (names_of names.now) fault) }
+{
+    match fault {
+        AnswersFault::Question(number) => {
+            let mut buffer = Buffer::new();
+            let mut line = Vec::from_slice(alloc, b"question ")?;
+            line.extend_from_slice(buffer.format(number).as_bytes())?;
+            refused(10, line)
+        }
+        AnswersFault::NotBuilt => not_built(place_text(alloc, unit_name(names, 0), 1, 1)?),
+        AnswersFault::OutOfMemory => Ok(UnitsFault::Memory),
     }
 }

@@ -1,5 +1,5 @@
-// From the texts of units to their report, or to their first refusal.
-ghost use Rattle.std.specs.Prelude.{◌≡◌, ◌<◌, ◌≤◌, ◌^◌, List, length, map, zip, IfOk, IfErr};
+// From the texts of units to what is printed of their program, or to their first refusal.
+ghost use Rattle.std.specs.Prelude.{◌≡◌, ◌<◌, ◌≤◌, ◌^◌, List, length, map, zip, IfOk, IfErr, Some};
 ghost use Rattle.command_line.specs.Distinct.{AreDistinct};
 ghost use Rattle.unit_link.specs.Needs.{AreLinkable};
 ghost use Rattle.core_tree.specs.declared.node.Program.{Program};
@@ -9,18 +9,32 @@ ghost use Rattle.unit_report.specs.Solved.{IsSolved};
 ghost use Rattle.report_cli.specs.Words.{names_of};
 ghost use Rattle.report_cli.specs.Answers.{NamedText};
 ghost use Rattle.report_cli.specs.Lowered.{AreRightTexts};
-ghost use Rattle.report_cli.specs.Outcome.{Denotes, IsReport};
-ghost use Rattle.report_cli.specs.Faults.{IsFaultOf};
+ghost use Rattle.report_cli.specs.Printed.{IsPrinted};
+ghost use Rattle.report_cli.specs.Outcome.{Denotes};
+ghost use Rattle.report_cli.specs.Scripts.{named, named_script, told_with};
+ghost use Rattle.report_cli.specs.Faults.{IsFaultOf, IsFaultOfScript, IsFaultOfTold};
 
+use crate::alone::too_large;
 use crate::fault::UnitsFault;
 use crate::lowered::lower_each;
-use crate::refusals::system_refusal;
+use crate::refusals::{answers_refusal, system_refusal};
 use core_tree::Unit;
 use pta_base::{Gate, Listing};
 use std::alloc::Global;
 use std::thread::Threads;
+use unit_answers::answers_of_system;
 use unit_report::{Solved, report_of_system};
 use unit_system::{UnitSystem, linked_system};
+
+/// The limit on the bytes of a script of questions.
+const MOST: usize = 16_777_216;
+
+/// A script of questions: its name, and its text as far as it was read.
+#[derive(Clone, Copy, Drop)]
+pub(crate) struct Script<'a> {
+    pub(crate) name: &'a str,
+    pub(crate) text: &'a [u8],
+}
 
 /// The program that the texts of core units denote, with its locations and its system, or the fault that refuses them.
 fn linked(alloc: Global, names: &[&str], units: Vec<Unit>) -> Result<UnitSystem, UnitsFault>
@@ -36,12 +50,40 @@ fn linked(alloc: Global, names: &[&str], units: Vec<Unit>) -> Result<UnitSystem,
     }
 }
 
-/// The report of units of distinct names, with the system that was solved for them, or the fault that refuses them.
-pub(crate) fn report_of_units<R: Threads + Sync, G: Gate + Sync>(
+/// The answers to a script on a program of units with these names, with the system that was solved for them, or the fault that refuses
+/// the script.
+fn answers_to<R: Threads + Sync, G: Gate + Sync>(
+    rt: &R,
+    alloc: Global,
+    names: &[&str],
+    made: UnitSystem,
+    script: Script<'_>,
+    workers: u32,
+    gate: &G,
+) -> Result<(Vec<u8>, Solved), UnitsFault>
+    requires system { IsSystemOf made.program made.space made.system }
+    requires workers { (0 < workers) × (workers ≤ 64) }
+    ensures printed { IfOk result (λ found. IsPrinted (Some (named script.entry)) made.program made.system found.0.items) }
+    ensures solved { IfOk result (λ found. IsSolved made.system found.1) }
+    ensures refused { IfErr result (IsFaultOfScript (names_of names.now) made.program made.space made.system (named script.entry)) }
+{
+    if script.text.len() > MOST {
+        return Err(too_large(alloc, script.name)?);
+    }
+    match answers_of_system(rt, alloc, made, script.text, workers, gate) {
+        Ok(found) => Ok(found),
+        Err(fault) => Err(answers_refusal(alloc, names, fault)?),
+    }
+}
+
+/// What is printed of the program of units of distinct names, its report or the answers to a script, with the system that was solved for
+/// it, or the fault that refuses the units or the script.
+pub(crate) fn text_of_units<R: Threads + Sync, G: Gate + Sync>(
     rt: &R,
     alloc: Global,
     names: &[&str],
     texts: &[Listing<u8>],
+    script: Option<Script<'_>>,
     workers: u32,
     gate: &G,
 ) -> Result<(Vec<u8>, Solved), UnitsFault>
@@ -49,15 +91,17 @@ pub(crate) fn report_of_units<R: Threads + Sync, G: Gate + Sync>(
     requires distinct { AreDistinct (names_of names.now) }
     requires count { length texts.now ≡ length names.now }
     requires workers { (0 < workers) × (workers ≤ 64) }
-    ensures reported { IfOk result (λ made. (program : Program) × (system : System) × Denotes (zip (names_of names.now) texts.now) program
-        × IsReport program system made.0.items × IsSolved system made.1) }
-    ensures refused { IfErr result (IsFaultOf (zip (names_of names.now) texts.now)) }
+    ensures printed { IfOk result (λ made. (program : Program) × (system : System) × Denotes (zip (names_of names.now) texts.now) program
+        × IsPrinted (named_script script.entry) program system made.0.items × IsSolved system made.1) }
+    ensures refused { IfErr result (IsFaultOfTold (told_with (zip (names_of names.now) texts.now) (named_script script.entry))) }
 {
     let units = lower_each(alloc, names, texts)?;
     let made = match linked(alloc, names, units) {
         Ok(made) => made,
         Err(fault) => return Err(fault),
     };
-    let found = report_of_system(rt, alloc, made, workers, gate)?;
-    Ok(found)
+    match script {
+        Some(script) => answers_to(rt, alloc, names, made, script, workers, gate),
+        None => Ok(report_of_system(rt, alloc, made, workers, gate)?),
+    }
 }

@@ -6,16 +6,19 @@ ghost use Rattle.sol_model.specs.declared.system.System.{System};
 ghost use Rattle.command_line.specs.Rules.{AreRight};
 ghost use Rattle.command_line.specs.Distinct.{AreDistinct};
 ghost use Rattle.report_cli.specs.Words.{names_of, names_read, texts_of};
-ghost use Rattle.report_cli.specs.Answers.{told_units, Answer};
+ghost use Rattle.report_cli.specs.Answers.{Answer};
+ghost use Rattle.report_cli.specs.Told.{names_for, told_as, told_for};
+ghost use Rattle.report_cli.specs.Printed.{IsPrinted};
 ghost use Rattle.report_cli.specs.Alone.{AreReadAlone};
-ghost use Rattle.report_cli.specs.Outcome.{Denotes, IsReport, IsRefusedBy, RefusesRead, Outcome};
+ghost use Rattle.report_cli.specs.Scripts.{named_script};
+ghost use Rattle.report_cli.specs.Outcome.{Denotes, IsRefusedBy, RefusesToldRead, Outcome};
 ghost use Rattle.report_cli.specs.Outside.{Grows, GrowsInPart, Receives, source_fault, sink_fault, out_of_memory, usage_line};
 ghost use Rattle.unit_report.specs.Solved.{IsKept};
 
 use crate::fault::UnitsFault;
 use crate::output::{say, write_text};
-use crate::reading::{ReadingFault, name_at, read_units};
-use crate::solved::report_of_units;
+use crate::reading::{ReadingFault, name_at, names_for, read_units};
+use crate::solved::{Script, text_of_units};
 use command_line::{Command, WordsFault, parse_words};
 use pta_base::{Gate, Listing, Sink, Units};
 use std::alloc::{AllocError, Global};
@@ -59,17 +62,17 @@ fn source_fault<E: Sink>(alloc: Global, name: &str, err: &mut E) -> u8
     }
 }
 
-/// Writes a report, or says that it could not be written.
-fn deliver<O: Sink, E: Sink>(out: &mut O, err: &mut E, report: &[u8]) -> u8
+/// Writes a text, or says that it could not be written.
+fn deliver<O: Sink, E: Sink>(out: &mut O, err: &mut E, text: &[u8]) -> u8
     ensures status { (result ≡ 0) ⊎ (result ≡ 8) }
-    ensures whole { result ≡ 0 → Grows (O.written out.old) (O.written out.new) report.now }
-    ensures part { result ≡ 8 → GrowsInPart (O.written out.old) (O.written out.new) report.now }
+    ensures whole { result ≡ 0 → Grows (O.written out.old) (O.written out.new) text.now }
+    ensures part { result ≡ 8 → GrowsInPart (O.written out.old) (O.written out.new) text.now }
     ensures cause { result ≡ 8 → HasRisen (O.faults out.old) (O.faults out.new) }
     ensures steady { result ≡ 0 → O.faults out.new ≡ O.faults out.old }
     ensures silent { result ≡ 0 → E.written err.new ≡ E.written err.old }
     ensures said { result ≡ 8 → Receives (E.written err.old) (E.written err.new) (E.faults err.old) (E.faults err.new) sink_fault }
 {
-    if write_text(out, report) {
+    if write_text(out, text) {
         return 0;
     }
     say(err, b"sink fault\n");
@@ -83,7 +86,30 @@ fn keep(kept: &mut Option<Solved>, solved: Solved)
     *kept = Some(solved);
 }
 
-/// Answers a command by the texts that were read of its units, and answers the status. With status 0 it leaves what was solved.
+/// The script of a command, whose text was read behind those of its units.
+fn script_of<'a>(command: &Command<'a>, texts: &'a [Listing<u8>]) -> Option<Script<'a>>
+    requires { length texts.now ≡ length (names_for command.now) }
+    ensures { named_script result ≡ (told_as command.now texts.now).script }
+{
+    match command.ask {
+        Some(name) => Some(Script {
+            name,
+            text: texts[command.units.len()].as_slice(),
+        }),
+        None => None,
+    }
+}
+
+/// The texts of a command's units.
+fn unit_texts<'a>(command: &Command<'_>, texts: &'a [Listing<u8>]) -> &'a [Listing<u8>]
+    requires { length texts.now ≡ length (names_for command.now) }
+    ensures units { zip (names_of command.now.units.items) result.now ≡ (told_as command.now texts.now).units }
+    ensures count { length result.now ≡ length command.now.units.items }
+{
+    &texts[..command.units.len()]
+}
+
+/// Answers a command by the texts that were read for it, and answers the status. With status 0 it leaves what was solved.
 fn answer_units<R: Threads + Sync, O: Sink, E: Sink, G: Gate + Sync>(
     rt: &R,
     alloc: Global,
@@ -97,16 +123,16 @@ fn answer_units<R: Threads + Sync, O: Sink, E: Sink, G: Gate + Sync>(
     requires distinct { AreDistinct (names_of command.now.units.items) }
     requires few { length command.now.units.items ≤ 2 ^ 8 }
     requires workers { (0 < command.now.workers) × (command.now.workers ≤ 64) }
-    requires count { length texts.now ≡ length command.now.units.items }
-    ensures listed { (result ≡ 0) ⊎ (((result ≡ 3) ⊎ ((result ≡ 4) ⊎ ((result ≡ 5) ⊎ (result ≡ 6)))) ⊎ ((result ≡ 8) ⊎ (result ≡ 9))) }
-    ensures delivered { result ≡ 0 → (program : Program) × (system : System) × (report : List ℕ)
-        × Denotes (zip (names_of command.now.units.items) texts.now) program × IsReport program system report
-        × Grows (O.written out.old) (O.written out.new) report × (E.written err.new ≡ E.written err.old) × IsKept system kept.new }
+    requires count { length texts.now ≡ length (names_for command.now) }
+    ensures listed { (result ≡ 0) ⊎ (((result ≡ 3) ⊎ ((result ≡ 4) ⊎ ((result ≡ 5) ⊎ ((result ≡ 6) ⊎ (result ≡ 10))))) ⊎ ((result ≡ 8) ⊎ (result ≡ 9))) }
+    ensures delivered { result ≡ 0 → (program : Program) × (system : System) × (text : List ℕ)
+        × Denotes (told_as command.now texts.now).units program × IsPrinted (told_as command.now texts.now).script program system text
+        × Grows (O.written out.old) (O.written out.new) text × (E.written err.new ≡ E.written err.old) × IsKept system kept.new }
     ensures unsolved { result ≢ 0 → kept.new ≡ kept.old }
-    ensures broken { result ≡ 8 → (program : Program) × (system : System) × (report : List ℕ)
-        × Denotes (zip (names_of command.now.units.items) texts.now) program × IsReport program system report
-        × GrowsInPart (O.written out.old) (O.written out.new) report }
-    ensures refused { result ≢ 0 → result ≢ 8 → result ≢ 9 → (line : List ℕ) × IsRefusedBy (zip (names_of command.now.units.items) texts.now) result line
+    ensures broken { result ≡ 8 → (program : Program) × (system : System) × (text : List ℕ)
+        × Denotes (told_as command.now texts.now).units program × IsPrinted (told_as command.now texts.now).script program system text
+        × GrowsInPart (O.written out.old) (O.written out.new) text }
+    ensures refused { result ≢ 0 → result ≢ 8 → result ≢ 9 → (line : List ℕ) × IsRefusedBy (told_as command.now texts.now) result line
         × Receives (E.written err.old) (E.written err.new) (E.faults err.old) (E.faults err.new) line }
     ensures unwritten { result ≢ 0 → result ≢ 8 → O.written out.new ≡ O.written out.old }
     ensures cause { result ≡ 8 → HasRisen (O.faults out.old) (O.faults out.new) }
@@ -114,16 +140,17 @@ fn answer_units<R: Threads + Sync, O: Sink, E: Sink, G: Gate + Sync>(
     ensures sink { result ≡ 8 → Receives (E.written err.old) (E.written err.new) (E.faults err.old) (E.faults err.new) sink_fault }
     ensures memory { result ≡ 9 → Receives (E.written err.old) (E.written err.new) (E.faults err.old) (E.faults err.new) out_of_memory }
 {
-    match report_of_units(
+    match text_of_units(
         rt,
         alloc,
         command.units.as_slice(),
-        texts,
+        unit_texts(command, texts),
+        script_of(command, texts),
         command.workers,
         gate,
     ) {
-        Ok((report, solved)) => {
-            let status = deliver(out, err, report.as_slice());
+        Ok((text, solved)) => {
+            let status = deliver(out, err, text.as_slice());
             if status != 0 {
                 return status;
             }
@@ -139,14 +166,18 @@ fn answer_units<R: Threads + Sync, O: Sink, E: Sink, G: Gate + Sync>(
 }
 
 /// Does all that the program does: reads the units that the words name, writes the report of their program to `out` or the line of
-/// a refusal to `err`, and answers the status. The words are `--workers N` and units, in any order (`command_line`). The statuses are
-/// 0 for a report that was written whole, 2 for words that aren't right, 3 for a text that has no tokens (C11 6.4) or whose tokens are
-/// no unit (C11 6.9), 4 for a construct that isn't accepted or a form of text that isn't built, 5 for units that don't link, 6 for a text
-/// of more than 2^24 bytes, more than 256 constructs that nest, or a program of more than 2^24 nodes or words of rows, 7 for a unit that
-/// could not be read, 8 for a report that could not be written and 9 for want of memory. All memory is taken before the first byte is
-/// written. The system is solved on shared rows by as many workers as the words say, 1 where they don't; each passes the gate before each
-/// of its pieces. `kept` has to be None; with status 0 it holds the system, its table and the seat that solved it, and with any other
-/// status it stays None. Several units aren't built.
+/// a refusal to `err`, and answers the status. The words are `--workers N`, `--ask UNIT` and units, in any order (`command_line`). With
+/// `--ask` the UNIT is a script of questions, and the answers to them are written in place of the report. The statuses are 0 for a text
+/// that was written whole, 2 for words that aren't right, 3 for a text that has no tokens (C11 6.4) or whose tokens are no unit (C11 6.9),
+/// 4 for a construct that isn't accepted or a form of text that isn't built, 5 for units that don't link, 6 for a text or a script of more
+/// than 2^24 bytes, more than 256 constructs that nest, or a program of more than 2^24 nodes or words of rows, 7 for a unit or a script that
+/// could not be read, 8 for a text that could not be written, 9 for want of memory and 10 for a script's first line that isn't in the
+/// grammar or names nothing of the right sort (`alias_query`). The units are read in order and then the script; its length is looked at
+/// when the units are linked and within the limits, and then its lines. All memory is taken before the first byte is written. The system is
+/// solved on shared rows by as many workers as the words say, 1 where they don't; each passes the gate before each of its pieces. With
+/// `--ask` an asker beside the workers tries each question up to 16 times, and passes the gate before each try t from 0 on, as worker number
+/// N with the turn t, where N is the number of workers; what is open then is asked when the rows are closed. `kept` has to be None; with
+/// status 0 it holds the system, its table and the seat that solved it, and with any other status it stays None.
 pub fn analyse<R: Threads + Sync, U: Units, O: Sink, E: Sink, G: Gate + Sync>(
     rt: &R,
     alloc: Global,
@@ -160,35 +191,35 @@ pub fn analyse<R: Threads + Sync, U: Units, O: Sink, E: Sink, G: Gate + Sync>(
     requires none { kept.old ≡ None }
 
     // Status 0 means that the bytes written are the report of the least solution of the constraints of the program that
-    // the units denote.
-    ensures headline { result ≡ 0 → IfSome (told_units (U.text units.old) (names_read (texts_of words.now))) (λ told.
-        (program : Program) × (system : System) × (report : List ℕ) × Denotes told program × IsReport program system report
-        × Grows (O.written out.old) (O.written out.new) report) }
+    // the units denote, or with a script the answers to its questions by that solution.
+    ensures headline { result ≡ 0 → IfSome (told_for (U.text units.old) (texts_of words.now)) (λ told.
+        (program : Program) × (system : System) × (text : List ℕ) × Denotes told.units program × IsPrinted told.script program system text
+        × Grows (O.written out.old) (O.written out.new) text) }
 
     // Where neither the outside nor memory failed, the answer is that of the words and the texts.
-    ensures outcome { result ≢ 7 → result ≢ 8 → result ≢ 9 → IfSome (told_units (U.text units.old) (names_read (texts_of words.now))) (λ told.
+    ensures outcome { result ≢ 7 → result ≢ 8 → result ≢ 9 → IfSome (told_for (U.text units.old) (texts_of words.now)) (λ told.
         (answer : Answer) × Outcome (texts_of words.now) told answer × (result ≡ answer.status)
         × Grows (O.written out.old) (O.written out.new) answer.out
         × Receives (E.written err.old) (E.written err.new) (E.faults err.old) (E.faults err.new) answer.err) }
     ensures said { result ≡ 2 → Receives (E.written err.old) (E.written err.new) (E.faults err.old) (E.faults err.new) usage_line }
     ensures usage { (result ≡ 2 → AreRight (texts_of words.now) → ⊥) × (AreRight (texts_of words.now) ⊎ ((result ≡ 2) ⊎ (result ≡ 9))) }
-    ensures listed { (result ≡ 0) ⊎ ((result ≡ 2) ⊎ (((result ≡ 3) ⊎ ((result ≡ 4) ⊎ ((result ≡ 5) ⊎ (result ≡ 6)))) ⊎ ((result ≡ 7) ⊎ ((result ≡ 8) ⊎ (result ≡ 9))))) }
+    ensures listed { (result ≡ 0) ⊎ ((result ≡ 2) ⊎ (((result ≡ 3) ⊎ ((result ≡ 4) ⊎ ((result ≡ 5) ⊎ ((result ≡ 6) ⊎ (result ≡ 10))))) ⊎ ((result ≡ 7) ⊎ ((result ≡ 8) ⊎ (result ≡ 9))))) }
     ensures unwritten { result ≢ 0 → result ≢ 8 → O.written out.new ≡ O.written out.old }
 
     // With status 0 the program's own system was solved on the table that is left, by its seat and those split from it, which were joined
     // into it; with any other status nothing is left.
-    ensures solved { result ≡ 0 → IfSome (told_units (U.text units.old) (names_read (texts_of words.now))) (λ told.
-        (program : Program) × (system : System) × (report : List ℕ) × Denotes told program × IsReport program system report
-        × Grows (O.written out.old) (O.written out.new) report × IsKept system kept.new) }
+    ensures solved { result ≡ 0 → IfSome (told_for (U.text units.old) (texts_of words.now)) (λ told.
+        (program : Program) × (system : System) × (text : List ℕ) × Denotes told.units program × IsPrinted told.script program system text
+        × Grows (O.written out.old) (O.written out.new) text × IsKept system kept.new) }
     ensures unsolved { result ≢ 0 → kept.new ≡ None }
 
     // Where the words are right, each text is that of a unit in which no name is undeclared or redeclared, and the outside doesn't fail, the
-    // answer is a report, or the first refusal of such texts by their rows, by linking or by a limit.
-    ensures complete { IfSome (told_units (U.text units.old) (names_read (texts_of words.now))) (λ told. AreRight (texts_of words.now)
-        → AreReadAlone told
+    // answer is a report or answers, or the first refusal of such texts by their rows, by linking, by a limit or by the script.
+    ensures complete { IfSome (told_for (U.text units.old) (texts_of words.now)) (λ told. AreRight (texts_of words.now)
+        → AreReadAlone told.units
         → ((name : List ℕ) → Contains (names_read (texts_of words.now)) name → IsSteady (U.faults units.old name) (U.faults units.new name))
         → IsSteady (O.faults out.old) (O.faults out.new)
-        → (result ≡ 0) ⊎ ((result ≡ 9) ⊎ ((answer : Answer) × RefusesRead told answer × (result ≡ answer.status)))) }
+        → (result ≡ 0) ⊎ ((result ≡ 9) ⊎ ((answer : Answer) × RefusesToldRead told answer × (result ≡ answer.status)))) }
 
     // The outside: each of its statuses has its cause, and each of its faults its status.
     ensures source { result ≡ 7 → (name : List ℕ) × Contains (names_read (texts_of words.now)) name × HasRisen (U.faults units.old name) (U.faults units.new name)
@@ -197,9 +228,9 @@ pub fn analyse<R: Threads + Sync, U: Units, O: Sink, E: Sink, G: Gate + Sync>(
     ensures sink { result ≡ 8 → HasRisen (O.faults out.old) (O.faults out.new)
         × Receives (E.written err.old) (E.written err.new) (E.faults err.old) (E.faults err.new) sink_fault }
     ensures sink_risen { O.faults out.old < O.faults out.new → result ≡ 8 }
-    ensures broken { result ≡ 8 → IfSome (told_units (U.text units.old) (names_read (texts_of words.now))) (λ told.
-        (program : Program) × (system : System) × (report : List ℕ) × Denotes told program × IsReport program system report
-        × GrowsInPart (O.written out.old) (O.written out.new) report) }
+    ensures broken { result ≡ 8 → IfSome (told_for (U.text units.old) (texts_of words.now)) (λ told.
+        (program : Program) × (system : System) × (text : List ℕ) × Denotes told.units program × IsPrinted told.script program system text
+        × GrowsInPart (O.written out.old) (O.written out.new) text) }
     ensures memory { result ≡ 9 → Receives (E.written err.old) (E.written err.new) (E.faults err.old) (E.faults err.new) out_of_memory }
 {
     let command = match parse_words(alloc, words) {
@@ -210,14 +241,14 @@ pub fn analyse<R: Threads + Sync, U: Units, O: Sink, E: Sink, G: Gate + Sync>(
         }
         Err(WordsFault::OutOfMemory) => return out_of_memory(err),
     };
-    let names = command.units.as_slice();
-    let texts = match read_units(alloc, names, units, LIMIT) {
+    let names = match names_for(alloc, &command) {
+        Ok(names) => names,
+        Err(_) => return out_of_memory(err),
+    };
+    let all = names.as_slice();
+    let texts = match read_units(alloc, all, units, LIMIT) {
         Ok(texts) => texts,
-        Err(ReadingFault::Source(number)) => return source_fault(
-            alloc,
-            name_at(names, number),
-            err,
-        ),
+        Err(ReadingFault::Source(number)) => return source_fault(alloc, name_at(all, number), err),
         Err(ReadingFault::Memory) => return out_of_memory(err),
     };
     answer_units(rt, alloc, &command, texts.as_slice(), out, err, gate, kept)

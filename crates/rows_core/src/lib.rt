@@ -10,6 +10,3 @@ mod machine;
 
 pub use event::{Event, RowsState};
 pub use machine::{after, licensed};
-
-#[cfg(test)]
-mod tests;

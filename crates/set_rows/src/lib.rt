@@ -12,6 +12,3 @@ mod view;
 pub use seat::RowSeat;
 pub use table::RowTable;
 pub use view::View;
-
-#[cfg(test)]
-mod tests;

@@ -1,9 +1,9 @@
 -- Rows of structures and unions.
-use Rattle.std.proofs.Common.{arith, ◌≡◌, ℕ, ◌<◌, ◌≤◌, Bool, true, false, cond, eqb, ◌&&◌, not, List, [], ◌++◌, Option, Some, None, map, drop, get_or, ◌+◌, ◌||◌, length, refl, sym, ap, ◌∙◌, subst, ◌==◌, ◌⊎◌, inl, inr}
+use Rattle.std.proofs.Common.{arith, ◌≡◌, ℕ, ◌<◌, ◌≤◌, Bool, true, false, cond, eqb, ◌&&◌, not, List, [], ◌++◌, Option, Some, None, length, refl, sym, ap, ◌∙◌, subst, ◌==◌, ◌⊎◌, inl, inr}
 use Rattle.std.specs.Prelude.{is_none, is_some, nat_lt}
 use Rattle.std.proofs.Math.Path.{fun_ext}
 use Rattle.std.proofs.lemmas.Bool.Decides.{nat_tests}
-use Rattle.std.proofs.lemmas.List.{append-nil, drop_more}
+use Rattle.std.proofs.lemmas.List.{append-nil}
 use Rattle.pta_base.specs.declared.kind.Kind.{Kind}
 use Rattle.pta_base.specs.declared.kind.Kind.TheVariants.{Operand, NotBuilt}
 use Rattle.c_grammar.specs.Productions.{p_struct, p_members}
@@ -13,19 +13,19 @@ use Rattle.c_types.specs.Table.{Table, type_of, members_in, look_in, extent_in}
 use Rattle.c_types.specs.declared.term.MemberTerm.{MemberTerm}
 use Rattle.core_tree.specs.declared.node.Unit.{Unit}
 use Rattle.c_inits.specs.Made.{Part}
-use Rattle.c_inits.specs.Tables.{tagged, part_of, parts_in}
+use Rattle.c_inits.specs.Tables.{tagged, parts_in}
 use Rattle.c_senses.specs.Tree.{Source, is_a, child_of}
 use Rattle.c_senses.specs.World.{World, extent, same_type}
 use Rattle.c_senses.specs.Given.{Given, Fits, Refuses, given_if}
 use Rattle.c_senses.specs.Sense.{Sense, Nothing, IsCore, IsType, IsSpecified, IsDeclarator, IsDerivation, IsParameter, IsMembers, IsValue, IsRun, IsInitial}
-use Rattle.c_senses.specs.Limits.{is_small, members_flexible, some_flexible}
+use Rattle.c_senses.specs.Limits.{is_small}
 use Rattle.c_senses.specs.Tags.{tag_of, tag_fits, is_union, named_tag, aggregate_type, laid, members_in_sense, struct_type, struct_row}
 use Rattle.c_results.specs.Parts as parts
 use Rattle.core_nodes.specs.Standing.{Knows}
 use Rattle.struct_rows.specs.Taken.{takes}
 use Rattle.struct_rows.specs.Completes.{Completes}
-use Rattle.struct_rows.specs.Standing.{IsSmallTag, CompletesBy, members_at}
-use Rattle.struct_rows.specs.Built.{agree, first_is_union, stands_as, ends_open, HasTagTypes, may_complete, completed_row, list_fits, built_type, built_struct}
+use Rattle.struct_rows.specs.Standing.{CompletesBy}
+use Rattle.struct_rows.specs.Built.{agree, first_is_union, stands_as, HasTagTypes, may_complete, completed_row, list_fits, built_type, built_struct}
 use Rattle.struct_rows.proofs.Completing.{laid_structure, laid_union}
 
 and_first : (a b : Bool) → (a && b) ≡ true → a ≡ true
@@ -35,10 +35,6 @@ and_first false b h = h
 and_second : (a b : Bool) → (a && b) ≡ true → b ≡ true
 and_second true b h = h
 and_second false b h = cc
-
-not_is : (a : Bool) → not a ≡ true → a ≡ false
-not_is true h = cc
-not_is false h = refl
 
 pub is_not_false : (a : Bool) → not a ≡ false → a ≡ true
 is_not_false true h = refl
@@ -148,32 +144,23 @@ none_mapped table None = refl
 none_mapped table (Some ms) = refl
 
 -- as the table says it
-abbrev pub some_open : Table → List Part → Bool
-some_open table ps = some_flexible (ends_open (members_at table)) ps
-
 abbrev pub table_takes : Table → ℕ → Bool → List Part → Bool
-table_takes table tag u ps = is_none (members_in table tag) && (not (some_open table ps) && takes (extent_in table) u true ps)
+table_takes table tag u ps = is_none (members_in table tag) && takes (extent_in table) u true ps
 
 pub may_by : (w : World) (old : Unit) → Knows w old → (tag : ℕ) (u : Bool) (ps : List Part) → may_complete w tag u ps ≡ table_takes old.types tag u ps
 may_by w old k tag u ps =
-    ap (λ (b : Bool). b && (not (some_flexible (ends_open w.members) ps) && takes (extent w) u true ps)) (ap is_none (k.members tag) ∙ none_mapped old.types (members_in old.types tag))
-    ∙ (ap (λ (members : ℕ → Option (List Part)). is_none (members_in old.types tag) && (not (some_flexible (ends_open members) ps) && takes (extent w) u true ps)) (fun_ext k.members)
-    ∙ ap (λ (b : Bool). is_none (members_in old.types tag) && (not (some_open old.types ps) && b)) (takes_same (extent w) (extent_in old.types) k.extents u ps))
+    ap (λ (b : Bool). b && takes (extent w) u true ps) (ap is_none (k.members tag) ∙ none_mapped old.types (members_in old.types tag))
+    ∙ ap (λ (b : Bool). is_none (members_in old.types tag) && b) (takes_same (extent w) (extent_in old.types) k.extents u ps)
 
 pub takes_open : (table : Table) (tag : ℕ) (u : Bool) (ps : List Part) → table_takes table tag u ps ≡ true → members_in table tag ≡ None
-takes_open table tag u ps h = none_is (members_in table tag) (and_first (is_none (members_in table tag)) (not (some_open table ps) && takes (extent_in table) u true ps) h)
+takes_open table tag u ps h = none_is (members_in table tag) (and_first (is_none (members_in table tag)) (takes (extent_in table) u true ps) h)
   where
     none_is : (o : Option (List MemberTerm)) → is_none o ≡ true → o ≡ None
     none_is None h = refl
     none_is (Some ms) h = cc
 
 pub takes_all : (table : Table) (tag : ℕ) (u : Bool) (ps : List Part) → table_takes table tag u ps ≡ true → takes (extent_in table) u true ps ≡ true
-takes_all table tag u ps h =
-    and_second (not (some_open table ps)) (takes (extent_in table) u true ps) (and_second (is_none (members_in table tag)) (not (some_open table ps) && takes (extent_in table) u true ps) h)
-
-takes_ends : (table : Table) (tag : ℕ) (u : Bool) (ps : List Part) → table_takes table tag u ps ≡ true → some_open table ps ≡ false
-takes_ends table tag u ps h =
-    not_is (some_open table ps) (and_first (not (some_open table ps)) (takes (extent_in table) u true ps) (and_second (is_none (members_in table tag)) (not (some_open table ps) && takes (extent_in table) u true ps) h))
+takes_all table tag u ps h = and_second (is_none (members_in table tag)) (takes (extent_in table) u true ps) h
 
 -- ---- a tag that is completed
 
@@ -216,14 +203,6 @@ module _ (old new : Unit) (tag : ℕ) (u : Bool) (ps : List Part) (stands : stan
       ap (λ (x : Bool). given_if x NotBuilt at (given_if (is_small (Some (laid w u (tagged u tag) ps))) Operand at (Fits (IsType (tagged u tag))))) (may_by w old k tag u ps ∙ h)
       ∙ (ap (λ (x : Bool). given_if x Operand at (Fits (IsType (tagged u tag)))) (sym (e ∙ ap is_small (extent_new w k)))
       ∙ ap (λ (t : Ctype). given_if b Operand at (Fits (IsType t))) (sym type_new))
-
-  pub small_tag : table_takes old.types tag u ps ≡ true → true ≡ is_small (extent_in new.types (type_of new.types tag)) → IsSmallTag old.types new.types tag
-  small_tag h e = record {
-    small = sym e;
-    fixed =
-        ap (members_flexible (some_open old.types)) (c.parts_are tag ∙ ap (λ (b : Bool). cond b (Some ps) (parts_in old.types (members_in old.types tag))) (same_number tag))
-        ∙ takes_ends old.types tag u ps h;
-  }
 
 pub row_not : (w : World) (old : Unit) → Knows w old → (at tag : ℕ) (u : Bool) (ps : List Part) → table_takes old.types tag u ps ≡ false → completed_row w at tag u ps ≡ Refuses NotBuilt at
 row_not w old k at tag u ps h =
@@ -336,20 +315,3 @@ struct_part w s sense at =
     type_part : (o : Option ℕ) → (built_type w s sense at o ≡ struct_type w s sense at o) ⊎ (built_type w s sense at o ≡ Refuses NotBuilt at)
     type_part None = inl refl
     type_part (Some list) = part_not (list_fits w s sense at list) at (struct_type w s sense at (Some list)) (struct_type w s sense at (Some list)) (inl refl)
-
--- ---- one member after another
-
-module _ (table : Table) (ms : List MemberTerm) (i : ℕ) (m : MemberTerm) (h : i < length ms) (at : m ≡ get_or ms i m) where
-  abbrev rest_open : ℕ → Bool
-  rest_open k = some_open table (map (part_of table) (drop k ms))
-
-  open_next : rest_open i ≡ (ends_open (members_at table) (type_of table m.ty.0) || rest_open (i + 1))
-  open_next =
-      ap (λ (xs : List MemberTerm). some_open table (map (part_of table) xs)) (drop_more ms i m h)
-      ∙ ap (λ (x : MemberTerm). ends_open (members_at table) (type_of table x.ty.0) || rest_open (i + 1)) (sym at)
-
-  pub open_here : true ≡ ends_open (members_at table) (type_of table m.ty.0) → rest_open i ≡ true
-  open_here e = open_next ∙ ap (λ (b : Bool). b || rest_open (i + 1)) (sym e)
-
-  pub open_passed : false ≡ ends_open (members_at table) (type_of table m.ty.0) → rest_open (i + 1) ≡ rest_open i
-  open_passed e = sym (open_next ∙ ap (λ (b : Bool). b || rest_open (i + 1)) (sym e))

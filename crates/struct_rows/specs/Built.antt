@@ -2,7 +2,6 @@
 use Rattle.std.specs.Prelude.{ℕ, ◌≡◌, Bool, true, false, ◌==◌, ◌&&◌, not, nat_lt, List, length, Option, Some, None, is_none, is_some}
 use Rattle.pta_base.specs.declared.kind.Kind.TheVariants.{Operand, NotBuilt}
 use Rattle.c_grammar.specs.Productions.{p_struct, p_members}
-use Rattle.c_types.specs.Trees.{Ctype, StructureOf}
 use Rattle.c_types.specs.Table.{Table, type_of}
 use Rattle.c_inits.specs.Made.{Part}
 use Rattle.c_inits.specs.Tables.{tagged}
@@ -10,7 +9,7 @@ use Rattle.c_senses.specs.Tree.{Source, is_a, first_where, child_of, all_nodes}
 use Rattle.c_senses.specs.World.{World, extent, same_type}
 use Rattle.c_senses.specs.Given.{Given, Fits, given_if}
 use Rattle.c_senses.specs.Sense.{Sense, IsType}
-use Rattle.c_senses.specs.Limits.{is_small, last_lacks_length, members_flexible, some_flexible}
+use Rattle.c_senses.specs.Limits.{is_small}
 use Rattle.c_senses.specs.Tags.{tag_of, tag_fits, is_union, named_tag, laid, members_in_sense, struct_type}
 use Rattle.c_results.specs.Parts.{parts_in}
 use Rattle.struct_rows.specs.Taken.{takes}
@@ -44,15 +43,10 @@ stands_as table number is_union = nat_lt number (length table.terms) && same_typ
 pub record HasTagTypes (s : Source) (table : Table) : Type 0 where
   pub each : (i : ℕ) → is_a s p_struct i ≡ true → stands_as table (tag_of s i) (first_is_union s (tag_of s i)) ≡ true
 
--- a structure that ends in an array without a length
-abbrev pub ends_open : (ℕ → Option (List Part)) → Ctype → Bool
-ends_open members (StructureOf tag) = members_flexible last_lacks_length (members tag)
-ends_open members t = false
-
 module _ (w : World) where
-  -- a tag without members may be completed with some none of which is such a structure; only a union might have one
+  -- a tag without members may be completed with some that may stand in their places
   abbrev pub may_complete : ℕ → Bool → List Part → Bool
-  may_complete tag is_union parts = is_none (w.members tag) && (not (some_flexible (ends_open w.members) parts) && takes (extent w) is_union true parts)
+  may_complete tag is_union parts = is_none (w.members tag) && takes (extent w) is_union true parts
 
   -- the type of a tag that is completed with some members
   abbrev pub completed_row : (at tag : ℕ) → Bool → List Part → Given Sense

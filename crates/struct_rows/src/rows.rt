@@ -20,7 +20,7 @@ ghost use Rattle.tree_reads.specs.Sources.{source_read, source_in};
 ghost use Rattle.unit_worlds.specs.Growing.{Grows, completed_at};
 ghost use Rattle.struct_rows.specs.Taken as taken;
 ghost use Rattle.struct_rows.specs.Completes.{Completes};
-ghost use Rattle.struct_rows.specs.Standing.{StandsTagged, IsSmallTag, CompletesBy, members_at};
+ghost use Rattle.struct_rows.specs.Standing.{StandsTagged, IsSmallTag, CompletesBy};
 ghost use Rattle.struct_rows.specs.Built as built;
 ghost use Rattle.struct_rows.specs.Built.{HasTagTypes, completed_row, built_struct};
 
@@ -71,65 +71,14 @@ fn is_open(types: &TypeTable, number: u32) -> bool
     types.members(number).is_none()
 }
 
-// Whether a type is an array without a length.
-fn lacks_length(types: &TypeTable, ty: TypeId) -> bool
-    requires { ty.0 < length types.now.terms }
-    ensures { result ≡ limits.lacks_a_length (type_of types.now ty.0) }
-{
-    match types.term(ty) {
-        Term::Array { length: None, .. } => true,
-        _ => false,
-    }
-}
-
-// Whether the last of some members is an array without a length.
-fn last_lacks_length(types: &TypeTable, members: &[MemberTerm]) -> bool
-    requires { All (λ m. m.ty.0 < length types.now.terms) members.now }
-    ensures { result ≡ limits.last_lacks_length (map (part_of types.now) members.now) }
-{
-    match members.last() {
-        Some(member) => lacks_length(types, member.ty),
-        None => false,
-    }
-}
-
-// Whether a type is a structure that ends in an array without a length.
-fn ends_open(types: &TypeTable, ty: TypeId) -> bool
-    requires { ty.0 < length types.now.terms }
-    ensures { result ≡ built.ends_open (members_at types.now) (type_of types.now ty.0) }
-{
-    let Term::Structure(tag) = types.term(ty) else {
-        return false;
-    };
-    match types.members(*tag) {
-        Some(members) => last_lacks_length(types, members),
-        None => false,
-    }
-}
-
-// Whether one of some members is such a structure.
-fn some_open(types: &TypeTable, members: &[MemberTerm]) -> bool
-    requires { All (λ m. m.ty.0 < length types.now.terms) members.now }
-    ensures { result ≡ limits.some_flexible (built.ends_open (members_at types.now)) (map (part_of types.now) members.now) }
-{
-    for member in members {
-        if ends_open(types, member.ty) {
-            return true;
-        }
-    }
-    false
-}
-
-// Whether a tag may be completed with some members, none of which is a structure that ends in an array without a length.
+// Whether a tag may be completed with some members.
 fn may_complete(types: &TypeTable, number: u32, is_union: bool, members: &[MemberTerm]) -> bool
     requires number { number < types.now.tags }
     requires members { All (λ m. m.ty.0 < length types.now.terms) members.now }
     ensures { let parts = map (part_of types.now) members.now in
-        result
-        ≡ (is_none (members_in types.now number)
-        && (not (limits.some_flexible (built.ends_open (members_at types.now)) parts) && taken.takes (extent_in types.now) is_union true parts)) }
+        result ≡ (is_none (members_in types.now number) && taken.takes (extent_in types.now) is_union true parts) }
 {
-    is_open(types, number) && !some_open(types, members) && takes(types, members, is_union)
+    is_open(types, number) && takes(types, members, is_union)
 }
 
 // The type of a tag that is completed with some members.
@@ -147,7 +96,7 @@ fn completed(
     ensures ready { IsReady unit.new }
     ensures within { IfOk result (IsWithin unit.new) }
     ensures completes { OnOk result (Completes unit.old unit.new number (map (part_of unit.old.types) members.items)) }
-    ensures small { OnOk result (IsSmallTag unit.old.types unit.new.types number) }
+    ensures small { OnOk result (IsSmallTag unit.new.types number) }
     ensures row { (w : World) →
         Knows w unit.old →
         Rowed unit.new result (completed_row w at number is_union (map (part_of unit.old.types) members.items)) }
@@ -183,7 +132,7 @@ fn listed(
     ensures ready { IsReady unit.new }
     ensures within { IfOk result (IsWithin unit.new) }
     ensures completes { OnOk result (CompletesBy unit.old unit.new number (sense_in (senses_made unit.old results.now) list)) }
-    ensures small { OnOk result (IsSmallTag unit.old.types unit.new.types number) }
+    ensures small { OnOk result (IsSmallTag unit.new.types number) }
     ensures row { (w : World) (s : Source) →
         Knows w unit.old →
         let sense = sense_in (senses_made unit.old results.now) in
@@ -203,9 +152,8 @@ fn listed(
 /// The row of a specifier of a structure or union (C11 6.7.2.1, 6.7.2.3), by what is known of its tag: its type, which the table has
 /// under the tag's number. A list of members completes the tag. It is refused as `operand` at the tag's name where the tag has a list
 /// before or was declared with another keyword, and at the specifier where its size isn't below 2^63 or it has over 2^24 nodes; and as
-/// not built, at the specifier, where its keyword isn't that of the tag's first specifier, where the tag has members already, where its
-/// list has none made, or has some that may not stand, and where a member is a structure that ends in an array without a length, which
-/// only a union might have. Without a list the unit stays; after a refusal with one it is only fit to be dropped.
+/// not built, at the specifier, where its keyword isn't that of the tag's first specifier, where the tag has members already, and where its
+/// list has none made, or has some that may not stand. Without a list the unit stays; after a refusal with one it is only fit to be dropped.
 pub fn struct_row(
     alloc: Global,
     unit: &mut Unit,
@@ -221,9 +169,9 @@ pub fn struct_row(
     ensures within { IfOk result (IsWithin unit.new) }
     ensures same { tree.child_of (source_read syntax.now) p_members at ≡ None → unit.new ≡ unit.old }
 
-    // With a list, the tag is small, and none of its members is a structure that ends in an array without a length.
+    // With a list, the tag is small.
     ensures small { (list : ℕ) →
-        tree.child_of (source_read syntax.now) p_members at ≡ Some list → OnOk result (IsSmallTag unit.old.types unit.new.types tag.number) }
+        tree.child_of (source_read syntax.now) p_members at ≡ Some list → OnOk result (IsSmallTag unit.new.types tag.number) }
     ensures grows { (uses : List (ℕ × ℕ)) →
         let s = source_in syntax.now uses in
         IsSeen s at tag →

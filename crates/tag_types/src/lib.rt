@@ -1,8 +1,6 @@
 //! The types of a unit's structures and unions before its rows (C11 6.7.2.3).
 #![tactic(auto)]
 
-mod joined;
 mod opening;
 
-pub use joined::structure;
 pub use opening::open_types;

@@ -6,8 +6,6 @@ mod lists;
 mod parents;
 mod reads;
 mod syntax;
-#[cfg(test)]
-mod tests;
 
 pub use above::{Above, is_outermost, nearest_above};
 pub use lists::{Test, any_where, child_of, count_where, first_where, last_where};

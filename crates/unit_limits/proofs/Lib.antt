@@ -3,3 +3,5 @@ pub mod Within
 pub mod Staying
 pub mod Specifiers
 pub mod Testing
+pub mod Nesting
+pub mod Flags

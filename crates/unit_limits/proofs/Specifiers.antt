@@ -1,6 +1,6 @@
 -- The type that the row of a structure or union gives is that of the tag that its node completes.
 use Rattle.std.proofs.Common.{◌≡◌, ℕ, Bool, true, false, List, [], ◌∷◌, Option, Some, None, refl, sym, ap, ◌∙◌, subst}
-use Rattle.std.specs.Prelude.{if◌then◌else◌}
+use Rattle.std.specs.Prelude.{if◌then◌else◌, IfSome}
 use Rattle.pta_base.specs.declared.kind.Kind.{Kind}
 use Rattle.c_types.specs.declared.term.TypeId.{TypeId}
 use Rattle.c_types.specs.Trees.{Ctype, StructureOf, UnionOf}
@@ -76,3 +76,10 @@ module _ (s : Source) (sense : ℕ → Sense) (at : ℕ) where
       let of_tag : tag_in (type_of u.types found.0.0) ≡ Some (tag_of s at) = ap tag_in found.2 ∙ aggregate_tag s at in
       subst (λ (o : Option TypeId). IsTypeOf u.types o (completed_at s sense at)) (sym found.1)
       (subst (λ (es : List TagParts). IsTypeOf u.types (Some found.0) es) (sym is_by_list) (of_type u.types found.0 of_tag (if is_a s p_struct at then child_of s p_members at else None)))
+
+  -- the type that is seen of a row that fits has the tag of its specifier
+  pub tag_of_row : (u : Unit) (w : World) (r : Option TypeId) (x : Sense) → TypeSeen u r (type_in x) → struct_row w s sense at ≡ Fits x → IfSome r (λ ty. tag_in (type_of u.types ty.0) ≡ Some (tag_of s at))
+  tag_of_row u w r x seen row =
+      let found = seen_is u r x (aggregate_type s at) seen (row_fits w s sense at x row) in
+      let of_tag : tag_in (type_of u.types found.0.0) ≡ Some (tag_of s at) = ap tag_in found.2 ∙ aggregate_tag s at in
+      subst (λ (o : Option TypeId). IfSome o (λ ty. tag_in (type_of u.types ty.0) ≡ Some (tag_of s at))) (sym found.1) of_tag

@@ -1,23 +1,21 @@
 -- A small table stays small.
-use Rattle.std.proofs.Common.{arith, ◌≡◌, ◌==◌, inl, inr, ℕ, zero, suc, ◌<◌, Bool, true, false, List, [], ◌∷◌, length, map, Option, Some, None, refl, sym, ap, ◌∙◌, subst}
+use Rattle.std.proofs.Common.{arith, ◌≡◌, ◌==◌, inl, inr, ℕ, zero, suc, ◌<◌, Bool, true, false, List, [], length, map, Option, Some, None, refl, sym, ap, ◌∙◌, subst}
 use Rattle.std.specs.Prelude.{is_some, slice_get, if◌then◌else◌}
-use Rattle.std.specs.List.{list_all}
 use Rattle.std.specs.Option.{option_map}
 use Rattle.std.proofs.lemmas.Bool.{and_parts, and_from, eqb-true, cases_lt}
 use Rattle.c_types.specs.declared.term.Term.{Term}
 use Rattle.c_types.specs.declared.term.Term.TheVariants.{Structure, Union}
 use Rattle.c_types.specs.Trees.{Ctype, VoidType, BoolType, IntegerType, FloatingType, VaListType, PointerTo, ArrayOf, FunctionFrom, StructureOf, UnionOf}
 use Rattle.c_types.specs.Layout.{Extent, Look, repeated, of_members, structure_of, union_of, extent_of, member_extent}
-use Rattle.c_types.specs.Table.{Table, types_of, type_of, look_in, extent_in, extents_in, members_in}
+use Rattle.c_types.specs.Table.{Table, types_of, type_of, look_in, extent_in, extents_in}
 use Rattle.c_types.specs.Made.{IsMade, AreNamed}
 use Rattle.c_types.proofs.MadeLemmas.{KnowsMore, extent_more, made_tagged, made_empty}
 use Rattle.core_tree.specs.declared.node.Unit.{Unit}
 use Rattle.c_inits.specs.Made.{Part}
-use Rattle.c_inits.specs.Tables.{parts_in}
 use Rattle.c_senses.specs.Limits.{is_small}
 use Rattle.c_senses.specs.Tags.{types_of_parts}
 use Rattle.unit_worlds.specs.Growing.{Completes}
-use Rattle.unit_limits.specs.Small.{has_element, stays_small, ends_fixed, is_fixed, members_at, members_of_type, all_fixed, tag_in, is_small_tag, IsSmallTable, AreSmallFrom}
+use Rattle.unit_limits.specs.Small.{has_element, stays_small, tag_in, is_small_tag, IsSmallTable, AreSmallFrom}
 use Rattle.unit_limits.specs.Laws.{EmptyIsSmall, OpenIsSmall, OpenTagsAreSmall, BuildingStaysSmall, CompletingStaysSmall}
 use Rattle.unit_limits.proofs.Terms.{type_is, term_at, structure_term, union_term}
 
@@ -31,7 +29,6 @@ empty_small count = record {
   made = made_tagged (record { terms = []; tags = 0; completed = [] }) count made_empty;
   named = λ i t e. absurd (no_term i t e);
   small = λ id lt. absurd (omega (arith, lt));
-  fixed = λ tag. refl;
 }
   where
     no_term : (i : ℕ) (t : Term) → slice_get (none_of Term) i ≡ Some t → ⊥
@@ -43,7 +40,6 @@ open_small types made named none from = record {
   made = made;
   named = named;
   small = λ id lt. from.each id (omega arith) lt;
-  fixed = λ tag. subst (λ cs. all_fixed types (parts_in types (members_in (record types { completed = cs }) tag)) ≡ true) (sym none) refl;
 }
 
 tagged_open : (types : Table) → types.completed ≡ [] → (t : Ctype) → is_some (tag_in t) ≡ true → stays_small (extent_in types) t ≡ true
@@ -75,29 +71,6 @@ stays_same f g same t =
     let b = has_same f g same t in
     cc
 
--- what is fixed by one list of members is fixed by another
-all_more : (f g : Ctype → Bool) → ((t : Ctype) → f t ≡ true → g t ≡ true) → (ps : List Part) → list_all (λ p. f p.type) ps ≡ true → list_all (λ p. g p.type) ps ≡ true
-all_more f g each [] h = refl
-all_more f g each (p ∷ ps) h =
-    let both = and_parts (f p.type) (list_all (λ p. f p.type) ps) h in
-    and_from (g p.type) (list_all (λ p. g p.type) ps) (each p.type both.0) (all_more f g each ps both.1)
-
-fixed_more : (a b : ℕ → Option (List Part)) → ((tag : ℕ) → ends_fixed (a tag) ≡ true → ends_fixed (b tag) ≡ true) → (t : Ctype) → is_fixed a t ≡ true → is_fixed b t ≡ true
-fixed_more a b each (StructureOf tag) h = each tag h
-fixed_more a b each (ArrayOf of n) h = refl
-fixed_more a b each VoidType h = refl
-fixed_more a b each BoolType h = refl
-fixed_more a b each (IntegerType size rank signed) h = refl
-fixed_more a b each FloatingType h = refl
-fixed_more a b each VaListType h = refl
-fixed_more a b each (PointerTo to) h = refl
-fixed_more a b each (FunctionFrom r ps q) h = refl
-fixed_more a b each (UnionOf tag) h = refl
-
-all_fixed_more : (old new : Table) → ((tag : ℕ) → ends_fixed (members_at old tag) ≡ true → ends_fixed (members_at new tag) ≡ true) → (o : Option (List Part)) → all_fixed old o ≡ true → all_fixed new o ≡ true
-all_fixed_more old new each None h = refl
-all_fixed_more old new each (Some ps) h = all_more (is_fixed (members_at old)) (is_fixed (members_at new)) (fixed_more (members_at old) (members_at new) each) ps h
-
 pub building_small : BuildingStaysSmall
 building_small old new made named b from ok = record {
   made = made;
@@ -106,7 +79,6 @@ building_small old new made named b from ok = record {
     | inl before ↦ stays_same (extent_in new.types) (extent_in old.types) b.extents (type_of new.types id) ∙ (ap (stays_small (extent_in old.types)) (b.types id before) ∙ ok.small id before)
     | inr behind ↦ from.each id behind lt
   ];
-  fixed = λ tag. all_fixed_more old.types new.types (λ k h. ap ends_fixed (b.parts k) ∙ h) (members_at new.types tag) (ap (all_fixed old.types) (b.parts tag) ∙ ok.fixed tag);
 }
 
 -- ---- with a tag more
@@ -178,18 +150,6 @@ one_type types made named i j tag hi hj ei ej = by (type_of types i) (type_of ty
     by (UnionOf m) b p q e f = absurd cc
     by a b p q e f = absurd cc
 
-members_of_tag : (types : Table) (t : Ctype) (tag : ℕ) → tag_in t ≡ Some tag → members_of_type types t ≡ members_at types tag
-members_of_tag types (StructureOf k) tag e = let same : k ≡ tag = cc in ap (members_at types) same
-members_of_tag types (UnionOf k) tag e = let same : k ≡ tag = cc in ap (members_at types) same
-members_of_tag types VoidType tag e = absurd cc
-members_of_tag types BoolType tag e = absurd cc
-members_of_tag types (IntegerType size rank signed) tag e = absurd cc
-members_of_tag types FloatingType tag e = absurd cc
-members_of_tag types VaListType tag e = absurd cc
-members_of_tag types (PointerTo to) tag e = absurd cc
-members_of_tag types (ArrayOf of n) tag e = absurd cc
-members_of_tag types (FunctionFrom r ps q) tag e = absurd cc
-
 tagged_extent : (l m : Look) (t : Ctype) (tag : ℕ) → tag_in t ≡ Some tag → m tag ≡ l tag → extent_of m t ≡ extent_of l t
 tagged_extent l m (StructureOf k) tag e same =
     let at : k ≡ tag = cc in
@@ -207,9 +167,6 @@ tagged_extent l m (ArrayOf of n) tag e same = absurd cc
 tagged_extent l m (FunctionFrom r ps q) tag e same = absurd cc
 
 module _ (old new : Unit) (tag : ℕ) (parts : List Part) (id : ℕ) (made : IsMade new.types) (named : AreNamed new.types) (c : Completes old new tag parts) (from : AreSmallFrom new.types (length old.types.terms)) (lt : id < length new.types.terms) (of_tag : tag_in (type_of new.types id) ≡ Some tag) (tag_ok : is_small_tag new.types (type_of new.types id) ≡ true) (ok : IsSmallTable old.types) where
-  abbrev both : (is_small (extent_in new.types (type_of new.types id)) ≡ true) × (all_fixed new.types (members_of_type new.types (type_of new.types id)) ≡ true)
-  both = and_parts (is_small (extent_in new.types (type_of new.types id))) (all_fixed new.types (members_of_type new.types (type_of new.types id))) tag_ok
-
   -- the tag took nothing before
   open_look : look_in old.types tag ≡ None
   open_look = ok.made.laid tag ∙ ap (option_map (extents_in old.types)) c.was_open
@@ -231,7 +188,7 @@ module _ (old new : Unit) (tag : ℕ) (parts : List Part) (id : ℕ) (made : IsM
       by true h =
           let at : tag ≡ t = eqb-true tag t h in
           let same = one_type new.types made named i id tag inside lt (e ∙ ap Some (sym at)) of_tag in
-          ap (λ (x : Ctype). is_small (extent_in new.types x)) same ∙ both.0
+          ap (λ (x : Ctype). is_small (extent_in new.types x)) same ∙ tag_ok
       by false h =
           let look : look_in new.types t ≡ look_in old.types t = c.look t ∙ ap (λ (b : Bool). if b then Some (map (member_extent (look_in old.types)) (types_of_parts parts)) else look_in old.types t) h in
           let same = tagged_extent (look_in old.types) (look_in new.types) (type_of new.types i) t e look in
@@ -247,34 +204,11 @@ module _ (old new : Unit) (tag : ℕ) (parts : List Part) (id : ℕ) (made : IsM
       (small_more (look_in old.types) (look_in new.types) knows_more t (tagged_small i inside before) parts_of.1 parts_of.0)
       (element_more (look_in old.types) (look_in new.types) knows_more t parts_of.1)
 
-  -- members that ended fixed end so
-  ends_more : (t : ℕ) → ends_fixed (members_at old.types t) ≡ true → ends_fixed (members_at new.types t) ≡ true
-  ends_more t h = ap ends_fixed (c.members t) ∙ by (tag == t) refl
-    where
-      by : (b : Bool) → (tag == t) ≡ b → ends_fixed (if b then Some parts else members_at old.types t) ≡ true
-      by true e =
-          let none : members_at old.types t ≡ None = ap (members_at old.types) (sym (eqb-true tag t e)) ∙ ap (parts_in old.types) c.was_open in
-          let never : false ≡ true = sym (ap ends_fixed none) ∙ h in
-          absurd cc
-      by false e = h
-
-  members_fixed : (t : ℕ) → all_fixed new.types (members_at new.types t) ≡ true
-  members_fixed t = by (tag == t) refl
-    where
-      by : (b : Bool) → (tag == t) ≡ b → all_fixed new.types (members_at new.types t) ≡ true
-      by true e =
-          let at : tag ≡ t = eqb-true tag t e in
-          ap (λ (k : ℕ). all_fixed new.types (members_at new.types k)) (sym at) ∙ (ap (all_fixed new.types) (sym (members_of_tag new.types (type_of new.types id) tag of_tag)) ∙ both.1)
-      by false e =
-          let same : members_at new.types t ≡ members_at old.types t = c.members t ∙ ap (λ (b : Bool). if b then Some parts else members_at old.types t) e in
-          ap (all_fixed new.types) same ∙ all_fixed_more old.types new.types ends_more (members_at old.types t) (ok.fixed t)
-
   pub completed_small : IsSmallTable new.types
   completed_small = record {
     made = made;
     named = named;
     small = λ i inside. elim (cases_lt i (length old.types.terms)) [ inl before ↦ old_small i inside before | inr behind ↦ from.each i behind inside ];
-    fixed = members_fixed;
   }
 
 pub completing_small : CompletingStaysSmall

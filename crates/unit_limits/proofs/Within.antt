@@ -1,38 +1,26 @@
 -- What a small table has is within the limits of a world that its unit knows.
-use Rattle.std.proofs.Common.{arith, ◌≡◌, ℕ, zero, suc, ◌<◌, ◌≤◌, Bool, true, false, List, [], ◌∷◌, length, Option, Some, None, All, refl, sym, ap, ◌∙◌, subst}
-use Rattle.std.specs.List.{list_all}
-use Rattle.std.proofs.lemmas.Bool.{and_parts, and_from, not-true, or_from}
+use Rattle.std.proofs.Common.{arith, ◌≡◌, ℕ, zero, suc, ◌<◌, ◌≤◌, true, List, [], ◌∷◌, length, All, refl, sym, ap, ◌∙◌, subst}
+use Rattle.std.proofs.lemmas.Bool.{and_parts, and_from}
 use Rattle.std.proofs.lemmas.List.Elements.{All-head, All-tail, All-map, All-weaker}
 use Rattle.c_types.specs.declared.term.Term.{Term}
 use Rattle.c_types.specs.declared.term.Term.TheVariants.{Void, Bool as BoolTerm, Integer, Floating, VaList, Pointer, Array, Function, Structure, Union}
 use Rattle.c_types.specs.declared.term.TypeId.{TypeId}
-use Rattle.c_types.specs.Trees.{Ctype, VoidType, BoolType, IntegerType, FloatingType, VaListType, PointerTo, ArrayOf, FunctionFrom, StructureOf, UnionOf, trees_at, grow}
+use Rattle.c_types.specs.Trees.{trees_at, grow}
 use Rattle.c_types.specs.Table.{IsAfter, types_of, type_of, extent_in}
 use Rattle.core_tree.specs.declared.node.Unit.{Unit}
-use Rattle.c_inits.specs.Made.{Part}
 use Rattle.c_senses.specs.World.{World, extent}
-use Rattle.c_senses.specs.Limits.{is_small, within_limits, all_within_limits, last_lacks_length, some_flexible, members_flexible, flexible_within}
+use Rattle.c_senses.specs.Limits.{is_small, within_limits, all_within_limits}
 use Rattle.core_nodes.specs.Standing.{Knows}
 use Rattle.c_results.specs.declared.derivation.Derivation.{Derivation}
 use Rattle.c_results.specs.declared.derivation.Derivation.TheVariants.{Pointing, Elements, Returning}
 use Rattle.c_results.specs.declared.made.Made.{Made}
 use Rattle.c_results.specs.declared.made.Made.TheVariants as made
 use Rattle.c_results.specs.Standing.{derivation_seen, sense_made, IsDerivable, IsWithin}
-use Rattle.c_declarators.specs.Limited.{AreFlexible, parameters_limited, IsLimited}
-use Rattle.unit_limits.specs.Small.{has_element, ends_fixed, is_fixed, members_at, all_fixed, IsSmallTable}
+use Rattle.c_declarators.specs.Limited.{parameters_limited, IsLimited}
+use Rattle.unit_limits.specs.Small.{has_element, IsSmallTable}
 use Rattle.unit_limits.specs.Laws.{TypesAreLimited, ResultsAreAround}
+use Rattle.unit_limits.proofs.Flags.{unions_flexible}
 use Rattle.unit_limits.proofs.Terms.{type_is, term_at}
-
--- no part of some is flexible
-some_none : (f g : Ctype → Bool) → ((t : Ctype) → g t ≡ true → f t ≡ false) → (ps : List Part) → list_all (λ p. g p.type) ps ≡ true → some_flexible f ps ≡ false
-some_none f g each [] h = refl
-some_none f g each (p ∷ ps) h =
-    let both = and_parts (g p.type) (list_all (λ p. g p.type) ps) h in
-    or_from (f p.type) (some_flexible f ps) (each p.type both.0) (some_none f g each ps both.1)
-
-ends_not : (o : Option (List Part)) → ends_fixed o ≡ true → members_flexible last_lacks_length o ≡ false
-ends_not None h = refl
-ends_not (Some ps) h = not-true (last_lacks_length ps) h
 
 module _ (w : World) (u : Unit) (ok : IsSmallTable u.types) (k : Knows w u) where
   small_at : (id : ℕ) → id < length u.types.terms → is_small (extent w (type_of u.types id)) ≡ true
@@ -78,29 +66,6 @@ module _ (w : World) (u : Unit) (ok : IsSmallTable u.types) (k : Knows w u) wher
   pub limited_at : AreWithin (length u.types.terms)
   limited_at = within_below (length u.types.terms) (omega arith)
 
-  members_none : (d : ℕ) → ((t : Ctype) → is_fixed (members_at u.types) t ≡ true → flexible_within w d t ≡ false) → (o : Option (List Part)) → all_fixed u.types o ≡ true → members_flexible (some_flexible (flexible_within w d)) o ≡ false
-  members_none d each None e = refl
-  members_none d each (Some ps) e = some_none (flexible_within w d) (is_fixed (members_at u.types)) each ps e
-
-  -- nothing of fixed members is flexible
-  none_flexible : (depth : ℕ) (t : Ctype) → is_fixed (members_at u.types) t ≡ true → flexible_within w depth t ≡ false
-  none_flexible zero t h = refl
-  none_flexible (suc d) (StructureOf tag) h = ap (members_flexible last_lacks_length) (k.members tag) ∙ ends_not (members_at u.types tag) h
-  none_flexible (suc d) (UnionOf tag) h =
-      ap (members_flexible (some_flexible (flexible_within w d))) (k.members tag)
-      ∙ members_none d (λ x g. none_flexible d x g) (members_at u.types tag) (ok.fixed tag)
-  none_flexible (suc d) VoidType h = refl
-  none_flexible (suc d) BoolType h = refl
-  none_flexible (suc d) (IntegerType size rank signed) h = refl
-  none_flexible (suc d) FloatingType h = refl
-  none_flexible (suc d) VaListType h = refl
-  none_flexible (suc d) (PointerTo to) h = refl
-  none_flexible (suc d) (ArrayOf of n) h = refl
-  none_flexible (suc d) (FunctionFrom r ps f) h = refl
-
-  pub unions_fixed : AreFlexible w []
-  unions_fixed tag = none_flexible (suc w.tags) (UnionOf tag) refl
-
   derivation_limited : (d : Derivation) → IsDerivable u.types d → parameters_limited w (derivation_seen u.types d) ≡ true
   derivation_limited Pointing h = refl
   derivation_limited (Elements n) h = refl
@@ -125,8 +90,8 @@ pub types_limited : TypesAreLimited
 types_limited w u ok k id lt = limited_at w u ok k id lt
 
 pub results_around : ResultsAreAround
-results_around w u results ok k within = record {
+results_around w u unions results ok flags k within = record {
   knows = k;
-  flexible = unions_fixed w u ok k;
+  flexible = unions_flexible w u unions ok.made ok.named k flags;
   limited = All-map (IsLimited w) (sense_made u) results (All-weaker (IsWithin u) (λ m. IsLimited w (sense_made u m)) (made_limited w u ok k) results within);
 }

@@ -1,5 +1,5 @@
 -- A small table stays small, and what it has is within the limits.
-use Rattle.std.specs.Prelude.{ℕ, ◌≡◌, ◌<◌, true, List, [], length, All, Some, is_some}
+use Rattle.std.specs.Prelude.{ℕ, ◌≡◌, ◌<◌, Bool, true, List, [], length, All, Some, is_some}
 use Rattle.core_tree.specs.declared.node.Unit.{Unit}
 use Rattle.c_types.specs.Table.{Table, type_of}
 use Rattle.c_types.specs.Made.{IsMade, AreNamed}
@@ -9,8 +9,9 @@ use Rattle.c_senses.specs.Limits.{within_limits}
 use Rattle.core_nodes.specs.Standing.{Builds, Knows}
 use Rattle.c_results.specs.declared.made.Made.{Made}
 use Rattle.c_results.specs.Standing.{IsWithin}
-use Rattle.c_declarators.specs.Limited.{IsAround}
+use Rattle.c_declarators.specs.Limited.{AreFlexible, IsAround}
 use Rattle.unit_worlds.specs.Growing.{Completes}
+use Rattle.unit_limits.specs.Unions.{AreUnions}
 use Rattle.unit_limits.specs.Small.{IsSmallTable, AreSmallFrom, is_small_tag, tag_in}
 
 -- a table without types is small
@@ -34,11 +35,20 @@ TypesAreLimited =
     (w : World) (u : Unit) → IsSmallTable u.types → Knows w u → (id : ℕ) → id < length u.types.terms
     → within_limits w (type_of u.types id) ≡ true
 
+-- the flags of a table's tags are those of a world that its unit knows
+abbrev pub UnionsAreFlexible : Type 0
+UnionsAreFlexible =
+    (w : World) (u : Unit) (unions : List Bool) → IsMade u.types → AreNamed u.types → Knows w u → AreUnions u.types unions → AreFlexible w unions
+
 -- around a row whose results stand in such a unit, types may be made
 abbrev pub ResultsAreAround : Type 0
 ResultsAreAround =
-    (w : World) (u : Unit) (results : List Made) → IsSmallTable u.types → Knows w u → All (IsWithin u) results
-    → IsAround w u [] results
+    (w : World) (u : Unit) (unions : List Bool) (results : List Made) → IsSmallTable u.types → AreUnions u.types unions → Knows w u → All (IsWithin u) results
+    → IsAround w u unions results
+
+-- a unit is built on
+abbrev pub BuildingKeepsUnions : Type 0
+BuildingKeepsUnions = (old new : Unit) (unions : List Bool) → Builds old new → AreUnions old.types unions → AreUnions new.types unions
 
 -- a unit is built on, and its new types are small
 abbrev pub BuildingStaysSmall : Type 0

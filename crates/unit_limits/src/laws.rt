@@ -1,6 +1,6 @@
 //! Laws of small tables: these functions do nothing, and their contracts are the laws.
 ghost use Rattle.unit_limits.specs.Laws.{EmptyIsSmall, OpenIsSmall, OpenTagsAreSmall, TypesAreLimited};
-ghost use Rattle.unit_limits.specs.Laws.{ResultsAreAround, BuildingStaysSmall, CompletingStaysSmall};
+ghost use Rattle.unit_limits.specs.Laws.{ResultsAreAround, UnionsAreFlexible, BuildingKeepsUnions, BuildingStaysSmall, CompletingStaysSmall};
 
 /// A table without types is small.
 pub fn empty_is_small()
@@ -20,6 +20,17 @@ pub fn open_tags_are_small()
 /// Each type of a small table is within the limits of each world that its unit knows.
 pub fn types_are_limited()
     ensures { TypesAreLimited }
+{}
+
+/// What is kept of a table's tags is what the worlds that its unit knows say of their unions: which of them have a structure that ends in an
+/// array without a length, or a union that has one (C11 6.7.2.1p3).
+pub fn unions_are_flexible()
+    ensures { UnionsAreFlexible }
+{}
+
+/// What is kept of a table's tags stays so while its unit is built on.
+pub fn building_keeps_unions()
+    ensures { BuildingKeepsUnions }
 {}
 
 /// The results of a unit with a small table are what the rows of declarators ask of the results before them.

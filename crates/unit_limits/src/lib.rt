@@ -5,6 +5,8 @@
 pub mod laws;
 mod small;
 mod steps;
+mod unions;
 
 pub use small::{completed_is_small, grown_is_small, new_types_are_small};
-pub use steps::stays_small_behind;
+pub use steps::{note_behind, stays_small_behind};
+pub use unions::open_flags;

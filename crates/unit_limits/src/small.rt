@@ -1,19 +1,16 @@
 // Whether types are small.
-ghost use Rattle.std.specs.Prelude.{◌≡◌, ◌<◌, ◌↔◌, ℕ, List, [], true, length, map, All, IsTrue, IfSome, Some};
-ghost use Rattle.std.specs.List.{list_all};
+ghost use Rattle.std.specs.Prelude.{◌≡◌, ◌<◌, ◌↔◌, ℕ, List, [], true, length, IsTrue, IfSome, Some};
 ghost use Rattle.core_tree.specs.declared.node.Unit.{Unit as UnitSpec};
 ghost use Rattle.c_types.specs.Table.{type_of, extent_in};
 ghost use Rattle.c_inits.specs.Made.{Part, TagParts};
-ghost use Rattle.c_inits.specs.Tables.{part_of};
-ghost use Rattle.c_senses.specs.Limits.{is_small, lacks_a_length, last_lacks_length};
+ghost use Rattle.c_senses.specs.Limits.{is_small};
 ghost use Rattle.core_nodes.specs.Standing.{Builds};
 ghost use Rattle.unit_worlds.specs.Growing.{Completes, Grows};
 ghost use Rattle.unit_limits.specs.Small as spec;
-ghost use Rattle.unit_limits.specs.Small.{AreSmallFrom, IsSmallTable, IsTypeOf, tag_in, members_at};
-ghost use Rattle.unit_limits.specs.Small.{all_fixed, is_small_tag, is_small_completed, members_of_type};
+ghost use Rattle.unit_limits.specs.Small.{AreSmallFrom, IsSmallTable, IsTypeOf, tag_in, is_small_tag, is_small_completed};
 
 use c_types::table::TypeTable;
-use c_types::term::{MemberTerm, Term, TypeId};
+use c_types::term::{Term, TypeId};
 use core_tree::node::Unit;
 
 // Whether a type has no size, or a size below 2^63 and at most 2^24 nodes.
@@ -64,81 +61,8 @@ pub fn new_types_are_small(unit: &Unit, from: u32) -> bool
     true
 }
 
-// Whether the last of some members is an array without a length.
-fn last_lacks_length(types: &TypeTable, members: &[MemberTerm]) -> bool
-    requires { All (λ m. m.ty.0 < length types.now.terms) members.now }
-    ensures { result ≡ last_lacks_length (map (part_of types.now) members.now) }
-{
-    match members.last() {
-        Some(member) => lacks_length(types, member.ty),
-        None => false,
-    }
-}
-
-// Whether a type is an array without a length.
-fn lacks_length(types: &TypeTable, ty: TypeId) -> bool
-    requires { ty.0 < length types.now.terms }
-    ensures { result ≡ lacks_a_length (type_of types.now ty.0) }
-{
-    match types.term(ty) {
-        Term::Array { length: None, .. } => true,
-        _ => false,
-    }
-}
-
-// Whether a type is no structure, or a complete one that doesn't end in an array without a length.
-fn is_fixed(types: &TypeTable, ty: TypeId) -> bool
-    requires { ty.0 < length types.now.terms }
-    ensures { result ≡ spec.is_fixed (members_at types.now) (type_of types.now ty.0) }
-{
-    match types.term(ty) {
-        Term::Structure(tag) => match types.members(*tag) {
-            Some(members) => !last_lacks_length(types, members),
-            None => false,
-        },
-        _ => true,
-    }
-}
-
-// Whether such are all of some members.
-fn are_fixed(types: &TypeTable, members: &[MemberTerm]) -> bool
-    requires { All (λ m. m.ty.0 < length types.now.terms) members.now }
-    ensures { result ≡ list_all (λ m. spec.is_fixed (members_at types.now) (type_of types.now m.ty.0)) members.now }
-{
-    for member in members {
-        if !is_fixed(types, member.ty) {
-            return false;
-        }
-    }
-    true
-}
-
-// Whether such are the members of a tag.
-fn tag_is_fixed(types: &TypeTable, tag: u32) -> bool
-    requires { tag < types.now.tags }
-    ensures { result ≡ all_fixed types.now (members_at types.now tag) }
-{
-    match types.members(tag) {
-        Some(members) => are_fixed(types, members),
-        None => true,
-    }
-}
-
-// Whether such are the members of a structure or union.
-fn members_are_fixed(types: &TypeTable, ty: TypeId) -> bool
-    requires { ty.0 < length types.now.terms }
-    ensures { result ≡ all_fixed types.now (members_of_type types.now (type_of types.now ty.0)) }
-{
-    match types.term(ty) {
-        Term::Structure(tag) => tag_is_fixed(types, *tag),
-        Term::Union(tag) => tag_is_fixed(types, *tag),
-        _ => true,
-    }
-}
-
-/// Whether a structure or union is small: it has no size, or one below 2^63 and at most 2^24 nodes, and none of its members is a
-/// structure that ends in an array without a length (C11 6.7.2.1p3, p18), which only a union may have and which isn't built. It takes
-/// a step for each member. Where it is, and so are the new types, a table that was small before its tag was completed still is.
+/// Whether a structure or union is small: it has no size, or one below 2^63 and at most 2^24 nodes. Where it is, and so are the new types,
+/// a table that was small before its tag was completed still is.
 pub fn completed_is_small(unit: &Unit, ty: TypeId) -> bool
     requires { ty.0 < length unit.now.types.terms }
     ensures result { result ≡ is_small_tag unit.now.types (type_of unit.now.types ty.0) }
@@ -150,11 +74,11 @@ pub fn completed_is_small(unit: &Unit, ty: TypeId) -> bool
 {
     // (What every table keeps is told by its count.)
     let _count = unit.types.type_count();
-    is_small_type(&unit.types, ty) && members_are_fixed(&unit.types, ty)
+    is_small_type(&unit.types, ty)
 }
 
 /// Whether a unit that has grown by a row is small still: its new types are, those from a number on, and the structure or union that the
-/// row's node completes is, whose type is given. It takes a step for each new type and for each member of that structure or union.
+/// row's node completes is, whose type is given. It takes a step for each new type.
 pub fn grown_is_small(unit: &Unit, from: u32, completed: Option<TypeId>) -> bool
     requires { IfSome completed (λ ty. ty.0 < length unit.now.types.terms) }
     ensures result { IsTrue result ↔ (AreSmallFrom unit.now.types from × (is_small_completed unit.now.types completed ≡ true)) }

@@ -10,7 +10,7 @@ ghost use Rattle.c_meanings.specs.Known.{AreNamed};
 ghost use Rattle.c_named.specs.Lists.{leaves_of};
 ghost use Rattle.unit_names.specs.Internal.{leaf_if, internal_of};
 
-use c_meanings::{Names, declared_at, is_internal};
+use c_meanings::{Names, declared_at, is_internal_after, nothing_seen};
 use c_results::Made;
 use core_nodes::CheckFault;
 use std::alloc::Global;
@@ -46,18 +46,19 @@ fn of_symbol(
     ensures memory { IsOkUnless result CheckFault.OutOfMemory }
 {
     let mut list = Vec::new(alloc);
+    let mut seen = nothing_seen();
     for place in 0..lists.count(symbol) {
         let Some(leaf) = lists.get(symbol, place) else {
             return Ok(list);
         };
-        let wanted = is_internal(names, syntax, results, leaf);
+        let wanted = is_internal_after(names, syntax, results, &mut seen, leaf);
         add_if(&mut list, wanted, leaf)?;
     }
     Ok(list)
 }
 
-/// The leaves of all declarations of the name that a leaf declares which give it internal linkage, in order. It takes as long as there are
-/// declarations of its symbol, each as long as those that are seen there are many. Only memory may want.
+/// The leaves of all declarations of the name that a leaf declares which give it internal linkage, in order. It looks at each
+/// declaration of its symbol once. Only memory may want.
 pub(crate) fn of_internal(
     alloc: Global,
     names: &Names,

@@ -4,13 +4,20 @@ use Rattle.std.proofs.lemmas.Bool.{eqb-true, eq-eqb}
 use Rattle.pta_base.specs.declared.kind.Kind.TheVariants.{NotBuilt}
 use Rattle.core_tree.specs.declared.node.Unit.{Unit}
 use Rattle.c_grammar.specs.Terminals.{contains}
-use Rattle.c_grammar.specs.Productions.{p_struct, p_enum}
+use Rattle.c_grammar.specs.Productions.{p_struct, p_members, p_member, p_field, p_enum}
 use Rattle.c_senses.specs.Tags.{is_tag_specifier, struct_row}
 use Rattle.struct_rows.specs.Built.{built_struct}
 use Rattle.constant_values.specs.Constants as constants
 use Rattle.name_places.specs.Named.{IsNamedSense, IsNamedIn}
 use Rattle.c_results.specs.declared.made.Made.TheVariants as made
 use Rattle.statement_rows.specs.Kept.{HasAllRows}
+use Rattle.c_inits.specs.Made.{TagParts}
+use Rattle.c_structures.specs.Listed.{AreLists}
+use Rattle.tree_reads.specs.declared.syntax.Syntax.{Syntax}
+use Rattle.unit_limits.specs.Unions.{AreUnions}
+use Rattle.unit_limits.proofs.Flags.{unions_built}
+use Rattle.unit_rows.specs.declared.along.Along.{Along}
+use Rattle.unit_rows.specs.Along.{AreAlong}
 use Rattle.unit_rows.specs.Limits.{AreTested}
 use Rattle.core_nodes.proofs.Growing.{builds_on}
 use Rattle.unit_rows.specs.Standing.{AreKept}
@@ -239,6 +246,19 @@ row_at w s sense p q at xs ys e f h = ap (λ (r : ℕ). declaring_row w s sense 
 pub tested_on : (u v : Unit) (n : ℕ) → AreTested u n → Builds u v → AreTested v n
 tested_on u v n t b = record { earlier = t.earlier; small = t.small; built = builds_on t.earlier u v t.built b; long = t.long }
 
+-- what is kept beside a unit, once it is built on
+pub along_on : (syntax : Syntax) (u v : Unit) (rs : List Made) (a : Along) → AreAlong syntax u rs a → Builds u v → AreAlong syntax v rs a
+along_on syntax u v rs a h b = record { tested = tested_on u v a.tested h.tested b; lists = h.lists; unions = unions_built u v a.unions.items b h.unions }
+
+pub along_by : (syntax : Syntax) (u : Unit) (rs : List Made) (a : Along) (r : Result Made CheckFault) → IfOk r (λ m. AreTested u a.tested) → AreLists syntax rs a.lists → IfOk r (λ m. AreUnions u.types a.unions.items) → IfOk r (λ m. AreAlong syntax u rs a)
+along_by syntax u rs a (Ok m) tested lists unions = record { tested = tested; lists = lists; unions = unions }
+along_by syntax u rs a (Err fault) tested lists unions = tt
+
+-- a unit that grows has the tags that it had
+pub tags_grown : (u v : Unit) (es : List TagParts) → Grows u v es → v.types.tags ≡ u.types.tags
+tags_grown u v [] g = g.tags
+tags_grown u v (e ∷ rest) g = g.tags
+
 -- what is asked of nothing
 pub unless : (b : Bool) → b ≡ false → (r : Result Made CheckFault) (P : Made → Type 0) → IfOk r (λ m. b ≡ true → P m)
 unless b e (Ok m) P = λ t. let no : false ≡ true = sym e ∙ t in absurd (cc)
@@ -258,6 +278,9 @@ NoName p = (shapes.is_initial p ≡ false) × ((shapes.is_declarator p ≡ false
 
 pub of_member : (p : ℕ) → is_member p ≡ true → NoName p
 of_member p e = one_of NoName p (13 ∷ 14 ∷ 15 ∷ []) ((refl, (refl, refl)), ((refl, (refl, refl)), ((refl, (refl, refl)), tt))) e
+
+pub member_kind : (p : ℕ) → is_member p ≡ true → (p ≡ p_members) ⊎ ((p ≡ p_member) ⊎ (p ≡ p_field))
+member_kind p e = one_of (λ q. (q ≡ p_members) ⊎ ((q ≡ p_member) ⊎ (q ≡ p_field))) p (13 ∷ 14 ∷ 15 ∷ []) (inl refl, (inr (inl refl), (inr (inr refl), tt))) e
 
 pub of_declarator : (p : ℕ) → is_declarator p ≡ true → (shapes.is_initial p ≡ false) × ((p == p_struct) ≡ false)
 of_declarator p e = one_of (λ q. (shapes.is_initial q ≡ false) × ((q == p_struct) ≡ false)) p (19 ∷ 20 ∷ 21 ∷ []) ((refl, refl), ((refl, refl), ((refl, refl), tt))) e

@@ -3,3 +3,4 @@ pub mod Nothing
 pub mod Answers
 mod Saying
 mod Expressions
+pub mod Ranging

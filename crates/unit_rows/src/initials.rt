@@ -26,8 +26,8 @@ use init_rows::{initial, initialised_name};
 use name_sayings::said_of;
 use std::alloc::Global;
 
-// What is said of nothing.
-fn nothing_said(alloc: Global) -> Said
+/// What is said of nothing.
+pub(crate) fn nothing_said(alloc: Global) -> Said
     ensures { (count : ℕ) → IsSaidIn count result }
 {
     Said {

@@ -1,6 +1,8 @@
 //! The row of each node of a unit's syntax tree.
 #![tactic(auto)]
 
+mod along;
+mod declarators;
 mod initials;
 mod known;
 mod limits;
@@ -9,5 +11,6 @@ mod parts;
 mod rows;
 mod structures;
 
+pub use along::Along;
 pub use known::Known;
 pub use rows::row;

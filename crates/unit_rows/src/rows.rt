@@ -1,21 +1,22 @@
 // The row of a node, by its production.
 ghost use Rattle.std.specs.Prelude.{◌≡◌, ◌<◌, true, IfOk};
 ghost use Rattle.c_senses.specs.Tree.{production_at};
-ghost use Rattle.c_senses.specs.World.{World};
 ghost use Rattle.c_senses.specs.Sense.{sense_in};
-ghost use Rattle.c_senses.specs.Rows.{declarator_row};
+ghost use Rattle.c_structures.specs.Listed.{AreLists};
 ghost use Rattle.core_nodes.specs.Standing.{IsReady, Builds, Knows};
 ghost use Rattle.c_results.specs.Standing.{sense_made, senses_made, IsWithin, Rowed};
 ghost use Rattle.c_initials.specs.Filling.{Fills};
-ghost use Rattle.name_places.specs.Named.{IsNamedIn};
 ghost use Rattle.row_shapes.specs.Kept.{Keeps};
 ghost use Rattle.struct_rows.specs.Built.{HasTagTypes};
-ghost use Rattle.unit_limits.specs.Small.{IsSmallTable};
+ghost use Rattle.unit_limits.specs.Unions.{AreUnions};
 ghost use Rattle.unit_worlds.specs.Growing.{Grows, completed_at};
 ghost use Rattle.unit_rows.specs.Built.{RowedAt, Stops, lists_others, is_part, is_derivation, is_statement, is_plain, is_expression, is_member, is_declarator, is_limited};
+ghost use Rattle.unit_rows.specs.Along.{AreAlong};
 ghost use Rattle.unit_rows.specs.Limits.{AreTested};
 ghost use Rattle.unit_rows.specs.Standing.{IsKnown, Stand, ChoicesFit, source_known, nodes_known, world_there, row_there};
 
+use crate::along::Along;
+use crate::declarators::declared_name;
 use crate::initials::initial_row;
 use crate::known::Known;
 use crate::limits::all_small;
@@ -23,10 +24,9 @@ use crate::parts::{derivation, specifier};
 use crate::structures::structure;
 use c_results::Made;
 use c_statements::Choices;
-use c_structures::member;
+use c_structures::{MemberLists, listed_member};
 use core_nodes::CheckFault;
 use core_tree::node::Unit;
-use name_sayings::{DeclaredNames, completed_flags, declarator};
 use name_uses::expression;
 use pta_base::Kind;
 use statement_rows::{Told, row as statement_row};
@@ -170,44 +170,6 @@ fn is_declarator(production: u32) -> bool
     }
 }
 
-// The row of a declarator.
-fn declared_name(
-    alloc: Global,
-    unit: &mut Unit,
-    known: &Known,
-    results: &[Made],
-    at: u32,
-    children: &[u32],
-) -> Result<Made, CheckFault>
-    requires known { IsKnown known.now }
-    requires stand { Stand (nodes_known known.now) unit.old results.now }
-    requires small { IsSmallTable unit.old.types }
-    requires at { at < nodes_known known.now }
-    ensures ready { IsReady unit.new }
-    ensures builds { Builds unit.old unit.new }
-    ensures within { IfOk result (IsWithin unit.new) }
-    ensures named { (w : World) → Knows w unit.old → IfOk result (IsNamedIn (nodes_known known.now)) }
-    ensures row { (w : World) →
-        Knows w unit.old →
-        let sense = sense_in (senses_made unit.old results.now) in
-        Rowed unit.new result (declarator_row w (source_known known.now) sense at children.now) }
-{
-    let declared = DeclaredNames {
-        names: known.names,
-        lists: known.lists,
-        completed: completed_flags(&known.numbered.tags),
-    };
-    declarator(
-        alloc,
-        unit,
-        &known.numbered.syntax,
-        &declared,
-        results,
-        at,
-        children,
-    )
-}
-
 // The row of a node that asks for types within the limits, once they are tested: a structure or union, a member, a declarator or an
 // initialiser.
 fn limited(
@@ -216,6 +178,8 @@ fn limited(
     known: &Known,
     results: &[Made],
     tested: &mut u32,
+    lists: &mut MemberLists,
+    unions: &mut Vec<bool>,
     at: u32,
 ) -> Result<Made, CheckFault>
     requires known { IsKnown known.now }
@@ -224,6 +188,8 @@ fn limited(
     requires fills { Fills (world_there known.now unit.old results.now at) unit.old }
     requires types { HasTagTypes (source_known known.now) unit.old.types }
     requires tested { AreTested unit.old tested.old }
+    requires lists { AreLists known.now.numbered.now.syntax results.now lists.old }
+    requires unions { AreUnions unit.old.types unions.old.items }
     requires at { at < nodes_known known.now }
     requires limited { is_limited (production_at (source_known known.now) at) ≡ true }
     ensures ready { IsReady unit.new }
@@ -232,23 +198,24 @@ fn limited(
     ensures grows { let sense = sense_in (senses_made unit.old results.now) in
         IfOk result (λ m. Grows unit.old unit.new (completed_at (source_known known.now) sense at)) }
     ensures tested { IfOk result (λ m. AreTested unit.new tested.new) }
+    ensures lists { AreLists known.now.numbered.now.syntax results.now lists.new }
+    ensures unions { IfOk result (λ m. AreUnions unit.new.types unions.new.items) }
     ensures row { let s = source_known known.now in
         RowedAt unit.new result (row_there known.now unit.old results.now at) (Stops s unit.old unit.new results.now at) at }
 {
     let syntax = &known.numbered.syntax;
     let production = production_of(syntax, at);
-    let children = children_of(syntax, at);
     if !all_small(unit, tested) {
         return Err(CheckFault::Unsupported(Kind::NotBuilt, at));
     }
     if production == P_STRUCT {
-        return structure(alloc, unit, known, results, tested, at);
+        return structure(alloc, unit, known, results, tested, unions, at);
     }
     if is_member(production) {
-        return member(alloc, unit, syntax, results, production, at, children);
+        return listed_member(alloc, unit, syntax, results, unions.as_slice(), lists, at);
     }
     if is_declarator(production) {
-        return declared_name(alloc, unit, known, results, at, children);
+        return declared_name(alloc, unit, known, results, unions.as_slice(), at);
     }
     initial_row(alloc, unit, known, results, at)
 }
@@ -289,14 +256,14 @@ fn declared(
 /// What a node stands for, by its production (C11 6.5 to 6.9), over what was made for the nodes before it and the cases and defaults before
 /// it: exactly the row of its production, where an answer comes. It may be `NotBuilt` at the node where types that were made aren't within
 /// the limits, where the members of a structure or union aren't such as are taken, and for constants and strings that no reading of a text
-/// takes (`Stops`). Beside that only memory may want. `tested` counts the types of the unit that are known to be within the limits.
+/// takes (`Stops`). Beside that only memory may want. `along` is what is kept beside the unit.
 pub fn row(
     alloc: Global,
     unit: &mut Unit,
     known: &Known,
     results: &[Made],
     choices: &Choices,
-    tested: &mut u32,
+    along: &mut Along,
     at: u32,
 ) -> Result<Made, CheckFault>
     requires known { IsKnown known.now }
@@ -305,14 +272,14 @@ pub fn row(
     requires fills { Fills (world_there known.now unit.old results.now at) unit.old }
     requires types { HasTagTypes (source_known known.now) unit.old.types }
     requires choices { ChoicesFit known.now unit.old results.now at choices.now }
-    requires tested { AreTested unit.old tested.old }
+    requires along { AreAlong known.now.numbered.now.syntax unit.old results.now along.old }
     requires at { at < nodes_known known.now }
     ensures ready { IsReady unit.new }
     ensures within { IfOk result (IsWithin unit.new) }
     ensures keeps { IfOk result (λ m. Keeps (nodes_known known.now) (sense_made unit.new m)) }
     ensures grows { let sense = sense_in (senses_made unit.old results.now) in
         IfOk result (λ m. Grows unit.old unit.new (completed_at (source_known known.now) sense at)) }
-    ensures tested { IfOk result (λ m. AreTested unit.new tested.new) }
+    ensures along { IfOk result (λ m. AreAlong known.now.numbered.now.syntax unit.new results.now along.new) }
     ensures row { let s = source_known known.now in
         RowedAt unit.new result (row_there known.now unit.old results.now at) (Stops s unit.old unit.new results.now at) at }
 {
@@ -327,5 +294,14 @@ pub fn row(
     if is_plain(production) {
         return declared(alloc, unit, known, results, choices, at);
     }
-    limited(alloc, unit, known, results, tested, at)
+    limited(
+        alloc,
+        unit,
+        known,
+        results,
+        &mut along.tested,
+        &mut along.lists,
+        &mut along.unions,
+        at,
+    )
 }

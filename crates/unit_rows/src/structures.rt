@@ -10,6 +10,7 @@ ghost use Rattle.core_nodes.specs.Standing.{IsReady, Knows};
 ghost use Rattle.c_results.specs.Standing.{senses_made, IsWithin};
 ghost use Rattle.struct_rows.specs.Built.{HasTagTypes, built_struct};
 ghost use Rattle.unit_limits.specs.Small.{IsSmallTable};
+ghost use Rattle.unit_limits.specs.Unions.{AreUnions};
 ghost use Rattle.unit_worlds.specs.Growing.{Grows, completed_at};
 ghost use Rattle.unit_rows.specs.Built.{RowedAt, IsLargeBehind};
 ghost use Rattle.unit_rows.specs.Limits.{AreTested};
@@ -22,7 +23,7 @@ use core_tree::node::Unit;
 use pta_base::Kind;
 use std::alloc::Global;
 use struct_rows::struct_row;
-use unit_limits::stays_small_behind;
+use unit_limits::{note_behind, stays_small_behind};
 
 /// The row of a specifier of a structure or union (C11 6.7.2.1, 6.7.2.3), in a unit whose types are within the limits, which they are then
 /// still. It is `NotBuilt` where they would not be, and where its members aren't such as are taken.
@@ -32,6 +33,7 @@ pub(crate) fn structure(
     known: &Known,
     results: &[Made],
     tested: &mut u32,
+    unions: &mut Vec<bool>,
     at: u32,
 ) -> Result<Made, CheckFault>
     requires known { IsKnown known.now }
@@ -41,12 +43,14 @@ pub(crate) fn structure(
     requires small { IsSmallTable unit.old.types }
     requires knows { Knows (world_there known.now unit.old results.now at) unit.old }
     requires tested { tested.old ≡ length unit.old.types.terms }
+    requires unions { AreUnions unit.old.types unions.old.items }
     requires at { is_a (source_known known.now) p_struct at ≡ true }
     ensures ready { IsReady unit.new }
     ensures within { IfOk result (IsWithin unit.new) }
     ensures grows { let sense = sense_in (senses_made unit.old results.now) in
         IfOk result (λ m. Grows unit.old unit.new (completed_at (source_known known.now) sense at)) }
     ensures tested { IfOk result (λ m. AreTested unit.new tested.new) }
+    ensures unions { IfOk result (λ m. AreUnions unit.new.types unions.new.items) }
     ensures row { let sense = sense_in (senses_made unit.old results.now) in
         let w = world_there known.now unit.old results.now at in
         let s = source_known known.now in
@@ -62,6 +66,7 @@ pub(crate) fn structure(
     if !stays_small_behind(unit, *tested, syntax, at, &made) {
         return Err(CheckFault::Unsupported(Kind::NotBuilt, at));
     }
+    note_behind(unit, unions, syntax, at, &made);
     *tested = unit.types.type_count();
     Ok(made)
 }

@@ -1,3 +1,4 @@
 pub mod Numbering
-pub mod Invalid
+pub mod Rightness
 pub mod Refused
+pub mod Validity

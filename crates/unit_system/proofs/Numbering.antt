@@ -1,9 +1,5 @@
 -- What is right for the tree of a unit is that unit.
-use Rattle.std.proofs.Common.{◌≡◌, ℕ, subst}
-use Rattle.core_tree.specs.declared.node.Unit.{Unit}
-use Rattle.unit_link.specs.Needs.{IsNumbered}
-use Rattle.c_senses.specs.Tree.{Source}
-use Rattle.c_senses.specs.Right.{Right}
+use Rattle.std.proofs.Common.{ℕ, subst}
 use Rattle.numbered_laws.specs.Numbered.{AreOfUnit}
 use Rattle.numbered_laws.proofs.Whole.{numbered}
 use Rattle.unit_system.specs.Numbered.{RightIsNumbered}

@@ -1,3 +1,4 @@
 pub mod Numbered
 pub mod Of
+pub mod Right
 pub mod Faults

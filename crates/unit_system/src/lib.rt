@@ -4,7 +4,7 @@
 mod fault;
 pub mod laws;
 mod linking;
-mod range;
+mod placed;
 mod systems;
 
 pub use fault::UnitFault;

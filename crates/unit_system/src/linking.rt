@@ -1,6 +1,9 @@
 //! The program that units are.
 
-ghost use Rattle.std.specs.Prelude.{List, MatchResult};
+ghost use Rattle.std.specs.Prelude.{IfOk, List, MatchResult};
+ghost use Rattle.core_tree.specs.Range.{InRange};
+ghost use Rattle.core_tree.specs.Typed.{trees_in};
+ghost use Rattle.link_merge.specs.Tags.{AreMade};
 ghost use Rattle.link_names.specs.Said.{IsFaultUnless};
 ghost use Rattle.unit_link.specs.Linked.{Linked, LinksBadly};
 ghost use Rattle.unit_link.specs.Needs.{AreLinkable};
@@ -9,6 +12,7 @@ ghost use Rattle.unit_system.specs.Faults.{IsFaultOf};
 
 use crate::fault::UnitFault;
 use core_tree::{Program, Unit};
+use link_merge::tags::tables_told;
 use link_names::LinkFault;
 use link_units::link;
 use std::alloc::Global;
@@ -26,11 +30,14 @@ fn fault_of(fault: LinkFault) -> UnitFault
     }
 }
 
-/// The program that units are, or the first fault of linking them.
+/// The program that units are, whose numbers are all in range, or the first fault of linking them.
 pub(crate) fn linked(alloc: Global, units: Vec<Unit>) -> Result<Program, UnitFault>
     requires { AreLinkable units.items }
-    ensures { MatchResult result (Linked units.items) (IsFaultOf units.items) }
+    ensures linked { MatchResult result (Linked units.items) (IsFaultOf units.items) }
+    ensures range { IfOk result (λ p. InRange (trees_in p)) }
+    ensures tables { AreMade units.items }
 {
+    tables_told(units.as_slice());
     match link(alloc, units) {
         Ok(program) => Ok(program),
         Err(fault) => Err(fault_of(fault)),

@@ -19,7 +19,7 @@ use Rattle.c_senses.specs.Tags.{tags_below}
 use Rattle.c_senses.specs.Sense.{Sense, sense_in}
 use Rattle.c_senses.specs.Rows.{world_at, row_of, AreSenses, RefusedAt}
 use Rattle.sense_laws.specs.Senses.{ChildrenFirst}
-use Rattle.core_nodes.specs.Standing.{parts_in, IsReady, Knows, Builds}
+use Rattle.core_nodes.specs.Standing.{parts_in, IsReady, Knows}
 use Rattle.core_nodes.specs.declared.fault.CheckFault.{CheckFault}
 use Rattle.core_nodes.specs.declared.fault.CheckFault.TheVariants.{BadOperand, Unsupported, OutOfMemory}
 use Rattle.c_results.specs.declared.made.Made.{Made}
@@ -33,8 +33,11 @@ use Rattle.unit_worlds.proofs.Sensing.{no_senses, row_as, senses_more}
 use Rattle.unit_worlds.proofs.Worlds.{known_one}
 use Rattle.unit_rows.specs.Built as rows
 use Rattle.unit_rows.specs.Built.{is_limited}
-use Rattle.unit_limits.specs.Small.{IsSmallTable}
-use Rattle.unit_rows.specs.Limits.{AreTested}
+use Rattle.c_structures.specs.Listed.{AreLists}
+use Rattle.c_structures.proofs.Opening.{lists_more}
+use Rattle.tree_reads.specs.declared.syntax.Syntax.{Syntax}
+use Rattle.unit_rows.specs.declared.along.Along.{Along}
+use Rattle.unit_rows.specs.Along.{AreAlong}
 use Rattle.unit_rows.specs.Standing.{Stand, AreMade}
 use Rattle.unit_walk.specs.Walked.{IsLargeBehind, IsStopped, StopsAt, RefusedBy}
 use Rattle.unit_walk.proofs.Keeping.{mades_grown, withins_grown, kept_grown}
@@ -58,21 +61,13 @@ pub senses_with : (s : Source) (u v : Unit) (rs more : List Made) (m : Made) (at
 senses_with s u v rs more m at pushed within grows =
     ap (senses_made v) pushed ∙ (map-append (sense_made v) rs (m ∷ []) ∙ ap (λ (t : List Sense). t ++ sense_made v m ∷ []) (mades_grown u v (completed_at s (sense_in (senses_made u rs)) at) grows rs within))
 
--- before anything is made, a unit is built on itself
-pub builds_same : (u : Unit) → Builds u u
-builds_same u = record {
-  more = omega arith;
-  cores = λ i h. refl;
-  terms = omega arith;
-  types = λ id h. refl;
-  tags = refl;
-  parts = λ tag. refl;
-  extents = λ t. refl;
-  entities = refl;
+-- what is kept beside a unit stays right with one result more
+pub along_more : (syntax : Syntax) (v : Unit) (rs more : List Made) (m : Made) (a : Along) → more ≡ rs ++ m ∷ [] → AreAlong syntax v rs a → AreAlong syntax v more a
+along_more syntax v rs more m a e h = record {
+  tested = h.tested;
+  lists = subst (λ (l : List Made). AreLists syntax l a.lists) (sym e) (lists_more syntax rs m a.lists h.lists);
+  unions = h.unions;
 }
-
-pub tested_first : (u : Unit) (count : ℕ) → IsSmallTable u.types → count ≡ length u.types.terms → AreTested u count
-tested_first u count small long = record { earlier = u; small = small; built = builds_same u; long = long }
 
 -- what is known is the same around every node
 pub known_at : (s : Source) (senses : List Sense) (u : Unit) (i j : ℕ) → Knows (world_at s senses i) u → Knows (world_at s senses j) u

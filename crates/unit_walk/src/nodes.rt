@@ -11,7 +11,7 @@ use core_nodes::CheckFault;
 use core_tree::node::Unit;
 use std::alloc::Global;
 use unit_choices::{no_choices, note};
-use unit_rows::{Known, row};
+use unit_rows::{Along, Known, row};
 
 /// What each node of a unit stands for, over what was made for those before it (C11 6.5 to 6.9). The unit's table of types has all tags of
 /// structures and unions before the first row, none of them complete. A refusal is that of the first node whose row doesn't fit, or says
@@ -31,11 +31,13 @@ pub fn walk_nodes(alloc: Global, unit: &mut Unit, known: &Known) -> Result<Vec<M
     let syntax = &known.numbered.syntax;
     let mut results = Vec::new(alloc);
     let mut choices = no_choices(alloc);
-    let mut tested = unit.types.type_count();
+    let Ok(mut along) = Along::new(alloc, unit) else {
+        return Err(CheckFault::OutOfMemory);
+    };
     for at in 0..syntax.tree.nodes.len() {
         let node = at as u32;
         let before = results.as_slice();
-        match row(alloc, unit, known, before, &choices, &mut tested, node) {
+        match row(alloc, unit, known, before, &choices, &mut along, node) {
             Ok(made) => results.push(made)?,
             Err(fault) => return Err(fault),
         }

@@ -5,6 +5,7 @@ pub mod Counts
 pub mod Ending
 pub mod Gifts
 pub mod Growing
+pub mod Marking
 pub mod Once
 pub mod Parts
 pub mod Rings

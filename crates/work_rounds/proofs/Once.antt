@@ -1,9 +1,9 @@
 -- Rows that stand once in a list.
-use Rattle.std.proofs.Common.{◌≡◌, ◌≢◌, ℕ, suc, ◌+◌, ◌-◌, ◌*◌, ◌<◌, ◌≤◌, reverse, List, [], ◌∷◌, ◌++◌, length, get_or, map, Some, slice_get, Contains, AllPairs, refl, sym, ap, ◌∙◌, subst, inl, inr, arith}
+use Rattle.std.proofs.Common.{◌≡◌, ◌≢◌, ℕ, suc, ◌+◌, ◌*◌, ◌<◌, ◌≤◌, List, [], ◌∷◌, ◌++◌, length, get_or, map, Some, slice_get, Contains, refl, sym, ap, ◌∙◌, subst, inl, inr, arith}
 use Rattle.std.proofs.lemmas.Bool.{cases_order}
 use Rattle.std.proofs.lemmas.Nat.{same_from_place}
 use Rattle.std.proofs.lemmas.Option.{slice_get_within, get_or_from_slice_get}
-use Rattle.std.proofs.lemmas.List.{get_or-reverse, length-reverse, map-append}
+use Rattle.std.proofs.lemmas.List.{map-append}
 use Rattle.std.proofs.lemmas.List.Elements.{Contains-get_or}
 use Rattle.std.proofs.lemmas.List.Quantifiers.{all_pairs_push}
 use Rattle.delta_prop.specs.declared.turn.Turn.{Turn}
@@ -64,15 +64,6 @@ shares_apart todo workers first (s ∷ rest) once rows few =
     let there : slice_get todo (j * workers + (first + suc k)) ≡ Some x = (let e : j * workers + (first + suc k) ≡ first + suc k + j * workers = omega arith in ap (slice_get todo) e ∙ sym (rows (suc k) q.2 q.3 j) ∙ q.4) in
     let same = same_from_place p.0 first j (first + suc k) workers here other (one_place todo once (p.0 * workers + first) (j * workers + (first + suc k)) x (own p.0 x p.1) there) in
     absurd (let e = same.1 in omega arith)))
-
-pub distinct_reverse : (xs : List ℕ) → AreRowsApart xs → AreRowsApart (reverse xs)
-distinct_reverse xs once i j d lt long e =
-    let n : length (reverse xs) ≡ length xs = length-reverse xs in
-    once (length xs - 1 - j) (length xs - 1 - i) d (omega arith) (omega arith) (sym (get_or-reverse xs j d (omega arith)) ∙ sym e ∙ get_or-reverse xs i d (omega arith))
-
--- sorted numbers without repetition
-pub distinct_rising : (xs : List ℕ) → AllPairs (λ (x y : ℕ). x < y) xs → AreRowsApart xs
-distinct_rising xs rising i j d lt long e = let l = rising i j d lt long in absurd (omega arith)
 
 pub none_twice : AreRowsApart []
 none_twice i j d lt long = absurd (omega arith)

@@ -1,11 +1,12 @@
-//! The least solution by rounds of workers on shared rows: in each round every row that may have grown is one piece, and
-//! a piece carries along the row's edges only what is new in it (Pearce, Kelly and Hankin 2007, section 4). Between
-//! rounds new members bring new edges.
+//! The least solution by rounds of workers on shared rows: in each round every row that has grown, and every row that edges
+//! reach from one, is one piece, in an order along the edges (Pearce, Kelly and Hankin 2003, on the order of visits), and a
+//! piece carries along the row's edges only what is new in it (2007, section 4). Between rounds new members bring new edges.
 #![tactic(auto)]
 
 mod dealing;
 mod joining;
 pub mod laws;
+mod ordering;
 mod pieces;
 mod round;
 mod settling;

@@ -12,6 +12,7 @@ ghost use Rattle.work_rounds.specs.Balance.{IsBooked, paid_for};
 ghost use Rattle.work_rounds.specs.Work.{IsWork};
 
 use crate::dealing::dealt;
+use crate::ordering::turn_order;
 use crate::pieces::Round;
 use crate::round::all_pieces;
 use crate::settling::{Ground, Progress, begin, settle};
@@ -39,16 +40,11 @@ fn thread_count(round: u64, rows: usize, workers: u32) -> u32
     (rows / ROWS_A_THREAD).clamp(1, workers as usize) as u32
 }
 
-/// Each row once, in order of numbers or in the order against it.
-fn each_once(todo: &mut Vec<u32>, backwards: bool)
-    ensures rows { (row : ℕ) → (Contains todo.new.items row → Contains todo.old.items row) × (Contains todo.old.items row → Contains todo.new.items row) }
-    ensures once { AreRowsApart todo.new.items }
+/// The rows in order of their numbers.
+fn in_order(todo: &mut Vec<u32>)
+    ensures { (row : ℕ) → (Contains todo.new.items row → Contains todo.old.items row) × (Contains todo.old.items row → Contains todo.new.items row) }
 {
     todo.sort_unstable();
-    todo.dedup();
-    if backwards {
-        todo.reverse();
-    }
 }
 
 /// The rows of a round in the order in which they are dealt out. More than 2^32 - 1 rows are want of memory.
@@ -118,7 +114,8 @@ fn work_round<R: Threads + Sync, G: Gate + Sync>(
 /// closed, what the seat has seen is the least solution, and the seat has read the table as closed; and the steps that
 /// set bits, of this seat and all that were split from it, are at most the work of that solution, and one to close. After
 /// want of memory the table is not closed by this call, and all that it added is in the least solution. Either way the
-/// seat has the part of the whole that it had. Piece i of a round, from 0, belongs to worker i modulo the number of workers,
+/// seat has the part of the whole that it had. The pieces of a round are the rows that have grown and those that edges reach
+/// from them, each once. Piece i of a round, from 0, belongs to worker i modulo the number of workers,
 /// who passes the gate before it. In the first round each worker has a thread; a later round of few rows has fewer threads,
 /// each of which goes through the pieces of several workers, and with one of them no thread is started.
 pub fn solve<R: Threads + Sync, G: Gate + Sync>(
@@ -165,9 +162,10 @@ pub fn solve<R: Threads + Sync, G: Gate + Sync>(
             table.is_shut(seat);
             return Ok(());
         }
-        each_once(&mut todo, round % 2 == 1);
-        let threads = thread_count(round, todo.len(), workers);
-        let rows = round_rows(alloc, todo.as_slice(), workers)?;
+        in_order(&mut todo);
+        let order = turn_order(alloc, &progress.book, todo.as_slice(), system.rows)?;
+        let threads = thread_count(round, order.len(), workers);
+        let rows = round_rows(alloc, order.as_slice(), workers)?;
         let ground = Ground {
             system,
             table,

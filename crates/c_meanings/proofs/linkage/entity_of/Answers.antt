@@ -16,8 +16,8 @@ use Rattle.c_meanings.proofs.linkage.entity_of.Goals as goal
 pub returns-then-not-is_internal : goal.returns-then-not-is_internal
 returns-then-not-is_internal c = λ u uses. let e : c.is_internal.result ≡ false = cc in if_else _ _ _ _ _ (c.is_internal.ensures u uses) e refl
 
-pub first_internal-requires-clause-place : goal.first_internal-requires-clause-place
-first_internal-requires-clause-place c =
+pub front_of-front-requires-clause-place : goal.front_of-front-requires-clause-place
+front_of-front-requires-clause-place c =
     let h = c.requires.names.chained in
     let ds = (source_read c.args.syntax.now).declared.ordinary in
     let there = found_at c.args.leaf ds c.in-Some.place (sym (h.chains.places c.args.leaf) ∙ sym c.in-Some.ensures) in
@@ -33,7 +33,8 @@ returns-in-Some c = λ u uses.
     let there = found_at c.args.leaf s.declared.ordinary c.in-Some.place (sym (h.chains.places c.args.leaf) ∙ sym c.in-Some.ensures) in
     if_then _ _ _ _ _ (c.is_internal.ensures u uses) e
     (c.first_internal.ensures u uses
-    ∙ first_of_symbol (nodes_in c.args.syntax.now) s sense c.args.names.now.symbols.items c.args.leaf c.in-Some.place there.0 h.symbols there.1 (sym (c.is_internal.ensures u uses) ∙ e))
+    ∙ (c.front_of-front.ensures.first u uses
+    ∙ first_of_symbol (nodes_in c.args.syntax.now) s sense c.args.names.now.symbols.items c.args.leaf c.in-Some.place there.0 h.symbols there.1 (sym (c.is_internal.ensures u uses) ∙ e)))
 
 pub returns-in-None : goal.returns-in-None
 returns-in-None c = λ u uses.

@@ -7,4 +7,5 @@ use Rattle.command_line.proofs.builder.program.Goals as goal
 pub returns : goal.returns
 returns c =
     let one = added _ _ _ (value_option (codes "workers")) c.in_ok-command.ensures c.bare-command.ensures in
-    IfOk-weaker c.with_words.result _ _ (λ m h. added _ _ _ (positional_words (codes "unit")) h one) c.with_words.ensures
+    let two = added _ _ _ (value_option (codes "ask")) c.in_ok-command-2.ensures one in
+    IfOk-weaker c.with_words.result _ _ (λ m h. added _ _ _ (positional_words (codes "unit")) h two) c.with_words.ensures

@@ -57,7 +57,7 @@ loop-to-preserved c =
     let w = view c.carry.new.seat in
     let inv = c.loop-to.invariant in
     let at = target_at row i book items c.targets-to-items.ensures c.loop-to-test.true in
-    let carried : IsSeenOf W w.seen to now = subst (λ (xs : List ℕ). IsSeenOf W w.seen to xs) c.as_slice.ensures.value c.carry.ensures.carried in
+    let carried : IsSeenOf W w.seen to now = subst (λ (xs : List ℕ). IsSeenOf W w.seen to xs) c.as_slice-in-loop-to.ensures.value c.carry.ensures.carried in
     let P : List ℕ → Type 0 = λ grown. record { own : IsOf t c.carry.new.seat; sized : length now ≡ W; going : Going W row (i + 1) (targets_of row book) done now grown v w } in
     elim c.if-carry.branch [
       | then-carry x ↦
@@ -65,8 +65,8 @@ loop-to-preserved c =
             own = c.carry.ensures.own;
             sized = inv.sized;
             going = going_carried W row i to (targets_of row book) done now c.loop-to.grown.items v u w inv.going at c.carry.ensures.view c.carry.ensures.sound carried c.carry.ensures.others
-                (subst (λ (xs : List ℕ). w.ors ≤ u.ors + gained W done xs) c.as_slice.ensures.value c.carry.ensures.ors)
-                (subst (λ (xs : List ℕ). 0 < gained W done xs) c.as_slice.ensures.value (c.carry.ensures.some x.if-carry.true));
+                (subst (λ (xs : List ℕ). w.ors ≤ u.ors + gained W done xs) c.as_slice-in-loop-to.ensures.value c.carry.ensures.ors)
+                (subst (λ (xs : List ℕ). 0 < gained W done xs) c.as_slice-in-loop-to.ensures.value (c.carry.ensures.some x.if-carry.true));
           }
       | else-carry x ↦
           subst P (sym (ap (λ (g : Vec ℕ Global). g.items) x.grown-is ∙ c.in_ok-reserve.ensures.items)) record {

@@ -8,6 +8,7 @@ use Rattle.link_whole.specs.Entities.{AreEntitiesOf}
 use Rattle.link_units.specs.Nodes.{node_counts_of}
 use Rattle.link_units.proofs.Growing.{are_merged_grown}
 use Rattle.link_units.proofs.Noding.{units_placeable}
+use Rattle.link_units.proofs.Typing.{in_range_all}
 use Rattle.link_units.proofs.Whole.{linked_all}
 use Rattle.link_units.proofs.linking.link_merged.Goals as goal
 
@@ -25,8 +26,8 @@ names_and_nodes-requires-clause-placeable c =
     let count = c.type_count-now.ensures.count in
     units_placeable units c.args.type_starts.now c.in_ok-entities.numbers c.ready.new.types c.requires.linkable merged (omega arith) h.numbers
 
-pub returns : goal.returns
-returns c =
+pub returns-clause-linked : goal.returns-clause-linked
+returns-clause-linked c =
     let units = c.args.units.items in
     let starts = c.as_slice-first.result.now in
     let n = c.in_ok-entities.numbers in
@@ -36,3 +37,16 @@ returns c =
     let own = subst (λ (l : List Unit). AreSums (node_counts_of l) c.in_ok-node_starts.node_starts.items) c.as_slice.ensures.value c.in_ok-node_starts.ensures in
     let sums = subst (λ (l : List ℕ). AreSums (node_counts_of units) l) (sym c.as_slice-first.ensures.value) own in
     linked_all units c.args.type_starts.now starts n p c.requires.linkable c.in_ok-ready.ensures.ready merged sums h c.in_ok-names.ensures.names c.in_ok-names.ensures.nodes
+
+pub returns-clause-range : goal.returns-clause-range
+returns-clause-range c =
+    let units = c.args.units.items in
+    let starts = c.as_slice-first.result.now in
+    let n = c.in_ok-entities.numbers in
+    let p : Program = record { names = c.in_ok-names.names; types = c.ready.new.types; nodes = c.in_ok-names.nodes; entities = c.in_ok-entities.entities } in
+    let merged = are_merged_grown units c.args.type_starts.now c.args.merged c.ready.new.types c.type_count-old.ensures.made c.in_ok-ready.ensures.grown c.requires.merged in
+    let h = subst (λ (l : List Unit). AreEntitiesOf (joined_by l c.ready.new.types c.args.type_starts.now) c.in_ok-entities.entities.items n) c.as_slice-2.ensures.value c.in_ok-entities.ensures in
+    let own = subst (λ (l : List Unit). AreSums (node_counts_of l) c.in_ok-node_starts.node_starts.items) c.as_slice.ensures.value c.in_ok-node_starts.ensures in
+    let sums = subst (λ (l : List ℕ). AreSums (node_counts_of units) l) (sym c.as_slice-first.ensures.value) own in
+    let linked = linked_all units c.args.type_starts.now starts n p c.requires.linkable c.in_ok-ready.ensures.ready merged sums h c.in_ok-names.ensures.names c.in_ok-names.ensures.nodes in
+    in_range_all units c.args.type_starts.now starts n p c.requires.linkable linked merged sums h c.in_ok-names.ensures.nodes

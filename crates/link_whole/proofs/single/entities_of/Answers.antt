@@ -6,7 +6,7 @@ use Rattle.link_names.specs.Names.{AreNames}
 use Rattle.link_program.specs.Checked.{joined_by}
 use Rattle.link_program.proofs.Scenes.{scene_right}
 use Rattle.link_entities.specs.Row.{AreLinked}
-use Rattle.link_whole.proofs.OwnTypes.{small_entities}
+use Rattle.link_whole.proofs.Sizes.{small_entities}
 use Rattle.link_whole.proofs.single.entities_of.Goals as goal
 
 pub entities_in-requires-clause-scene : goal.entities_in-requires-clause-scene

@@ -1,13 +1,14 @@
-use Rattle.std.proofs.Common.{◌≡◌, ℕ, List, [], Some, inl, inr, refl, sym, ap, subst, arith, codes, Err, slice_get}
+use Rattle.std.proofs.Common.{◌≡◌, ℕ, List, [], Some, inl, inr, refl, sym, ◌∙◌, ap, subst, arith, codes, Err, slice_get}
 use Rattle.std.specs.Prelude.{Contains}
 use Rattle.sol_model.proofs.Members.{Contains-at}
 use Rattle.command_line.specs.Rules.{AreRight}
 use Rattle.command_line.specs.Distinct.{AreDistinct}
-use Rattle.report_cli.specs.Words.{names_of, names_read, texts_of}
-use Rattle.report_cli.specs.Answers.{Answer, told_units, refusal}
+use Rattle.report_cli.specs.Words.{names_of, texts_of}
+use Rattle.report_cli.specs.Answers.{Answer, refusal}
+use Rattle.report_cli.specs.Told.{names_for, told_for}
 use Rattle.report_cli.specs.Outside.{Receives, source_fault}
-use Rattle.report_cli.proofs.Lifted.{IsStatus, with_names, denotes_told, refuses_told}
-use Rattle.report_cli.proofs.Exclusion.{refuses_read}
+use Rattle.report_cli.proofs.Lifted.{IsStatus, names_asked, with_told_for, told_denotes, told_prints, told_refuses}
+use Rattle.report_cli.proofs.Exclusion.{told_read}
 use Rattle.report_cli.proofs.Answered.{not_risen, grows_nothing, receives_nothing, always, same_name, number_of_workers, few_names}
 use Rattle.report_cli.proofs.top.analyse.Goals as goal
 
@@ -16,61 +17,66 @@ no_success : (status : ℕ) → IsStatus status → status ≡ 0 → ⊥
 no_success status (inl three) e = omega arith
 no_success status (inr (inl four)) e = omega arith
 no_success status (inr (inr (inl five))) e = omega arith
-no_success status (inr (inr (inr six))) e = omega arith
+no_success status (inr (inr (inr (inl six)))) e = omega arith
+no_success status (inr (inr (inr (inr ten)))) e = omega arith
 
 no_two : (status : ℕ) → IsStatus status → status ≡ 2 → ⊥
 no_two status (inl three) e = omega arith
 no_two status (inr (inl four)) e = omega arith
 no_two status (inr (inr (inl five))) e = omega arith
-no_two status (inr (inr (inr six))) e = omega arith
+no_two status (inr (inr (inr (inl six)))) e = omega arith
+no_two status (inr (inr (inr (inr ten)))) e = omega arith
 
 no_seven : (status : ℕ) → IsStatus status → status ≡ 7 → ⊥
 no_seven status (inl three) e = omega arith
 no_seven status (inr (inl four)) e = omega arith
 no_seven status (inr (inr (inl five))) e = omega arith
-no_seven status (inr (inr (inr six))) e = omega arith
+no_seven status (inr (inr (inr (inl six)))) e = omega arith
+no_seven status (inr (inr (inr (inr ten)))) e = omega arith
 
 no_eight : (status : ℕ) → IsStatus status → status ≡ 8 → ⊥
 no_eight status (inl three) e = omega arith
 no_eight status (inr (inl four)) e = omega arith
 no_eight status (inr (inr (inl five))) e = omega arith
-no_eight status (inr (inr (inr six))) e = omega arith
+no_eight status (inr (inr (inr (inl six)))) e = omega arith
+no_eight status (inr (inr (inr (inr ten)))) e = omega arith
 
 no_nine : (status : ℕ) → IsStatus status → status ≡ 9 → ⊥
 no_nine status (inl three) e = omega arith
 no_nine status (inr (inl four)) e = omega arith
 no_nine status (inr (inr (inl five))) e = omega arith
-no_nine status (inr (inr (inr six))) e = omega arith
+no_nine status (inr (inr (inr (inl six)))) e = omega arith
+no_nine status (inr (inr (inr (inr ten)))) e = omega arith
 
 pub returns-in-Err-Usage-clause-outcome : goal.returns-in-Err-Usage-clause-outcome
 returns-in-Err-Usage-clause-outcome g c not7 not8 not9 =
-    always (told_units (g.U.Units.text c.args.units.now) (names_read (texts_of c.args.words.now))) _
+    always (told_for (g.U.Units.text c.args.units.now) (texts_of c.args.words.now)) _
     (λ told. (refusal 2 (codes "usage"), inl (c.in-Err-Usage.ensures.usage c.in-Err-Usage.field-0-is, refl), refl, grows_nothing _ _ refl, c.say.ensures))
 
 pub returns-in-Err-Source-clause-source : goal.returns-in-Err-Source-clause-source
 returns-in-Err-Source-clause-source g c seven =
-    let names : List (List ℕ) = names_of c.in-Ok.command.units.items in
+    let names : List (List ℕ) = names_for c.in-Ok.command in
     let given = c.in-Err-Source.ensures.cause c.in-Err-Source.number (ap Err c.in-Err-Source.field-0-is) in
-    let sliced : names_of c.as_slice-names.result.now ≡ names = ap names_of c.as_slice-names.ensures.value in
+    let sliced : names_of c.as_slice-all.result.now ≡ names = ap names_of c.as_slice-all.ensures.value ∙ c.in-Ok-names_for.ensures in
     let A : List (List ℕ) → Type 0 = λ n. slice_get n c.in-Err-Source.number ≡ Some given.0 in
     let at : slice_get names c.in-Err-Source.number ≡ Some given.0 = subst A sliced given.1 in
-    let name_is : c.name_at.result.now ≡ given.0 = same_name (names_of c.as_slice-names.result.now) c.in-Err-Source.number given.0 c.name_at.result.now given.1 c.name_at.ensures in
+    let name_is : c.name_at.result.now ≡ given.0 = same_name (names_of c.as_slice-all.result.now) c.in-Err-Source.number given.0 c.name_at.result.now given.1 c.name_at.ensures in
     let P : List ℕ → Type 0 = λ name. Receives (g.E.Sink.written c.args.err.now) (g.E.Sink.written c.source_fault.new.err) (g.E.Sink.faults c.args.err.now) (g.E.Sink.faults c.source_fault.new.err) (source_fault name) in
     let C : List (List ℕ) → Type 0 = λ n. Contains n given.0 in
-    (given.0, subst C c.in-Ok.ensures.ok.says.units (Contains-at names c.in-Err-Source.number given.0 at), given.2, subst P name_is (c.source_fault.ensures.said seven))
+    (given.0, subst C (names_asked (texts_of c.args.words.now) c.in-Ok.command c.in-Ok.ensures.ok.says) (Contains-at names c.in-Err-Source.number given.0 at), given.2, subst P name_is (c.source_fault.ensures.said seven))
 
 pub returns-in-Err-Source-clause-complete : goal.returns-in-Err-Source-clause-complete
 returns-in-Err-Source-clause-complete g c =
-    always (told_units (g.U.Units.text c.args.units.now) (names_read (texts_of c.args.words.now))) _
+    always (told_for (g.U.Units.text c.args.units.now) (texts_of c.args.words.now)) _
     (λ told words alone sources sink. elim c.source_fault.ensures.status [
       | inl seven ↦
-          let names : List (List ℕ) = names_of c.in-Ok.command.units.items in
+          let names : List (List ℕ) = names_for c.in-Ok.command in
           let given = c.in-Err-Source.ensures.cause c.in-Err-Source.number (ap Err c.in-Err-Source.field-0-is) in
-          let sliced : names_of c.as_slice-names.result.now ≡ names = ap names_of c.as_slice-names.ensures.value in
+          let sliced : names_of c.as_slice-all.result.now ≡ names = ap names_of c.as_slice-all.ensures.value ∙ c.in-Ok-names_for.ensures in
           let A : List (List ℕ) → Type 0 = λ n. slice_get n c.in-Err-Source.number ≡ Some given.0 in
           let at : slice_get names c.in-Err-Source.number ≡ Some given.0 = subst A sliced given.1 in
           let C : List (List ℕ) → Type 0 = λ n. Contains n given.0 in
-          absurd (not_risen _ _ (sources given.0 (subst C c.in-Ok.ensures.ok.says.units (Contains-at names c.in-Err-Source.number given.0 at))) given.2)
+          absurd (not_risen _ _ (sources given.0 (subst C (names_asked (texts_of c.args.words.now) c.in-Ok.command c.in-Ok.ensures.ok.says) (Contains-at names c.in-Err-Source.number given.0 at))) given.2)
       | inr nine ↦ inr (inl nine)
     ])
 
@@ -86,28 +92,28 @@ answer_units-requires-clause-few g c κs within = few_names _ _ c.in-Ok.ensures.
 
 pub returns-clause-headline : goal.returns-clause-headline
 returns-clause-headline g c zero =
-    with_names (g.U.Units.text c.args.units.now) _ (names_of c.in-Ok.command.units.items) (names_read (texts_of c.args.words.now)) _ c.as_slice.result.now _
-    (ap names_of c.as_slice-names.ensures.value) c.in-Ok.ensures.ok.says.units c.as_slice.ensures.value c.in-Ok-read_units.ensures.texts
+    with_told_for (g.U.Units.text c.args.units.now) (texts_of c.args.words.now) c.in-Ok.command _ _ c.as_slice.result.now _ c.in-Ok.ensures.ok.says
+    (ap names_of c.as_slice-all.ensures.value ∙ c.in-Ok-names_for.ensures) c.as_slice.ensures.value c.in-Ok-read_units.ensures.texts
     (λ told read. let given = c.answer_units.ensures.delivered zero in
-    (given.0, given.1, given.2, denotes_told (names_of c.in-Ok.command.units.items) c.as_slice.result.now told given.0 read given.3, given.4, given.5))
+    (given.0, given.1, given.2, told_denotes _ told given.0 read given.3, told_prints _ told given.0 given.1 given.2 read given.4, given.5))
 
 pub returns-clause-broken : goal.returns-clause-broken
 returns-clause-broken g c eight =
-    with_names (g.U.Units.text c.args.units.now) _ (names_of c.in-Ok.command.units.items) (names_read (texts_of c.args.words.now)) _ c.as_slice.result.now _
-    (ap names_of c.as_slice-names.ensures.value) c.in-Ok.ensures.ok.says.units c.as_slice.ensures.value c.in-Ok-read_units.ensures.texts
+    with_told_for (g.U.Units.text c.args.units.now) (texts_of c.args.words.now) c.in-Ok.command _ _ c.as_slice.result.now _ c.in-Ok.ensures.ok.says
+    (ap names_of c.as_slice-all.ensures.value ∙ c.in-Ok-names_for.ensures) c.as_slice.ensures.value c.in-Ok-read_units.ensures.texts
     (λ told read. let given = c.answer_units.ensures.broken eight in
-    (given.0, given.1, given.2, denotes_told (names_of c.in-Ok.command.units.items) c.as_slice.result.now told given.0 read given.3, given.4, given.5))
+    (given.0, given.1, given.2, told_denotes _ told given.0 read given.3, told_prints _ told given.0 given.1 given.2 read given.4, given.5))
 
 pub returns-clause-outcome : goal.returns-clause-outcome
 returns-clause-outcome g c not7 not8 not9 =
     let words : AreRight (texts_of c.args.words.now) = c.in-Ok.ensures.ok.right in
-    with_names (g.U.Units.text c.args.units.now) _ (names_of c.in-Ok.command.units.items) (names_read (texts_of c.args.words.now)) _ c.as_slice.result.now _
-    (ap names_of c.as_slice-names.ensures.value) c.in-Ok.ensures.ok.says.units c.as_slice.ensures.value c.in-Ok-read_units.ensures.texts
+    with_told_for (g.U.Units.text c.args.units.now) (texts_of c.args.words.now) c.in-Ok.command _ _ c.as_slice.result.now _ c.in-Ok.ensures.ok.says
+    (ap names_of c.as_slice-all.ensures.value ∙ c.in-Ok-names_for.ensures) c.as_slice.ensures.value c.in-Ok-read_units.ensures.texts
     (λ told read. elim c.answer_units.ensures.listed [
       | inl zero ↦
           let given = c.answer_units.ensures.delivered zero in (
             record { status = 0; out = given.2; err = [] },
-            inr (words, inl (given.0, given.1, denotes_told (names_of c.in-Ok.command.units.items) c.as_slice.result.now told given.0 read given.3, given.4, refl, refl)),
+            inr (words, inl (given.0, given.1, told_denotes _ told given.0 read given.3, told_prints _ told given.0 given.1 given.2 read given.4, refl, refl)),
             zero,
             given.5,
             receives_nothing _ _ _ _ given.6,
@@ -116,7 +122,7 @@ returns-clause-outcome g c not7 not8 not9 =
           let not0 : c.answer_units.result ≡ 0 → ⊥ = no_success _ refused in
           let given = c.answer_units.ensures.refused not0 not8 not9 in (
             record { status = c.answer_units.result; out = []; err = given.0 },
-            inr (words, inr (refuses_told (names_of c.in-Ok.command.units.items) c.as_slice.result.now told _ read given.1)),
+            inr (words, inr (told_refuses _ told _ read given.1)),
             refl,
             grows_nothing _ _ (c.answer_units.ensures.unwritten not0 not8),
             given.2,
@@ -154,24 +160,24 @@ returns-clause-source g c seven = elim c.answer_units.ensures.listed [
 
 pub returns-clause-complete : goal.returns-clause-complete
 returns-clause-complete g c =
-    with_names (g.U.Units.text c.args.units.now) _ (names_of c.in-Ok.command.units.items) (names_read (texts_of c.args.words.now)) _ c.as_slice.result.now _
-    (ap names_of c.as_slice-names.ensures.value) c.in-Ok.ensures.ok.says.units c.as_slice.ensures.value c.in-Ok-read_units.ensures.texts
+    with_told_for (g.U.Units.text c.args.units.now) (texts_of c.args.words.now) c.in-Ok.command _ _ c.as_slice.result.now _ c.in-Ok.ensures.ok.says
+    (ap names_of c.as_slice-all.ensures.value ∙ c.in-Ok-names_for.ensures) c.as_slice.ensures.value c.in-Ok-read_units.ensures.texts
     (λ told read words alone sources sink. elim c.answer_units.ensures.listed [
       | inl zero ↦ inl zero
       | inr (inl refused) ↦
           let given = c.answer_units.ensures.refused (no_success _ refused) (no_eight _ refused) (no_nine _ refused) in
           let answer : Answer = record { status = c.answer_units.result; out = []; err = given.0 } in
-          inr (inr (answer, refuses_read told answer alone (refuses_told (names_of c.in-Ok.command.units.items) c.as_slice.result.now told answer read given.1), refl))
+          inr (inr (answer, told_read told answer alone (told_refuses _ told answer read given.1), refl))
       | inr (inr (inl eight)) ↦ absurd (not_risen _ _ sink (c.answer_units.ensures.cause eight))
       | inr (inr (inr nine)) ↦ inr (inl nine)
     ])
 
 pub returns-clause-solved : goal.returns-clause-solved
 returns-clause-solved g c zero =
-    with_names (g.U.Units.text c.args.units.now) _ (names_of c.in-Ok.command.units.items) (names_read (texts_of c.args.words.now)) _ c.as_slice.result.now _
-    (ap names_of c.as_slice-names.ensures.value) c.in-Ok.ensures.ok.says.units c.as_slice.ensures.value c.in-Ok-read_units.ensures.texts
+    with_told_for (g.U.Units.text c.args.units.now) (texts_of c.args.words.now) c.in-Ok.command _ _ c.as_slice.result.now _ c.in-Ok.ensures.ok.says
+    (ap names_of c.as_slice-all.ensures.value ∙ c.in-Ok-names_for.ensures) c.as_slice.ensures.value c.in-Ok-read_units.ensures.texts
     (λ told read. let given = c.answer_units.ensures.delivered zero in
-    (given.0, given.1, given.2, denotes_told (names_of c.in-Ok.command.units.items) c.as_slice.result.now told given.0 read given.3, given.4, given.5, given.7))
+    (given.0, given.1, given.2, told_denotes _ told given.0 read given.3, told_prints _ told given.0 given.1 given.2 read given.4, given.5, given.7))
 
 pub returns-clause-said : goal.returns-clause-said
 returns-clause-said g c two = elim c.answer_units.ensures.listed [

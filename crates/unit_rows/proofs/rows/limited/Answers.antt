@@ -10,11 +10,13 @@ use Rattle.name_places.specs.Named.{IsNamedSense}
 use Rattle.row_trees.specs.Trees.{SenseHasRows}
 use Rattle.row_shapes.specs.Kept as shapes
 use Rattle.statement_rows.specs.Kept.{HasAllRows}
-use Rattle.unit_limits.proofs.Within.{results_around}
+use Rattle.c_declarators.specs.Limited.{AreFlexible}
+use Rattle.unit_limits.proofs.Flags.{unions_flexible, unions_built}
+use Rattle.unit_limits.specs.Unions.{AreUnions}
 use Rattle.unit_rows.specs.Built.{Stops, is_member, is_declarator, is_initial, is_limited, is_expression}
 use Rattle.unit_rows.specs.Limits.{AreTested}
 use Rattle.unit_rows.specs.Standing.{source_known, nodes_known, world_there}
-use Rattle.unit_rows.proofs.Answers.{rowed_at, structure_there, keeps_there, unless, given, anyway, of_member, of_declarator, of_initial, initial_there, declarator_there, limited_so, row_at, row_declaring, tested_on, named_sense}
+use Rattle.unit_rows.proofs.Answers.{rowed_at, structure_there, keeps_there, unless, given, anyway, of_member, member_kind, of_declarator, of_initial, initial_there, declarator_there, limited_so, row_declaring, tested_on, named_sense}
 use Rattle.unit_rows.proofs.rows.limited.Goals as goal
 
 pub returns-then-production-eq-P_STRUCT-clause-keeps : goal.returns-then-production-eq-P_STRUCT-clause-keeps
@@ -56,15 +58,15 @@ returns-then-is_member-clause-keeps c =
     let w = world_there k c.args.unit.now rs at in
     let q = production_at s at in
     let ys = children_at s at in
+    let small = c.all_small.ensures.small c.if-not-all_small.false in
     let kind : is_member q ≡ true = subst (λ (p : ℕ). is_member p ≡ true) c.production_of-production.ensures (sym c.is_member.ensures ∙ c.if-is_member.true) in
-    keeps_there (Stops s c.args.unit.now c.member.new.unit rs at) (nodes_known k) c.args.unit.now c.member.new.unit rs w s q at ys c.member.result c.requires.stand.kept
-    (rowed_at c.member.new.unit c.member.result (row_of w s S q at ys) (Stops s c.args.unit.now c.member.new.unit rs at) at
-    (subst (λ (g : Given Sense). Rowed c.member.new.unit c.member.result g)
-    (row_at w s S c.production_of-production.result q at c.children_of-children.result.now ys c.production_of-production.ensures c.children_of-children.ensures (limited_so q c.requires.limited))
-    (c.member.ensures.row w k.bound.now.uses.items c.requires.knows (results_around w c.args.unit.now rs (c.all_small.ensures.small c.if-not-all_small.false) c.requires.knows c.requires.stand.within).flexible)))
-    (unless (is_expression q) (limited_so q c.requires.limited) c.member.result (λ m. SenseHasRows (sense_made c.member.new.unit m)))
-    (unless (shapes.is_initial q) (of_member q kind).0 c.member.result (λ m. HasAllRows (sense_made c.member.new.unit m)))
-    (unless (shapes.is_declarator q) (of_member q kind).1.0 c.member.result (λ m. IsNamedSense (nodes_known k) (sense_made c.member.new.unit m)))
+    keeps_there (Stops s c.args.unit.now c.listed_member.new.unit rs at) (nodes_known k) c.args.unit.now c.listed_member.new.unit rs w s q at ys c.listed_member.result c.requires.stand.kept
+    (rowed_at c.listed_member.new.unit c.listed_member.result (row_of w s S q at ys) (Stops s c.args.unit.now c.listed_member.new.unit rs at) at
+    (subst (λ (g : Given Sense). Rowed c.listed_member.new.unit c.listed_member.result g) (sym (row_declaring w s S q at ys (limited_so q c.requires.limited)))
+    (c.listed_member.ensures.row w k.bound.now.uses.items c.requires.knows (subst (AreFlexible w) (sym c.as_slice.ensures.value) (unions_flexible w c.args.unit.now c.args.unions.now.items small.made small.named c.requires.knows c.requires.unions)))))
+    (unless (is_expression q) (limited_so q c.requires.limited) c.listed_member.result (λ m. SenseHasRows (sense_made c.listed_member.new.unit m)))
+    (unless (shapes.is_initial q) (of_member q kind).0 c.listed_member.result (λ m. HasAllRows (sense_made c.listed_member.new.unit m)))
+    (unless (shapes.is_declarator q) (of_member q kind).1.0 c.listed_member.result (λ m. IsNamedSense (nodes_known k) (sense_made c.listed_member.new.unit m)))
 
 pub returns-then-is_member-clause-row : goal.returns-then-is_member-clause-row
 returns-then-is_member-clause-row c =
@@ -76,13 +78,13 @@ returns-then-is_member-clause-row c =
     let w = world_there k c.args.unit.now rs at in
     let q = production_at s at in
     let ys = children_at s at in
-    rowed_at c.member.new.unit c.member.result (row_of w s S q at ys) (Stops s c.args.unit.now c.member.new.unit rs at) at
-    (subst (λ (g : Given Sense). Rowed c.member.new.unit c.member.result g)
-    (row_at w s S c.production_of-production.result q at c.children_of-children.result.now ys c.production_of-production.ensures c.children_of-children.ensures (limited_so q c.requires.limited))
-    (c.member.ensures.row w k.bound.now.uses.items c.requires.knows (results_around w c.args.unit.now rs (c.all_small.ensures.small c.if-not-all_small.false) c.requires.knows c.requires.stand.within).flexible))
+    let small = c.all_small.ensures.small c.if-not-all_small.false in
+    rowed_at c.listed_member.new.unit c.listed_member.result (row_of w s S q at ys) (Stops s c.args.unit.now c.listed_member.new.unit rs at) at
+    (subst (λ (g : Given Sense). Rowed c.listed_member.new.unit c.listed_member.result g) (sym (row_declaring w s S q at ys (limited_so q c.requires.limited)))
+    (c.listed_member.ensures.row w k.bound.now.uses.items c.requires.knows (subst (AreFlexible w) (sym c.as_slice.ensures.value) (unions_flexible w c.args.unit.now c.args.unions.now.items small.made small.named c.requires.knows c.requires.unions))))
 
 pub returns-then-is_member-clause-tested : goal.returns-then-is_member-clause-tested
-returns-then-is_member-clause-tested c = anyway c.member.result (AreTested c.member.new.unit c.all_small.new.tested) (tested_on c.args.unit.now c.member.new.unit c.all_small.new.tested c.all_small.ensures.tested c.member.ensures.builds)
+returns-then-is_member-clause-tested c = anyway c.listed_member.result (AreTested c.listed_member.new.unit c.all_small.new.tested) (tested_on c.args.unit.now c.listed_member.new.unit c.all_small.new.tested c.all_small.ensures.tested c.listed_member.ensures.builds)
 
 pub returns-then-is_declarator-clause-tested : goal.returns-then-is_declarator-clause-tested
 returns-then-is_declarator-clause-tested c = anyway c.declared_name.result (AreTested c.declared_name.new.unit c.all_small.new.tested) (tested_on c.args.unit.now c.declared_name.new.unit c.all_small.new.tested c.all_small.ensures.tested c.declared_name.ensures.builds)
@@ -104,7 +106,7 @@ returns-then-is_declarator-clause-keeps c =
     keeps_there (Stops s c.args.unit.now c.declared_name.new.unit rs at) (nodes_known k) c.args.unit.now c.declared_name.new.unit rs w s q at ys c.declared_name.result c.requires.stand.kept
     (rowed_at c.declared_name.new.unit c.declared_name.result (row_of w s S q at ys) (Stops s c.args.unit.now c.declared_name.new.unit rs at) at
     (subst (λ (g : Given Sense). Rowed c.declared_name.new.unit c.declared_name.result g)
-    (declarator_there w s S q q at c.children_of-children.result.now ys kind c.children_of-children.ensures (limited_so q c.requires.limited))
+    (declarator_there w s S q q at ys ys kind refl (limited_so q c.requires.limited))
     (c.declared_name.ensures.row w c.requires.knows)))
     (unless (is_expression q) (limited_so q c.requires.limited) c.declared_name.result (λ m. SenseHasRows (sense_made c.declared_name.new.unit m)))
     (unless (shapes.is_initial q) (of_declarator q kind).0 c.declared_name.result (λ m. HasAllRows (sense_made c.declared_name.new.unit m)))
@@ -123,7 +125,7 @@ returns-then-is_declarator-clause-row c =
     let kind : is_declarator q ≡ true = subst (λ (p : ℕ). is_declarator p ≡ true) c.production_of-production.ensures (sym c.is_declarator.ensures ∙ c.if-is_declarator.true) in
     rowed_at c.declared_name.new.unit c.declared_name.result (row_of w s S q at ys) (Stops s c.args.unit.now c.declared_name.new.unit rs at) at
     (subst (λ (g : Given Sense). Rowed c.declared_name.new.unit c.declared_name.result g)
-    (declarator_there w s S q q at c.children_of-children.result.now ys kind c.children_of-children.ensures (limited_so q c.requires.limited))
+    (declarator_there w s S q q at ys ys kind refl (limited_so q c.requires.limited))
     (c.declared_name.ensures.row w c.requires.knows))
 
 pub returns-clause-keeps : goal.returns-clause-keeps
@@ -160,3 +162,23 @@ returns-clause-row c =
     rowed_at c.initial_row.new.unit c.initial_row.result (row_of w s S q at ys) (Stops s c.args.unit.now c.initial_row.new.unit rs at) at
     (subst (λ (g : Given Sense). Rowed c.initial_row.new.unit c.initial_row.result g) (sym (row_declaring w s S q at ys (limited_so q c.requires.limited)))
     (c.initial_row.ensures.row w c.requires.knows c.requires.fills))
+
+pub returns-then-is_member-clause-unions : goal.returns-then-is_member-clause-unions
+returns-then-is_member-clause-unions c =
+    anyway c.listed_member.result (AreUnions c.listed_member.new.unit.types c.args.unions.now.items) (unions_built c.args.unit.now c.listed_member.new.unit c.args.unions.now.items c.listed_member.ensures.builds c.requires.unions)
+
+pub returns-then-is_declarator-clause-unions : goal.returns-then-is_declarator-clause-unions
+returns-then-is_declarator-clause-unions c =
+    anyway c.declared_name.result (AreUnions c.declared_name.new.unit.types c.args.unions.now.items) (unions_built c.args.unit.now c.declared_name.new.unit c.args.unions.now.items c.declared_name.ensures.builds c.requires.unions)
+
+pub returns-clause-unions : goal.returns-clause-unions
+returns-clause-unions c =
+    anyway c.initial_row.result (AreUnions c.initial_row.new.unit.types c.args.unions.now.items) (unions_built c.args.unit.now c.initial_row.new.unit c.args.unions.now.items c.initial_row.ensures.builds c.requires.unions)
+
+pub declared_name-requires-clause-unions : goal.declared_name-requires-clause-unions
+declared_name-requires-clause-unions c = subst (AreUnions c.args.unit.now.types) (sym c.as_slice-then-is_declarator.ensures.value) c.requires.unions
+
+pub listed_member-requires-clause-production : goal.listed_member-requires-clause-production
+listed_member-requires-clause-production c =
+    let q = production_at (source_known c.args.known.now) c.args.at in
+    member_kind q (subst (λ (p : ℕ). is_member p ≡ true) c.production_of-production.ensures (sym c.is_member.ensures ∙ c.if-is_member.true))

@@ -14,12 +14,12 @@ use Rattle.row_shapes.specs.Kept as shapes
 use Rattle.statement_rows.specs.Kept.{HasAllRows}
 use Rattle.unit_worlds.specs.Growing.{Grows, completed_at}
 use Rattle.unit_rows.specs.Built.{Stops, lists_others, is_expression, is_plain}
-use Rattle.unit_rows.specs.Limits.{AreTested}
+use Rattle.unit_rows.specs.Along.{AreAlong}
 use Rattle.unit_rows.specs.Standing.{source_known, nodes_known, world_there}
 use Rattle.unit_rows.proofs.Nothing.{nothing_of}
 use Rattle.unit_rows.proofs.Cover.{limited_there}
 use Rattle.unit_rows.proofs.Expressions.{expression_there, no_struct, no_initial, no_declarator, lists_no_struct, rows_made, names_in}
-use Rattle.unit_rows.proofs.Answers.{rowed_at, stopped_more, keeps_there, unless, given, anyway, plain_other, plain_own, tested_on, grows_so}
+use Rattle.unit_rows.proofs.Answers.{rowed_at, stopped_more, keeps_there, unless, given, anyway, plain_other, plain_own, along_on, along_by, grows_so}
 use Rattle.unit_rows.proofs.rows.row.Goals as goal
 
 pub returns-then-is_list-clause-row : goal.returns-then-is_list-clause-row
@@ -103,8 +103,8 @@ returns-then-is_expression-clause-grows c =
     let kind : is_expression q ≡ true = subst (λ (x : ℕ). is_expression x ≡ true) p (sym c.is_expression.ensures ∙ c.if-is_expression.true) in
     anyway c.expression.result (Grows u c.expression.new.unit (completed_at s S at)) (grows_so s S at u c.expression.new.unit (no_struct q kind) c.expression.ensures.builds)
 
-pub returns-then-is_expression-clause-tested : goal.returns-then-is_expression-clause-tested
-returns-then-is_expression-clause-tested c =
+pub returns-then-is_expression-clause-along : goal.returns-then-is_expression-clause-along
+returns-then-is_expression-clause-along c =
     let k = c.args.known.now in
     let s = source_known k in
     let at = c.args.at in
@@ -115,7 +115,7 @@ returns-then-is_expression-clause-tested c =
     let q = production_at s at in
     let ys = children_at s at in
     let p = c.production_of-production.ensures in
-    anyway c.expression.result (AreTested c.expression.new.unit c.args.tested.now) (tested_on u c.expression.new.unit c.args.tested.now c.requires.tested c.expression.ensures.builds)
+    anyway c.expression.result (AreAlong k.numbered.now.syntax c.expression.new.unit rs c.args.along.now) (along_on k.numbered.now.syntax u c.expression.new.unit rs c.args.along.now c.requires.along c.expression.ensures.builds)
 
 pub returns-then-is_plain-clause-row : goal.returns-then-is_plain-clause-row
 returns-then-is_plain-clause-row c =
@@ -165,8 +165,8 @@ returns-then-is_plain-clause-grows c =
     let kind : is_plain q ≡ true = subst (λ (x : ℕ). is_plain x ≡ true) p (sym c.is_plain.ensures ∙ c.if-is_plain.true) in
     anyway c.declared.result (Grows u c.declared.new.unit (completed_at s S at)) (grows_so s S at u c.declared.new.unit (plain_own q kind).1.1 c.declared.ensures.builds)
 
-pub returns-then-is_plain-clause-tested : goal.returns-then-is_plain-clause-tested
-returns-then-is_plain-clause-tested c =
+pub returns-then-is_plain-clause-along : goal.returns-then-is_plain-clause-along
+returns-then-is_plain-clause-along c =
     let k = c.args.known.now in
     let s = source_known k in
     let at = c.args.at in
@@ -177,7 +177,7 @@ returns-then-is_plain-clause-tested c =
     let q = production_at s at in
     let ys = children_at s at in
     let p = c.production_of-production.ensures in
-    anyway c.declared.result (AreTested c.declared.new.unit c.args.tested.now) (tested_on u c.declared.new.unit c.args.tested.now c.requires.tested c.declared.ensures.builds)
+    anyway c.declared.result (AreAlong k.numbered.now.syntax c.declared.new.unit rs c.args.along.now) (along_on k.numbered.now.syntax u c.declared.new.unit rs c.args.along.now c.requires.along c.declared.ensures.builds)
 
 pub limited-requires-clause-limited : goal.limited-requires-clause-limited
 limited-requires-clause-limited c =
@@ -217,3 +217,8 @@ expression-requires-clause-named c = names_in (nodes_known c.args.known.now) c.a
 
 pub expression-requires-clause-names : goal.expression-requires-clause-names
 expression-requires-clause-names c = record { named = c.requires.known.names c.args.results.now }
+
+pub returns-clause-along : goal.returns-clause-along
+returns-clause-along c =
+    along_by c.args.known.now.numbered.now.syntax c.limited.new.unit c.args.results.now (record { tested = c.limited.new.tested; lists = c.limited.new.lists; unions = c.limited.new.unions }) c.limited.result
+    c.limited.ensures.tested c.limited.ensures.lists c.limited.ensures.unions

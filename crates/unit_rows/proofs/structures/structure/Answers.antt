@@ -1,4 +1,4 @@
-use Rattle.std.proofs.Common.{◌≡◌, Err, ◌⊎◌, inl, inr, refl}
+use Rattle.std.proofs.Common.{◌≡◌, Err, ◌⊎◌, inl, inr, refl, sym, ◌∙◌}
 use Rattle.std.proofs.lemmas.Bool.{both_ways}
 use Rattle.pta_base.specs.declared.kind.Kind.TheVariants.{NotBuilt}
 use Rattle.c_senses.specs.Given.{Refuses}
@@ -8,9 +8,10 @@ use Rattle.c_senses.specs.Tags.{struct_row}
 use Rattle.c_results.specs.Standing.{sense_made, senses_made}
 use Rattle.struct_rows.specs.Built.{built_struct}
 use Rattle.struct_rows.proofs.Building.{struct_part}
+use Rattle.unit_worlds.specs.Growing.{completed_at}
 use Rattle.unit_rows.specs.Built.{IsLargeBehind}
 use Rattle.unit_rows.specs.Standing.{source_known, world_there}
-use Rattle.unit_rows.proofs.Answers.{stopped_at, fits_whole, specified_struct}
+use Rattle.unit_rows.proofs.Answers.{stopped_at, fits_whole, specified_struct, tags_grown}
 use Rattle.unit_rows.proofs.structures.structure.Goals as goal
 
 pub returns-in-Err-clause-row : goal.returns-in-Err-clause-row
@@ -76,3 +77,25 @@ returns-clause-tested c =
       built = same_builds new new refl refl refl;
       long = c.type_count.ensures.count;
     }
+
+pub note_behind-requires-clause-long : goal.note_behind-requires-clause-long
+note_behind-requires-clause-long c =
+    let k = c.args.known.now in
+    let s = source_known k in
+    let S = sense_in (senses_made c.args.unit.now c.args.results.now) in
+    let seen = c.seen_at-tag.ensures s c.requires.known.tags (specified_struct s c.args.at c.requires.at) in
+    c.requires.unions.long ∙ sym (tags_grown c.args.unit.now c.struct_row.new.unit (completed_at s S c.args.at) (c.in-Ok.ensures.grows k.bound.now.uses.items seen))
+
+pub returns-clause-unions : goal.returns-clause-unions
+returns-clause-unions c =
+    let k = c.args.known.now in
+    let uses = k.bound.now.uses.items in
+    let s = source_known k in
+    let at = c.args.at in
+    let S = sense_in (senses_made c.args.unit.now c.args.results.now) in
+    let w = world_there k c.args.unit.now c.args.results.now at in
+    let new = c.struct_row.new.unit in
+    let seen = c.seen_at-tag.ensures s c.requires.known.tags (specified_struct s at c.requires.at) in
+    c.note_behind.ensures c.args.unit.now w uses S
+    (λ e. fits_whole (built_struct w s S at) (struct_row w s S at) at (sense_made new c.in-Ok.made) (struct_part w s S at) (c.in-Ok.ensures.row w uses c.requires.knows seen c.requires.types))
+    (c.in-Ok.ensures.grows uses seen) c.requires.small.made c.requires.unions

@@ -1,5 +1,4 @@
-use Rattle.std.proofs.Common.{inr}
 use Rattle.unit_system.proofs.systems.system_of.Goals as goal
 
-pub returns-then-not-is_in_range : goal.returns-then-not-is_in_range
-returns-then-not-is_in_range c = inr (λ range. let told = c.is_in_range.ensures.1 range in cc)
+pub returns-then-not-are_placed : goal.returns-then-not-are_placed
+returns-then-not-are_placed c = λ placed. let told = c.are_placed.ensures.1 placed in cc

@@ -9,10 +9,11 @@ use Rattle.statement_rows.specs.Told.{IsTold}
 use Rattle.filling_laws.proofs.Worlds.{fills_first}
 use Rattle.struct_rows.proofs.Growing.{tag_types_grow}
 use Rattle.unit_worlds.specs.Growing.{Grows, completed_at}
+use Rattle.unit_rows.specs.Along.{AreAlong}
 use Rattle.unit_rows.specs.Built.{RowedAt, Stops}
 use Rattle.unit_rows.specs.Standing.{Stand, AreMade, source_known, nodes_known}
 use Rattle.unit_walk.proofs.Keeping.{entities_grown}
-use Rattle.unit_walk.proofs.Walking.{stand_empty, made_empty, Whole, length_made, made_there, refused, stand_more, tested_first, senses_with, fills_more}
+use Rattle.unit_walk.proofs.Walking.{stand_empty, made_empty, Whole, length_made, made_there, refused, stand_more, along_more, senses_with, fills_more}
 use Rattle.unit_walk.proofs.nodes.walk_nodes.Goals as goal
 
 pub loop-at-init : goal.loop-at-init
@@ -31,8 +32,8 @@ loop-at-init c =
       told =
           subst (λ (l : List Made). IsTold (world_at s (senses_made u l) 0) s (sense_in (senses_made u l)) 0 c.no_choices-choices.result) (sym none)
           (c.no_choices-choices.ensures (world_at s (senses_made u []) 0) s (sense_in (senses_made u [])) c.requires.known.spelled);
-      tested = tested_first u c.type_count-tested.result c.requires.small c.type_count-tested.ensures.count;
-      table = c.type_count-tested.ensures.made;
+      along = subst (λ (l : List Made). AreAlong k.numbered.now.syntax u l c.in-Ok.along) (sym none) (c.in-Ok.ensures.along k.numbered.now.syntax);
+      table = c.requires.small.made;
     }
 
 pub loop-at-preserved : goal.loop-at-preserved
@@ -44,11 +45,11 @@ loop-at-preserved c =
     let at = c.loop-at.at in
     let rs = c.loop-at.results.items in
     let more = c.push.new.self.items in
-    let m = c.in-Ok.made in
+    let m = c.in-Ok-row.made in
     let senses = senses_made u rs in
     let inv = c.loop-at.invariant in
-    let ok = c.in-Ok.ensures in
-    let items = c.in_ok-push-in-Ok.ensures.items in
+    let ok = c.in-Ok-row.ensures in
+    let items = c.in_ok-push-in-Ok-row.ensures.items in
     let given = c.as_slice-before.ensures.value in
     let grows = subst (λ (l : List Made). Grows u v (completed_at s (sense_in (senses_made u l)) at)) given ok.grows in
     let es = completed_at s (sense_in senses) at in
@@ -65,7 +66,7 @@ loop-at-preserved c =
           subst (λ (t : List Sense). IsTold (world_at s t (at + 1)) s (sense_in t) (at + 1) c.note.new.choices) (sym pushed)
           (c.in_ok-note.ensures.told (world_at s senses at) (world_at s (senses ++ sense_made v m ∷ []) (at + 1)) k.bound.now.uses.items senses (sense_made v m)
           (ap (senses_made v) c.as_slice.ensures.value ∙ pushed) (length_made u rs ∙ inv.long) inv.told);
-      tested = ok.tested;
+      along = along_more k.numbered.now.syntax v rs more m c.row.new.along items (subst (λ (l : List Made). AreAlong k.numbered.now.syntax v l c.row.new.along) given ok.along);
       table = table;
     }
 
@@ -78,10 +79,10 @@ note-requires-clause-results c =
     let at = c.loop-at.at in
     let rs = c.loop-at.results.items in
     let more = c.push.new.self.items in
-    let m = c.in-Ok.made in
+    let m = c.in-Ok-row.made in
     let inv = c.loop-at.invariant in
-    let ok = c.in-Ok.ensures in
-    let items = c.in_ok-push-in-Ok.ensures.items in
+    let ok = c.in-Ok-row.ensures in
+    let items = c.in_ok-push-in-Ok-row.ensures.items in
     let grows = subst (λ (l : List Made). Grows u v (completed_at s (sense_in (senses_made u l)) at)) c.as_slice-before.ensures.value ok.grows in
     let stand = stand_more (nodes_known k) u v (completed_at s (sense_in (senses_made u rs)) at) grows ok.ready rs more m items inv.stand ok.within ok.keeps in
     subst (λ (l : List Made). All (IsWithin v) l) (sym c.as_slice.ensures.value) stand.within

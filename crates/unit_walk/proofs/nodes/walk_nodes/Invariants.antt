@@ -4,7 +4,7 @@ use Rattle.c_senses.specs.Rows.{world_at}
 use Rattle.c_results.specs.Standing.{senses_made}
 use Rattle.c_initials.specs.Filling.{Fills}
 use Rattle.struct_rows.specs.Built.{HasTagTypes}
-use Rattle.unit_rows.specs.Limits.{AreTested}
+use Rattle.unit_rows.specs.Along.{AreAlong}
 use Rattle.unit_rows.specs.Standing.{Stand, AreMade, ChoicesFit, source_known, nodes_known}
 use Rattle.unit_walk.proofs.nodes.walk_nodes.Given as goal
 
@@ -18,6 +18,6 @@ invariant-loop-at l = record {
   fills : Fills (world_at (source_known l.known) (senses_made l.unit l.results.items) l.at) l.unit;
   types : HasTagTypes (source_known l.known) l.unit.types;
   told : ChoicesFit l.known l.unit l.results.items l.at l.choices;
-  tested : AreTested l.unit l.tested;
+  along : AreAlong l.known.numbered.now.syntax l.unit l.results.items l.along;
   table : IsMade l.unit.types;
 }

@@ -7,6 +7,7 @@ use Rattle.set_rows.specs.Views.{known, shutting, reading}
 use Rattle.set_rows.specs.Calls.{view}
 use Rattle.work_rounds.specs.Rounds.{AreRowsApart, HasClosed, HasWorked, IsSettled}
 use Rattle.work_rounds.proofs.Parts.{worked_alone, worked_again, worked_and_closed, on_err}
+use Rattle.work_rounds.proofs.Marking.{settled_more}
 use Rattle.work_rounds.proofs.Ending.{settled_same, closed_when_done, least_when_done, closing, has_closed}
 use Rattle.work_rounds.specs.Work.{IsWork}
 use Rattle.work_rounds.proofs.Working.{work_done}
@@ -63,7 +64,7 @@ returns-then-is_empty-clause-least g c =
     (least_when_done S u c.loop-round.progress.book c.loop-round.progress.done (c.loop-round.invariant.own.1 ∙ c.requires.system) (subst (IsSettled S u c.loop-round.progress.book c.loop-round.progress.done) done_all c.loop-round.invariant.settled))
 
 pub work_round-requires-clause-nothing : goal.work_round-requires-clause-nothing
-work_round-requires-clause-nothing g c κs within = c.as_slice-in-loop-round.ensures.value ∙ c.in_ok-nothing.ensures.items_if_clones_equal (λ y e. e) ∙ ap (λ (n : ℕ). replicate {A = ℕ} n 0) c.row_width-width.ensures
+work_round-requires-clause-nothing g c κs within = c.as_slice-in-loop-round-2.ensures.value ∙ c.in_ok-nothing.ensures.items_if_clones_equal (λ y e. e) ∙ ap (λ (n : ℕ). replicate {A = ℕ} n 0) c.row_width-width.ensures
 
 pub work_round-requires-clause-settled : goal.work_round-requires-clause-settled
 work_round-requires-clause-settled g c κs within =
@@ -71,13 +72,16 @@ work_round-requires-clause-settled g c κs within =
     let u = view c.loop-round.seat in
     let book = c.loop-round.progress.book in
     let done = c.loop-round.progress.done in
-    let once = c.each_once.new.todo.items in
+    let sorted = c.in_order.new.todo.items in
+    let order = c.in_ok-order.order.items in
     let rows = c.in_ok-rows.rows.items in
-    subst (IsSettled S u book done) (sym c.as_slice-in-loop-round-2.ensures.value)
-    (settled_same S u book done once rows
-    (λ row h. subst (λ (xs : List ℕ). Contains xs row) c.as_slice.ensures.value ((c.in_ok-rows.ensures.rows row).0 h))
-    (λ row h. (c.in_ok-rows.ensures.rows row).1 (subst (λ (xs : List ℕ). Contains xs row) (sym c.as_slice.ensures.value) h))
-    (settled_same S u book done c.loop-round.todo.items once (λ row. (c.each_once.ensures.rows row).0) (λ row. (c.each_once.ensures.rows row).1) c.loop-round.invariant.settled))
+    subst (IsSettled S u book done) (sym c.as_slice-in-loop-round-3.ensures.value)
+    (settled_same S u book done order rows
+    (λ row h. subst (λ (xs : List ℕ). Contains xs row) c.as_slice-in-loop-round.ensures.value ((c.in_ok-rows.ensures.rows row).0 h))
+    (λ row h. (c.in_ok-rows.ensures.rows row).1 (subst (λ (xs : List ℕ). Contains xs row) (sym c.as_slice-in-loop-round.ensures.value) h))
+    (settled_more S u book done c.loop-round.todo.items order
+    (λ row h. c.in_ok-order.ensures.all row (subst (λ (xs : List ℕ). Contains xs row) (sym c.as_slice.ensures.value) ((c.in_order.ensures row).1 h)))
+    c.in_ok-order.ensures.rows c.loop-round.invariant.settled))
 
 pub returns-in_err-todo-2-clause-err : goal.returns-in_err-todo-2-clause-err
 returns-in_err-todo-2-clause-err g c =
@@ -109,7 +113,10 @@ returns-then-is_empty-clause-bound g c =
     subst (λ (z : View). (n : ℕ) × IsWork S (known z) n × (z.ors ≤ v.ors + n + 1)) (sym end) (work.0, work.1, (let l = work.2 in omega arith))
 
 pub work_round-requires-clause-once : goal.work_round-requires-clause-once
-work_round-requires-clause-once g c κs within = subst AreRowsApart (sym c.as_slice-in-loop-round-2.ensures.value) (c.in_ok-rows.ensures.once (subst AreRowsApart (sym c.as_slice.ensures.value) c.each_once.ensures.once))
+work_round-requires-clause-once g c κs within = subst AreRowsApart (sym c.as_slice-in-loop-round-3.ensures.value) (c.in_ok-rows.ensures.once (subst AreRowsApart (sym c.as_slice-in-loop-round.ensures.value) c.in_ok-order.ensures.once))
 
 pub returns-in_err-rows-clause-err : goal.returns-in_err-rows-clause-err
 returns-in_err-rows-clause-err g c = on_err c.from_residual-in_err-rows.result (HasWorked (view c.args.seat.now) (view c.loop-round.seat)) c.loop-round.invariant.worked
+
+pub returns-in_err-order-clause-err : goal.returns-in_err-order-clause-err
+returns-in_err-order-clause-err g c = on_err c.from_residual-in_err-order.result (HasWorked (view c.args.seat.now) (view c.loop-round.seat)) c.loop-round.invariant.worked

@@ -1,0 +1,4 @@
+mod Deciding
+mod Together
+pub mod Entities
+pub mod Origins

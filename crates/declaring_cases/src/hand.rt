@@ -1,0 +1,60 @@
+// Trees, units and results that are made by hand.
+
+ghost use Rattle.std.specs.Prelude.{IfOk, All};
+ghost use Rattle.core_tree.specs.declared.node.Unit.{Unit as UnitSpec};
+ghost use Rattle.core_nodes.specs.Standing.{IsReady};
+ghost use Rattle.c_results.specs.Standing.{IsWithin};
+ghost use Rattle.constant_values.specs.Constants.{HasConstants};
+
+use c_grammar::{SyntaxNode, Tree};
+use c_results::Made;
+use c_types::table::TypeTable;
+use core_tree::node::Unit;
+use pta_base::Text;
+use std::alloc::Global;
+use std::test::Fail;
+
+// The production of a leaf.
+pub(crate) const LEAF: u32 = 4294967295;
+
+// A production with its first token and its children.
+pub(crate) type Row<'a> = (u32, u32, &'a [u32]);
+
+// The tree of those nodes.
+pub(crate) fn tree_of(alloc: Global, rows: &[Row<'_>]) -> Result<Tree, Fail> {
+    let mut nodes = Vec::new(alloc);
+    for row in rows {
+        nodes.push(SyntaxNode {
+            production: row.0,
+            token: row.1,
+            children: Vec::from_slice(alloc, row.2)?,
+        })?;
+    }
+    Ok(Tree {
+        unit: 0,
+        nodes,
+        root: 0,
+    })
+}
+
+// A unit without types and nodes.
+pub(crate) fn empty_unit(alloc: Global) -> Result<Unit, Fail>
+    ensures { IfOk result (λ u. IsReady u) }
+{
+    let name = Text::copy_of(alloc, "a.c")?;
+    Ok(Unit {
+        name,
+        types: TypeTable::new(alloc),
+        tags: Vec::new(alloc),
+        nodes: Vec::new(alloc),
+        entities: Vec::new(alloc),
+    })
+}
+
+// Nothing has been made.
+pub(crate) fn no_results(alloc: Global) -> Vec<Made>
+    ensures within { (u : UnitSpec) → All (IsWithin u) result.items }
+    ensures rows { (u : UnitSpec) → All (HasConstants u) result.items }
+{
+    Vec::new(alloc)
+}

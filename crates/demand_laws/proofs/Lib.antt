@@ -1,0 +1,5 @@
+mod Parts
+pub mod Fitting
+mod Numbered
+pub mod Nodes
+pub mod Demands

@@ -1,0 +1,4 @@
+//! Laws of the constraints of a program's system: these functions do nothing, and their contracts are the laws.
+#![tactic(auto)]
+
+pub mod laws;

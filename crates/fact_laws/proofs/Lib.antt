@@ -1,0 +1,3 @@
+pub mod Nodes
+mod Terms
+pub mod Facts

@@ -1,0 +1,3 @@
+mod Objects
+mod Along
+pub mod Items

@@ -1,0 +1,5 @@
+pub mod Members
+mod Completing
+mod Alike
+mod Terms
+pub mod Fitting

@@ -1,0 +1,5 @@
+pub mod Bodies
+pub mod Moved
+pub mod Members
+pub mod Defined
+pub mod Whole

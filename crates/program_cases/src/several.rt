@@ -1,0 +1,169 @@
+// Programs of several units.
+use crate::calls::{OpenGate, answer_over, words_of};
+use std::process::Abort;
+use std::test::Fail;
+use std::thread::Threads;
+
+// Worked calls over several units: as in `rows`, but that the names stand apart by spaces, and their texts by a caret.
+const SEVERAL: &str =
+    "a.i b.i`a.i b.i`0`int *p; static int s; extern int x; int main(void){p=&s;return 0;}^int *p; int x; static int s; void f(void){p=&s;p=&x;}`pta 1
+set p: a.i:s x b.i:s
+end
+`~
+a.i b.i`a.i b.i`5`int *p; static int s; extern int x; int main(void){p=&s;return 0;}^long x;``link conflict x b.i
+~
+a.i b.i`a.i b.i`5`int *p; static int s; extern int x; int main(void){p=&s;return 0;}^int main(void){return 0;}``link twice main b.i
+~
+a.i`a.i`5`int f(void); int main(void){return f();}``a.i:1:36: undefined f
+~
+a.i b.i`a.i b.i`0`# 1 \"h.h\" 1
+struct node { struct node *next; void (*run)(struct node *, int *); int *data; };
+extern struct node *head;
+void add(struct node *n);
+# 3 \"a.c\" 2
+static int x;
+static void show(struct node *n, int *d) { n->data = d; }
+static struct node first = { 0, show, &x };
+int main(void)
+{
+  add(&first);
+  for (struct node *i = head; i; i = i->next)
+    i->run(i, i->data);
+  return 0;
+}
+^# 1 \"h.h\" 1
+struct node { struct node *next; void (*run)(struct node *, int *); int *data; };
+extern struct node *head;
+void add(struct node *n);
+# 3 \"b.c\" 2
+struct node *head;
+static int y;
+static void mark(struct node *n, int *d) { n->data = &y; }
+void add(struct node *n)
+{
+  static struct node mine;
+  mine.run = mark;
+  mine.next = head;
+  head = &mine;
+  n->next = head;
+  head = n;
+}
+`pta 1
+set a.i:show/n: a.i:first add/mine
+set a.i:show/d: a.i:x b.i:y
+set a.i:first.next: a.i:first add/mine
+set a.i:first.run: a.i:show
+set a.i:first.data: a.i:x b.i:y
+set main/i: a.i:first add/mine
+set head: a.i:first add/mine
+set b.i:mark/n: a.i:first add/mine
+set b.i:mark/d: a.i:x b.i:y
+set add/n: a.i:first
+set add/mine.next: a.i:first add/mine
+set add/mine.run: b.i:mark
+set add/mine.data: a.i:x b.i:y
+call a.i:13:11: a.i:show b.i:mark
+edge main a.i:show
+edge main b.i:mark
+edge main add
+end
+`~
+--workers 2 a.i b.i`a.i b.i`0`typedef unsigned long Z;
+void qsort(void*,Z,Z,int(*)(const void*,const void*));
+void *bsearch(const void*,const void*,Z,Z,int(*)(const void*,const void*));
+int atexit(void(*)(void));
+int compare(const void*,const void*);
+extern void (*last)(void);
+int x,*v[4],*key,**found;
+int main(void){
+v[0]=&x;
+qsort(v,4,sizeof v[0],compare);
+found=bsearch(&key,v,4,sizeof v[0],compare);
+atexit(last);
+return 0;}
+^static void bye(void){}
+static void other(void){}
+void (*last)(void)=bye;
+void change(void){last=other;}
+int compare(const void*l,const void*r){
+int *const *a=l,*const *b=r;
+return *a==*b;}
+`pta 1
+set v: x
+set key:
+set found: v
+set last: b.i:bye b.i:other
+set compare/l: v key
+set compare/r: v
+set compare/a: v key
+set compare/b: v
+edge main qsort
+edge main bsearch
+edge main atexit
+edge qsort compare
+edge bsearch compare
+edge atexit b.i:bye
+edge atexit b.i:other
+end
+`~
+a.i b.i`a.i b.i`0`char *strchr(const char *s, int c);
+void *malloc(unsigned long n);
+char t[4], *p, *q;
+int main(void){
+p=strchr(t,'a');
+q=malloc(4);
+return 0;}
+^static char pool[64];
+static char found;
+char *strchr(const char *s, int c){return &found;}
+static void *malloc(unsigned long n){return pool;}
+void *keep(void){return malloc(3);}
+`pta 1
+set p: b.i:found
+set q: malloc@a.i:6:9
+set strchr/s: t
+edge main strchr
+edge main malloc
+edge keep b.i:malloc
+end
+`~
+a.i b.i c.i`a.i b.i c.i`0`int main(void){return 0;}^void strlen(char*);^void strlen(char*s){}`pta 1
+set strlen/s:
+end
+`";
+
+/// Whether a call over several units answers what a row says.
+fn is_answered<R: Threads + Sync + AllocGlobal>(rt: &R, row: &str) -> Result<bool, Fail> {
+    let mut fields = row.split('`');
+    let words = words_of(rt, fields.next().unwrap_or(""))?;
+    let names = fields.next().unwrap_or("");
+    let status = fields.next().unwrap_or("");
+    let mut units = fields.next().unwrap_or("").split('^');
+    let out = fields.next().unwrap_or("");
+    let err = fields.next().unwrap_or("");
+    let mut texts = Vec::new(rt.alloc());
+    for name in names.split(' ') {
+        texts.push((name, units.next().unwrap_or("")))?;
+    }
+    let made = answer_over(
+        rt,
+        words.as_slice(),
+        texts.as_slice(),
+        (&[], &[]),
+        &OpenGate,
+    )?;
+    let number = format!(in rt.alloc(); "{}", made.status)?;
+    Ok(
+        number.as_str() == status
+            && made.out.as_slice() == out.as_bytes()
+            && made.err.as_slice() == err.as_bytes(),
+    )
+}
+
+#[test]
+fn several_units(rt: HostRuntime) -> Result<(), Fail> {
+    for row in SEVERAL.split("~\n") {
+        assert!(rt; is_answered(&rt, row)?, "{row}");
+    }
+    Ok(())
+}

@@ -1,0 +1,6 @@
+// The memory of the reference machine: instances of objects, and what their cells hold.
+#![tactic(auto)]
+
+pub mod memory;
+mod reads;
+mod writes;

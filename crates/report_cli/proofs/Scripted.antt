@@ -1,0 +1,134 @@
+-- What a script of questions comes to.
+use Rattle.std.proofs.Common.{◌≡◌, ◌<◌, ◌≤◌, ◌^◌, ◌++◌, ℕ, List, [], ◌∷◌, Option, Some, None, option_map, map, take, length, get_or, slice_get, codes, inl, inr, refl, sym, ◌∙◌, ap, subst, arith, append-nil}
+use Rattle.std.proofs.lemmas.List.{length-append, length-map}
+use Rattle.std.proofs.lemmas.Option.{slice_get-get_or}
+use Rattle.std.specs.Prelude.{zip, decimal, Result, Ok, Err, IfOk, IfErr}
+use Rattle.std.specs.Borrow.{Bor}
+use Rattle.core_tree.specs.declared.node.Program.{Program}
+use Rattle.sol_model.specs.declared.system.System.{System}
+use Rattle.obj_space.specs.declared.location.Location.{Location}
+use Rattle.unit_system.specs.Of.{IsSystemOf}
+use Rattle.unit_answers.specs.declared.fault.AnswersFault.{AnswersFault}
+use Rattle.unit_answers.specs.declared.fault.AnswersFault.TheVariants.{Question, NotBuilt, OutOfMemory}
+use Rattle.unit_answers.specs.Answered.{IsProgramAnswers}
+use Rattle.unit_answers.specs.Fault.{IsAnswersFault}
+use Rattle.report_cli.specs.declared.fault.UnitsFault.{UnitsFault}
+use Rattle.report_cli.specs.declared.fault.UnitsFault.TheVariants.{Refused, Memory}
+use Rattle.report_cli.specs.Answers.{NamedText, Answer, refusal, place_text}
+use Rattle.report_cli.specs.Words.{names_of, with_script}
+use Rattle.report_cli.specs.Linking.{unit_name}
+use Rattle.report_cli.specs.Unbuilt.{not_built}
+use Rattle.report_cli.specs.Printed.{AreAnswersTo, IsPrinted, IsRefusedScript}
+use Rattle.report_cli.specs.Outcome.{Denotes}
+use Rattle.report_cli.specs.Scripts.{told_with}
+use Rattle.report_cli.specs.Faults.{fault_of, IsFaultOf, IsFaultOfTold, IsFaultOfScript, IsAnswersRefusal}
+
+one_of : (a b : List ℕ) → Some a ≡ Some b → a ≡ b
+one_of a b h = cc
+
+module _ (names : List (List ℕ)) (program : Program) (space : List Location) (system : System) (script : NamedText) where
+  script_so : (answer : Answer) (fault : UnitsFault) → fault ≡ fault_of answer → answer.out ≡ [] → IsRefusedScript names program space system script answer → IsFaultOfScript names program space system script fault
+  script_so answer fault is nothing refused =
+      let P : UnitsFault → Type 0 = λ f. IsFaultOfScript names program space system script f in
+      let Q : List ℕ → Type 0 = λ out. IsRefusedScript names program space system script (record { status = answer.status; out = out; err = answer.err }) in
+      subst P (sym is) (subst Q nothing refused)
+
+  -- a script over the limit is refused
+  pub long_script : (fault : UnitsFault) → 2 ^ 24 < length script.1 → fault ≡ fault_of (refusal 6 (script.0 ++ codes ": too large text 16777217")) → IsFaultOfScript names program space system script fault
+  long_script fault long is = script_so (refusal 6 (script.0 ++ codes ": too large text 16777217")) fault is refl (inl (record { long = long; answer_is = refl }))
+
+  -- the fault of a script within the limit refuses it
+  pub script_refused : (cause : AnswersFault) (fault : UnitsFault) → length script.1 ≤ 2 ^ 24 → IsAnswersFault program space system script.1 cause → IsAnswersRefusal names cause fault → IsFaultOfScript names program space system script fault
+  script_refused (Question number) fault short h is =
+      script_so (refusal 10 (codes "question " ++ decimal number)) fault is refl (inr (inl (record { short = short; number = number; line = h; answer_is = refl })))
+  script_refused NotBuilt fault short h is =
+      script_so (not_built (place_text (unit_name names 0) 1 1)) fault is refl (inr (inr (record { short = short; shared = h; answer_is = refl })))
+  script_refused OutOfMemory fault short h is = let P : UnitsFault → Type 0 = λ f. IsFaultOfScript names program space system script f in subst P (sym is) tt
+
+  -- the answers to a script within the limit
+  pub answers_printed : (text : List ℕ) → length script.1 ≤ 2 ^ 24 → IsSystemOf program space system → IsProgramAnswers program space system script.1 text → IsPrinted (Some script) program system text
+  unfolding AreAnswersTo
+  answers_printed text short of h = (short, (space, of, h))
+
+  -- the refusal of a script on the program of units
+  pub script_told : (texts : List NamedText) (fault : UnitsFault) → names ≡ map (λ (text : NamedText). text.0) texts → Denotes texts program → IsSystemOf program space system
+      → IsFaultOfScript names program space system script fault → IsFaultOfTold (told_with texts (Some script)) fault
+  script_told texts (Refused status line) named denoted of h =
+      let P : List (List ℕ) → Type 0 = λ n. IsRefusedScript n program space system script (record { status = status; out = []; err = line }) in
+      inr (record { program = program; denoted = denoted; space = space; system = system; system_of = of; refused = subst P named h })
+  script_told texts Memory named denoted of h = tt
+
+pub both_ok : {A E : Type 0} (r : Result A E) (P Q R : A → Type 0) → ((x : A) → P x → Q x → R x) → IfOk r P → IfOk r Q → IfOk r R
+both_ok (Ok x) P Q R f p q = f x p q
+both_ok (Err e) P Q R f p q = tt
+
+pub on_fault : {A E : Type 0} (r : Result A E) (P Q : E → Type 0) → ((e : E) → P e → Q e) → IfErr r P → IfErr r Q
+on_fault (Ok x) P Q f p = tt
+on_fault (Err e) P Q f p = f e p
+
+-- the refusal of units, whatever the script
+pub units_told : (texts : List NamedText) (script : Option NamedText) (fault : UnitsFault) → IsFaultOf texts fault → IsFaultOfTold (told_with texts script) fault
+units_told texts script (Refused status line) h = inl h
+units_told texts script Memory h = tt
+
+-- units with their texts stand first
+zip_front : (units more texts : List (List ℕ)) → zip units (take (length units) texts) ≡ take (length units) (zip (units ++ more) texts)
+zip_front [] more texts = refl
+zip_front (unit ∷ units) more [] = refl
+zip_front (unit ∷ units) more (text ∷ texts) = ap (λ (rest : List NamedText). (unit, text) ∷ rest) (zip_front units more texts)
+
+zip_units : (units : List (List ℕ)) (script : Option (List ℕ)) (texts : List (List ℕ)) → zip units (take (length units) texts) ≡ take (length units) (zip (with_script units script) texts)
+zip_units units None texts = zip_front units [] texts ∙ ap (λ (all : List (List ℕ)). take (length units) (zip all texts)) (append-nil units)
+zip_units units (Some script) texts = zip_front units (script ∷ []) texts
+
+pub units_apart : (words : List (Bor (List ℕ))) (script : Option (List ℕ)) (texts : List (List ℕ)) → zip (names_of words) (take (length words) texts) ≡ take (length words) (zip (with_script (names_of words) script) texts)
+units_apart words script texts =
+    let same : length (names_of words) ≡ length words = length-map words (λ (b : Bor (List ℕ)). b.now) in
+    let P : ℕ → Type 0 = λ n. zip (names_of words) (take n texts) ≡ take n (zip (with_script (names_of words) script) texts) in
+    subst P same (zip_units (names_of words) script texts)
+
+-- there is a text for each unit
+pub units_enough : (words : List (Bor (List ℕ))) (script : Option (List ℕ)) → length words ≤ length (with_script (names_of words) script)
+units_enough words None = let same = length-map words (λ (b : Bor (List ℕ)). b.now) in omega arith
+units_enough words (Some script) =
+    let same = length-map words (λ (b : Bor (List ℕ)). b.now) in
+    let more = length-append (names_of words) (script ∷ []) in omega arith
+
+-- and the script behind them
+none_behind : (units texts : List (List ℕ)) → length texts ≡ length units → slice_get (zip units texts) (length units) ≡ None
+none_behind [] texts count = refl
+none_behind (unit ∷ units) [] count = absurd (omega arith)
+none_behind (unit ∷ units) (text ∷ texts) count = none_behind units texts (omega arith)
+
+one_behind : (units : List (List ℕ)) (script : List ℕ) (texts : List (List ℕ)) (text : List ℕ) → slice_get texts (length units) ≡ Some text → slice_get (zip (units ++ script ∷ []) texts) (length units) ≡ Some (script, text)
+one_behind [] script [] text at = absurd (cc)
+one_behind [] script (first ∷ texts) text at = ap (λ (t : List ℕ). Some (script, t)) (one_of first text at)
+one_behind (unit ∷ units) script [] text at = absurd (cc)
+one_behind (unit ∷ units) script (first ∷ texts) text at = one_behind units script texts text at
+
+bor_of : (a b : Bor (List ℕ)) → Some a ≡ Some b → a ≡ b
+bor_of a b h = cc
+
+-- the script of a command, by the text behind those of its units
+pub script_behind : (units : List (Bor (List ℕ))) (ask : Option (Bor (List ℕ))) (name : Bor (List ℕ)) (texts : List (List ℕ)) (n : ℕ) (x text : List ℕ) → ask ≡ Some name
+    → length texts ≡ length (with_script (names_of units) (option_map (λ (b : Bor (List ℕ)). b.now) ask)) → n ≡ length units → x ≡ get_or texts n x → text ≡ x
+    → Some (name.now, text) ≡ slice_get (zip (with_script (names_of units) (option_map (λ (b : Bor (List ℕ)). b.now) ask)) texts) (length units)
+script_behind units None name texts n x text is count n_is at text_is = absurd (cc)
+script_behind units (Some b) name texts n x text is count n_is at text_is =
+    let same : length (names_of units) ≡ length units = length-map units (λ (c : Bor (List ℕ)). c.now) in
+    let more = length-append (names_of units) (b.now ∷ []) in
+    let counted : length texts ≡ length (names_of units ++ b.now ∷ []) = count in
+    let within : length units < length texts = omega arith in
+    let there : slice_get texts (length units) ≡ Some text =
+    slice_get-get_or texts (length units) x within ∙ ap (λ (t : List ℕ). Some t) (ap (λ (k : ℕ). get_or texts k x) (sym n_is) ∙ sym at ∙ sym text_is) in
+    let P : ℕ → Type 0 = λ k. slice_get texts k ≡ Some text in
+    let behind = one_behind (names_of units) b.now texts text (subst P (sym same) there) in
+    ap (λ (c : Bor (List ℕ)). Some (c.now, text)) (sym (bor_of b name is)) ∙ sym behind ∙ ap (λ (k : ℕ). slice_get (zip (names_of units ++ b.now ∷ []) texts) k) same
+
+pub no_script_behind : (units : List (Bor (List ℕ))) (ask : Option (Bor (List ℕ))) (texts : List (List ℕ)) → ask ≡ None
+    → length texts ≡ length (with_script (names_of units) (option_map (λ (b : Bor (List ℕ)). b.now) ask))
+    → None ≡ slice_get (zip (with_script (names_of units) (option_map (λ (b : Bor (List ℕ)). b.now) ask)) texts) (length units)
+no_script_behind units (Some b) texts is count = absurd (cc)
+no_script_behind units None texts is count =
+    let same : length (names_of units) ≡ length units = length-map units (λ (c : Bor (List ℕ)). c.now) in
+    sym (none_behind (names_of units) texts count) ∙ ap (λ (k : ℕ). slice_get (zip (names_of units) texts) k) same

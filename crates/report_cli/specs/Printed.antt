@@ -1,0 +1,49 @@
+-- What is printed of a program, and what refuses a script of questions on it.
+use Rattle.std.specs.Prelude.{◌≡◌, ◌⊎◌, ◌<◌, ◌≤◌, ◌^◌, ℕ, List, ◌++◌, Option, Some, None, length, codes, decimal}
+use Rattle.core_tree.specs.declared.node.Program.{Program}
+use Rattle.sol_model.specs.declared.system.System.{System}
+use Rattle.obj_space.specs.declared.location.Location.{Location}
+use Rattle.obj_space.specs.Space.{DistinctNames}
+use Rattle.unit_system.specs.Of.{IsSystemOf}
+use Rattle.unit_report.specs.Reported.{IsProgramReport}
+use Rattle.unit_answers.specs.Answered.{IsProgramAnswers, IsRefusedLine}
+use Rattle.report_cli.specs.Answers.{NamedText, Answer, refusal, place_text}
+use Rattle.report_cli.specs.Linking.{unit_name}
+use Rattle.report_cli.specs.Unbuilt.{not_built}
+
+-- bytes are the report of the least solution of a program's system
+unfoldable pub IsReport : Program → System → List ℕ → Type 0
+IsReport program system report = (space : List Location) × IsSystemOf program space system × IsProgramReport program space system report
+
+-- bytes are the answers to the questions of a script within the limit, as the least solution of a program's system says
+unfoldable pub AreAnswersTo : List ℕ → Program → System → List ℕ → Type 0
+AreAnswersTo script program system answers =
+    (length script ≤ 2 ^ 24) × ((space : List Location) × IsSystemOf program space system × IsProgramAnswers program space system script answers)
+
+-- bytes are what is printed of a program: its report, or the answers to a script where there is one
+abbrev pub IsPrinted : Option NamedText → Program → System → List ℕ → Type 0
+IsPrinted None program system text = IsReport program system text
+IsPrinted (Some script) program system text = AreAnswersTo script.1 program system text
+
+-- the refusal of a script that is over the limit
+pub record IsLongScript (script : NamedText) (answer : Answer) : Type 0 where
+  pub long : 2 ^ 24 < length script.1
+  pub answer_is : answer ≡ refusal 6 (script.0 ++ codes ": too large text 16777217")
+
+-- the refusal of a script within the limit for its first line that asks nothing, by the number of the line
+pub record HasRefusedLine (program : Program) (space : List Location) (system : System) (script : NamedText) (answer : Answer) : Type 0 where
+  pub short : length script.1 ≤ 2 ^ 24
+  pub number : ℕ
+  pub line : IsRefusedLine program space system script.1 number
+  pub answer_is : answer ≡ refusal 10 (codes "question " ++ decimal number)
+
+-- the refusal of a script within the limit on a program that has two locations of one name, which isn't built: at the start of the first unit
+pub record IsUnbuiltScript (names : List (List ℕ)) (space : List Location) (script : NamedText) (answer : Answer) : Type 0 where
+  pub short : length script.1 ≤ 2 ^ 24
+  pub shared : DistinctNames space → ⊥
+  pub answer_is : answer ≡ not_built (place_text (unit_name names 0) 1 1)
+
+-- the refusal of a script on a program of units with these names
+abbrev pub IsRefusedScript : List (List ℕ) → Program → List Location → System → NamedText → Answer → Type 0
+IsRefusedScript names program space system script answer =
+    IsLongScript script answer ⊎ (HasRefusedLine program space system script answer ⊎ IsUnbuiltScript names space script answer)

@@ -1,0 +1,89 @@
+//! From a script of questions on a program to its answers.
+
+ghost use Rattle.std.specs.Prelude.{◌≡◌, ◌<◌, ◌≤◌, ◌^◌, All, IfErr, IfOk, length};
+ghost use Rattle.sol_model.specs.Families.{Family};
+ghost use Rattle.sol_model.specs.Solutions.{IsLeast};
+ghost use Rattle.sol_model.specs.Systems.{IsValid};
+ghost use Rattle.alias_query.specs.Answers.{IsKnown};
+ghost use Rattle.ask_rounds.specs.Said.{AreAnswers};
+ghost use Rattle.unit_system.specs.Of.{IsSystemOf};
+ghost use Rattle.unit_report.specs.Solved.{IsSolved};
+ghost use Rattle.unit_answers.specs.Answered.{IsProgramAnswers};
+ghost use Rattle.unit_answers.specs.Fault.{IsAnswersFault};
+
+use crate::fault::{AnswersFault, fault_of};
+use alias_query::{Answer, Question, questions};
+use ask_rounds::{answers_text, solve_and_ask};
+use name_tests::names_differ;
+use pta_base::{Gate, OutOfMemory};
+use set_rows::RowTable;
+use sol_model::System;
+use std::alloc::Global;
+use std::thread::Threads;
+use unit_report::Solved;
+use unit_system::UnitSystem;
+
+/// Solves a system by workers on shared rows, with an asker beside them, and answers questions whose numbers are in range.
+fn answer_on_rows<R: Threads + Sync, G: Gate + Sync>(
+    rt: &R,
+    alloc: Global,
+    system: System,
+    questions: &[Question],
+    workers: u32,
+    gate: &G,
+) -> Result<(Vec<Answer>, Solved), OutOfMemory>
+    requires valid { IsValid system }
+    requires known { All (IsKnown system) questions.now }
+    requires workers { (0 < workers) × (workers ≤ 64) }
+    ensures answers { IfOk result (λ found. (F : Family) → IsLeast system F → AreAnswers system F questions.now found.0.items) }
+    ensures solved { IfOk result (λ found. IsSolved system found.1) }
+{
+    let (table, seat) = RowTable::new(alloc, &system)?;
+    let (seat, answers) = solve_and_ask(
+        rt, alloc, &system, &table, seat, questions, workers, gate,
+    )?;
+    Ok((
+        answers,
+        Solved {
+            system,
+            table,
+            seat,
+        },
+    ))
+}
+
+/// The answers to a script of at most 2^24 bytes on a program whose system was made, with the system that was solved for them by so many
+/// workers on shared rows, each of whom passes the gate before each of its pieces. An asker beside them tries each question, and what is
+/// open then is asked when the system is solved. At Err it is the first line that isn't in the grammar or names nothing of the right sort.
+/// The text stands whole in memory before any of it is written. Not built is a program of which two locations have one name.
+pub fn answers_of_system<R: Threads + Sync, G: Gate + Sync>(
+    rt: &R,
+    alloc: Global,
+    made: UnitSystem,
+    script: &[u8],
+    workers: u32,
+    gate: &G,
+) -> Result<(Vec<u8>, Solved), AnswersFault>
+    requires system { IsSystemOf made.program made.space made.system }
+    requires script { length script.now ≤ 2 ^ 24 }
+    requires workers { (0 < workers) × (workers ≤ 64) }
+    ensures answered { IfOk result (λ found. IsProgramAnswers made.program made.space made.system script.now found.0.items) }
+    ensures solved { IfOk result (λ found. IsSolved made.system found.1) }
+    ensures refused { IfErr result (IsAnswersFault made.program made.space made.system script.now) }
+{
+    let UnitSystem {
+        program,
+        space,
+        system,
+    } = made;
+    if !names_differ(alloc, &space)? {
+        return Err(AnswersFault::NotBuilt);
+    }
+    let asked = match questions(alloc, script, &space, &system, program.names.as_slice()) {
+        Ok(asked) => asked,
+        Err(fault) => return Err(fault_of(fault)),
+    };
+    let (answers, solved) = answer_on_rows(rt, alloc, system, asked.as_slice(), workers, gate)?;
+    let text = answers_text(alloc, answers.as_slice())?;
+    Ok((text, solved))
+}

@@ -1,0 +1,36 @@
+//! Why a script has no answers.
+
+ghost use Rattle.std.specs.Prelude.{◌≡◌};
+ghost use Rattle.unit_answers.specs.Fault.{fault_of};
+
+use alias_query::AskFault;
+use pta_base::OutOfMemory;
+
+/// The first line at fault, by its number from 1; a program of which two locations have one name, which isn't built; or want of memory.
+#[derive(Clone, Copy, Debug, PartialEq, Eq)]
+pub enum AnswersFault {
+    Question(u32),
+    NotBuilt,
+    OutOfMemory,
+}
+
+impl From<OutOfMemory> for AnswersFault {
+    ghost use Rattle.unit_answers.specs.declared.fault.AnswersFault.TheVariants.{OutOfMemory};
+
+    ghost from_gives = { λ _ fault. fault ≡ OutOfMemory };
+
+    fn from(_: OutOfMemory) -> Self {
+        AnswersFault::OutOfMemory
+    }
+}
+
+/// The fault of a script as one of its answers: the line's number alone.
+pub(crate) fn fault_of(fault: AskFault) -> AnswersFault
+    ensures { result ≡ fault_of fault }
+{
+    match fault {
+        AskFault::BadLine(number) => AnswersFault::Question(number),
+        AskFault::NoName(number) => AnswersFault::Question(number),
+        AskFault::OutOfMemory => AnswersFault::OutOfMemory,
+    }
+}

@@ -1,0 +1,14 @@
+-- What is kept beside a unit while its rows are made is right.
+use Rattle.std.specs.Prelude.{List}
+use Rattle.core_tree.specs.declared.node.Unit.{Unit}
+use Rattle.c_results.specs.declared.made.Made.{Made}
+use Rattle.c_structures.specs.Listed.{AreLists}
+use Rattle.tree_reads.specs.declared.syntax.Syntax.{Syntax}
+use Rattle.unit_limits.specs.Unions.{AreUnions}
+use Rattle.unit_rows.specs.declared.along.Along.{Along}
+use Rattle.unit_rows.specs.Limits.{AreTested}
+
+pub record AreAlong (syntax : Syntax) (u : Unit) (results : List Made) (a : Along) : Type 0 where
+  pub tested : AreTested u a.tested
+  pub lists : AreLists syntax results a.lists
+  pub unions : AreUnions u.types a.unions.items

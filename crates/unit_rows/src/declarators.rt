@@ -1,0 +1,92 @@
+// Rows of declarators.
+ghost use Rattle.std.specs.Prelude.{◌≡◌, ◌<◌, ℕ, List, All, length, IfOk, IsOkUnless};
+ghost use Rattle.core_tree.specs.declared.node.Unit.{Unit as UnitSpec};
+ghost use Rattle.c_senses.specs.Tree.{children_at};
+ghost use Rattle.c_senses.specs.World.{World};
+ghost use Rattle.c_senses.specs.Sense.{sense_in};
+ghost use Rattle.c_senses.specs.Rows.{declarator_row};
+ghost use Rattle.core_nodes.specs.Standing.{IsReady, Builds, Knows};
+ghost use Rattle.c_meanings.specs.Known.{AreNamed};
+ghost use Rattle.c_named.specs.Said.{IsSaidIn, AreSaid};
+ghost use Rattle.c_results.specs.Standing.{senses_made, IsWithin, Rowed};
+ghost use Rattle.name_places.specs.Named.{IsNamedIn};
+ghost use Rattle.name_sayings.specs.Listed.{AreListed};
+ghost use Rattle.tree_reads.specs.Sources.{source_in};
+ghost use Rattle.unit_limits.specs.Small.{IsSmallTable};
+ghost use Rattle.unit_limits.specs.Unions.{AreUnions};
+ghost use Rattle.unit_rows.specs.Standing.{IsKnown, Stand, source_known, nodes_known};
+
+use crate::initials::nothing_said;
+use crate::known::Known;
+use c_meanings::Names;
+use c_named::{Around, Said, declarator_row};
+use c_results::Made;
+use core_nodes::CheckFault;
+use core_tree::node::Unit;
+use name_places::name_in;
+use name_sayings::{completed_flags, said_of};
+use std::alloc::Global;
+use symbol_lists::SymbolLists;
+use tree_reads::{Syntax, children_of};
+
+// What is said of the name of a declarator with those children, if it has one.
+fn said_in(
+    alloc: Global,
+    syntax: &Syntax,
+    names: &Names,
+    lists: &SymbolLists,
+    results: &[Made],
+    children: &[u32],
+) -> Result<Said, CheckFault>
+    requires named { All (IsNamedIn (length syntax.now.tree.now.nodes.items)) results.now }
+    requires names { AreNamed syntax.now results.now names.now }
+    requires lists { AreListed syntax.now lists.now }
+    ensures said { IfOk result (λ said. (u : UnitSpec) (w : World) (uses : List (ℕ × ℕ)) →
+        AreSaid w (source_in syntax.now uses) (sense_in (senses_made u results.now)) children.now said) }
+    ensures within { IfOk result (IsSaidIn (length syntax.now.tree.now.nodes.items)) }
+    ensures memory { IsOkUnless result CheckFault.OutOfMemory }
+{
+    match name_in(syntax, results, children) {
+        Some(leaf) => said_of(alloc, names, lists, syntax, results, leaf),
+        None => Ok(nothing_said(alloc)),
+    }
+}
+
+/// The row of a declarator (C11 6.7.6), with what its declaration may say of the name that it declares (6.2.2p7, 6.7, 6.9.1). `unions` are
+/// the tags that have a structure that ends in an array without a length.
+pub(crate) fn declared_name(
+    alloc: Global,
+    unit: &mut Unit,
+    known: &Known,
+    results: &[Made],
+    unions: &[bool],
+    at: u32,
+) -> Result<Made, CheckFault>
+    requires known { IsKnown known.now }
+    requires stand { Stand (nodes_known known.now) unit.old results.now }
+    requires small { IsSmallTable unit.old.types }
+    requires unions { AreUnions unit.old.types unions.now }
+    requires at { at < nodes_known known.now }
+    ensures ready { IsReady unit.new }
+    ensures builds { Builds unit.old unit.new }
+    ensures within { IfOk result (IsWithin unit.new) }
+    ensures named { (w : World) → Knows w unit.old → IfOk result (IsNamedIn (nodes_known known.now)) }
+    ensures row { (w : World) →
+        Knows w unit.old →
+        let s = source_known known.now in
+        let sense = sense_in (senses_made unit.old results.now) in
+        Rowed unit.new result (declarator_row w s sense at (children_at s at)) }
+{
+    let syntax = &known.numbered.syntax;
+    let children = children_of(syntax, at);
+    let said = match said_in(alloc, syntax, known.names, known.lists, results, children) {
+        Ok(said) => said,
+        Err(fault) => return Err(fault),
+    };
+    let around = Around {
+        unions,
+        completed: completed_flags(&known.numbered.tags),
+        said: &said,
+    };
+    declarator_row(alloc, unit, syntax, results, &around, at, children)
+}
