@@ -20,10 +20,8 @@ use Rattle.row_shapes.specs.Kept.{Keeps}
 use Rattle.tag_numbers.specs.declared.tags.Tags.{Tags}
 use Rattle.tag_numbers.specs.Known as known
 use Rattle.tag_numbers.specs.Ordered.{AreInOrder}
-use Rattle.unit_parts.specs.Renamed.{literals_in}
 use Rattle.unit_finish.specs.Complete as finish
 use Rattle.unit_finish.specs.Walked.{AreTags}
-use Rattle.unit_names.specs.Literals.{IsPast}
 use Rattle.unit_rows.specs.Standing.{AreKept, AreMade}
 use Rattle.unit_walk.specs.Walked.{IsWalked, AreDense, RefusedIn}
 use Rattle.c_lower.specs.Lowered.{IsLowered, IsNotLowered, IsUnfinished, AreParts, declared_in}
@@ -70,15 +68,9 @@ whole_walked s u rs h = length-map rs (sense_made u) ∙ h.whole
 
 -- refusals of the whole
 module _ (s : Source) (name : List ℕ) (parts : AreParts s) (root : ℕ) where
-  pub unfinished_past : (fault : CheckFault) → IsPast (literals_in parts.kept.nodes.items) (length s.nodes) fault → IsUnfinished s name root fault
-  unfinished_past (BadOperand named) h = h
-  unfinished_past (Unsupported NotBuilt named) h = inr (record { parts = parts; past = h })
-  unfinished_past (Unsupported kind named) h = h
-  unfinished_past OutOfMemory h = tt
-
   unfinished_none : (fault : CheckFault) → finish.NoneCompletes name s.unit parts.walked.types parts.keys parts.kept.nodes.items (declared_in s parts) root fault → IsUnfinished s name root fault
   unfinished_none (BadOperand named) h = h
-  unfinished_none (Unsupported NotBuilt named) h = inl (h.0, record { parts = parts; none = h.1 })
+  unfinished_none (Unsupported NotBuilt named) h = (h.0, record { parts = parts; none = h.1 })
   unfinished_none (Unsupported kind named) h = h
   unfinished_none OutOfMemory h = tt
 

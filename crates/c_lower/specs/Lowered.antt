@@ -1,5 +1,5 @@
 -- What it is to lower a text to its unit, and to refuse it.
-use Rattle.std.specs.Prelude.{ℕ, ◌≡◌, ⊤, List, ◌++◌, length, map, Option, ◌⊎◌}
+use Rattle.std.specs.Prelude.{ℕ, ◌≡◌, ⊤, List, ◌++◌, map, Option, ◌⊎◌}
 use Rattle.pta_base.specs.declared.kind.Kind.TheVariants.{NotBuilt}
 use Rattle.core_tree.specs.declared.node.Unit.{Unit}
 use Rattle.core_nodes.specs.Standing.{IsReady}
@@ -14,7 +14,6 @@ use Rattle.unit_parts.specs.Renamed.{literals_in}
 use Rattle.unit_finish.specs.declared.keeping.Kept.{Kept}
 use Rattle.unit_finish.specs.Complete.{IsKept, Completes}
 use Rattle.unit_finish.specs.Walked.{IsWalked, literal_entry}
-use Rattle.unit_names.specs.Literals.{IsPast}
 use Rattle.unit_walk.specs.Walked.{AreDense, RefusedIn}
 
 -- the unit is what the source says, with the numbers of its tags
@@ -44,14 +43,9 @@ pub record NoneCompletes (s : Source) (name : List ℕ) : Type 0 where
   pub parts : AreParts s
   pub none : (u : Unit) → Completes name s.unit parts.walked.types parts.keys parts.kept.nodes.items (declared_in s parts) u → ⊥
 
--- such parts, with a compound literal there that stands at no node
-pub record StandsNowhere (s : Source) (fault : CheckFault) : Type 0 where
-  pub parts : AreParts s
-  pub past : IsPast (literals_in parts.kept.nodes.items) (length s.nodes) fault
-
--- the rows of all nodes fit, and it is refused as not built: at the root, or at such a literal
+-- the rows of all nodes fit, and it is refused as not built, at the root
 abbrev pub IsUnfinished : Source → List ℕ → ℕ → CheckFault → Type 0
-IsUnfinished s name root (Unsupported NotBuilt named) = ((named ≡ root) × NoneCompletes s name) ⊎ StandsNowhere s (Unsupported NotBuilt named)
+IsUnfinished s name root (Unsupported NotBuilt named) = (named ≡ root) × NoneCompletes s name
 IsUnfinished s name root OutOfMemory = ⊤
 IsUnfinished s name root fault = ⊥
 

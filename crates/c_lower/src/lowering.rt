@@ -3,12 +3,14 @@ ghost use Rattle.std.specs.Prelude.{◌≡◌, ℕ, List, All, length, MatchResu
 ghost use Rattle.core_tree.specs.declared.node.Unit.{Unit as UnitSpec};
 ghost use Rattle.core_nodes.specs.Standing.{IsReady};
 ghost use Rattle.c_lexer.specs.Cut.{IsTokens};
+ghost use Rattle.c_units.specs.Units.{IsUnit};
+ghost use Rattle.c_literals.specs.Laws.{AreBytes};
 ghost use Rattle.c_scope.specs.Resolves.{IsBound};
 ghost use Rattle.c_senses.specs.Names.{source_of};
 ghost use Rattle.c_senses.specs.Right.{Right};
 ghost use Rattle.c_results.specs.Standing.{senses_made};
 ghost use Rattle.sense_laws.specs.Senses.{ChildrenFirst};
-ghost use Rattle.tree_reads.specs.Sources.{source_in};
+ghost use Rattle.tree_reads.specs.Sources.{source_read, source_in};
 ghost use Rattle.name_places.specs.Named.{IsNamedIn};
 ghost use Rattle.c_meanings.specs.Known.{AreNamed};
 ghost use Rattle.unit_parts.specs.declared.declared.Declared.{Declared as DeclaredSpec};
@@ -48,6 +50,7 @@ fn finished(
 ) -> Result<Unit, CheckFault>
     requires names { AreNamed syntax.now results.now names.now }
     requires named { All (IsNamedIn (length syntax.now.tree.now.nodes.items)) results.now }
+    requires first { ChildrenFirst (source_read syntax.now) }
     ensures { (u walked : UnitSpec) (uses : List (ℕ × ℕ)) (list : List DeclaredSpec) →
         let s = source_in syntax.now uses in
         IsReady walked → walked.types ≡ types → s.unit ≡ heading.unit →
@@ -102,11 +105,15 @@ fn completed(alloc: Global, bound: &Bound, name: Text, walked: Walked) -> Result
     )
 }
 
+// The bytes of a text.
+fn are_bytes(text: &[u8])
+    ensures { AreBytes text.now }
+{}
+
 /// The unit that a text stands for, where its tokens and its tree are those of a text whose names are bound, and each node stands behind
 /// its children. The text is refused at its first node, in order, whose row doesn't fit: `BadOperand` and `Unsupported` hold the kind and
-/// the node that the row names. `NotBuilt` comes at a node of whose production not each form is built; and, where the rows of all nodes fit,
-/// at the root, where no valid unit is made of what they stand for, or at a compound literal that stands at no node. Beside that only
-/// memory may want. Tags have the numbers of the order of their first specifiers (C11 6.7.2.3).
+/// the node that the row names. `NotBuilt` comes at a node whose types aren't within the limits; and, where the rows of all nodes fit, at the
+/// root, where no valid unit is made of what they stand for. Beside that only memory may want. Tags have the numbers of the order of their first specifiers (C11 6.7.2.3).
 pub fn lower_unit(
     alloc: Global,
     tokens: &Tokens,
@@ -115,11 +122,13 @@ pub fn lower_unit(
     name: Text,
 ) -> Result<Unit, CheckFault>
     requires tokens { IsTokens tokens.now.text.now tokens.now.list.items }
+    requires read { IsUnit tokens.now tree.now.unit tree.now }
     requires bound { IsBound tokens.now tree.now bound.now }
     requires first { ChildrenFirst (source_of tokens.now tree.now) }
     ensures { MatchResult result (IsLowered (source_of tokens.now tree.now) name)
         (IsNotLowered (source_of tokens.now tree.now) name tree.now.root) }
 {
+    are_bytes(tokens.text);
     match walk(alloc, tokens, tree, bound) {
         Ok(walked) => completed(alloc, bound, name, walked),
         Err(fault) => Err(fault),

@@ -114,9 +114,9 @@ fn listed_field(
 }
 
 /// The row of a list of members, of a declaration of members or of a field (C11 6.7.2.1), by the node's production: exactly
-/// `declaring_row`, with the refusals of `members_row`, `member_declaration` and `field_row`. `unions` are the tags whose members are or hold
-/// a structure that ends in an array without a length. With what is kept of the lists of members that are being gone through, each field
-/// costs about as much as its name; what is kept stays right while more is made.
+/// `declaring_row`, with the refusals of `members_row`, `member_declaration` and `field_row`. `unions` are the tags whose members are or
+/// hold a structure that ends in an array without a length. With what is kept of the lists of members that are being gone through, each
+/// field costs about as much as its name; what is kept stays right while more is made.
 pub fn listed_member(
     alloc: Global,
     unit: &mut Unit,

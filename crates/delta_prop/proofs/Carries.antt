@@ -1,5 +1,5 @@
 -- The step of a carry along one edge.
-use Rattle.std.proofs.Common.{◌≡◌, ◌≢◌, Bool, true, false, true≢false, ℕ, suc, ◌+◌, ◌-◌, ◌*◌, ◌/◌, ◌%◌, ◌<◌, ◌≤◌, ◌^◌, List, length, get_or, set, bit_or, bit_and, count_ones, min, refl, sym, ap, ◌∙◌, subst, inl, inr, arith, get_or-set_same, get_or-set_other, add-one, mul-le-mul_right, suc-mul}
+use Rattle.std.proofs.Common.{◌≡◌, ◌≢◌, Bool, true, false, true≢false, ℕ, zero, suc, ◌+◌, ◌-◌, ◌*◌, ◌/◌, ◌%◌, ◌<◌, ◌≤◌, ◌^◌, List, length, get_or, set, bit_or, bit_and, count_ones, min, refl, sym, ap, ◌∙◌, subst, inl, inr, arith, get_or-set_same, get_or-set_other, add-one, mul-le-mul_right, suc-mul}
 use Rattle.std.specs.Int.{bit_at, bit_not, w64}
 use Rattle.std.proofs.lemmas.Bool.{cases_eq, cases_lt}
 use Rattle.std.proofs.lemmas.Nat.{same_from_place, zero_from_ones}
@@ -15,7 +15,7 @@ use Rattle.set_rows.specs.Views.{OnlyAdded, added, known}
 use Rattle.sol_model.proofs.Words.{adds_or, within_or}
 use Rattle.set_rows.proofs.Adding.{nothing_added, added_twice, add_only_adds, known_more}
 use Rattle.sol_model.specs.Systems.{width_of}
-use Rattle.delta_prop.specs.Deltas.{new_bits, gained, IsSound}
+use Rattle.delta_prop.specs.Deltas.{new_bits, gained, IsSeenOf, IsSound}
 
 pub edge_gives : (S : System) (F : Family) (a b location : ℕ) → IsEdge S F a b → Has F a location → IsGiven S F b location
 edge_gives S F a b location e h = (e.0, e.1, inr (a, e.2, h))
@@ -27,7 +27,7 @@ new_now : (done now j : ℕ) → bit_at (new_bits done now) j ≡ 1 → bit_at n
 new_now done now j h = let m = bit_at_and now (bit_not w64 done) j in let l = bit_at-lt now j in omega arith
 
 -- a location that is there now was done, or is new
-done_or_new : (done now j : ℕ) → done < 2 ^ 64 → now < 2 ^ 64 → bit_at now j ≡ 1 → bit_at done j ≢ 1 → bit_at (new_bits done now) j ≡ 1
+pub done_or_new : (done now j : ℕ) → done < 2 ^ 64 → now < 2 ^ 64 → bit_at now j ≡ 1 → bit_at done j ≢ 1 → bit_at (new_bits done now) j ≡ 1
 done_or_new done now j d n h not = elim (cases_lt j 64) [
   | inl lt ↦ (let m = bit_at_and now (bit_not w64 done) j in let l = bit_at-lt done j in let r = bit_at_not w64 done j d lt in omega arith)
   | inr ge ↦ absurd (let z = bit_at_above now 64 j n ge in omega arith)
@@ -109,6 +109,31 @@ carried_none W to k done now v u any c d n was none_new = record {
   same = c.same;
   some = λ t. (let g = gained_next k done now in let o = c.some t in omega arith);
 }
+
+-- a word that is the one that was done
+carried_same : (W to k : ℕ) (done now : List ℕ) (v u : View) (any : Bool) → Carried W to k done now v u any → k < W → get_or now k 0 ≡ get_or done k 0
+    → IsSeenOf W v.seen to done → Carried W to (k + 1) done now v u any
+carried_same W to k done now v u any c within same was = record {
+  more = c.more;
+  sound = c.sound;
+  sized = c.sized;
+  carried = λ j lt b h. elim (cases_eq j k) [
+    | inl e ↦ c.more.seen (to * W + j) b (was j (omega arith) b (subst (λ (m : ℕ). bit_at (get_or done m 0) b ≡ 1) (sym e) (ap (λ (x : ℕ). bit_at x b) (sym same) ∙ ap (λ (m : ℕ). bit_at (get_or now m 0) b) (sym e) ∙ h)))
+    | inr ne ↦ c.carried j (omega arith) b h
+  ];
+  others = c.others;
+  ors = (let g = gained_next k done now in let o = c.ors in omega arith);
+  same = c.same;
+  some = λ t. (let g = gained_next k done now in let o = c.some t in omega arith);
+}
+
+-- n such words
+pub carried_over : (n W to k : ℕ) (done now : List ℕ) (v u : View) (any : Bool) → Carried W to k done now v u any → k + n ≤ W
+    → ((j : ℕ) → k ≤ j → j < k + n → get_or now j 0 ≡ get_or done j 0) → IsSeenOf W v.seen to done → Carried W to (k + n) done now v u any
+carried_over zero W to k done now v u any c within same was = subst (λ (m : ℕ). Carried W to m done now v u any) (let e : k ≡ k + 0 = omega arith in e) c
+carried_over (suc n) W to k done now v u any c within same was =
+    subst (λ (m : ℕ). Carried W to m done now v u any) (let e : k + n + 1 ≡ k + suc n = omega arith in e)
+    (carried_same W to (k + n) done now v u any (carried_over n W to k done now v u any c (omega arith) (λ j ge lt. same j ge (omega arith)) was) (omega arith) (same (k + n) (omega arith) (omega arith)) was)
 
 pub licence_of : (S : System) (v u : View) (row to k done now len : ℕ) → v.system ≡ S → OnlyAdded v u → len ≡ width_of S → k < width_of S → IsEdge S (known v) row to
     → Within now (get_or v.seen (row * width_of S + k) 0) → (r l : ℕ) → At (width_of S) (to * len + k) (new_bits done now) r l → IsGiven S (known u) r l

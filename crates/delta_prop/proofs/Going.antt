@@ -3,7 +3,7 @@ use Rattle.std.proofs.Common.{◌≡◌, ◌≢◌, ◌⊎◌, ℕ, ◌+◌, ◌
 use Rattle.std.specs.Int.{bit_at}
 use Rattle.std.proofs.lemmas.Option.{same_Some}
 use Rattle.std.proofs.lemmas.List.Elements.{Contains-append_left, Contains-push, Contains-push_cases}
-use Rattle.std.proofs.lemmas.Bool.{cases_eq}
+use Rattle.std.proofs.lemmas.Bool.{cases_eq, cases_lt}
 use Rattle.sol_model.proofs.Members.{at_Contains, Contains-at}
 use Rattle.sol_model.specs.Words.{Within}
 use Rattle.set_rows.specs.declared.view.View.{View}
@@ -12,8 +12,8 @@ use Rattle.set_rows.proofs.Adding.{added_twice}
 use Rattle.edge_book.specs.Leaving.{targets_of}
 use Rattle.edge_book.proofs.Targets.{target_listed, listed_target}
 use Rattle.delta_prop.specs.declared.turn.Turn.{Turn}
-use Rattle.delta_prop.specs.Deltas.{gained, IsSeenOf, IsSound}
-use Rattle.delta_prop.specs.Turns.{IsSameRow, IsTurn}
+use Rattle.delta_prop.specs.Deltas.{gained, IsSameBeside, IsSeenOf, IsSound}
+use Rattle.delta_prop.specs.Turns.{IsSameRow, IsTurn, TargetsSeen}
 
 pub looked_adds : (v w : View) → OnlyLooked v w → OnlyAdded v w
 looked_adds v w l = record { system = l.system; ors = (let o = l.ors in omega arith); shuts = l.shuts; reads = l.reads; last = l.last; knows = l.knows; part = l.part; halvings = l.halvings; seen = l.seen }
@@ -104,16 +104,45 @@ going_carried W row i to to_rows done now grown v u w g at more sound seen other
 }
 
 pub going_done : (W row i : ℕ) (book : List (ℕ × ℕ)) (done : List ℕ) (turn : Turn) (v u : View) → turn.row ≡ row → length turn.done.items ≡ W → i ≡ length (targets_of row book)
-    → Going W row i (targets_of row book) done turn.done.items turn.grown.items v u → IsTurn W book row done v u turn
-going_done W row i book done turn v u is sized all g = record {
+    → IsSameBeside W turn.first turn.end done turn.done.items → (turn.first ≤ W) × (turn.end ≤ W) → Going W row i (targets_of row book) done turn.done.items turn.grown.items v u → IsTurn W book row done v u turn
+going_done W row i book done turn v u is sized all beside range g = record {
   row_is = is;
   sized = sized;
   read = g.read;
   done_seen = g.done_seen;
   targets = λ to has. let at = at_Contains (targets_of row book) to (target_listed row to book has) in g.targets at.0 to (let l = at.1 in omega arith) at.2;
   within = λ other h. listed_target row other book (g.within other h);
+  beside = beside;
+  range = range;
   others = g.others;
   own = g.own;
   some = g.some;
   ors = subst (λ (n : ℕ). u.ors ≤ v.ors + gained W done turn.done.items * n) all g.ors;
 }
+
+-- a turn of a row that has nothing new
+pub going_nowhere : (W row : ℕ) (book : List (ℕ × ℕ)) (done : List ℕ) (turn : Turn) (v u : View) → turn.row ≡ row → length turn.done.items ≡ W
+    → IsSameBeside W turn.first turn.end done turn.done.items → (turn.first ≤ W) × (turn.end ≤ W) → turn.end ≤ turn.first → turn.grown.items ≡ [] → OnlyLooked v u
+    → ((k : ℕ) → k < W → get_or u.seen (row * W + k) 0 ≡ get_or turn.done.items k 0)
+    → ((other k : ℕ) → other ≢ row → k < W → get_or u.seen (other * W + k) 0 ≡ get_or v.seen (other * W + k) 0)
+    → TargetsSeen W v.seen row book done → IsTurn W book row done v u turn
+going_nowhere W row book done turn v u is sized beside range empty none more words others targets = record {
+  row_is = is;
+  sized = sized;
+  read = λ k lt b h. ap (λ x. bit_at x b) (sym (words k lt)) ∙ more.seen (row * W + k) b h;
+  done_seen = λ k lt b h. ap (λ x. bit_at x b) (words k lt) ∙ h;
+  targets = λ to edge k lt b h. more.seen (to * W + k) b (targets to edge k lt b (ap (λ x. bit_at x b) (sym (same k lt)) ∙ h));
+  within = λ other h. absurd (nothing other h);
+  beside = beside;
+  range = range;
+  others = λ other ne. inr (λ k lt. others other k ne lt);
+  own = inr words;
+  some = inl none;
+  ors = (let o = more.ors in omega arith);
+}
+  where
+    same : (k : ℕ) → k < W → get_or turn.done.items k 0 ≡ get_or done k 0
+    same k lt = elim (cases_lt k turn.first) [ inl before ↦ beside k lt (inl before) | inr after ↦ beside k lt (inr (omega arith)) ]
+
+    nothing : (other : ℕ) → Contains turn.grown.items other → ⊥
+    nothing other h = let l : Contains {X = ℕ} [] other = subst (λ (xs : List ℕ). Contains xs other) none h in let n = l.1 in omega arith

@@ -1,5 +1,5 @@
 -- What a row has newly, and where it has gone.
-use Rattle.std.specs.Prelude.{ℕ, zero, suc, ◌+◌, ◌*◌, ◌<◌, List, slice_index, bit_and, count_ones, Contains}
+use Rattle.std.specs.Prelude.{◌≡◌, ◌⊎◌, ℕ, zero, suc, ◌+◌, ◌*◌, ◌<◌, ◌≤◌, List, slice_index, bit_and, count_ones, Contains}
 use Rattle.std.specs.Int.{bit_not, w64}
 use Rattle.sol_model.specs.declared.system.System.{System}
 use Rattle.sol_model.specs.Families.{Family}
@@ -21,6 +21,14 @@ gained (suc n) done now = gained n done now + count_ones (new_bits (slice_index 
 -- the words are inside those that were seen of a row
 abbrev pub IsSeenOf : ℕ → List ℕ → ℕ → List ℕ → Type 0
 IsSeenOf width seen row words = (k : ℕ) → k < width → Within (slice_index words k) (slice_index seen (row * width + k))
+
+-- no more was seen of a row than these words
+abbrev pub IsAllOf : ℕ → List ℕ → ℕ → List ℕ → Type 0
+IsAllOf width seen row words = (k : ℕ) → k < width → Within (slice_index seen (row * width + k)) (slice_index words k)
+
+-- but for those from one number on and below another, the words are those that were done
+abbrev pub IsSameBeside : ℕ → ℕ → ℕ → List ℕ → List ℕ → Type 0
+IsSameBeside width first end done now = (k : ℕ) → k < width → (k < first) ⊎ (end ≤ k) → slice_index now k ≡ slice_index done k
 
 -- some rule demands each edge of the book
 pub record AllDemanded (S : System) (F : Family) (book : List (ℕ × ℕ)) : Type 0 where

@@ -4,7 +4,7 @@ use Rattle.sol_model.specs.Words.{Within}
 use Rattle.set_rows.specs.declared.view.View.{View}
 use Rattle.delta_prop.specs.declared.turn.Turn.{Turn}
 use Rattle.edge_book.specs.Leaving.{targets_of}
-use Rattle.delta_prop.specs.Deltas.{gained, IsSeenOf}
+use Rattle.delta_prop.specs.Deltas.{gained, IsSameBeside, IsSeenOf}
 
 -- what is done of a row was seen of each row to which one of its edges leads
 abbrev pub TargetsSeen : ℕ → List ℕ → ℕ → List (ℕ × ℕ) → List ℕ → Type 0
@@ -23,6 +23,9 @@ pub record IsTurn (width : ℕ) (book : List (ℕ × ℕ)) (row : ℕ) (done : L
   pub targets : TargetsSeen width new.seen row book turn.done.items
   -- each row that has grown is the target of an edge of this row
   pub within : (other : ℕ) → Contains turn.grown.items other → Contains book (row, other)
+  -- what is new is among the words from the turn's first on and below its end
+  pub beside : IsSameBeside width turn.first turn.end done turn.done.items
+  pub range : (turn.first ≤ width) × (turn.end ≤ width)
   -- the other rows of which more was seen
   pub others : (other : ℕ) → other ≢ row → Contains turn.grown.items other ⊎ IsSameRow width old.seen new.seen other
   -- the row itself, where more was seen of it than is done

@@ -4,12 +4,13 @@ ghost use Rattle.sol_model.specs.Solutions.{IsEdge};
 ghost use Rattle.sol_model.specs.Systems.{IsValid, IsRow, width_of};
 ghost use Rattle.set_rows.specs.Views.{OnlyAdded, known};
 ghost use Rattle.set_rows.specs.Calls.{system_of, view, IsOf};
-ghost use Rattle.delta_prop.specs.Deltas.{IsSeenOf, IsSound, gained};
+ghost use Rattle.delta_prop.specs.Deltas.{IsSameBeside, IsSeenOf, IsSound, gained};
 
 use set_rows::{RowSeat, RowTable};
 
 /// Carries what is new in a row along one of its edges: what `now` has and `done` lacks, one step for each word with
-/// something new. It answers whether there is anything new. Some rule must demand the edge from what the seat has seen;
+/// something new. What is new is among the words from `first` on and below `end`; no others are read. It answers whether
+/// there is anything new. Some rule must demand the edge from what the seat has seen;
 /// the seat must have seen `now` in the row, and `done` in the row to which the edge leads.
 pub fn carry(
     table: &RowTable,
@@ -18,6 +19,8 @@ pub fn carry(
     to: u32,
     done: &[u64],
     now: &[u64],
+    first: usize,
+    end: usize,
 ) -> bool
     requires own { IsOf table.now seat.old }
     requires valid { IsValid (system_of table.now) }
@@ -26,6 +29,8 @@ pub fn carry(
     requires edge { IsEdge (system_of table.now) (known (view seat.old)) row to }
     requires read { IsSeenOf (width_of (system_of table.now)) (view seat.old).seen row now.now }
     requires was { IsSeenOf (width_of (system_of table.now)) (view seat.old).seen to done.now }
+    requires beside { IsSameBeside (width_of (system_of table.now)) first end done.now now.now }
+    requires range { (first ≤ width_of (system_of table.now)) × (end ≤ width_of (system_of table.now)) }
     ensures own { IsOf table.now seat.new }
     ensures view { OnlyAdded (view seat.old) (view seat.new) }
     ensures sound { IsSound (view seat.old) → IsSound (view seat.new) }
@@ -36,11 +41,11 @@ pub fn carry(
     ensures ors { (view seat.new).ors ≤ (view seat.old).ors + gained (width_of (system_of table.now)) done.now now.now }
 {
     let mut any = false;
-    let first = to as usize * now.len();
-    for k in 0..now.len() {
+    let start = to as usize * now.len();
+    for k in first..end {
         let new = now[k] & !done[k];
         if new != 0 {
-            table.add(seat, first + k, new);
+            table.add(seat, start + k, new);
             any = true;
         }
     }

@@ -8,5 +8,6 @@ mod turn;
 mod work;
 
 pub use along::carry;
+pub use read::has_more;
 pub use turn::Turn;
 pub use work::propagate;

@@ -1,37 +1,87 @@
 //! One row as it stands.
-ghost use Rattle.std.specs.Prelude.{◌≡◌, ◌≢◌, ◌+◌, ◌*◌, ◌<◌, length, slice_index, IfOk};
+ghost use Rattle.std.specs.Prelude.{◌≡◌, ◌≢◌, ◌⊎◌, ℕ, false, true, ◌+◌, ◌*◌, ◌<◌, ◌≤◌, length, slice_index, IfOk};
 ghost use Rattle.sol_model.specs.Systems.{IsValid, IsRow, width_of};
 ghost use Rattle.set_rows.specs.Views.{OnlyLooked};
 ghost use Rattle.set_rows.specs.Calls.{system_of, view, IsOf};
-ghost use Rattle.delta_prop.specs.Deltas.{IsSound};
+ghost use Rattle.delta_prop.specs.Deltas.{IsAllOf, IsSameBeside, IsSound, new_bits};
 
 use pta_base::OutOfMemory;
 use set_rows::{RowSeat, RowTable};
 use std::alloc::Global;
 
-/// The words of a row.
+/// A row's words, and where they differ from those that are done.
+#[derive(Drop)]
+pub(crate) struct Reading {
+    pub(crate) words: Vec<u64>,
+    pub(crate) first: usize,
+    pub(crate) end: usize,
+}
+
+/// The smaller of two numbers.
+fn earlier(one: usize, other: usize) -> usize
+    ensures least { (result ≤ one) × (result ≤ other) }
+    ensures some { (result ≡ one) ⊎ (result ≡ other) }
+{
+    if one < other { one } else { other }
+}
+
+/// The words of a row, and where they differ from those that are done: from word `first` on and below `end`. Where none
+/// does, `end` is 0.
 pub(crate) fn read_row(
     alloc: Global,
     table: &RowTable,
     seat: &mut RowSeat,
     row: u32,
-    width: usize,
-) -> Result<Vec<u64>, OutOfMemory>
+    done: &[u64],
+) -> Result<Reading, OutOfMemory>
     requires own { IsOf table.now seat.old }
     requires valid { IsValid (system_of table.now) }
     requires row { IsRow (system_of table.now) row }
-    requires width { width ≡ width_of (system_of table.now) }
+    requires sized { length done.now ≡ width_of (system_of table.now) }
     ensures own { IsOf table.now seat.new }
     ensures view { OnlyLooked (view seat.old) (view seat.new) }
     ensures sound { IsSound (view seat.old) → IsSound (view seat.new) }
-    ensures sized { IfOk result (λ words. length words.items ≡ width) }
-    ensures words { IfOk result (λ words. (k : _) → k < width → slice_index (view seat.new).seen (row * width + k) ≡ slice_index words.items k) }
-    ensures others { (other k : _) → other ≢ row → k < width → slice_index (view seat.new).seen (other * width + k) ≡ slice_index (view seat.old).seen (other * width + k) }
+    ensures sized { IfOk result (λ read. length read.words.items ≡ width_of (system_of table.now)) }
+    ensures words { IfOk result (λ read. (k : _) → k < width_of (system_of table.now) → slice_index (view seat.new).seen (row * width_of (system_of table.now) + k) ≡ slice_index read.words.items k) }
+    ensures others { (other k : _) → other ≢ row → k < width_of (system_of table.now) → slice_index (view seat.new).seen (other * width_of (system_of table.now) + k) ≡ slice_index (view seat.old).seen (other * width_of (system_of table.now) + k) }
+    ensures beside { IfOk result (λ read. IsSameBeside (width_of (system_of table.now)) read.first read.end done.now read.words.items) }
+    ensures range { IfOk result (λ read. (read.first ≤ width_of (system_of table.now)) × (read.end ≤ width_of (system_of table.now))) }
 {
-    let first = row as usize * width;
+    let width = done.len();
+    let start = row as usize * width;
     let mut words = vec![in alloc; 0u64; width]?;
+    let mut first = width;
+    let mut end = 0;
     for k in 0..width {
-        words[k] = table.look(seat, first + k);
+        let word = table.look(seat, start + k);
+        if word != done[k] {
+            first = earlier(first, k);
+            end = k + 1;
+        }
+        words[k] = word;
     }
-    Ok(words)
+    Ok(Reading { words, first, end })
+}
+
+/// Whether a row has a member that words lack. The row's words are looked at in order, up to the first that has one.
+pub fn has_more(table: &RowTable, seat: &mut RowSeat, row: u32, done: &[u64]) -> bool
+    requires own { IsOf table.now seat.old }
+    requires valid { IsValid (system_of table.now) }
+    requires row { IsRow (system_of table.now) row }
+    requires sized { length done.now ≡ width_of (system_of table.now) }
+    ensures own { IsOf table.now seat.new }
+    ensures view { OnlyLooked (view seat.old) (view seat.new) }
+    ensures sound { IsSound (view seat.old) → IsSound (view seat.new) }
+    ensures others { (other k : _) → other ≢ row → k < width_of (system_of table.now) → slice_index (view seat.new).seen (other * width_of (system_of table.now) + k) ≡ slice_index (view seat.old).seen (other * width_of (system_of table.now) + k) }
+    ensures none { result ≡ false → IsAllOf (width_of (system_of table.now)) (view seat.new).seen row done.now }
+    ensures some { result ≡ true → (k : ℕ) × (k < width_of (system_of table.now)) × (new_bits (slice_index done.now k) (slice_index (view seat.new).seen (row * width_of (system_of table.now) + k)) ≢ 0) }
+{
+    let start = row as usize * done.len();
+    for k in 0..done.len() {
+        let new = table.look(seat, start + k) & !done[k];
+        if new != 0 {
+            return true;
+        }
+    }
+    false
 }

@@ -38,24 +38,37 @@ pub fn propagate(
     ensures sound { IsSound (view seat.old) → IsSound (view seat.new) }
     ensures turn { IfOk result (IsTurn (width_of (system_of table.now)) book.now row done.now (view seat.old) (view seat.new)) }
 {
-    let now = read_row(alloc, table, seat, row, done.len())?;
+    let read = read_row(alloc, table, seat, row, done)?;
     let mut grown = Vec::new(alloc);
-    if now.as_slice() == done {
+    if read.first >= read.end {
         return Ok(Turn {
             row,
-            done: now,
+            done: read.words,
+            first: read.first,
+            end: read.end,
             grown,
         });
     }
     for to in book.targets(row) {
         grown.reserve(1)?;
-        if carry(table, seat, row, *to, done, now.as_slice()) {
+        if carry(
+            table,
+            seat,
+            row,
+            *to,
+            done,
+            read.words.as_slice(),
+            read.first,
+            read.end,
+        ) {
             grown.push_reserved(*to);
         }
     }
     Ok(Turn {
         row,
-        done: now,
+        done: read.words,
+        first: read.first,
+        end: read.end,
         grown,
     })
 }

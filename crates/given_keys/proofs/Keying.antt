@@ -1,15 +1,15 @@
 -- The forms of a key.
-use Rattle.std.proofs.Common.{arith, ◌≡◌, ◌∙◌, ℕ, ◌+◌, ◌-◌, ◌<◌, Bool, true, false, cond, List, [], ◌∷◌, ◌++◌, length, length-append, get_or, Option, Some, None, inl, inr, refl, sym, ap}
+use Rattle.std.proofs.Common.{arith, ◌≡◌, ◌∙◌, ℕ, ◌+◌, ◌-◌, ◌<◌, Bool, true, false, cond, List, ◌++◌, length, get_or, Option, Some, None, inl, inr, refl, sym, ap}
 use Rattle.std.specs.Prelude.{codes, decimal, option_map, option_and_then}
 use Rattle.std.proofs.lemmas.Bool.Decides.{eqb_tells}
-use Rattle.std.proofs.lemmas.List.{get_or_append_left, get_or_push}
-use Rattle.std.proofs.lemmas.Option.{get_or_from_slice_get, slice_get-get_or}
 use Rattle.c_senses.specs.Tree.{Source, spelling_at, parent_of}
 use Rattle.c_senses.specs.Tags.{tag_leaf}
 use Rattle.c_senses.specs.Keys.{word_of_key, is_inner, first_free, names_with, has_members, position_in, key_of, list_around}
 use Rattle.c_senses.specs.Sense.{Sense}
 use Rattle.unit_keys.specs.Placed.{ParentsBehind, AreInner}
-use Rattle.given_keys.specs.Keyed.{inherited, key_around, key_without_tag, key_by, AreKeys}
+use Rattle.unit_keys.specs.Specifiers.{is_specifier}
+use Rattle.given_keys.specs.Kept.{key_at, AreKeys}
+use Rattle.given_keys.specs.Keyed.{inherited, key_around, key_without_tag, key_by}
 use Rattle.given_keys.proofs.KeyIs.{key_is}
 
 module _ (s : Source) (sense : ℕ → Sense) (i : ℕ) where
@@ -58,34 +58,39 @@ module _ (s : Source) (sense : ℕ → Sense) (i : ℕ) where
   outer_key behind lt e =
       sym (key_is s behind sense i lt ∙ ap (λ (b : Bool). cond b None (key_by s sense i (first_free s sense i (names_with s sense i)) (key_around s sense i))) e)
 
--- one key more
-pub keys_more : (s : Source) (sense : ℕ → Sense) (keys new : List (Option (List ℕ))) (node : ℕ) (key : Option (List ℕ)) → AreKeys s sense keys (length keys) → node + length keys + 1 ≡ length s.nodes → key ≡ key_of s sense node → new ≡ keys ++ key ∷ [] → AreKeys s sense new (length new)
-keys_more s sense keys new node key are all e en =
-    let long : length new ≡ length keys + 1 = ap length en ∙ length-append keys (key ∷ []) in
-    record {
-      long = refl;
-      each = λ j lt. elim (eqb_tells j (length keys)) [
-        | inl p ↦
-            let here : length s.nodes - 1 - j ≡ node = omega (arith, p.1, all) in
-            ap (λ (l : List (Option (List ℕ))). get_or l j None) en ∙ (get_or_push keys key None j (sym p.1) ∙ (e ∙ ap (key_of s sense) (sym here)))
-        | inr p ↦
-            let less : j < length keys = omega (arith, p.1, lt, long) in
-            ap (λ (l : List (Option (List ℕ))). get_or l j None) en ∙ (get_or_append_left keys (key ∷ []) None j less ∙ are.each j less)
-      ];
-    }
+off : (s : Source) (i : ℕ) → is_specifier s i ≡ true → is_specifier s i ≡ false → ⊥
+off s i on e = let f : true ≡ false = sym on ∙ e in cc
+
+-- a node that is no specifier, and a specifier more
+pub keys_same : (s : Source) (sense : ℕ → Sense) (keys : List (ℕ × List ℕ)) (node : ℕ) → is_specifier s node ≡ false → AreKeys s sense keys (node + 1) → AreKeys s sense keys node
+keys_same s sense keys node e are = record {
+  each = λ i le lt on. elim (eqb_tells i node) [
+    | inl p ↦ absurd (off s node (ap (is_specifier s) (sym p.1) ∙ on) e)
+    | inr p ↦ are.each i (omega (arith, p.1, le)) lt on
+  ];
+  fresh = λ i lt. are.fresh i (omega (arith, lt));
+}
+
+pub keys_put : (s : Source) (sense : ℕ → Sense) (keys new : List (ℕ × List ℕ)) (node : ℕ) (key : Option (List ℕ)) → key ≡ key_of s sense node → key_at new node ≡ key → ((q : ℕ) → (node ≡ q → ⊥) → key_at new q ≡ key_at keys q) → AreKeys s sense keys (node + 1) → AreKeys s sense new node
+keys_put s sense keys new node key e here others are = record {
+  each = λ i le lt on. elim (eqb_tells i node) [
+    | inl p ↦ ap (key_at new) p.1 ∙ (here ∙ (e ∙ ap (key_of s sense) (sym p.1)))
+    | inr p ↦ others i (λ x. p.1 (sym x)) ∙ are.each i (omega (arith, p.1, le)) lt on
+  ];
+  fresh = λ i lt. others i (λ x. absurd (omega (arith, x, lt))) ∙ are.fresh i (omega (arith, lt));
+}
+
+pub keys_none : (s : Source) (sense : ℕ → Sense) (keys : List (ℕ × List ℕ)) (node : ℕ) (key : Option (List ℕ)) → key ≡ key_of s sense node → key ≡ None → AreKeys s sense keys (node + 1) → AreKeys s sense keys node
+keys_none s sense keys node key e none are = keys_put s sense keys keys node key e (are.fresh node (omega arith) ∙ sym none) (λ q x. refl) are
 
 -- the key around is that of the structure around
-pub key_found : (s : Source) (sense : ℕ → Sense) (keys : List (Option (List ℕ))) (node structure k : ℕ) (d o : Option (List ℕ)) → AreKeys s sense keys (length keys) → node + length keys + 1 ≡ length s.nodes → node < structure → structure < length s.nodes → k ≡ length s.nodes - 1 - structure
-    → option_and_then (parent_of s) (list_around s sense node) ≡ Some structure → get_or keys k d ≡ o → key_around s sense node ≡ o
-key_found s sense keys node structure k d o are all above few ek es eo =
-    let lt : k < length keys = omega (arith, all, above, few, ek) in
-    let back : length s.nodes - 1 - k ≡ structure = omega (arith, few, ek) in
-    let read : get_or keys k None ≡ get_or keys k d = get_or_from_slice_get keys k (get_or keys k d) None (slice_get-get_or keys k d lt) in
-    ap (option_and_then (key_of s sense)) es ∙ (ap (key_of s sense) (sym back) ∙ (sym (are.each k lt) ∙ (read ∙ eo)))
+pub key_found : (s : Source) (sense : ℕ → Sense) (keys : List (ℕ × List ℕ)) (node structure : ℕ) (o : Option (List ℕ)) → AreKeys s sense keys (node + 1) → node < structure → structure < length s.nodes → is_specifier s structure ≡ true → option_and_then (parent_of s) (list_around s sense node) ≡ Some structure → key_at keys structure ≡ o
+    → key_around s sense node ≡ o
+key_found s sense keys node structure o are above few on es eo = ap (option_and_then (key_of s sense)) es ∙ (sym (are.each structure (omega (arith, above)) few on) ∙ eo)
 
 -- the flag of a node among those of the last nodes
-pub is_outer : (s : Source) (sense : ℕ → Sense) (flags : List Bool) (node behind : ℕ) → AreInner s sense flags (length s.nodes) → node + behind + 1 ≡ length s.nodes → get_or flags behind false ≡ false → is_inner s sense node ≡ false
-is_outer s sense flags node behind are all e =
-    let lt : behind < length s.nodes = omega (arith, all) in
-    let back : length s.nodes - 1 - behind ≡ node = omega (arith, all) in
-    ap (is_inner s sense) (sym back) ∙ (sym (are.each behind lt) ∙ e)
+pub is_outer : (s : Source) (sense : ℕ → Sense) (flags : List Bool) (node k : ℕ) → AreInner s sense flags (length s.nodes) → node < length s.nodes → k ≡ length s.nodes - 1 - node → get_or flags k false ≡ false → is_inner s sense node ≡ false
+is_outer s sense flags node k are few ek e =
+    let lt : k < length s.nodes = omega (arith, few, ek) in
+    let back : length s.nodes - 1 - k ≡ node = omega (arith, few, ek) in
+    ap (is_inner s sense) (sym back) ∙ (sym (are.each k lt) ∙ e)

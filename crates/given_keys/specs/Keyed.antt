@@ -1,5 +1,5 @@
--- The key of each node by those of the nodes behind it.
-use Rattle.std.specs.Prelude.{ℕ, ◌≡◌, ◌<◌, ◌-◌, List, ◌++◌, codes, decimal, Option, Some, None, option_map, option_and_then, length, get_or, if◌then◌else◌}
+-- The key of each specifier by those of the specifiers behind it.
+use Rattle.std.specs.Prelude.{ℕ, List, ◌++◌, codes, decimal, Option, Some, None, option_map, option_and_then, length, if◌then◌else◌}
 use Rattle.c_senses.specs.Tree.{Source, spelling_at, parent_of}
 use Rattle.c_senses.specs.Tags.{tag_leaf}
 use Rattle.c_senses.specs.Keys.{word_of_key, has_members, position_in, list_around, key_of}
@@ -27,18 +27,7 @@ abbrev pub key_by : Source → (ℕ → Sense) → ℕ → Option (List ℕ) →
 key_by s sense i free around =
     elim (tag_leaf s i) [ Some leaf ↦ Some (word_of_key s i ++ spelling_at s leaf) | None ↦ key_without_tag s sense i free around ]
 
--- for each of the last nodes, the last one first, its key
-pub record AreKeys (s : Source) (sense : ℕ → Sense) (keys : List (Option (List ℕ))) (count : ℕ) : Type 0 where
-  pub long : length keys ≡ count
-  pub each : (j : ℕ) → j < count → get_or keys j None ≡ key_of s sense (length s.nodes - 1 - j)
-
--- there is something of each of so many nodes
-pub record IsLong (known : Known) (count : ℕ) : Type 0 where
-  pub inner : length known.inner.now ≡ count
-  pub free : length known.free.now ≡ count
-  pub positions : length known.positions.now ≡ count
-
--- what is known of all nodes before their keys
+-- what is known before the keys
 pub record IsKnown (s : Source) (sense : ℕ → Sense) (known : Known) : Type 0 where
   pub inner : AreInner s sense known.inner.now (length s.nodes)
   pub free : AreFree s sense known.free.now (length s.nodes)

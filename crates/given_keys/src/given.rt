@@ -15,12 +15,13 @@ ghost use Rattle.tree_reads.specs.Sources.{source_in, source_read};
 ghost use Rattle.tag_numbers.specs.Known.{AreTags};
 ghost use Rattle.unit_keys.specs.Words as words;
 ghost use Rattle.given_keys.specs.Flags.{AreFlags};
-ghost use Rattle.given_keys.specs.Keyed.{AreKeys};
+ghost use Rattle.given_keys.specs.Kept.{AreKeys};
 ghost use Rattle.given_keys.specs.Given.{AreBelow, AreGiven, GotKeys, is_key, untaken};
 
 use crate::declaring::meanings;
 use crate::flags::tag_flags;
-use crate::placed::{Known, is_long, keys_of_nodes};
+use crate::kept::KeptKeys;
+use crate::placed::{Known, keys_of_specifiers};
 use c_results::Made;
 use c_scope::Bound;
 use pta_base::{OutOfMemory, Text};
@@ -28,7 +29,7 @@ use std::alloc::Global;
 use std::collections::BTreeMap;
 use tag_numbers::Numbered;
 use tree_reads::{Syntax, is_leaf};
-use unit_keys::{Words, add_word, free_names, has_word, inner_flags, positions_of};
+use unit_keys::{Words, add_word, free_names, has_word, inner_flags, is_specifier, positions_of};
 
 // The specifier that declares a tag.
 fn declaring_specifier(syntax: &Syntax, tag: u32) -> Option<u32>
@@ -43,16 +44,23 @@ fn declaring_specifier(syntax: &Syntax, tag: u32) -> Option<u32>
     }
 }
 
-// The key of a tag, by those of all nodes, the last one first.
-fn key_of_tag<'a>(syntax: &Syntax, keys: &'a [Option<Text>], tag: u32) -> Option<&'a Text>
-    requires tag { tag < length syntax.now.tree.now.nodes.items }
-    requires long { length keys.now ≡ length syntax.now.tree.now.nodes.items }
-    ensures { (uses : List (ℕ × ℕ)) (sense : ℕ → Sense) →
-        let s = source_in syntax.now uses in
-        AreKeys s sense keys.now (length s.nodes) → option_copied result ≡ right.key_of_tag s sense tag }
+// The key of a tag, by those of all specifiers. Tags are declared by specifiers; if one weren't, that would count as want of memory.
+fn key_of_tag<'a>(
+    syntax: &Syntax,
+    keys: &'a KeptKeys,
+    tag: u32,
+) -> Result<Option<&'a Text>, OutOfMemory>
+    requires { tag < length syntax.now.tree.now.nodes.items }
+    ensures { IfOk result (λ key. (uses : List (ℕ × ℕ)) (sense : ℕ → Sense) →
+        let s = source_in syntax.now uses in AreKeys s sense keys.now 0 → option_copied key ≡ right.key_of_tag s sense tag) }
 {
-    let node = declaring_specifier(syntax, tag)?;
-    keys[syntax.tree.nodes.len() - 1 - node as usize].as_ref()
+    let Some(node) = declaring_specifier(syntax, tag) else {
+        return Ok(None);
+    };
+    if !is_specifier(syntax, node) {
+        return Err(OutOfMemory);
+    }
+    Ok(keys.get(node))
 }
 
 // The key that a tag gets: its own, where no tag before has it. From then on it is given.
@@ -83,22 +91,22 @@ fn give(
 fn give_at(
     alloc: Global,
     syntax: &Syntax,
-    keys: &[Option<Text>],
+    keys: &KeptKeys,
     list: &mut Vec<Option<Text>>,
     given: &mut Words,
     tag: u32,
 ) -> Result<(), OutOfMemory>
-    requires tag { tag < length syntax.now.tree.now.nodes.items }
-    requires long { length keys.now ≡ length syntax.now.tree.now.nodes.items }
+    requires { tag < length syntax.now.tree.now.nodes.items }
     ensures long { OnOk result (length list.new.items ≡ length list.old.items) }
     ensures given { OnOk result ((uses : List (ℕ × ℕ)) (sense : ℕ → Sense) →
         let s = source_in syntax.now uses in
         right.is_tag s tag ≡ true →
         AreBelow s (length list.old.items) →
-        AreKeys s sense keys.now (length s.nodes) →
+        AreKeys s sense keys.now 0 →
         AreGiven s sense list.old.items given.old tag → AreGiven s sense list.new.items given.new (tag + 1)) }
 {
-    let key = give(alloc, given, key_of_tag(syntax, keys, tag), tag)?;
+    let own = key_of_tag(syntax, keys, tag)?;
+    let key = give(alloc, given, own, tag)?;
     let number = syntax.tag_number(tag) as usize;
     if number < list.len() {
         list[number] = key;
@@ -117,21 +125,20 @@ fn no_keys(alloc: Global, count: u32) -> Result<Vec<Option<Text>>, OutOfMemory>
     Ok(keys)
 }
 
-// The keys that so many tags get, by the keys of all nodes, the last one first, and the nodes by which tags are known.
+// The keys that so many tags get, by the keys of all specifiers, and the nodes by which tags are known.
 fn given_keys(
     alloc: Global,
     syntax: &Syntax,
-    keys: &[Option<Text>],
+    keys: &KeptKeys,
     flags: &[bool],
     count: u32,
 ) -> Result<Vec<Option<Text>>, OutOfMemory>
     requires nodes { length syntax.now.tree.now.nodes.items < 2 ^ 32 }
-    requires keys { length keys.now ≡ length syntax.now.tree.now.nodes.items }
     requires flags { length flags.now ≡ length syntax.now.tree.now.nodes.items }
     ensures long { IfOk result (λ list. length list.items ≡ count) }
     ensures given { IfOk result (λ list. (uses : List (ℕ × ℕ)) (sense : ℕ → Sense) →
         let s = source_in syntax.now uses in
-        AreFlags s flags.now → AreBelow s count → AreKeys s sense keys.now (length s.nodes) → GotKeys s sense list.items (length s.nodes)) }
+        AreFlags s flags.now → AreBelow s count → AreKeys s sense keys.now 0 → GotKeys s sense list.items (length s.nodes)) }
 {
     let mut given = BTreeMap::new(alloc);
     let mut list = no_keys(alloc, count)?;
@@ -143,30 +150,25 @@ fn given_keys(
     Ok(list)
 }
 
-// The key of each node, the last one first. What is known of nodes is known of each one; if it weren't, that would count as want of memory.
-fn all_keys(
-    alloc: Global,
-    syntax: &Syntax,
-    results: &[Made],
-) -> Result<Vec<Option<Text>>, OutOfMemory>
+// The key of each specifier. It is known of each node whether it stands in a block; if it weren't, that would count as want of memory.
+fn all_keys(alloc: Global, syntax: &Syntax, results: &[Made]) -> Result<KeptKeys, OutOfMemory>
     requires count { length syntax.now.tree.now.nodes.items < 2 ^ 32 }
     requires first { ChildrenFirst (source_read syntax.now) }
-    ensures long { IfOk result (λ list. length list.items ≡ length syntax.now.tree.now.nodes.items) }
-    ensures keys { IfOk result (λ list. (u : UnitSpec) (uses : List (ℕ × ℕ)) →
-        let s = source_in syntax.now uses in AreKeys s (sense_in (senses_made u results.now)) list.items (length s.nodes)) }
+    ensures { IfOk result (λ list. (u : UnitSpec) (uses : List (ℕ × ℕ)) →
+        let s = source_in syntax.now uses in AreKeys s (sense_in (senses_made u results.now)) list 0) }
 {
     let inner = inner_flags(alloc, syntax)?;
     let free = free_names(alloc, syntax, results)?;
     let positions = positions_of(alloc, syntax, results)?;
-    let known = Known {
-        inner: inner.as_slice(),
-        free: free.as_slice(),
-        positions: positions.as_slice(),
-    };
-    if !is_long(known, syntax.tree.nodes.len()) {
+    if inner.len() != syntax.tree.nodes.len() {
         return Err(OutOfMemory);
     }
-    let list = keys_of_nodes(alloc, syntax, results, known)?;
+    let known = Known {
+        inner: inner.as_slice(),
+        free: &free,
+        positions: &positions,
+    };
+    let list = keys_of_specifiers(alloc, syntax, results, known)?;
     Ok(list)
 }
 
@@ -193,12 +195,6 @@ pub fn keys_of(
     let declaring = meanings(alloc, bound)?;
     let flags = tag_flags(alloc, syntax, &declaring)?;
     let keys = all_keys(alloc, syntax, results)?;
-    let list = given_keys(
-        alloc,
-        syntax,
-        keys.as_slice(),
-        flags.as_slice(),
-        numbered.tags.count,
-    )?;
+    let list = given_keys(alloc, syntax, &keys, flags.as_slice(), numbered.tags.count)?;
     Ok(list)
 }

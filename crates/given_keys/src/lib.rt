@@ -4,6 +4,7 @@
 mod declaring;
 mod flags;
 mod given;
+mod kept;
 mod placed;
 
 pub use given::keys_of;

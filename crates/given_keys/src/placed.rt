@@ -1,7 +1,7 @@
-// The key of each node.
+// The key of each specifier.
 #![tactic(auto)]
 
-ghost use Rattle.std.specs.Prelude.{◌≡◌, ◌<◌, ◌+◌, ◌^◌, ◌↔◌, ℕ, List, length, IsTrue, IfOk};
+ghost use Rattle.std.specs.Prelude.{◌≡◌, ◌<◌, ◌+◌, ◌^◌, true, ℕ, List, length, IfOk, OnOk};
 ghost use Rattle.core_tree.specs.declared.node.Unit.{Unit as UnitSpec};
 ghost use Rattle.c_senses.specs.Keys as keys;
 ghost use Rattle.c_senses.specs.Sense.{sense_in};
@@ -9,46 +9,44 @@ ghost use Rattle.c_results.specs.Standing.{senses_made};
 ghost use Rattle.sense_laws.specs.Senses.{ChildrenFirst};
 ghost use Rattle.tree_reads.specs.Sources.{source_in, source_read};
 ghost use Rattle.unit_keys.specs.Placed.{ArePositions};
-ghost use Rattle.given_keys.specs.Keyed.{AreKeys, IsKnown, IsLong, inherited, key_around};
+ghost use Rattle.unit_keys.specs.Specifiers as specifiers;
+ghost use Rattle.given_keys.specs.Kept.{AreKeys};
+ghost use Rattle.given_keys.specs.Keyed.{IsKnown, inherited, key_around};
 
+use crate::kept::KeptKeys;
 use c_results::Made;
+use leaf_maps::LeafMap;
 use pta_base::{OutOfMemory, Text};
 use std::alloc::Global;
 use tag_keys::{has_members, member_key, named_key, position_in, structure_around, tagged_key};
 use tree_reads::{Syntax, Test, children_of, first_where};
+use unit_keys::is_specifier;
 
-/// What is known of all nodes before their keys: whether each stands in a block or a parameter list, the last node first; the free name
-/// of each; and its position among the parts of the list that has it.
+/// What is known before the keys: whether each node stands in a block or a parameter list, the last node first; the free name of each
+/// specifier; and the position of each declaration of members among the parts of the list that has it.
 #[derive(Clone, Copy)]
 pub(crate) struct Known<'a> {
     pub(crate) inner: &'a [bool],
-    pub(crate) free: &'a [Option<u32>],
-    pub(crate) positions: &'a [Option<u32>],
+    pub(crate) free: &'a LeafMap,
+    pub(crate) positions: &'a LeafMap,
 }
 
-/// Whether there is something of each of so many nodes.
-pub(crate) fn is_long(known: Known<'_>, count: usize) -> bool
-    ensures { IsTrue result ↔ IsLong known.entry count }
-{
-    known.inner.len() == count && known.free.len() == count && known.positions.len() == count
-}
-
-// The key that a node has as the specifier of members, by the keys of the nodes behind it, the last one first.
+// The key that a node has as the specifier of members, by the keys of the specifiers behind it. Members stand in the list of a specifier;
+// if they didn't, that would count as want of memory.
 fn inherited_key(
     alloc: Global,
     syntax: &Syntax,
     results: &[Made],
-    positions: &[Option<u32>],
-    behind: &[Option<Text>],
+    positions: &LeafMap,
+    behind: &KeptKeys,
     node: u32,
 ) -> Result<Option<Text>, OutOfMemory>
     requires first { ChildrenFirst (source_read syntax.now) }
-    requires node { node + length behind.now + 1 ≡ length syntax.now.tree.now.nodes.items }
-    requires long { length positions.now ≡ length syntax.now.tree.now.nodes.items }
+    requires node { node < length syntax.now.tree.now.nodes.items }
     ensures { IfOk result (λ key. (u : UnitSpec) (uses : List (ℕ × ℕ)) →
         let s = source_in syntax.now uses in
         let sense = sense_in (senses_made u results.now) in
-        AreKeys s sense behind.now (length behind.now) →
+        AreKeys s sense behind.now (node + 1) →
         ArePositions s sense positions.now (length s.nodes) → key ≡ inherited s sense node (key_around s sense node)) }
 {
     if !has_members(syntax, results, node) {
@@ -57,7 +55,10 @@ fn inherited_key(
     let Some(structure) = structure_around(syntax, node) else {
         return Ok(None);
     };
-    match &behind[syntax.tree.nodes.len() - 1 - structure as usize] {
+    if !is_specifier(syntax, structure) {
+        return Err(OutOfMemory);
+    }
+    match behind.get(structure) {
         Some(around) => {
             let position = position_in(syntax, positions, node);
             let key = member_key(alloc, syntax, node, around.as_str(), position)?;
@@ -67,31 +68,32 @@ fn inherited_key(
     }
 }
 
-// The key of a node by what is known of all nodes, and the keys of those behind it, the last one first.
+// The key of a specifier by what is known, and the keys of those behind it.
 fn key_of(
     alloc: Global,
     syntax: &Syntax,
     results: &[Made],
     known: Known<'_>,
-    behind: &[Option<Text>],
+    behind: &KeptKeys,
     node: u32,
 ) -> Result<Option<Text>, OutOfMemory>
     requires first { ChildrenFirst (source_read syntax.now) }
-    requires node { node + length behind.now + 1 ≡ length syntax.now.tree.now.nodes.items }
-    requires long { IsLong known (length syntax.now.tree.now.nodes.items) }
+    requires node { node < length syntax.now.tree.now.nodes.items }
+    requires long { length known.inner.now ≡ length syntax.now.tree.now.nodes.items }
     ensures { IfOk result (λ key. (u : UnitSpec) (uses : List (ℕ × ℕ)) →
         let s = source_in syntax.now uses in
         let sense = sense_in (senses_made u results.now) in
-        AreKeys s sense behind.now (length behind.now) → IsKnown s sense known.entry → key ≡ keys.key_of s sense node) }
+        specifiers.is_specifier s node ≡ true →
+        AreKeys s sense behind.now (node + 1) → IsKnown s sense known.entry → key ≡ keys.key_of s sense node) }
 {
-    if known.inner[behind.len()] {
+    if known.inner[syntax.tree.nodes.len() - 1 - node as usize] {
         return Ok(None);
     }
     if let Some(leaf) = first_where(syntax, Test::Name, children_of(syntax, node)) {
         let key = tagged_key(alloc, syntax, node, leaf)?;
         return Ok(Some(key));
     }
-    if let Some(leaf) = known.free[node as usize] {
+    if let Some(leaf) = known.free.get(node) {
         let key = named_key(alloc, syntax, node, leaf)?;
         return Ok(Some(key));
     }
@@ -99,28 +101,56 @@ fn key_of(
     Ok(inherited)
 }
 
-/// The key of each node, the last one first, in time linear in the nodes and the text of keys.
-pub(crate) fn keys_of_nodes(
+// Keeps the key of one more node, if that is a specifier, by the keys of those behind it.
+fn keep_key(
     alloc: Global,
     syntax: &Syntax,
     results: &[Made],
     known: Known<'_>,
-) -> Result<Vec<Option<Text>>, OutOfMemory>
-    requires count { length syntax.now.tree.now.nodes.items < 2 ^ 32 }
+    keys: &mut KeptKeys,
+    node: u32,
+) -> Result<(), OutOfMemory>
     requires first { ChildrenFirst (source_read syntax.now) }
-    requires long { IsLong known (length syntax.now.tree.now.nodes.items) }
-    ensures long { IfOk result (λ list. length list.items ≡ length syntax.now.tree.now.nodes.items) }
-    ensures keys { IfOk result (λ list. (u : UnitSpec) (uses : List (ℕ × ℕ)) →
+    requires node { node < length syntax.now.tree.now.nodes.items }
+    requires long { length known.inner.now ≡ length syntax.now.tree.now.nodes.items }
+    ensures { OnOk result ((u : UnitSpec) (uses : List (ℕ × ℕ)) →
         let s = source_in syntax.now uses in
         let sense = sense_in (senses_made u results.now) in
-        IsKnown s sense known.entry → AreKeys s sense list.items (length s.nodes)) }
+        IsKnown s sense known.entry → AreKeys s sense keys.old (node + 1) → AreKeys s sense keys.new node) }
 {
-    let mut list = Vec::new(alloc);
+    if !is_specifier(syntax, node) {
+        return Ok(());
+    }
+    let own = key_of(alloc, syntax, results, known, keys, node)?;
+    match own {
+        Some(key) => {
+            keys.put(node, key)?;
+            Ok(())
+        }
+        None => Ok(()),
+    }
+}
+
+/// The key of each specifier, in time linear in the nodes and the text of keys but for ordered look-ups.
+pub(crate) fn keys_of_specifiers(
+    alloc: Global,
+    syntax: &Syntax,
+    results: &[Made],
+    known: Known<'_>,
+) -> Result<KeptKeys, OutOfMemory>
+    requires count { length syntax.now.tree.now.nodes.items < 2 ^ 32 }
+    requires first { ChildrenFirst (source_read syntax.now) }
+    requires long { length known.inner.now ≡ length syntax.now.tree.now.nodes.items }
+    ensures { IfOk result (λ list. (u : UnitSpec) (uses : List (ℕ × ℕ)) →
+        let s = source_in syntax.now uses in
+        let sense = sense_in (senses_made u results.now) in
+        IsKnown s sense known.entry → AreKeys s sense list 0) }
+{
+    let mut list = KeptKeys::new(alloc);
     let mut left = syntax.tree.nodes.len() as u32;
     while left > 0 {
         left -= 1;
-        let key = key_of(alloc, syntax, results, known, list.as_slice(), left)?;
-        list.push(key)?;
+        keep_key(alloc, syntax, results, known, &mut list, left)?;
     }
     Ok(list)
 }

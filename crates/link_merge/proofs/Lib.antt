@@ -16,3 +16,8 @@ pub mod Rounding
 pub mod Tagging
 pub mod Pushing
 pub mod Beginning
+pub mod Splitting
+pub mod Begun
+pub mod Kidding
+pub mod Termed
+pub mod Spreading

@@ -205,3 +205,13 @@ module _
         let alike = alike_coded refined.firsts (get_or type_starts p.unit 0) (get_or type_starts q.unit 0) k l (sym (code_is a p k ta ca) ∙ (codes ∙ code_is b q l tb cb)) in
         listed_if_alike units type_starts refined.firsts (tag_in starts numbers) table shown refined.firsts_are p.unit q.unit op.unit oq.unit k l op.unit_is oq.unit_is op.types oq.types alike;
   }
+
+  -- tags of one leader after the round have lists that are the same under the round's numbers
+  pub round_listed : (a b p q : Item) (k l : List MemberTerm) → IsTag units a → IsTag units b → number (lead_in starts next) a ≡ number (lead_in starts next) b → CountsAs units a p k → CountsAs units b q l
+      → listed units (tag_in starts numbers) p.unit k ≡ listed units (tag_in starts numbers) q.unit l
+  round_listed a b p q k l ta tb after ca cb =
+      let codes = (keys_same a b ta tb after).1 in
+      let op = own_list units p k made ca.list_is in
+      let oq = own_list units q l made cb.list_is in
+      let alike = alike_coded refined.firsts (get_or type_starts p.unit 0) (get_or type_starts q.unit 0) k l (sym (code_is a p k ta ca) ∙ (codes ∙ code_is b q l tb cb)) in
+      listed_if_alike units type_starts refined.firsts (tag_in starts numbers) table shown refined.firsts_are p.unit q.unit op.unit oq.unit k l op.unit_is oq.unit_is op.types oq.types alike

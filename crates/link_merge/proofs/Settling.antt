@@ -12,6 +12,7 @@ use Rattle.link_types.specs.Leaders.{AreLeaders}
 use Rattle.link_types.specs.Starts.{AreSums}
 use Rattle.link_program.specs.Alike.{Alike}
 use Rattle.link_merge.specs.Classes.{IsRefined, AreShown}
+use Rattle.link_merge.specs.Kids.{AreFiner}
 
 some_one : {X : Type 0} → {x y : X} → ◌≡◌ {A = Option X} (Some x) (Some y) → x ≡ y
 some_one h = cc
@@ -83,6 +84,13 @@ pub round_falls : (leaders next : List ℕ) → Rises leaders next → next ≢ 
 round_falls leaders next r ne =
     let all = r.all in
     subst (λ n. gaps n next < gaps (length leaders) leaders) all (gaps_fall (length leaders) leaders next all r.up r.below (λ e. ne (sym e)))
+
+-- leaders that a round found and that were told apart further fall as well
+pub finer_falls : (leaders next now : List ℕ) → Rises leaders next → AreFiner next now → next ≢ leaders → gaps (length now) now < gaps (length leaders) leaders
+finer_falls leaders next now r f ne =
+    let falls = round_falls leaders next r ne in
+    let least = gaps_least (length next) next now (sym f.all) f.up in
+    subst (λ n. gaps n now < gaps (length leaders) leaders) (sym f.all) (omega arith)
 
 abbrev pub type_counts_of : List Unit → List ℕ
 type_counts_of units = map (λ x. length x.types.terms) units

@@ -4,3 +4,5 @@ pub mod Tags
 pub mod Counted
 pub mod Complete
 pub mod Classes
+pub mod Parted
+pub mod Kids

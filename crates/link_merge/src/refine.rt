@@ -1,13 +1,18 @@
 //! Tags of one label that are told apart by their member lists, round by round, until no list tells more.
 
-ghost use Rattle.std.specs.Prelude.{◌≡◌, ◌<◌, ◌≤◌, ◌^◌, ℕ, None, All, IfOk, IfSome, length};
+ghost use Rattle.std.specs.Prelude.{◌≡◌, ◌<◌, ◌≤◌, ◌+◌, ◌^◌, ℕ, None, All, IfOk, IfSome, length, map};
 ghost use Rattle.std.specs.List.{slice_index_or};
 ghost use Rattle.link_merge.specs.Counted.{AreOfTags};
 ghost use Rattle.link_merge.specs.Keys.{keys_of, AllStand};
 ghost use Rattle.link_merge.specs.Classes.{AreClasses, AreCollected, AreRoundKeys, IsRefined, IsRound, IsSettled};
+ghost use Rattle.link_types.specs.Leaders.{AreLeaders};
+ghost use Rattle.link_merge.specs.Kids.{all_kids, IsTold};
+ghost use Rattle.link_merge.specs.Parted.{lists_of};
 
 use crate::index::leaders_of_keys;
 use crate::keys::{first_ids, tag_key};
+use crate::kids::{kids_of, type_nodes};
+use crate::spread::spread;
 use c_types::table::TypeTable;
 use core_tree::Unit;
 use link_model::Item;
@@ -96,9 +101,47 @@ fn round(
     Ok((types, numbers, next))
 }
 
+// The kids of all tags and types as nodes.
+fn kids_in(
+    alloc: Global,
+    units: &[Unit],
+    type_starts: &[u32],
+    tag_starts: &[u32],
+    tags: &[Item],
+    counted: &[Option<u32>],
+) -> Result<Vec<Vec<u32>>, OutOfMemory>
+    requires { AreCollected units.now type_starts.now tag_starts.now tags.now counted.now }
+    ensures { IfOk result (λ lists.
+        lists_of lists.items ≡ all_kids units.now (map (λ s. length tags.now + s) type_starts.now) tag_starts.now tags.now counted.now) }
+{
+    let nodes = type_nodes(alloc, type_starts, tags.len() as u32)?;
+    let lists = kids_of(alloc, units, nodes.as_slice(), tag_starts, tags, counted)?;
+    Ok(lists)
+}
+
+// The leaders of tags that a round has told apart, spread to all tags that mention such, given the round's table and the
+// leaders before and after it.
+fn told(
+    alloc: Global,
+    types: &TypeTable,
+    kids: &[Vec<u32>],
+    before: &[u32],
+    leaders: &[u32],
+) -> Result<Vec<u32>, OutOfMemory>
+    requires same { length leaders.now ≡ length before.now }
+    requires few { length leaders.now < 2 ^ 32 }
+    requires lead { AreLeaders leaders.now }
+    ensures { IfOk result (λ list. IsTold types.now leaders.now (lists_of kids.now) list.items) }
+{
+    let firsts = first_ids(alloc, types)?;
+    let list = spread(alloc, kids, before, leaders, firsts.as_slice())?;
+    Ok(list)
+}
+
 /// The numbers of tags under which the structures and unions that are one type have one number, and the table of all
-/// types with these numbers, without lists. The tags are told apart by the lists that count until no list tells more, in
-/// rounds that each go over all types: one more than the rounds that split a class.
+/// types with these numbers, without lists. The tags are told apart by the lists that count until no list tells more. A round
+/// goes over all types; what it tells apart is spread through the classes of which some type or tag changed its class, so that
+/// the next round finds nothing more.
 pub fn settled(
     alloc: Global,
     units: &[Unit],
@@ -129,6 +172,9 @@ pub fn settled(
         if next.as_slice() == leaders.as_slice() {
             return Ok((types, numbers));
         }
-        leaders = next;
+        let kids = kids_in(alloc, units, type_starts, tag_starts, tags, counted)?;
+        let before = leaders.as_slice();
+        let now = told(alloc, &types, kids.as_slice(), before, next.as_slice())?;
+        leaders = now;
     }
 }

@@ -3,6 +3,8 @@
 ghost use Rattle.std.specs.Prelude.{IfOk, MatchResult};
 ghost use Rattle.core_tree.specs.Range.{InRange};
 ghost use Rattle.core_tree.specs.Typed.{trees_in};
+ghost use Rattle.core_tree.specs.Valid.{ValidProgram};
+ghost use Rattle.filled_units.specs.Filled.{AreFilled};
 ghost use Rattle.link_types.specs.Starts.{AreSums};
 ghost use Rattle.link_units.specs.Nodes.{node_counts_of};
 ghost use Rattle.link_names.specs.Said.{IsFaultUnless};
@@ -14,6 +16,7 @@ use crate::nodes::names_and_nodes;
 use c_types::table::TypeTable;
 use core_tree::{Program, Unit};
 use link_merge::merge;
+use link_merge::tags::tables_told;
 use link_names::LinkFault;
 use link_program::counts::node_counts;
 use link_program::ready::ready;
@@ -38,12 +41,15 @@ fn link_merged(
     type_starts: &[u32],
 ) -> Result<Program, LinkFault>
     requires linkable { AreLinkable units.items }
+    requires filled { AreFilled units.items }
     requires merged { AreMerged units.items type_starts.now merged }
     ensures linked { MatchResult result (Linked units.items) (λ fault. IsFaultUnless fault (LinksBadly units.items fault)) }
 
     // Each type, node and entity that is named is in range, and children come first.
     ensures range { IfOk result (λ p. InRange (trees_in p)) }
+    ensures valid { IfOk result (λ p. ValidProgram p) }
 {
+    tables_told(units.as_slice());
     if units.len() > u32::MAX as usize {
         return Err(LinkFault::OutOfMemory);
     }
@@ -67,13 +73,16 @@ fn link_merged(
 /// each unit, all their nodes in order, and their types in one table, in which the structures and unions that they share
 /// are one. Or the first fault: of the declarations in order of unit and place (a type that doesn't agree with the earlier
 /// ones or lacks a library name's shape, before a second definition), then the first use of a name that nothing defines,
-/// then the want of `main` (C11 6.2.7p2, 6.9p5, 5.1.2.2.1).
+/// then the want of `main` (C11 6.2.7p2, 6.9p5, 5.1.2.2.1). The units initialise only objects that they define; the program
+/// of them is valid then: each node stands in its row, each node and entity where it may stand, and each object has a size.
 pub fn link(alloc: Global, units: Vec<Unit>) -> Result<Program, LinkFault>
-    requires { AreLinkable units.items }
+    requires linkable { AreLinkable units.items }
+    requires filled { AreFilled units.items }
     ensures linked { MatchResult result (Linked units.items) (λ fault. IsFaultUnless fault (LinksBadly units.items fault)) }
 
     // Each type, node and entity that is named is in range, and children come first.
     ensures range { IfOk result (λ p. InRange (trees_in p)) }
+    ensures valid { IfOk result (λ p. ValidProgram p) }
 {
     let (types, type_starts) = merge(alloc, units.as_slice())?;
     link_merged(alloc, units, types, type_starts.as_slice())

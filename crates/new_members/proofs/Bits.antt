@@ -9,7 +9,7 @@ use Rattle.sol_model.specs.declared.rows.Rows.{Rows}
 use Rattle.sol_model.specs.Families.{Has, members, shown}
 use Rattle.sol_model.proofs.Shown.{within_shown, bit_shown, shown_from_bit}
 use Rattle.sol_model.proofs.Words.{or_has, or_keeps, or_adds}
-use Rattle.new_members.specs.News.{IsIn}
+use Rattle.new_members.specs.News.{AreAmong, IsIn}
 
 -- a bit of one word that another lacks
 pub new_bit : (w held x : ℕ) → held < 2 ^ 64 → x < 64 → bit_at (bit_and w (bit_not w64 held)) x ≡ 1 → (bit_at w x ≡ 1) × (bit_at held x ≡ 1 → ⊥)
@@ -27,32 +27,33 @@ new_bit_from w held x small held_small has lacks = elim (cases_lt x 64) [
   | inr ge ↦ absurd (let z = bit_at_above w 64 x small ge in omega arith)
 ]
 
--- the locations of the first k words that other words lack
-abbrev pub IsListed : List ℕ → List ℕ → ℕ → ℕ → Type 0
-IsListed words without k location = (location / 64 < k) × IsIn words location × (IsIn without location → ⊥)
+-- the locations of the words from `first` on and below k that other words lack
+abbrev pub IsListed : List ℕ → List ℕ → ℕ → ℕ → ℕ → Type 0
+IsListed words without first k location = (location / 64 < k) × IsIn words location × (IsIn without location → ⊥) × (first ≤ location / 64)
 
 abbrev pub Lists : List ℕ → (ℕ → Type 0) → Type 0
 Lists list P = (location : ℕ) → Contains list location ↔ P location
 
-pub listed_none : (words without : List ℕ) → Lists [] (IsListed words without 0)
-listed_none words without location = (λ h. absurd (let l = h.1 in omega arith), λ h. absurd (let l = h.0 in omega arith))
+pub listed_none : (words without : List ℕ) (first : ℕ) → Lists [] (IsListed words without first first)
+listed_none words without first location = (λ h. absurd (let l = h.1 in omega arith), λ h. absurd (let l = h.0 in let m = h.3 in omega arith))
 
 -- one word more, with something new
-pub listed_word : (words without old new : List ℕ) (k w held : ℕ) → w ≡ get_or words k 0 → held ≡ get_or without k 0 → w < 2 ^ 64 → held < 2 ^ 64 → Lists old (IsListed words without k)
+pub listed_word : (words without old new : List ℕ) (first k w held : ℕ) → first ≤ k → w ≡ get_or words k 0 → held ≡ get_or without k 0 → w < 2 ^ 64 → held < 2 ^ 64 → Lists old (IsListed words without first k)
     → ((location : ℕ) → Contains new location ↔ (Contains old location ⊎ ((x : ℕ) × (x < 64) × (bit_at (bit_and w (bit_not w64 held)) x ≡ 1) × (location ≡ 64 * k + x))))
-    → Lists new (IsListed words without (k + 1))
-listed_word words without old new k w held is was small held_small so_far more location = (
+    → Lists new (IsListed words without first (k + 1))
+listed_word words without old new first k w held from is was small held_small so_far more location = (
   λ h. elim ((more location).0 h) [
-    | inl o ↦ (let p = (so_far location).0 o in let l = p.0 in (omega arith, p.1, p.2))
+    | inl o ↦ (let p = (so_far location).0 o in let l = p.0 in (omega arith, p.1, p.2, p.3))
     | inr b ↦ (let x : ℕ = b.0 in let lt : x < 64 = b.1 in let e : location ≡ 64 * k + x = b.3 in let n = new_bit w held x held_small lt b.2 in
         let word : location / 64 ≡ k = omega arith in let bit : location % 64 ≡ x = omega arith in (
           omega arith,
           subst (λ (j : ℕ). bit_at (get_or words j 0) (location % 64) ≡ 1) (sym word) (subst (λ (y : ℕ). bit_at (get_or words k 0) y ≡ 1) (sym bit) (ap (λ (v : ℕ). bit_at v x) (sym is) ∙ n.0)),
           λ has. n.1 (ap (λ (v : ℕ). bit_at v x) was ∙ subst (λ (y : ℕ). bit_at (get_or without k 0) y ≡ 1) bit (subst (λ (j : ℕ). bit_at (get_or without j 0) (location % 64) ≡ 1) word has)),
+          omega arith,
         ))
   ],
   λ h. (more location).1 (elim (cases_lt (location / 64) k) [
-    | inl lt ↦ inl ((so_far location).1 (lt, h.1, h.2))
+    | inl lt ↦ inl ((so_far location).1 (lt, h.1, h.2, h.3))
     | inr ge ↦ (let l = h.0 in let word : location / 64 ≡ k = omega arith in
         let has : bit_at w (location % 64) ≡ 1 = ap (λ (v : ℕ). bit_at v (location % 64)) is ∙ subst (λ (j : ℕ). bit_at (get_or words j 0) (location % 64) ≡ 1) word h.1 in
         let lacks : bit_at held (location % 64) ≢ 1 = λ b. h.2 (subst (λ (j : ℕ). bit_at (get_or without j 0) (location % 64) ≡ 1) (sym word) (ap (λ (v : ℕ). bit_at v (location % 64)) (sym was) ∙ b)) in
@@ -62,22 +63,36 @@ listed_word words without old new k w held is was small held_small so_far more l
 )
 
 -- one word more, with nothing new
-pub listed_same : (words without old : List ℕ) (k w held : ℕ) → w ≡ get_or words k 0 → held ≡ get_or without k 0 → w < 2 ^ 64 → held < 2 ^ 64 → bit_and w (bit_not w64 held) ≡ 0 → Lists old (IsListed words without k)
-    → Lists old (IsListed words without (k + 1))
-listed_same words without old k w held is was small held_small none so_far = listed_word words without old old k w held is was small held_small so_far (λ location. (
+pub listed_same : (words without old : List ℕ) (first k w held : ℕ) → first ≤ k → w ≡ get_or words k 0 → held ≡ get_or without k 0 → w < 2 ^ 64 → held < 2 ^ 64 → bit_and w (bit_not w64 held) ≡ 0 → Lists old (IsListed words without first k)
+    → Lists old (IsListed words without first (k + 1))
+listed_same words without old first k w held from is was small held_small none so_far = listed_word words without old old first k w held from is was small held_small so_far (λ location. (
   λ h. inl h,
   λ h. elim h [ inl o ↦ o | inr b ↦ absurd (let z = bit_at-zero b.0 in let bit : bit_at 0 b.0 ≡ 1 = ap (λ (v : ℕ). bit_at v b.0) (sym none) ∙ b.2 in omega arith) ],
 ))
 
+-- the words below the end
+pub listed_end : (words without list : List ℕ) (first k end : ℕ) → k ≤ end → end ≤ k → Lists list (IsListed words without first k)
+    → Lists list (λ location. IsIn words location × (IsIn without location → ⊥) × (first ≤ location / 64) × (location / 64 < end))
+listed_end words without list first k end within past so_far location = (
+  λ h. (let p = (so_far location).0 h in let l = p.0 in (p.1, p.2, p.3, omega arith)),
+  λ h. (so_far location).1 (let l = h.3 in (omega arith, h.0, h.1, h.2)),
+)
+
 -- all words
-pub listed_all : (words without list : List ℕ) (k : ℕ) → length words ≤ k → Lists list (IsListed words without k) → Lists list (λ location. IsIn words location × (IsIn without location → ⊥))
-listed_all words without list k past so_far location = (
-  λ h. (let p = (so_far location).0 h in (p.1, p.2)),
-  λ h. (so_far location).1 (elim (cases_lt (location / 64) k) [
-    | inl lt ↦ (lt, h.0, h.1)
-    | inr ge ↦ absurd (let z = bit_at-zero (location % 64) in let none : get_or words (location / 64) 0 ≡ 0 = get_or_past words (location / 64) 0 (omega arith) in
-        let bit : bit_at 0 (location % 64) ≡ 1 = ap (λ (v : ℕ). bit_at v (location % 64)) (sym none) ∙ h.0 in omega arith)
-  ]),
+pub listed_all : (words without list : List ℕ) → Lists list (λ location. IsIn words location × (IsIn without location → ⊥) × (0 ≤ location / 64) × (location / 64 < length words))
+    → Lists list (λ location. IsIn words location × (IsIn without location → ⊥))
+listed_all words without list all location = (
+  λ h. (let p = (all location).0 h in (p.0, p.1)),
+  λ h. (all location).1 (
+    h.0,
+    h.1,
+    omega arith,
+    elim (cases_lt (location / 64) (length words)) [
+      | inl lt ↦ lt
+      | inr ge ↦ absurd (let z = bit_at-zero (location % 64) in let none : get_or words (location / 64) 0 ≡ 0 = get_or_past words (location / 64) 0 (omega arith) in
+          let bit : bit_at 0 (location % 64) ≡ 1 = ap (λ (v : ℕ). bit_at v (location % 64)) (sym none) ∙ h.0 in omega arith)
+    ],
+  ),
 )
 
 -- the bits of a word below k, counted on from a base
@@ -105,8 +120,8 @@ pub record Added (W row k : ℕ) (words old new : List ℕ) : Type 0 where
   pub keeps : (other location : ℕ) → Has (shown W old) other location → Has (shown W new) other location
   pub adds : (location : ℕ) → location / 64 < k → IsIn words location → Has (shown W new) row location
 
-pub added_none : (W row : ℕ) (words old : List ℕ) → Added W row 0 words old old
-added_none W row words old = record { sized = refl; only = λ other location h. inl h; keeps = λ other location h. h; adds = λ location lt h. absurd (omega arith) }
+pub added_none : (W row first end : ℕ) (words old : List ℕ) → AreAmong (shown W old) row words first end → Added W row first words old old
+added_none W row first end words old among = record { sized = refl; only = λ other location h. inl h; keeps = λ other location h. h; adds = λ location lt h. among location h (inl lt) }
 
 pub added_word : (W row k : ℕ) (words old mid : List ℕ) → k < W → row * W + k < length mid → Added W row k words old mid
     → Added W row (k + 1) words old (set mid (row * W + k) (bit_or (get_or mid (row * W + k) 0) (get_or words k 0)))

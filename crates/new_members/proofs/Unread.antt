@@ -1,5 +1,6 @@
 -- A row that no constraint reads.
-use Rattle.std.proofs.Common.{◌≡◌, ◌⊎◌, ◌↔◌, ℕ, List, length, Some, Contains, sym, ap, ◌∙◌, subst, inl, inr, arith}
+use Rattle.std.proofs.Common.{◌≡◌, ◌⊎◌, ◌↔◌, ℕ, ◌/◌, ◌≤◌, List, length, Some, Contains, sym, ap, ◌∙◌, subst, inl, inr, arith}
+use Rattle.std.proofs.lemmas.Bool.{cases_lt}
 use Rattle.std.specs.List.{range_with_len}
 use Rattle.sol_model.specs.declared.system.System.{System}
 use Rattle.sol_model.specs.Families.{Family, Has}
@@ -8,7 +9,7 @@ use Rattle.sol_model.specs.Systems.{IsLocation, location_count}
 use Rattle.sol_model.proofs.Members.{Contains-at, at_Contains, at_range}
 use Rattle.edge_book.specs.Leaving.{targets_of}
 use Rattle.edge_book.proofs.Targets.{target_listed}
-use Rattle.new_members.specs.News.{IsFact, IsGrown, IsIn, IsReader, Renews}
+use Rattle.new_members.specs.News.{AreAmong, IsFact, IsGrown, IsIn, IsReader, Renews}
 use Rattle.new_members.proofs.Splitting.{unread_edge, unread_fact}
 
 -- a row without targets among the readers has no reader
@@ -45,3 +46,16 @@ same_facts S F G row words adds known none facts = record {
   whole = λ a b e. (let n = at_Contains S.constraints e.0 e.1 in
       inl (e.0, e.1, unread_fact S F G row (range_with_len 0 (location_count S)) (grown_all S F G row words adds known) e.0 a b (λ reads. none n.0 (e.0, n.2, reads)) e.2));
 }
+
+-- where no word has anything new, the row has all
+pub nothing_new : (F : Family) (row first end : ℕ) (words : List ℕ) → end ≤ first → AreAmong F row words first end → (r l : ℕ) → (Has F r l ↔ (Has F r l ⊎ ((r ≡ row) × IsIn words l)))
+nothing_new F row first end words none among r l = (
+  λ h. inl h,
+  λ h. elim h [
+    | inl old ↦ old
+    | inr new ↦ subst (λ (n : ℕ). Has F n l) (sym new.0) (elim (cases_lt (l / 64) first) [
+      | inl before ↦ among l new.1 (inl before)
+      | inr past ↦ among l new.1 (inr (omega arith))
+    ])
+  ],
+)

@@ -1,5 +1,5 @@
 -- What new members of one row demand.
-use Rattle.std.specs.Prelude.{◌≡◌, ◌⊎◌, ℕ, ◌*◌, ◌/◌, ◌%◌, List, take, drop, ◌++◌, Option, Some, IsSome, slice_get, slice_index, Contains}
+use Rattle.std.specs.Prelude.{◌≡◌, ◌⊎◌, ℕ, ◌*◌, ◌/◌, ◌%◌, ◌<◌, ◌≤◌, List, take, drop, ◌++◌, Option, Some, IsSome, slice_get, slice_index, Contains}
 use Rattle.std.specs.Int.{bit_at}
 use Rattle.pta_base.specs.declared.effect.Effect.{Effect}
 use Rattle.pta_base.specs.declared.effect.Effect.TheVariants.{Copies, StoresInto, CallsBack}
@@ -17,6 +17,10 @@ use Rattle.edge_book.specs.Edges.{only, Gains}
 -- the words of one row have a location
 abbrev pub IsIn : List ℕ → ℕ → Type 0
 IsIn words location = bit_at (slice_index words (location / 64)) (location % 64) ≡ 1
+
+-- all that words have is in those from one number on and below another, or is a member of a row already
+abbrev pub AreAmong : Family → ℕ → List ℕ → ℕ → ℕ → Type 0
+AreAmong F row words first end = (location : ℕ) → IsIn words location → (location / 64 < first) ⊎ (end ≤ location / 64) → Has F row location
 
 -- the words of a row
 abbrev pub words_at : Rows → ℕ → List ℕ

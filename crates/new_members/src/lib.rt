@@ -15,6 +15,6 @@ mod starting;
 mod words;
 
 pub use reading::readers;
-pub use renewing::renew;
+pub use renewing::{Grown, renew};
 pub use starting::start;
 pub use words::row_words;

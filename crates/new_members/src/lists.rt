@@ -1,5 +1,5 @@
 //! Members of rows as lists of locations.
-ghost use Rattle.std.specs.Prelude.{◌≡◌, ℕ, ◌+◌, ◌*◌, ◌^◌, ◌<◌, ◌≤◌, ◌⊎◌, ◌↔◌, OnOk, IfOk, IfSome, Some, All, Contains, length};
+ghost use Rattle.std.specs.Prelude.{◌≡◌, ℕ, ◌+◌, ◌*◌, ◌/◌, ◌^◌, ◌<◌, ◌≤◌, ◌⊎◌, ◌↔◌, OnOk, IfOk, IfSome, Some, All, Contains, length};
 ghost use Rattle.std.specs.Int.{bit_at};
 ghost use Rattle.sol_model.specs.Families.{Has, members};
 ghost use Rattle.sol_model.specs.Rules.{IsInArgument};
@@ -32,6 +32,30 @@ fn put_bits(list: &mut Vec<u32>, word: u64, base: u32) -> Result<(), OutOfMemory
     Ok(())
 }
 
+/// The locations that words have and other words lack, in order, as far as they are in the words from `first` on and below
+/// `end`.
+pub(crate) fn new_between(
+    alloc: Global,
+    words: &[u64],
+    without: &[u64],
+    first: usize,
+    end: usize,
+) -> Result<Vec<u32>, OutOfMemory>
+    requires small { length words.now ≤ 2 ^ 24 }
+    requires range { (first ≤ end) × (end ≤ length words.now) }
+    ensures { IfOk result (λ list. (location : ℕ) → (Contains list.items location ↔ (IsIn words.now location × (IsIn without.now location → ⊥) × (first ≤ location / 64) × (location / 64 < end)))) }
+{
+    let mut list = Vec::new(alloc);
+    for k in first..end {
+        let held = if k < without.len() { without[k] } else { 0 };
+        let new = words[k] & !held;
+        if new != 0 {
+            put_bits(&mut list, new, 64 * k as u32)?;
+        }
+    }
+    Ok(list)
+}
+
 /// The locations that words have and other words lack, in order.
 pub(crate) fn new_members(
     alloc: Global,
@@ -41,15 +65,7 @@ pub(crate) fn new_members(
     requires { length words.now ≤ 2 ^ 24 }
     ensures { IfOk result (λ list. (location : ℕ) → (Contains list.items location ↔ (IsIn words.now location × (IsIn without.now location → ⊥)))) }
 {
-    let mut list = Vec::new(alloc);
-    for k in 0..words.len() {
-        let held = if k < without.len() { without[k] } else { 0 };
-        let new = words[k] & !held;
-        if new != 0 {
-            put_bits(&mut list, new, 64 * k as u32)?;
-        }
-    }
-    Ok(list)
+    new_between(alloc, words, without, 0, words.len())
 }
 
 /// The members of a row.

@@ -2,7 +2,7 @@
 ghost use Rattle.std.specs.Prelude.{◌≡◌, ℕ, ◌+◌, ◌*◌, ◌^◌, ◌<◌, ◌≤◌, ◌⊎◌, ◌↔◌, take, drop, length, slice_index};
 ghost use Rattle.sol_model.specs.Families.{Has, HoldsRow, members};
 ghost use Rattle.sol_model.specs.Systems.{IsValid, Fits, IsRow, IsLocation, width_of};
-ghost use Rattle.new_members.specs.News.{IsIn, words_at};
+ghost use Rattle.new_members.specs.News.{AreAmong, IsIn, words_at};
 
 use sol_model::{Rows, System};
 
@@ -30,19 +30,28 @@ pub fn row_words(rows: &Rows, row: u32) -> &[u64]
     part(rows.words.as_slice(), row as usize * width, width)
 }
 
-/// Adds the members that words have to a row.
-pub(crate) fn take_row(system: &System, rows: &mut Rows, row: u32, words: &[u64])
+/// Adds the members that words have to a row. What the row lacks of them is in the words from `first` on and below `end`.
+pub(crate) fn take_row(
+    system: &System,
+    rows: &mut Rows,
+    row: u32,
+    words: &[u64],
+    first: usize,
+    end: usize,
+)
     requires valid { IsValid system.now }
     requires fits { Fits system.now rows.old }
     requires row { IsRow system.now row }
     requires sized { length words.now ≡ width_of system.now }
     requires known { (location : ℕ) → IsIn words.now location → IsLocation system.now location }
+    requires among { AreAmong (members rows.old) row words.now first end }
+    requires range { (first ≤ end) × (end ≤ width_of system.now) }
     ensures fits { Fits system.now rows.new }
     ensures has { (other location : ℕ) → (Has (members rows.new) other location ↔ (Has (members rows.old) other location ⊎ ((other ≡ row) × IsIn words.now location))) }
 {
-    let first = row as usize * words.len();
-    for k in 0..words.len() {
-        let held = rows.words.as_slice()[first + k];
-        rows.words.set(first + k, held | words[k]);
+    let start = row as usize * words.len();
+    for k in first..end {
+        let held = rows.words.as_slice()[start + k];
+        rows.words.set(start + k, held | words[k]);
     }
 }

@@ -7,7 +7,8 @@ use Rattle.std.proofs.lemmas.List.{length-map}
 use Rattle.command_line.specs.Rules.{IsNumberIn}
 use Rattle.pta_base.specs.Outside.{HasRisen, IsSteady}
 use Rattle.report_cli.specs.Words.{names_of}
-use Rattle.report_cli.specs.Outside.{Grows, Receives}
+use Rattle.report_text.specs.Outside.{Grows}
+use Rattle.report_cli.specs.Outside.{Receives}
 use Rattle.report_cli.proofs.Texts.{some_same}
 
 -- nothing was written

@@ -28,11 +28,11 @@ use Rattle.report_cli.specs.Words.{names_read, units_read, with_script}
 use Rattle.report_cli.specs.Told.{Told, parted, names_for, told_as, told_for}
 use Rattle.report_cli.specs.Printed.{AreAnswersTo, IsPrinted, IsLongScript, HasRefusedLine, IsUnbuiltScript, IsRefusedScript}
 use Rattle.report_cli.specs.Faults.{IsFaultOfTold}
-use Rattle.report_cli.specs.Answers.{NamedText, Answer, told_units, place_text}
+use Rattle.report_cli.specs.Answers.{NamedText, Answer, told_units}
 use Rattle.report_cli.specs.Alone.{IsReadAs, IsRefusedAlone, lexical_refusal, syntax_refusal, name_refusal}
 use Rattle.report_cli.specs.Lowered.{IsParsed, IsRightText, AreRightTexts, IsRefusedRow}
-use Rattle.report_cli.specs.Linking.{IsLinkRefusal, HaveManyNodes, HaveManyWords, link_refusal, unit_name}
-use Rattle.report_cli.specs.Unbuilt.{IsUnbuilt, AreNotBuilt, not_built}
+use Rattle.report_cli.specs.Linking.{IsLinkRefusal, HaveManyNodes, HaveManyWords, link_refusal}
+use Rattle.report_cli.specs.Unbuilt.{IsUnbuilt}
 use Rattle.report_cli.specs.Outcome.{Denotes, IsRefusedText, FirstRefused, AreRefusedTogether, Refuses, RefusesScript, RefusesTold}
 
 -- the names of told units are those that were asked for
@@ -165,21 +165,10 @@ first_whole number [] answer h = h
 first_whole number (unit ∷ told) answer (inl h) = inl (text_whole number unit answer h)
 first_whole number (unit ∷ told) answer (inr h) = inr (h.0, right_whole number unit h.0 h.1, first_whole (number + 1) told answer h.2)
 
-not_built_whole : (told : List NamedText) (answer : Answer) → AreNotBuilt (read_units told) answer → AreNotBuilt told answer
-not_built_whole told answer h = record {
-  units = h.units;
-  right = rights_whole 0 told h.units h.right;
-  program = h.program;
-  linked = h.linked;
-  unfit = h.unfit;
-  answer_is = h.answer_is ∙ ap (λ (names : List (List ℕ)). not_built (place_text (unit_name names 0) 1 1)) (names_whole told);
-}
-
 together_whole : (told : List NamedText) (answer : Answer) → AreRefusedTogether (read_units told) answer → AreRefusedTogether told answer
 together_whole told answer (inl h) = inl (links_whole told answer h)
 together_whole told answer (inr (inl h)) = inr (inl (nodes_whole told answer h))
-together_whole told answer (inr (inr (inl h))) = inr (inr (inl (words_whole told answer h)))
-together_whole told answer (inr (inr (inr h))) = inr (inr (inr (not_built_whole told answer h)))
+together_whole told answer (inr (inr h)) = inr (inr (words_whole told answer h))
 
 denotes_whole : (told : List NamedText) (program : Program) → Denotes (read_units told) program → Denotes told program
 unfolding Denotes
@@ -364,8 +353,7 @@ link_status units names link.OutOfMemory h = absurd h.fault_is
 together_status : (units : List NamedText) (answer : Answer) → AreRefusedTogether units answer → IsStatus answer.status
 together_status units answer (inl h) = status_of answer _ h.answer_is (link_status h.units (map (λ (unit : NamedText). unit.0) units) h.fault h.badly)
 together_status units answer (inr (inl h)) = status_of answer _ h.answer_is (inr (inr (inr (inl refl))))
-together_status units answer (inr (inr (inl h))) = status_of answer _ h.answer_is (inr (inr (inr (inl refl))))
-together_status units answer (inr (inr (inr h))) = status_of answer _ h.answer_is (inr (inl refl))
+together_status units answer (inr (inr h)) = status_of answer _ h.answer_is (inr (inr (inr (inl refl))))
 
 refuses_status : (units : List NamedText) (answer : Answer) → Refuses units answer → IsStatus answer.status
 unfolding Refuses

@@ -1,4 +1,4 @@
--- Units that are right for texts of distinct names can be linked.
+-- Units that are right for texts of distinct names can be linked, and initialise only objects that they define.
 use Rattle.std.proofs.Common.{◌≡◌, ◌∙◌, ℕ, zero, suc, ◌+◌, ◌<◌, List, [], ◌∷◌, Option, Some, None, map, length, arith, refl, sym, ap, subst, inl, inr, slice_get}
 use Rattle.std.proofs.lemmas.Bool.{cases_order}
 use Rattle.core_tree.specs.declared.node.Unit.{Unit}
@@ -6,6 +6,8 @@ use Rattle.core_tree.specs.Valid.{ValidUnit}
 use Rattle.unit_link.specs.Needs.{AreLinkable, IsNumbered}
 use Rattle.c_senses.specs.Names.{source_of, numbered}
 use Rattle.command_line.specs.Distinct.{AreDistinct}
+use Rattle.filled_units.specs.Filled.{IsFilled, AreFilled}
+use Rattle.placed_laws.proofs.Whole.{units_filled}
 use Rattle.unit_system.proofs.Numbering.{right_numbered}
 use Rattle.report_cli.specs.Answers.{NamedText}
 use Rattle.report_cli.specs.Lowered.{IsRightText, AreRightTexts}
@@ -47,6 +49,12 @@ valid_of number text x h = h.right.valid
 numbered_of : (number : ℕ) (text : NamedText) (x : Unit) → IsRightText number text x → IsNumbered number x
 unfolding source_of
 numbered_of number text x h = right_numbered (numbered h.tag_number (source_of h.tokens h.tree)) text.0 x number h.parsed.tree_is.1 h.right
+
+filled_of : (number : ℕ) (text : NamedText) (x : Unit) → IsRightText number text x → IsFilled x
+filled_of number text x h = units_filled h.tokens number h.tree h.tag_number text.0 x h.parsed.tree_is h.right
+
+pub filled : (texts : List NamedText) (units : List Unit) → AreRightTexts 0 texts units → AreFilled units
+filled texts units right = record { each = λ u x at. let own = unit_of 0 texts units u x right at in filled_of (0 + u) own.text x own.right }
 
 pub linkable : (texts : List NamedText) (units : List Unit) → AreDistinct (map (λ (t : NamedText). t.0) texts) → AreRightTexts 0 texts units → AreLinkable units
 linkable texts units distinct right = record {

@@ -126,7 +126,7 @@ module _ (texts : List NamedText) (units : List Unit) (right : AreRightTexts 0 t
   badly_refused cause fault badly is nothing =
       refused_so texts (link_refusal names cause) fault is nothing (inl (record { units = units; right = right; fault = cause; badly = badly; answer_is = refl }))
 
-  -- a fault of linking, a limit, and what isn't built
+  -- a fault of linking, and a limit
   all_refused : (cause : UnitFault) (fault : UnitsFault) → core.IsFaultOf units cause → IsSystemRefusal names cause fault → IsFaultOf texts fault
   all_refused (unit.Link (link.Conflict name k)) fault h is = badly_refused (link.Conflict name k) fault h is refl
   all_refused (unit.Link (link.Twice name k)) fault h is = badly_refused (link.Twice name k) fault h is refl
@@ -136,9 +136,7 @@ module _ (texts : List NamedText) (units : List Unit) (right : AreRightTexts 0 t
   all_refused (unit.Nodes nodes) fault h is =
       refused_so texts _ fault is refl (inr (inl (record { units = units; right = right; program = h.0; linked = h.1; nodes = nodes; many = h.2; answer_is = refl })))
   all_refused (unit.Words words) fault h is =
-      refused_so texts _ fault is refl (inr (inr (inl (record { units = units; right = right; program = h.0; linked = h.1; words = words; many = h.2; answer_is = refl }))))
-  all_refused unit.NotBuilt fault h is =
-      refused_so texts _ fault is refl (inr (inr (inr (record { units = units; right = right; program = h.0; linked = h.1; unfit = h.2; answer_is = refl }))))
+      refused_so texts _ fault is refl (inr (inr (record { units = units; right = right; program = h.0; linked = h.1; words = words; many = h.2; answer_is = refl })))
   all_refused unit.OutOfMemory fault h is = memory_so texts fault is
 
   -- the same under names that are the texts'

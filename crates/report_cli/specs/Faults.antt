@@ -89,13 +89,12 @@ IsKindRefusal name tokens tree (check.BadOperand node) fault = fault ≡ fault_o
 IsKindRefusal name tokens tree (check.Unsupported kind node) fault = fault ≡ fault_of (kind_refusal name tokens tree kind node)
 IsKindRefusal name tokens tree check.OutOfMemory fault = fault ≡ Memory
 
--- the refusal for a fault of linking, for a limit, and for what isn't built
+-- the refusal for a fault of linking, and for a limit
 abbrev pub IsSystemRefusal : List (List ℕ) → UnitFault → UnitsFault → Type 0
 IsSystemRefusal names (unit.Link link.OutOfMemory) fault = fault ≡ Memory
 IsSystemRefusal names (unit.Link cause) fault = fault ≡ fault_of (link_refusal names cause)
 IsSystemRefusal names (unit.Nodes nodes) fault = fault ≡ fault_of (nodes_refusal nodes)
 IsSystemRefusal names (unit.Words words) fault = fault ≡ fault_of (words_refusal words)
-IsSystemRefusal names unit.NotBuilt fault = fault ≡ fault_of (not_built (place_text (unit_name names 0) 1 1))
 IsSystemRefusal names unit.OutOfMemory fault = fault ≡ Memory
 
 -- the refusal for the fault of a script

@@ -11,7 +11,7 @@ use Rattle.report_cli.specs.Answers.{NamedText, Answer, refusal}
 use Rattle.report_cli.specs.Alone.{IsRefusedAlone}
 use Rattle.report_cli.specs.Lowered.{IsRightText, AreRightTexts, IsRefusedRow}
 use Rattle.report_cli.specs.Linking.{IsLinkRefusal, HaveManyNodes, HaveManyWords}
-use Rattle.report_cli.specs.Unbuilt.{IsUnbuilt, AreNotBuilt}
+use Rattle.report_cli.specs.Unbuilt.{IsUnbuilt}
 use Rattle.report_cli.specs.Told.{Told}
 use Rattle.report_cli.specs.Printed.{IsPrinted, IsRefusedScript}
 
@@ -33,10 +33,9 @@ FirstRefused IsRefused number [] answer = ⊥
 FirstRefused IsRefused number (text ∷ texts) answer =
     IsRefused number text answer ⊎ ((u : Unit) × IsRightText number text u × FirstRefused IsRefused (number + 1) texts answer)
 
--- the refusal of texts that are right: for a fault of linking, for a limit that their program passes, or as texts of which no program is
--- built
+-- the refusal of texts that are right: for a fault of linking, or for a limit that their program passes
 abbrev pub AreRefusedTogether : List NamedText → Answer → Type 0
-AreRefusedTogether texts answer = IsLinkRefusal texts answer ⊎ (HaveManyNodes texts answer ⊎ (HaveManyWords texts answer ⊎ AreNotBuilt texts answer))
+AreRefusedTogether texts answer = IsLinkRefusal texts answer ⊎ (HaveManyNodes texts answer ⊎ HaveManyWords texts answer)
 
 -- the first refusal of texts: that of the first one that isn't right, else that of all together
 unfoldable pub Refuses : List NamedText → Answer → Type 0

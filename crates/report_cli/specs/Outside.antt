@@ -1,14 +1,7 @@
 -- What a call leaves behind outside.
-use Rattle.std.specs.Prelude.{◌≡◌, ℕ, ◌≤◌, List, ◌++◌, length, take, Option, option_map, codes}
+use Rattle.std.specs.Prelude.{ℕ, List, ◌++◌, Option, codes}
 use Rattle.pta_base.specs.Outside.{IsSteady}
-
--- what was written grew by a text; both are told, or neither
-abbrev pub Grows : Option (List ℕ) → Option (List ℕ) → List ℕ → Type 0
-Grows before after text = after ≡ option_map (λ written. written ++ text) before
-
--- what was written grew by a beginning of a text
-abbrev pub GrowsInPart : Option (List ℕ) → Option (List ℕ) → List ℕ → Type 0
-GrowsInPart before after text = (count : ℕ) × (count ≤ length text) × Grows before after (take count text)
+use Rattle.report_text.specs.Outside.{Grows, GrowsInPart}
 
 -- a text went to a sink that may fail: whole where no fault rose there, and else in part
 pub record Receives (before after : Option (List ℕ)) (faults_before faults_after : ℕ) (text : List ℕ) : Type 0 where

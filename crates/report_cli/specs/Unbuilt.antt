@@ -1,18 +1,13 @@
 -- Forms that aren't built: the answers that no rule of the language asks for.
-use Rattle.std.specs.Prelude.{◌≡◌, ℕ, List, ◌++◌, map, codes}
+use Rattle.std.specs.Prelude.{◌≡◌, ℕ, List, ◌++◌, codes}
 use Rattle.pta_base.specs.declared.kind.Kind.TheVariants.{NotBuilt}
 use Rattle.c_lexer.specs.declared.Tokens.{Tokens}
 use Rattle.c_grammar.specs.declared.trees.Tree.{Tree}
-use Rattle.core_tree.specs.declared.node.Unit.{Unit}
-use Rattle.core_tree.specs.declared.node.Program.{Program}
 use Rattle.core_nodes.specs.declared.fault.CheckFault.TheVariants.{Unsupported}
 use Rattle.c_senses.specs.Names.{source_of}
 use Rattle.c_lower.specs.Lowered.{IsNotLowered}
-use Rattle.unit_link.specs.Linked.{Linked}
-use Rattle.unit_system.specs.Faults.{IsUnfit}
-use Rattle.report_cli.specs.Answers.{NamedText, Answer, refusal, place_text}
-use Rattle.report_cli.specs.Lowered.{IsParsed, AreRightTexts, kind_refusal}
-use Rattle.report_cli.specs.Linking.{unit_name}
+use Rattle.report_cli.specs.Answers.{NamedText, Answer, refusal}
+use Rattle.report_cli.specs.Lowered.{IsParsed, kind_refusal}
 
 -- the refusal of what isn't built, at a place
 abbrev pub not_built : List ℕ → Answer
@@ -26,12 +21,3 @@ pub record IsUnbuilt (number : ℕ) (named : NamedText) (answer : Answer) : Type
   pub node : ℕ
   pub unbuilt : IsNotLowered (source_of tokens tree) named.0 tree.root (Unsupported NotBuilt node)
   pub answer_is : answer ≡ kind_refusal named.0 tokens tree NotBuilt node
-
--- the refusal of right texts whose program is unfit for a system: at the start of the first one
-pub record AreNotBuilt (texts : List NamedText) (answer : Answer) : Type 0 where
-  pub units : List Unit
-  pub right : AreRightTexts 0 texts units
-  pub program : Program
-  pub linked : Linked units program
-  pub unfit : IsUnfit program
-  pub answer_is : answer ≡ not_built (place_text (unit_name (map (λ (text : NamedText). text.0) texts) 0) 1 1)

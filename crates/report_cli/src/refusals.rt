@@ -166,7 +166,7 @@ fn too_large(alloc: Global, what: &[u8], number: u128) -> Result<UnitsFault, All
     refused(6, line)
 }
 
-/// The refusal for a fault of the system of units; what isn't built is refused at the first unit's start.
+/// The refusal for a fault of the system of units.
 pub(crate) fn system_refusal(
     alloc: Global,
     names: &[&str],
@@ -178,7 +178,6 @@ pub(crate) fn system_refusal(
         UnitFault::Link(fault) => link_refusal(alloc, names, fault),
         UnitFault::Nodes(nodes) => too_large(alloc, b"too large nodes ", u128::from(nodes)),
         UnitFault::Words(words) => too_large(alloc, b"too large rows ", words),
-        UnitFault::NotBuilt => not_built(place_text(alloc, unit_name(names, 0), 1, 1)?),
         UnitFault::OutOfMemory => Ok(UnitsFault::Memory),
     }
 }

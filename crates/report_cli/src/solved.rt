@@ -1,6 +1,7 @@
 // From the texts of units to what is printed of their program, or to their first refusal.
 ghost use Rattle.std.specs.Prelude.{◌≡◌, ◌<◌, ◌≤◌, ◌^◌, List, length, map, zip, IfOk, IfErr, Some};
 ghost use Rattle.command_line.specs.Distinct.{AreDistinct};
+ghost use Rattle.filled_units.specs.Filled.{AreFilled};
 ghost use Rattle.unit_link.specs.Needs.{AreLinkable};
 ghost use Rattle.core_tree.specs.declared.node.Program.{Program};
 ghost use Rattle.sol_model.specs.declared.system.System.{System};
@@ -38,7 +39,8 @@ pub(crate) struct Script<'a> {
 
 /// The program that the texts of core units denote, with its locations and its system, or the fault that refuses them.
 fn linked(alloc: Global, names: &[&str], units: Vec<Unit>) -> Result<UnitSystem, UnitsFault>
-    requires { AreLinkable units.items }
+    requires linkable { AreLinkable units.items }
+    requires filled { AreFilled units.items }
     ensures linked { (texts : List NamedText) → AreRightTexts 0 texts units.items →
         IfOk result (λ made. Denotes texts made.program × IsSystemOf made.program made.space made.system) }
     ensures refused { (texts : List NamedText) → names_of names.now ≡ map (λ text. text.0) texts → AreRightTexts 0 texts units.items →

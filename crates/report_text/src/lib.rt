@@ -12,5 +12,5 @@ mod sets;
 mod whole;
 
 pub use fault::PrintFault;
-pub use printing::print;
+pub use printing::{print, write_text};
 pub use whole::report;

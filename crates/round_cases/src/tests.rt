@@ -78,6 +78,41 @@ impl Gate for Counted {
     }
 }
 
+/// How long a worker waits at a slow gate. Kind 0 is slowest for the first of 64 workers, kind 1 for the last; the others
+/// have another number for each worker and each turn.
+fn waits(kind: u32, worker: u32, turn: u32) -> u32 {
+    let last = worker.min(63);
+    match kind {
+        0 => (63 - last) * (turn % 4 + 1) * 16,
+        1 => last * (turn % 4 + 1) * 16,
+        _ => {
+            let mixed = worker
+                .wrapping_mul(40_503)
+                .wrapping_add(turn.wrapping_mul(9_973))
+                .wrapping_add(kind)
+                .wrapping_mul(2_654_435_761);
+            (mixed >> 20) % 4_000
+        }
+    }
+}
+
+/// A gate that each worker passes slowly before each of its pieces: it looks at a number so many times. It counts how often
+/// it was passed.
+#[derive(Drop)]
+struct Slow {
+    kind: u32,
+    passed: AtomicU64,
+}
+
+impl Gate for Slow {
+    fn pass(&self, worker: u32, turn: u32) {
+        for _ in 0..waits(self.kind, worker, turn) {
+            self.passed.load(Ordering::SeqCst);
+        }
+        self.passed.fetch_add(1, Ordering::SeqCst);
+    }
+}
+
 /// A gate at which each of two workers leaves a mark.
 fn both_gate() -> Both {
     Both {
@@ -128,11 +163,9 @@ fn expect<R: Threads + Sync + Abort>(
     Ok(())
 }
 
-// Copies in a ring, from 2 to 1, from 3 to 2 and from 1 to 3, and 3 gets an address.
-#[test]
-fn ring(rt: HostRuntime) -> Result<(), OutOfMemory> {
-    let alloc = rt.alloc();
-    let case = system(
+/// Copies in a ring, from 2 to 1, from 3 to 2 and from 1 to 3, and 3 gets an address.
+fn ring_system(alloc: Global) -> Result<System, OutOfMemory> {
+    system(
         alloc,
         4,
         &[
@@ -144,8 +177,17 @@ fn ring(rt: HostRuntime) -> Result<(), OutOfMemory> {
         &[copy(2, 1), copy(3, 2), copy(1, 3), address(3, 0)],
         &[],
         &[],
-    )?;
-    expect(&rt, alloc, &case, &[0, 1, 1, 1])
+    )
+}
+
+/// What the rows of the ring have.
+const RING_SETS: &[u64] = &[0, 1, 1, 1];
+
+#[test]
+fn ring(rt: HostRuntime) -> Result<(), OutOfMemory> {
+    let alloc = rt.alloc();
+    let case = ring_system(alloc)?;
+    expect(&rt, alloc, &case, RING_SETS)
 }
 
 // Two rows get an address in the first round, so two workers have a piece each.
@@ -764,15 +806,13 @@ const LIST_SETS: &[u64] = &[
     8192, 16384, 0,
 ];
 
-// struct node {struct node *next; const char *word;}; static struct node *head; void push(const char *w) {struct node *n =
-// malloc(sizeof *n); n->next = head; n->word = w; head = n;} and main calls push("one"), push(argv[0]) and
-// __ctype_b_loc(). Locations 0 head, 1 w, 2 n, 3 to 5 what malloc gives, 6 the text, 7 what arguments lead to, 8 argv,
-// 9 its elements, 10 push, 11 main, 12 malloc, 13 __ctype_b_loc, 14 and 15 the tables behind it.
-// Row 25 is a row that no constraint fills.
-#[test]
-fn linked_list(rt: HostRuntime) -> Result<(), OutOfMemory> {
-    let alloc = rt.alloc();
-    let case = system(
+/// struct node {struct node *next; const char *word;}; static struct node *head; void push(const char *w) {struct node *n =
+/// malloc(sizeof *n); n->next = head; n->word = w; head = n;} and main calls push("one"), push(argv[0]) and
+/// __ctype_b_loc(). Locations 0 head, 1 w, 2 n, 3 to 5 what malloc gives, 6 the text, 7 what arguments lead to, 8 argv,
+/// 9 its elements, 10 push, 11 main, 12 malloc, 13 __ctype_b_loc, 14 and 15 the tables behind it.
+/// Row 25 is a row that no constraint fills.
+fn list_system(alloc: Global) -> Result<System, OutOfMemory> {
+    system(
         alloc,
         26,
         &[
@@ -877,7 +917,13 @@ fn linked_list(rt: HostRuntime) -> Result<(), OutOfMemory> {
                 fresh: &[(3, 14)],
             },
         ],
-    )?;
+    )
+}
+
+#[test]
+fn linked_list(rt: HostRuntime) -> Result<(), OutOfMemory> {
+    let alloc = rt.alloc();
+    let case = list_system(alloc)?;
     expect(&rt, alloc, &case, LIST_SETS)?;
     assert!(rt; is_valid(&case));
     let gate = both_gate();
@@ -917,4 +963,65 @@ fn wide_round(rt: HostRuntime) -> Result<(), OutOfMemory> {
     assert_eq!(rt; gate.wrong.load(Ordering::SeqCst), 0);
     assert_eq!(rt; gate.most.load(Ordering::SeqCst), 298);
     Ok(())
+}
+
+/// Solves a system with 1, 2 and 64 workers at gates that are slow in four ways, and compares all rows with the plain
+/// solver's and the first with those wanted. The gate must have been passed at least once for each of so many rows.
+fn expect_slow<R: Threads + Sync + Abort>(
+    rt: &R,
+    alloc: Global,
+    system: &System,
+    rows: &[u64],
+    pieces: u64,
+) -> Result<(), OutOfMemory> {
+    assert!(rt; is_valid(system));
+    let plain = plain_solve(alloc, system)?;
+    for workers in [1u32, 2, 64] {
+        for kind in 0u32..4 {
+            let gate = Slow {
+                kind,
+                passed: AtomicU64::new(0),
+            };
+            let found = solved(rt, alloc, system, workers, &gate)?;
+            assert!(rt; found.words.as_slice() == plain.words.as_slice());
+            assert!(rt; found.words.as_slice().starts_with(rows));
+            assert!(rt; gate.passed.load(Ordering::SeqCst) >= pieces);
+        }
+    }
+    Ok(())
+}
+
+#[test]
+fn slow_gate_on_a_list(rt: HostRuntime) -> Result<(), OutOfMemory> {
+    let alloc = rt.alloc();
+    let case = list_system(alloc)?;
+    expect_slow(&rt, alloc, &case, LIST_SETS, 17)
+}
+
+#[test]
+fn slow_gate_on_a_ring(rt: HostRuntime) -> Result<(), OutOfMemory> {
+    let alloc = rt.alloc();
+    let case = ring_system(alloc)?;
+    expect_slow(&rt, alloc, &case, RING_SETS, 3)
+}
+
+// A ring of 150 rows, each of which copies the row before it; rows 0 and 75 get an address. All rows get both.
+#[test]
+fn slow_gate_on_a_long_ring(rt: HostRuntime) -> Result<(), OutOfMemory> {
+    let alloc = rt.alloc();
+    let mut constraints = vec![in alloc; address(0, 0), address(75, 1), copy(149, 0)]?;
+    let mut sets = vec![in alloc; 3u64]?;
+    for row in 1u32..150 {
+        constraints.push(copy(row - 1, row))?;
+        sets.push(3)?;
+    }
+    let case = system(
+        alloc,
+        150,
+        &[object(POINTER), object(POINTER)],
+        constraints.as_slice(),
+        &[],
+        &[],
+    )?;
+    expect_slow(&rt, alloc, &case, sets.as_slice(), 150)
 }

@@ -14,12 +14,12 @@ use Rattle.c_senses.specs.Rows.{world_at, row, row_of}
 use Rattle.struct_laws.specs.Laws.{ListsAreMade}
 
 -- what is found first stands there, and passes
-record IsFound (test : ℕ → Bool) (xs : List ℕ) (c : ℕ) : Type 0 where
-  place : ℕ
-  there : slice_get xs place ≡ Some c
-  passes : test c ≡ true
+pub record IsFound (test : ℕ → Bool) (xs : List ℕ) (c : ℕ) : Type 0 where
+  pub place : ℕ
+  pub there : slice_get xs place ≡ Some c
+  pub passes : test c ≡ true
 
-found : (test : ℕ → Bool) (xs : List ℕ) (c : ℕ) → first_where test xs ≡ Some c → IsFound test xs c
+pub found : (test : ℕ → Bool) (xs : List ℕ) (c : ℕ) → first_where test xs ≡ Some c → IsFound test xs c
 found test [] c e = cc
 found test (x ∷ xs) c e = by (λ f. found test xs c f) (test x) refl e
   where

@@ -94,7 +94,7 @@ same_number : (n : ℕ) → (n == n) ≡ true
 same_number n = eq-eqb n n refl
 
 module _ (s : Source) where
-  tag_there : (i : ℕ) → i < length s.nodes → is_a s p_struct i ≡ true → is_tag s (tag_declared s i) ≡ true
+  pub tag_there : (i : ℕ) → i < length s.nodes → is_a s p_struct i ≡ true → is_tag s (tag_declared s i) ≡ true
   tag_there i inside struct =
       any_at (λ j. is_a s p_struct j && (tag_declared s j == tag_declared s i)) 0 (length s.nodes) i (omega arith) (omega (arith, inside))
       (both (is_a s p_struct i) (tag_declared s i == tag_declared s i) struct (same_number (tag_declared s i)))

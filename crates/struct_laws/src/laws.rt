@@ -1,6 +1,7 @@
 //! The laws: these functions do nothing, and their contracts are the laws.
 ghost use Rattle.struct_laws.specs.Laws.{ListsAreMade, TagsStayOpen};
 ghost use Rattle.struct_laws.specs.Untaken.{OnlyUntaken};
+ghost use Rattle.struct_laws.specs.Words.{NeverUnbuilt, NoOtherKeyword, UntakenAlone};
 
 /// Where a specifier with a list of members is the first of its tag with one (C11 6.7.2.3p1), its tag has no members before it.
 pub fn tags_stay_open()
@@ -16,4 +17,20 @@ pub fn lists_are_made()
 /// may not stand in their places.
 pub fn only_untaken()
     ensures { OnlyUntaken }
+{}
+
+/// A specifier has the keyword of the first one of its tag, where the rows before it fit (C11 6.7.2.3p2).
+pub fn no_other_keyword()
+    ensures { NoOtherKeyword }
+{}
+
+/// A specifier of a parsed unit whose row isn't built, where the rows before it fit, has members that may not stand in their places.
+pub fn untaken_alone()
+    ensures { UntakenAlone }
+{}
+
+/// Where the rows before a specifier of a parsed unit fit, its row is built (C11 6.7.2.1): its keyword is that of its tag, and its members
+/// may stand in their places.
+pub fn never_unbuilt()
+    ensures { NeverUnbuilt }
 {}

@@ -152,8 +152,9 @@ fn listed(
 /// The row of a specifier of a structure or union (C11 6.7.2.1, 6.7.2.3), by what is known of its tag: its type, which the table has
 /// under the tag's number. A list of members completes the tag. It is refused as `operand` at the tag's name where the tag has a list
 /// before or was declared with another keyword, and at the specifier where its size isn't below 2^63 or it has over 2^24 nodes; and as
-/// not built, at the specifier, where its keyword isn't that of the tag's first specifier, where the tag has members already, and where its
-/// list has none made, or has some that may not stand. Without a list the unit stays; after a refusal with one it is only fit to be dropped.
+/// not built, at the specifier, where its keyword isn't that of the tag's first specifier, where the tag has members already, and where
+/// its list has none made, or has some that may not stand. Without a list the unit stays; after a refusal with one it is only fit to be
+/// dropped.
 pub fn struct_row(
     alloc: Global,
     unit: &mut Unit,

@@ -11,6 +11,7 @@ ghost use Rattle.tree_reads.specs.Sources.{source_in};
 ghost use Rattle.unit_keys.specs.Placed.{ArePositions};
 
 use c_results::Made;
+use leaf_maps::LeafMap;
 use tree_reads::{Syntax, is_a};
 use unit_keys::{declaration_with, parts_of};
 
@@ -70,16 +71,15 @@ pub fn has_members(syntax: &Syntax, results: &[Made], node: u32) -> bool
     }
 }
 
-/// The position of the first member of the declaration in whose specifiers a node is a word, by the positions of all nodes.
-pub fn position_in(syntax: &Syntax, positions: &[Option<u32>], node: u32) -> u32
-    requires node { node < length syntax.now.tree.now.nodes.items }
-    requires long { length positions.now ≡ length syntax.now.tree.now.nodes.items }
+/// The position of the first member of the declaration in whose specifiers a node is a word, by the positions of all such declarations.
+pub fn position_in(syntax: &Syntax, positions: &LeafMap, node: u32) -> u32
+    requires { node < length syntax.now.tree.now.nodes.items }
     ensures { (uses : List (ℕ × ℕ)) (sense : ℕ → Sense) →
         let s = source_in syntax.now uses in
         ArePositions s sense positions.now (length s.nodes) → result ≡ keys.position_in s sense node }
 {
     match member_around(syntax, node) {
-        Some(member) => positions[member as usize].unwrap_or(0),
+        Some(member) => positions.get(member).unwrap_or(0),
         None => 0,
     }
 }

@@ -1,7 +1,8 @@
 -- Positions, one after another.
-use Rattle.std.proofs.Common.{arith, ◌≡◌, ◌∙◌, ℕ, ◌+◌, ◌<◌, ◌≤◌, Bool, true, false, cond, List, length, get_or, drop, Option, Some, None, refl, sym, ap}
+use Rattle.std.proofs.Common.{arith, ◌≡◌, ◌∙◌, ℕ, ◌+◌, ◌<◌, ◌≤◌, Bool, true, false, cond, inl, inr, List, length, get_or, drop, Option, Some, None, refl, sym, ap}
 use Rattle.std.specs.Prelude.{◌||◌, ◌==◌, option_map}
 use Rattle.std.proofs.Math.ListN.{drop_of_length-le}
+use Rattle.std.proofs.lemmas.Bool.Decides.{eqb_tells}
 use Rattle.c_grammar.specs.Terminals.{contains}
 use Rattle.c_inits.specs.Made.{Part}
 use Rattle.c_senses.specs.Tree.{Source, children_at, first_where, numbers_from}
@@ -9,6 +10,7 @@ use Rattle.c_senses.specs.Keys.{parts_of, parts_before}
 use Rattle.c_senses.specs.World.{or_else}
 use Rattle.c_senses.specs.Sense.{Sense, IsMembers}
 use Rattle.c_results.specs.Parts.{parts_in}
+use Rattle.leaf_maps.specs.Numbers.{number_at}
 use Rattle.unit_keys.specs.Placed.{position_below}
 use Rattle.unit_keys.proofs.Lists.{drop_step, first_more}
 
@@ -30,6 +32,22 @@ by_equal false rest (Some x) before parts y = refl
 or_none : (o : Option ℕ) → or_else o None ≡ o
 or_none None = refl
 or_none (Some x) = refl
+
+-- a position is noted, or not
+pub note_here : (old new : List (ℕ × ℕ)) (node position c : ℕ) → number_at new node ≡ or_else (number_at old node) (Some position) → ((q : ℕ) → (node ≡ q → ⊥) → number_at new q ≡ number_at old q) → number_at new c ≡ cond (node == c) (or_else (number_at old c) (Some position)) (number_at old c)
+note_here old new node position c here others = elim (eqb_tells node c) [
+  | inl p ↦
+      ap (number_at new) (sym p.1)
+      ∙ (here
+      ∙ (ap (λ (k : ℕ). or_else (number_at old k) (Some position)) p.1 ∙ ap (λ (b : Bool). cond b (or_else (number_at old c) (Some position)) (number_at old c)) (sym p.0)))
+  | inr p ↦ others c p.1 ∙ ap (λ (b : Bool). cond b (or_else (number_at old c) (Some position)) (number_at old c)) (sym p.0)
+]
+
+pub note_other : (test : ℕ → Bool) (old : List (ℕ × ℕ)) (node position c : ℕ) → test node ≡ false → test c ≡ true → number_at old c ≡ cond (node == c) (or_else (number_at old c) (Some position)) (number_at old c)
+note_other test old node position c off on = elim (eqb_tells node c) [
+  | inl p ↦ absurd (let e : true ≡ false = sym on ∙ (ap test (sym p.1) ∙ off) in cc)
+  | inr p ↦ ap (λ (b : Bool). cond b (or_else (number_at old c) (Some position)) (number_at old c)) (sym p.0)
+]
 
 module _ (s : Source) (sense : ℕ → Sense) where
   -- what is left of the children after one of them

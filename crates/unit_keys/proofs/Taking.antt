@@ -1,12 +1,16 @@
 -- Names that are taken.
-use Rattle.std.proofs.Common.{arith, ◌≡◌, ◌∙◌, ℕ, ◌+◌, ◌<◌, ◌≤◌, ◌++◌, inl, inr, Bool, true, false, cond, List, [], ◌∷◌, length, length-append, get_or, map, drop, Option, Some, None, refl, sym, ap}
-use Rattle.std.specs.Prelude.{◌||◌, ◌&&◌, option_map}
+use Rattle.std.proofs.Common.{arith, ◌≡◌, ◌∙◌, ℕ, ◌+◌, ◌<◌, ◌≤◌, inl, inr, Bool, true, false, cond, List, [], ◌∷◌, length, get_or, map, drop, Option, Some, None, refl, sym, ap}
+use Rattle.std.specs.Prelude.{◌||◌, ◌&&◌, option_map, is_none}
 use Rattle.std.proofs.lemmas.Bool.Decides.{eqb_tells}
-use Rattle.std.proofs.lemmas.List.{get_or_append_left, get_or_push}
-use Rattle.c_senses.specs.Tree.{Source, spelling_at}
+use Rattle.c_grammar.specs.Productions.{p_struct, p_enum}
+use Rattle.c_senses.specs.Tree.{Source, is_a, spelling_at}
+use Rattle.c_senses.specs.Tags.{tag_leaf}
 use Rattle.c_senses.specs.Keys.{has_bytes, is_untagged, is_taken, first_free, names_with}
 use Rattle.c_senses.specs.Sense.{Sense}
-use Rattle.unit_keys.specs.Free.{first_untaken, AreFree}
+use Rattle.c_senses.specs.World.{or_else}
+use Rattle.leaf_maps.specs.Numbers.{number_at}
+use Rattle.unit_keys.specs.Specifiers.{is_specifier}
+use Rattle.unit_keys.specs.Free.{first_untaken, AreFree, TakenBelow}
 use Rattle.std.proofs.Math.ListN.{drop_of_length-le}
 use Rattle.std.specs.Str.{bytes_eq}
 use Rattle.unit_keys.proofs.Lists.{any_more, drop_step}
@@ -50,18 +54,45 @@ module _ (s : Source) (sense : ℕ → Sense) where
   names_done leaves i name new wanted le h =
       sym (or_false new) ∙ (ap (λ (l : List ℕ). new || has_bytes s sense name (map (spelling_at s) l)) (sym (drop_of_length-le leaves le)) ∙ h)
 
-  -- one node more
-  pub free_more : (free : List (Option ℕ)) (i : ℕ) (leaf : Option ℕ) (new : List (Option ℕ)) → AreFree s sense free i → new ≡ free ++ leaf ∷ [] → option_map (spelling_at s) leaf ≡ first_free s sense i (names_with s sense i) → AreFree s sense new (i + 1)
-  free_more free i leaf new are en e = record {
-    long = ap length en ∙ (length-append free (leaf ∷ []) ∙ ap (λ (n : ℕ). n + 1) are.long);
-    each = λ j lt. elim (eqb_tells j i) [
-      | inl p ↦
-          let read : get_or new j None ≡ leaf = ap (λ (l : List (Option ℕ)). get_or l j None) en ∙ get_or_push free leaf None j (are.long ∙ sym p.1) in
-          ap (option_map (spelling_at s)) read ∙ (e ∙ ap (λ (k : ℕ). first_free s sense k (names_with s sense k)) (sym p.1))
-      | inr p ↦
-          let less : j < i = omega (arith, p.1, lt) in
-          let within : j < length free = omega (arith, less, are.long) in
-          ap (λ (l : List (Option ℕ)). option_map (spelling_at s) (get_or l j None)) en
-          ∙ (ap (option_map (spelling_at s)) (get_or_append_left free (leaf ∷ []) None j within) ∙ are.each j less)
+  left_off : (a b : Bool) → (a || b) ≡ false → a ≡ false
+  left_off true b e = cc
+  left_off false b e = refl
+
+  off : (i : ℕ) → is_specifier s i ≡ true → is_specifier s i ≡ false → ⊥
+  off i on e = let f : true ≡ false = sym on ∙ e in cc
+
+  -- a node that is no specifier takes no name
+  pub taken_same : (i : ℕ) (taken : List ℕ → Bool) → is_specifier s i ≡ false → TakenBelow s sense taken i → TakenBelow s sense taken (i + 1)
+  taken_same i taken e h = λ name.
+      let more = has_bytes s sense name (names_with s sense i) in
+      let none : is_untagged s sense i ≡ false = ap (λ (b : Bool). b && is_none (tag_leaf s i)) (left_off (is_a s p_struct i) (is_a s p_enum i) e) in
+      taken_more i name (taken name) (taken name) (names_with s sense i) (h name) refl (sym (or_false (taken name)) ∙ ap (λ (b : Bool). taken name || (b && more)) (sym none))
+
+  -- a node that is no specifier, and a specifier more
+  pub free_same : (free : List (ℕ × ℕ)) (i : ℕ) → is_specifier s i ≡ false → AreFree s sense free i → AreFree s sense free (i + 1)
+  free_same free i e are = record {
+    each = λ j lt on. elim (eqb_tells j i) [
+      | inl p ↦ absurd (off i (ap (is_specifier s) (sym p.1) ∙ on) e)
+      | inr p ↦ are.each j (omega (arith, p.1, lt)) on
     ];
+    fresh = λ j le. are.fresh j (omega (arith, le));
   }
+
+  pub free_put : (free new : List (ℕ × ℕ)) (i : ℕ) (leaf : Option ℕ) → option_map (spelling_at s) leaf ≡ first_free s sense i (names_with s sense i) → number_at new i ≡ leaf → ((q : ℕ) → (i ≡ q → ⊥) → number_at new q ≡ number_at free q) → AreFree s sense free i → AreFree s sense new (i + 1)
+  free_put free new i leaf e here others are = record {
+    each = λ j lt on. elim (eqb_tells j i) [
+      | inl p ↦
+          ap (λ (k : ℕ). option_map (spelling_at s) (number_at new k)) p.1
+          ∙ (ap (option_map (spelling_at s)) here ∙ (e ∙ ap (λ (k : ℕ). first_free s sense k (names_with s sense k)) (sym p.1)))
+      | inr p ↦ ap (option_map (spelling_at s)) (others j (λ x. p.1 (sym x))) ∙ are.each j (omega (arith, p.1, lt)) on
+    ];
+    fresh = λ j le. others j (λ x. absurd (omega (arith, x, le))) ∙ are.fresh j (omega (arith, le));
+  }
+
+  pub free_none : (free : List (ℕ × ℕ)) (i : ℕ) (leaf : Option ℕ) → option_map (spelling_at s) leaf ≡ first_free s sense i (names_with s sense i) → leaf ≡ None → AreFree s sense free i → AreFree s sense free (i + 1)
+  free_none free i leaf e none are = free_put free free i leaf e (are.fresh i (omega arith) ∙ sym none) (λ q x. refl) are
+
+  pub free_some : (free new : List (ℕ × ℕ)) (i leaf : ℕ) (o : Option ℕ) → option_map (spelling_at s) o ≡ first_free s sense i (names_with s sense i) → o ≡ Some leaf → number_at new i ≡ or_else (number_at free i) (Some leaf) → ((q : ℕ) → (i ≡ q → ⊥) → number_at new q ≡ number_at free q) → AreFree s sense free i
+      → AreFree s sense new (i + 1)
+  free_some free new i leaf o e some here others are =
+      free_put free new i o e (here ∙ (ap (λ (x : Option ℕ). or_else x (Some leaf)) (are.fresh i (omega arith)) ∙ sym some)) others are

@@ -1,9 +1,11 @@
 -- The name by which a specifier without a tag has its key.
-use Rattle.std.specs.Prelude.{ℕ, ◌≡◌, ◌<◌, Bool, List, [], ◌∷◌, Option, Some, None, option_map, length, get_or, if◌then◌else◌}
+use Rattle.std.specs.Prelude.{ℕ, ◌≡◌, ◌<◌, ◌≤◌, Bool, true, List, [], ◌∷◌, Option, Some, None, option_map, if◌then◌else◌}
 use Rattle.c_grammar.specs.Productions.{p_declarator}
 use Rattle.c_senses.specs.Tree.{Source, is_a, spelling_at}
-use Rattle.c_senses.specs.Keys.{first_free, names_with}
+use Rattle.c_senses.specs.Keys.{first_free, is_taken, names_with}
 use Rattle.c_senses.specs.Sense.{Sense, IsDeclarator}
+use Rattle.leaf_maps.specs.Numbers.{number_at}
+use Rattle.unit_keys.specs.Specifiers.{is_specifier}
 
 -- the name in a sense
 abbrev pub name_in : Sense → Option ℕ
@@ -19,7 +21,11 @@ abbrev pub first_untaken : (List ℕ → Bool) → List (List ℕ) → Option (L
 first_untaken taken [] = None
 first_untaken taken (word ∷ rest) = if taken word then first_untaken taken rest else Some word
 
--- for each node the leaf of the first free name that is declared with it
-pub record AreFree (s : Source) (sense : ℕ → Sense) (free : List (Option ℕ)) (count : ℕ) : Type 0 where
-  pub long : length free ≡ count
-  pub each : (i : ℕ) → i < count → option_map (spelling_at s) (get_or free i None) ≡ first_free s sense i (names_with s sense i)
+-- the words that are taken are the names that are declared with the first so many nodes
+abbrev pub TakenBelow : Source → (ℕ → Sense) → (List ℕ → Bool) → ℕ → Type 0
+TakenBelow s sense taken count = (name : List ℕ) → taken name ≡ is_taken s sense name count
+
+-- for each of the first so many nodes that is a specifier the leaf of the first free name that is declared with it
+pub record AreFree (s : Source) (sense : ℕ → Sense) (free : List (ℕ × ℕ)) (count : ℕ) : Type 0 where
+  pub each : (i : ℕ) → i < count → is_specifier s i ≡ true → option_map (spelling_at s) (number_at free i) ≡ first_free s sense i (names_with s sense i)
+  pub fresh : (i : ℕ) → count ≤ i → number_at free i ≡ None

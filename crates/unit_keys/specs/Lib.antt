@@ -1,3 +1,4 @@
 pub mod Words
+pub mod Specifiers
 pub mod Free
 pub mod Placed

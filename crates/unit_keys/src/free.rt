@@ -1,7 +1,7 @@
 // The name by which a specifier without a tag has its key.
 #![tactic(auto)]
 
-ghost use Rattle.std.specs.Prelude.{◌≡◌, ◌||◌, ◌&&◌, ◌<◌, ◌^◌, Bool, ℕ, List, map, length, option_map, IfOk, OnOk};
+ghost use Rattle.std.specs.Prelude.{◌≡◌, ◌||◌, ◌&&◌, ◌<◌, ◌+◌, ◌^◌, Bool, ℕ, List, map, length, option_map, IfOk, OnOk};
 ghost use Rattle.core_tree.specs.declared.node.Unit.{Unit as UnitSpec};
 ghost use Rattle.c_senses.specs.Tree.{spelling_at};
 ghost use Rattle.c_senses.specs.Keys as keys;
@@ -9,11 +9,13 @@ ghost use Rattle.c_senses.specs.Sense.{Sense, sense_in};
 ghost use Rattle.c_results.specs.Standing.{senses_made};
 ghost use Rattle.tree_reads.specs.Sources.{source_in};
 ghost use Rattle.unit_keys.specs.Words as words;
-ghost use Rattle.unit_keys.specs.Free.{first_untaken, AreFree};
+ghost use Rattle.unit_keys.specs.Free.{first_untaken, AreFree, TakenBelow};
 
 use crate::names::leaves_with;
+use crate::specifiers::is_specifier;
 use crate::words::{Words, add_word, has_word};
 use c_results::Made;
+use leaf_maps::LeafMap;
 use std::alloc::{AllocError, Global};
 use std::collections::BTreeMap;
 use tree_reads::{Syntax, Test, children_of, first_where, is_a, spelling_of};
@@ -80,22 +82,49 @@ fn take_untagged(
     Ok(())
 }
 
-/// For each node the leaf of the first name that is declared with it at file scope and with no specifier before that has no tag.
-pub fn free_names(
+// Keeps the first free name that is declared with one more node, if that is a specifier, and takes its names if it has no tag.
+fn free_more(
     alloc: Global,
     syntax: &Syntax,
     results: &[Made],
-) -> Result<Vec<Option<u32>>, AllocError>
+    taken: &mut Words,
+    free: &mut LeafMap,
+    node: u32,
+) -> Result<(), AllocError>
+    requires { node < length syntax.now.tree.now.nodes.items }
+    ensures taken { OnOk result ((u : UnitSpec) (uses : List (ℕ × ℕ)) →
+        TakenBelow (source_in syntax.now uses) (sense_in (senses_made u results.now)) (words.has_word taken.old) node →
+        TakenBelow (source_in syntax.now uses) (sense_in (senses_made u results.now)) (words.has_word taken.new) (node + 1)) }
+    ensures free { OnOk result ((u : UnitSpec) (uses : List (ℕ × ℕ)) →
+        TakenBelow (source_in syntax.now uses) (sense_in (senses_made u results.now)) (words.has_word taken.old) node →
+        AreFree (source_in syntax.now uses) (sense_in (senses_made u results.now)) free.old node →
+        AreFree (source_in syntax.now uses) (sense_in (senses_made u results.now)) free.new (node + 1)) }
+{
+    if !is_specifier(syntax, node) {
+        return Ok(());
+    }
+    let leaves = leaves_with(alloc, syntax, results, node)?;
+    let first = first_free(syntax, taken, leaves.as_slice());
+    take_untagged(alloc, syntax, taken, node, leaves.as_slice())?;
+    match first {
+        Some(leaf) => {
+            free.add(node, leaf)?;
+            Ok(())
+        }
+        None => Ok(()),
+    }
+}
+
+/// For each specifier the leaf of the first name that is declared with it at file scope and with no specifier before that has no tag.
+pub fn free_names(alloc: Global, syntax: &Syntax, results: &[Made]) -> Result<LeafMap, AllocError>
     requires { length syntax.now.tree.now.nodes.items < 2 ^ 32 }
     ensures { IfOk result (λ free. (u : UnitSpec) (uses : List (ℕ × ℕ)) →
-        AreFree (source_in syntax.now uses) (sense_in (senses_made u results.now)) free.items (length syntax.now.tree.now.nodes.items)) }
+        AreFree (source_in syntax.now uses) (sense_in (senses_made u results.now)) free (length syntax.now.tree.now.nodes.items)) }
 {
     let mut taken = BTreeMap::new(alloc);
-    let mut free = Vec::new(alloc);
+    let mut free = LeafMap::new(alloc);
     for node in 0..syntax.tree.nodes.len() as u32 {
-        let leaves = leaves_with(alloc, syntax, results, node)?;
-        free.push(first_free(syntax, &taken, leaves.as_slice()))?;
-        take_untagged(alloc, syntax, &mut taken, node, leaves.as_slice())?;
+        free_more(alloc, syntax, results, &mut taken, &mut free, node)?;
     }
     Ok(free)
 }

@@ -6,10 +6,12 @@ mod free;
 mod inner;
 mod names;
 mod positions;
+mod specifiers;
 mod words;
 
 pub use free::free_names;
 pub use inner::inner_flags;
 pub use names::{declaration_with, leaves_with};
 pub use positions::{parts_of, positions_of};
+pub use specifiers::is_specifier;
 pub use words::{Words, add_word, has_word};

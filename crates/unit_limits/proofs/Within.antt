@@ -15,8 +15,8 @@ use Rattle.c_results.specs.declared.derivation.Derivation.{Derivation}
 use Rattle.c_results.specs.declared.derivation.Derivation.TheVariants.{Pointing, Elements, Returning}
 use Rattle.c_results.specs.declared.made.Made.{Made}
 use Rattle.c_results.specs.declared.made.Made.TheVariants as made
-use Rattle.c_results.specs.Standing.{derivation_seen, sense_made, IsDerivable, IsWithin}
-use Rattle.c_declarators.specs.Limited.{parameters_limited, IsLimited}
+use Rattle.c_results.specs.Standing.{derivation_seen, sense_made, senses_made, IsDerivable, IsWithin}
+use Rattle.c_declarators.specs.Limited.{parameters_limited, IsLimited, AreLimited}
 use Rattle.unit_limits.specs.Small.{has_element, IsSmallTable}
 use Rattle.unit_limits.specs.Laws.{TypesAreLimited, ResultsAreAround}
 use Rattle.unit_limits.proofs.Flags.{unions_flexible}
@@ -89,9 +89,13 @@ module _ (w : World) (u : Unit) (ok : IsSmallTable u.types) (k : Knows w u) wher
 pub types_limited : TypesAreLimited
 types_limited w u ok k id lt = limited_at w u ok k id lt
 
+-- what was made in a unit of small types is within the limits
+pub results_limited : (w : World) (u : Unit) (results : List Made) → IsSmallTable u.types → Knows w u → All (IsWithin u) results → AreLimited w (senses_made u results)
+results_limited w u results ok k within = All-map (IsLimited w) (sense_made u) results (All-weaker (IsWithin u) (λ m. IsLimited w (sense_made u m)) (made_limited w u ok k) results within)
+
 pub results_around : ResultsAreAround
 results_around w u unions results ok flags k within = record {
   knows = k;
   flexible = unions_flexible w u unions ok.made ok.named k flags;
-  limited = All-map (IsLimited w) (sense_made u) results (All-weaker (IsWithin u) (λ m. IsLimited w (sense_made u m)) (made_limited w u ok k) results within);
+  limited = results_limited w u results ok k within;
 }

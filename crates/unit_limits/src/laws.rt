@@ -22,8 +22,8 @@ pub fn types_are_limited()
     ensures { TypesAreLimited }
 {}
 
-/// What is kept of a table's tags is what the worlds that its unit knows say of their unions: which of them have a structure that ends in an
-/// array without a length, or a union that has one (C11 6.7.2.1p3).
+/// What is kept of a table's tags is what the worlds that its unit knows say of their unions: which of them have a structure that ends in
+/// an array without a length, or a union that has one (C11 6.7.2.1p3).
 pub fn unions_are_flexible()
     ensures { UnionsAreFlexible }
 {}

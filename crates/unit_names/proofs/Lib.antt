@@ -3,3 +3,4 @@ pub mod Places
 pub mod Typed
 pub mod Parts
 pub mod Listing
+mod Past

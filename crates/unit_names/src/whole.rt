@@ -7,6 +7,7 @@ ghost use Rattle.c_senses.specs.Sense.{Sense, sense_in};
 ghost use Rattle.c_senses.specs.Rows.{AreSenses};
 ghost use Rattle.c_senses.specs.Right.{Right, KeysRight};
 ghost use Rattle.c_results.specs.Standing.{senses_made, IsWithin};
+ghost use Rattle.sense_laws.specs.Senses.{ChildrenFirst};
 ghost use Rattle.tree_reads.specs.Sources.{source_read, source_in};
 ghost use Rattle.name_places.specs.Named.{IsNamedIn};
 ghost use Rattle.symbol_lists.specs.Lists.{AreOf};
@@ -15,7 +16,7 @@ ghost use Rattle.unit_parts.specs.declared.declared.Declared.{Declared as Declar
 ghost use Rattle.unit_parts.specs.Renamed as renamed;
 ghost use Rattle.unit_finish.specs.Complete.{IsKept};
 ghost use Rattle.unit_finish.specs.Walked.{IsWalked, AreTags, literal_entry};
-ghost use Rattle.unit_names.specs.Literals.{IsPast, IsNotBuilt};
+ghost use Rattle.unit_names.specs.Literals.{IsNotBuilt};
 
 use crate::list::declared_names;
 use crate::literals::literal_entries;
@@ -31,7 +32,7 @@ use tree_reads::Syntax;
 use unit_finish::{Heading, Kept, finish, keep};
 use unit_parts::{Declared, literals_in};
 
-/// What is declared at the compound literals among some nodes, in order; it fails like `literal_entries`.
+/// What is declared at the compound literals among some nodes, in order. Only memory may want.
 pub fn declared_literals(
     alloc: Global,
     names: &Names,
@@ -41,10 +42,11 @@ pub fn declared_literals(
 ) -> Result<Vec<Declared>, CheckFault>
     requires names { AreNamed syntax.now results.now names.now }
     requires named { All (IsNamedIn (length syntax.now.tree.now.nodes.items)) results.now }
+    requires first { ChildrenFirst (source_read syntax.now) }
     ensures entries { (u : UnitSpec) (uses : List (ℕ × ℕ)) →
         IfOk result (λ list.
         list.items ≡ map (literal_entry (source_in syntax.now uses) (senses_made u results.now)) (renamed.literals_in nodes.now)) }
-    ensures refused { IfErr result (IsPast (renamed.literals_in nodes.now) (length syntax.now.tree.now.nodes.items)) }
+    ensures memory { IsOkUnless result CheckFault.OutOfMemory }
 {
     let literals = literals_in(alloc, nodes)?;
     literal_entries(alloc, names, syntax, results, literals.as_slice())
@@ -63,6 +65,7 @@ fn finished(
 ) -> Result<Unit, CheckFault>
     requires names { AreNamed syntax.now results.now names.now }
     requires named { All (IsNamedIn (length syntax.now.tree.now.nodes.items)) results.now }
+    requires first { ChildrenFirst (source_read syntax.now) }
     ensures right { (u walked : UnitSpec) (uses : List (ℕ × ℕ)) (list : List DeclaredSpec) →
         let s = source_in syntax.now uses in
         IsReady walked → walked.types ≡ types → s.unit ≡ heading.unit →
@@ -78,7 +81,7 @@ fn finished(
 /// The unit of a whole syntax tree, under a name and with the keys of its tags, by what has been made of each node: with what its
 /// names and compound literals declare as its entities, and the nodes that stand under their bodies. Where the results are what the
 /// tree's senses are, and the tags and the keys are right, it is what the tree says (`Right`). Refused as not built, at the root,
-/// where these don't complete a unit, or at a compound literal that stands at no node; else only memory may want.
+/// where these don't complete a unit; else only memory may want.
 pub fn walked_unit(
     alloc: Global,
     name: Text,
@@ -92,6 +95,7 @@ pub fn walked_unit(
     requires ready { IsReady unit }
     requires results { All (IsWithin unit) results.now }
     requires named { All (IsNamedIn (length syntax.now.tree.now.nodes.items)) results.now }
+    requires first { ChildrenFirst (source_read syntax.now) }
     requires names { AreNamed syntax.now results.now names.now }
     requires lists { AreOf (source_read syntax.now).declared.ordinary lists.now }
     ensures right { (uses : List (ℕ × ℕ)) →

@@ -2,6 +2,7 @@
 
 ghost use Rattle.std.specs.Prelude.{◌≡◌, ◌<◌, ◌≤◌, IfErr, IfOk};
 ghost use Rattle.sol_model.specs.declared.system.System.{System};
+ghost use Rattle.filled_units.specs.Filled.{AreFilled};
 ghost use Rattle.unit_link.specs.Needs.{AreLinkable};
 ghost use Rattle.unit_system.specs.Of.{IsSystemOf};
 ghost use Rattle.unit_system.specs.Faults.{IsFaultOf};
@@ -42,9 +43,9 @@ pub fn report_of_system<R: Threads + Sync, G: Gate + Sync>(
     Ok((text, solved))
 }
 
-/// The report of the program that valid units of distinct names are, with the system that was solved for it by so many workers; or the
-/// first fault of linking the units, or the limit that their program passes first. The text stands whole in memory before any of it is
-/// written.
+/// The report of the program that valid units of distinct names are, which initialise only objects that they define, with the system that
+/// was solved for it by so many workers; or the first fault of linking the units, or the limit that their program passes first. The text
+/// stands whole in memory before any of it is written.
 pub fn report_of_units<R: Threads + Sync, G: Gate + Sync>(
     rt: &R,
     alloc: Global,
@@ -53,6 +54,7 @@ pub fn report_of_units<R: Threads + Sync, G: Gate + Sync>(
     gate: &G,
 ) -> Result<(Vec<u8>, Solved), UnitFault>
     requires linkable { AreLinkable units.items }
+    requires filled { AreFilled units.items }
     requires workers { (0 < workers) × (workers ≤ 64) }
     ensures reported { IfOk result (λ found. (system : System) × IsUnitReport units.items system found.0.items × IsSolved system found.1) }
     ensures refused { IfErr result (IsFaultOf units.items) }

@@ -176,7 +176,7 @@ structure_there w s u v rs at r e h =
     why : IsLargeBehind s u v (sense_in (senses_made u rs)) (struct_row (world_at s (senses_made u rs) at) s (sense_in (senses_made u rs)) at) at ⊎ (built_struct (world_at s (senses_made u rs) at) s (sense_in (senses_made u rs)) at ≡ Refuses NotBuilt at) → Stops s u v rs at
     why (inl large) =
         inr (inl (e, subst (λ (p : ℕ). IsLargeBehind s u v (sense_in (senses_made u rs)) (row_of (world_at s (senses_made u rs) at) s (sense_in (senses_made u rs)) p at (children_at s at)) at) (sym e) large))
-    why (inr untaken) = inr (inr (inl (e, untaken)))
+    why (inr untaken) = inr (inr (e, untaken))
 
 -- a form of a row that fits
 pub fits_whole : (f g : Given Sense) (at : ℕ) (x : Sense) → (f ≡ g) ⊎ (f ≡ Refuses NotBuilt at) → f ≡ Fits x → g ≡ Fits x

@@ -1,35 +1,30 @@
 -- Rows of expressions, and of nodes that stand for nothing.
-use Rattle.std.proofs.Common.{arith, ◌≡◌, ◌==◌, ◌<◌, ◌≤◌, ℕ, Bool, true, false, cond, ◌||◌, ◌&&◌, nat_lt, List, Result, Err, All, refl, sym, ap, ◌∙◌, subst, ◌⊎◌, inl, inr}
+use Rattle.std.proofs.Common.{arith, ◌≡◌, ◌==◌, ◌<◌, ◌≤◌, ℕ, Bool, true, false, ◌||◌, ◌&&◌, nat_lt, List, Result, All, refl, sym, ◌∙◌, subst, inl, inr}
 use Rattle.std.specs.Prelude.{nat_le}
-use Rattle.std.proofs.lemmas.Bool.{eqb-true, ltb-true, leb-true}
+use Rattle.std.proofs.lemmas.Bool.{ltb-true, leb-true}
 use Rattle.std.proofs.lemmas.Bool.Decides.{eqb_tells}
 use Rattle.std.proofs.lemmas.List.Elements.{All-weaker}
-use Rattle.pta_base.specs.declared.kind.Kind.TheVariants.{NotBuilt}
 use Rattle.c_grammar.specs.Terminals.{contains}
-use Rattle.c_grammar.specs.Productions.{p_struct, p_primary, p_init, p_items, p_declarator, p_abstract, p_either}
+use Rattle.c_grammar.specs.Productions.{p_struct, p_init, p_items, p_declarator, p_abstract, p_either}
 use Rattle.core_tree.specs.declared.node.Unit.{Unit}
 use Rattle.core_nodes.specs.declared.fault.CheckFault.{CheckFault}
-use Rattle.core_nodes.specs.declared.fault.CheckFault.TheVariants.{Unsupported}
 use Rattle.c_results.specs.declared.made.Made.{Made}
 use Rattle.c_results.specs.declared.made.Made.TheVariants as made
 use Rattle.c_results.specs.Standing.{sense_made, Rowed}
-use Rattle.c_senses.specs.Given.{Given, Refuses}
-use Rattle.c_senses.specs.Tree.{Source}
+use Rattle.c_senses.specs.Tree.{Source, production_at, children_at}
 use Rattle.c_senses.specs.World.{World}
 use Rattle.c_senses.specs.Sense.{Sense}
 use Rattle.c_senses.specs.Rows.{row_of}
-use Rattle.c_senses.specs.Expressions.{expression_row}
-use Rattle.c_rows.specs.Built.{built_primary}
 use Rattle.expression_rows.specs.Built.{built_row}
+use Rattle.expression_rows.specs.Readable.{IsReadable}
+use Rattle.expression_rows.proofs.Readable.{built_whole}
 use Rattle.name_places.specs.Named.{IsNamedSense, IsNamedIn}
-use Rattle.name_uses.specs.Built.{named_row, first_is_strange}
-use Rattle.name_uses.proofs.Parts.{rows_part}
 use Rattle.row_trees.specs.Trees.{SenseHasRows}
 use Rattle.row_shapes.specs.Kept.{Keeps}
 use Rattle.row_shapes.specs.Kept as shapes
-use Rattle.unit_rows.specs.Built.{RowedAt, lists, lists_others, is_expression}
+use Rattle.unit_rows.specs.Built.{lists, lists_others, is_expression}
 use Rattle.unit_rows.specs.Standing.{AreKept}
-use Rattle.unit_rows.proofs.Answers.{rowed_at, stopped_at, row_expression}
+use Rattle.unit_rows.proofs.Answers.{row_expression}
 use Rattle.unit_rows.proofs.Cover.{one_of}
 
 both_ways : (a b : Bool) → (a && b) ≡ true → a ≡ true
@@ -57,42 +52,11 @@ no_declarator q e =
     none (q == p_declarator) ((q == p_abstract) || (q == p_either)) (apart q p_declarator (high q e) (omega arith))
     (none (q == p_abstract) (q == p_either) (apart q p_abstract (high q e) (omega arith)) (apart q p_either (high q e) (omega arith)))
 
--- the row of an expression, whose names may be said not to be built
-module _ (w : World) (s : Source) (sense : ℕ → Sense) (q at : ℕ) (xs : List ℕ) (u : Unit) (r : Result Made CheckFault) where
-  abbrev Named : Given Sense
-  Named = named_row w s sense q at xs
-
-  abbrev Whole : Given Sense
-  Whole = row_of w s sense q at xs
-
-  parts : is_expression q ≡ true → (Named ≡ expression_row w s sense q at xs) ⊎ (Named ≡ Refuses NotBuilt at) → (Named ≡ Whole) ⊎ (Named ≡ Refuses NotBuilt at)
-  parts e (inl h) = inl (h ∙ sym (row_expression w s sense q at xs e))
-  parts e (inr h) = inr h
-
-  no_primary : is_expression q ≡ true → (q == p_primary) ≡ false → Named ≡ Whole
-  no_primary e f =
-      ap (λ (b : Bool). cond (b && first_is_strange w s xs) (Refuses NotBuilt at) (cond b (built_primary w s sense at xs) (expression_row w s sense q at xs))) f
-      ∙ sym (row_expression w s sense q at xs e)
-
-  -- a primary that isn't read
-  abbrev Built : Given Sense
-  Built = built_row w s sense q at xs
-
-  unread : (Q : Type 0) → (q == p_primary) ≡ true → (Q → Rowed u r Built) → r ≡ Err (Unsupported NotBuilt at) → (q ≡ p_primary) × (Q → built_primary w s sense at xs ≡ Refuses NotBuilt at)
-  unread Q f built e = (
-    eqb-true q p_primary f,
-    λ h.
-        let primary : built_primary w s sense at xs ≡ Built = sym (ap (λ (b : Bool). cond b (built_primary w s sense at xs) (expression_row w s sense q at xs)) f) in
-        let refused : Built ≡ Refuses NotBuilt at = subst (λ (x : Result Made CheckFault). Rowed u x Built) e (built h) in
-        primary ∙ refused,
-  )
-
-  pub expression_there : (Q : Type 0) → is_expression q ≡ true → Rowed u r Named → (Q → Rowed u r Built) → RowedAt u r Whole ((q ≡ p_primary) × (Q → built_primary w s sense at xs ≡ Refuses NotBuilt at)) at
-  expression_there Q e h built = by (q == p_primary) refl
-    where
-      by : (b : Bool) → (q == p_primary) ≡ b → RowedAt u r Whole ((q ≡ p_primary) × (Q → built_primary w s sense at xs ≡ Refuses NotBuilt at)) at
-      by true f = stopped_at u r Named Whole ((q ≡ p_primary) × (Q → built_primary w s sense at xs ≡ Refuses NotBuilt at)) at (parts e (rows_part w s sense q at xs)) (λ x none. unread Q f built x) h
-      by false f = rowed_at u r Whole ((q ≡ p_primary) × (Q → built_primary w s sense at xs ≡ Refuses NotBuilt at)) at (subst (Rowed u r) (no_primary e f) h)
+-- the row of an expression whose constants and strings can be read
+pub expression_there : (w : World) (s : Source) (sense : ℕ → Sense) (at : ℕ) (u : Unit) (r : Result Made CheckFault) → is_expression (production_at s at) ≡ true → IsReadable s at
+    → Rowed u r (built_row w s sense (production_at s at) at (children_at s at)) → Rowed u r (row_of w s sense (production_at s at) at (children_at s at))
+expression_there w s sense at u r e readable h =
+    subst (Rowed u r) (built_whole w s sense at readable ∙ sym (row_expression w s sense (production_at s at) at (children_at s at) e)) h
 
 -- what stands for nothing is no structure
 pub lists_no_struct : (q : ℕ) → lists_others q ≡ true → (q == p_struct) ≡ false

@@ -3,4 +3,3 @@ pub mod Nothing
 pub mod Answers
 mod Saying
 mod Expressions
-pub mod Ranging

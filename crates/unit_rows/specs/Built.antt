@@ -12,8 +12,7 @@ use Rattle.c_results.specs.Standing.{sense_made, senses_made, Rowed}
 use Rattle.c_senses.specs.Tree.{Source, production_at, children_at}
 use Rattle.c_senses.specs.Given.{Given, Fits, Refuses}
 use Rattle.c_senses.specs.Sense.{Sense, sense_in}
-use Rattle.c_senses.specs.Rows.{world_at, row_of, AreSenses}
-use Rattle.c_rows.specs.Built.{built_primary}
+use Rattle.c_senses.specs.Rows.{world_at, row_of}
 use Rattle.struct_rows.specs.Built.{built_struct}
 use Rattle.unit_worlds.specs.Growing.{Grows, completed_at}
 use Rattle.unit_limits.specs.Small.{IsSmallTable}
@@ -68,7 +67,7 @@ pub record IsLargeBehind (s : Source) (u v : Unit) (sense : ℕ → Sense) (row 
   pub large : IsSmallTable v.types → ⊥
 
 -- why it may be said of a node, where its unit was `u` and is `v`: its types aren't small, before the row of a node that asks for that or
--- behind that of a structure or union; the members of one aren't such as are taken; or a constant or string isn't read
+-- behind that of a structure or union; or the members of one aren't such as are taken
 module _ (s : Source) (u v : Unit) (results : List Made) (at : ℕ) where
   abbrev pub IsLarge : Type 0
   IsLarge = (is_limited (production_at s at) ≡ true) × (IsSmallTable u.types → ⊥)
@@ -81,10 +80,5 @@ module _ (s : Source) (u v : Unit) (results : List Made) (at : ℕ) where
   abbrev pub IsUntaken : Type 0
   IsUntaken = let senses = senses_made u results in (production_at s at ≡ p_struct) × (built_struct (world_at s senses at) s (sense_in senses) at ≡ Refuses NotBuilt at)
 
-  abbrev pub IsUnread : Type 0
-  IsUnread =
-      let senses = senses_made u results in
-      (production_at s at ≡ p_primary) × (AreSenses s senses → built_primary (world_at s senses at) s (sense_in senses) at (children_at s at) ≡ Refuses NotBuilt at)
-
   abbrev pub Stops : Type 0
-  Stops = IsLarge ⊎ (IsLargeStructure ⊎ (IsUntaken ⊎ IsUnread))
+  Stops = IsLarge ⊎ (IsLargeStructure ⊎ IsUntaken)

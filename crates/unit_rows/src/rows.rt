@@ -1,11 +1,13 @@
 // The row of a node, by its production.
 ghost use Rattle.std.specs.Prelude.{◌≡◌, ◌<◌, true, IfOk};
 ghost use Rattle.c_senses.specs.Tree.{production_at};
+ghost use Rattle.c_senses.specs.Rows.{AreSenses};
 ghost use Rattle.c_senses.specs.Sense.{sense_in};
 ghost use Rattle.c_structures.specs.Listed.{AreLists};
 ghost use Rattle.core_nodes.specs.Standing.{IsReady, Builds, Knows};
 ghost use Rattle.c_results.specs.Standing.{sense_made, senses_made, IsWithin, Rowed};
 ghost use Rattle.c_initials.specs.Filling.{Fills};
+ghost use Rattle.expression_rows.specs.Readable.{IsReadable};
 ghost use Rattle.row_shapes.specs.Kept.{Keeps};
 ghost use Rattle.struct_rows.specs.Built.{HasTagTypes};
 ghost use Rattle.unit_limits.specs.Unions.{AreUnions};
@@ -255,8 +257,7 @@ fn declared(
 
 /// What a node stands for, by its production (C11 6.5 to 6.9), over what was made for the nodes before it and the cases and defaults before
 /// it: exactly the row of its production, where an answer comes. It may be `NotBuilt` at the node where types that were made aren't within
-/// the limits, where the members of a structure or union aren't such as are taken, and for constants and strings that no reading of a text
-/// takes (`Stops`). Beside that only memory may want. `along` is what is kept beside the unit.
+/// the limits, and where the members of a structure or union aren't such as are taken (`Stops`). Beside that only memory may want. `along` is what is kept beside the unit.
 pub fn row(
     alloc: Global,
     unit: &mut Unit,
@@ -272,6 +273,8 @@ pub fn row(
     requires fills { Fills (world_there known.now unit.old results.now at) unit.old }
     requires types { HasTagTypes (source_known known.now) unit.old.types }
     requires choices { ChoicesFit known.now unit.old results.now at choices.now }
+    requires senses { AreSenses (source_known known.now) (senses_made unit.old results.now) }
+    requires readable { IsReadable (source_known known.now) at }
     requires along { AreAlong known.now.numbered.now.syntax unit.old results.now along.old }
     requires at { at < nodes_known known.now }
     ensures ready { IsReady unit.new }

@@ -6,9 +6,8 @@ use Rattle.unit_link.specs.Linked.{Linked, LinksBadly}
 use Rattle.obj_space.specs.Space.{locations_in}
 use Rattle.obj_space.specs.View.{view_of}
 use Rattle.constraints.specs.System.{word_total}
-use Rattle.item_laws.specs.Items.{ArePlaced}
 use Rattle.unit_system.specs.declared.fault.UnitFault.{UnitFault}
-use Rattle.unit_system.specs.declared.fault.UnitFault.TheVariants.{Link, Nodes, Words, NotBuilt, OutOfMemory}
+use Rattle.unit_system.specs.declared.fault.UnitFault.TheVariants.{Link, Nodes, Words, OutOfMemory}
 
 -- a program with more than 2^24 nodes, and how many
 pub record HasNodes (p : Program) (nodes : ℕ) : Type 0 where
@@ -21,24 +20,16 @@ pub record HasWords (p : Program) (words : ℕ) : Type 0 where
   pub many : 2 ^ 24 < word_total p (view_of (locations_in p))
   pub words_are : words ≡ word_total p (view_of (locations_in p))
 
--- some initialiser isn't one of an object that has its place
-abbrev pub IsUnfit : Program → Type 0
-IsUnfit p = ArePlaced p → ⊥
-
--- the limit that a program passes first, or that some initialiser isn't one of an object that has its place; want of memory says nothing
--- of it
+-- the limit that a program passes first; want of memory says nothing of it
 abbrev pub IsProgramFault : Program → UnitFault → Type 0
 IsProgramFault p (Nodes nodes) = HasNodes p nodes
 IsProgramFault p (Words words) = HasWords p words
-IsProgramFault p NotBuilt = IsUnfit p
 IsProgramFault p OutOfMemory = ⊤
 IsProgramFault p fault = ⊥
 
--- the first fault of linking units, or the limit that the program passes first that is linked from them, or that some initialiser of it
--- isn't one of an object that has its place
+-- the first fault of linking units, or the limit that the program passes first that is linked from them
 abbrev pub IsFaultOf : List Unit → UnitFault → Type 0
 IsFaultOf units (Link fault) = LinksBadly units fault
 IsFaultOf units (Nodes nodes) = (p : Program) × Linked units p × HasNodes p nodes
 IsFaultOf units (Words words) = (p : Program) × Linked units p × HasWords p words
-IsFaultOf units NotBuilt = (p : Program) × Linked units p × IsUnfit p
 IsFaultOf units OutOfMemory = ⊤

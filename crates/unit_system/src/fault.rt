@@ -6,13 +6,12 @@ use link_names::LinkFault;
 use pta_base::OutOfMemory;
 
 /// The first fault of linking (C11 6.2.7p2, 6.9p5, 5.1.2.2.1); a program with too many nodes, or with too many words of rows, each
-/// with their number; a program with an initialiser of a function, or of an object that it only declares; or want of memory.
+/// with their number; or want of memory.
 #[derive(Drop)]
 pub enum UnitFault {
     Link(LinkFault),
     Nodes(u64),
     Words(u128),
-    NotBuilt,
     OutOfMemory,
 }
 

@@ -4,7 +4,6 @@
 mod fault;
 pub mod laws;
 mod linking;
-mod placed;
 mod systems;
 
 pub use fault::UnitFault;

@@ -3,6 +3,7 @@
 ghost use Rattle.std.specs.Prelude.{IfOk, List, MatchResult};
 ghost use Rattle.core_tree.specs.Range.{InRange};
 ghost use Rattle.core_tree.specs.Typed.{trees_in};
+ghost use Rattle.filled_units.specs.Filled.{AreFilled};
 ghost use Rattle.link_merge.specs.Tags.{AreMade};
 ghost use Rattle.link_names.specs.Said.{IsFaultUnless};
 ghost use Rattle.unit_link.specs.Linked.{Linked, LinksBadly};
@@ -32,7 +33,8 @@ fn fault_of(fault: LinkFault) -> UnitFault
 
 /// The program that units are, whose numbers are all in range, or the first fault of linking them.
 pub(crate) fn linked(alloc: Global, units: Vec<Unit>) -> Result<Program, UnitFault>
-    requires { AreLinkable units.items }
+    requires linkable { AreLinkable units.items }
+    requires filled { AreFilled units.items }
     ensures linked { MatchResult result (Linked units.items) (IsFaultOf units.items) }
     ensures range { IfOk result (λ p. InRange (trees_in p)) }
     ensures tables { AreMade units.items }

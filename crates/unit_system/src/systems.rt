@@ -4,6 +4,7 @@ ghost use Rattle.std.specs.Prelude.{◌≡◌, MatchResult};
 ghost use Rattle.core_tree.specs.declared.node.Program.{Program as ProgramSpec};
 ghost use Rattle.core_tree.specs.Range.{InRange};
 ghost use Rattle.core_tree.specs.Typed.{trees_in};
+ghost use Rattle.filled_units.specs.Filled.{AreFilled};
 ghost use Rattle.obj_space.specs.Space.{AreTyped, HasTrees, locations_in};
 ghost use Rattle.obj_space.specs.Spots.{HasWholes};
 ghost use Rattle.obj_space.specs.View.{view_of};
@@ -16,7 +17,6 @@ ghost use Rattle.unit_system.specs.Faults.{IsFaultOf, IsProgramFault};
 
 use crate::fault::UnitFault;
 use crate::linking::linked;
-use crate::placed::are_placed;
 use constraints::{SystemFault, system};
 use core_tree::{Program, Unit};
 use normal_form::normalise;
@@ -69,21 +69,19 @@ fn system_over(alloc: Global, program: &Program, space: &Space) -> Result<System
 fn system_of(alloc: Global, program: &Program) -> Result<(Space, System), UnitFault>
     requires range { InRange (trees_in program.now) }
     requires right { IsRight program.now }
+    requires placed { ArePlaced program.now }
     ensures { MatchResult result (λ made. IsSystemOf program.now made.0 made.1) (IsProgramFault program.now) }
 {
-    if !are_placed(program) {
-        return Err(UnitFault::NotBuilt);
-    }
     let space = objects(alloc, program)?;
     let system = system_over(alloc, program, &space)?;
     Ok((space, system))
 }
 
-/// The program that valid units of distinct names are, its locations and its system over these; or the first fault of linking them, or
-/// the limit that their program passes first: 2^24 nodes, then 2^24 words of rows. Not built is a program in which an initialiser is one of a
-/// function, or of an object that the program only declares.
+/// The program that valid units of distinct names are, which initialise only objects that they define, its locations and its system over
+/// these; or the first fault of linking them, or the limit that their program passes first: 2^24 nodes, then 2^24 words of rows.
 pub fn linked_system(alloc: Global, units: Vec<Unit>) -> Result<UnitSystem, UnitFault>
-    requires { AreLinkable units.items }
+    requires linkable { AreLinkable units.items }
+    requires filled { AreFilled units.items }
     ensures { MatchResult result (λ made. AreLinkedAs units.items made.program made.space made.system) (IsFaultOf units.items) }
 {
     let program = linked(alloc, units)?;

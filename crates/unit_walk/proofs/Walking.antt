@@ -11,10 +11,10 @@ use Rattle.core_tree.specs.declared.node.Unit.{Unit}
 use Rattle.c_inits.specs.Made.{TagParts}
 use Rattle.c_grammar.specs.Productions.{p_struct}
 use Rattle.c_grammar.specs.declared.trees.SyntaxNode.{SyntaxNode}
-use Rattle.c_rows.specs.Built.{built_primary}
 use Rattle.struct_rows.specs.Built.{built_struct}
 use Rattle.c_senses.specs.Given.{Given, Fits, Refuses}
-use Rattle.c_senses.specs.Tree.{Source, production_at, children_at, production_of, children_of}
+use Rattle.c_senses.specs.Right.{TagsDiffer}
+use Rattle.c_senses.specs.Tree.{Source, is_a, production_at, children_at, production_of}
 use Rattle.c_senses.specs.Tags.{tags_below}
 use Rattle.c_senses.specs.Sense.{Sense, sense_in}
 use Rattle.c_senses.specs.Rows.{world_at, row_of, AreSenses, RefusedAt}
@@ -27,6 +27,9 @@ use Rattle.c_results.specs.Standing.{sense_made, senses_made, IsWithin}
 use Rattle.c_types.specs.Made.{IsMade}
 use Rattle.c_initials.specs.Filling.{Fills}
 use Rattle.filling_laws.proofs.Worlds.{fills_one}
+use Rattle.family_laws.specs.Families.{Families}
+use Rattle.struct_laws.proofs.Members.{never_unbuilt}
+use Rattle.std.proofs.lemmas.Bool.{eq-eqb}
 use Rattle.row_shapes.specs.Kept.{Keeps}
 use Rattle.unit_worlds.specs.Growing.{Grows, completed_at}
 use Rattle.unit_worlds.proofs.Sensing.{no_senses, row_as, senses_more}
@@ -129,11 +132,12 @@ module _ (s : Source) (u : Unit) (rs : List Made) (made : AreMade s u rs) where
     production_here : production_at s at ≡ here.0.production
     production_here = ap (λ (i : ℕ). production_at s i) (sym (so_many ∙ long)) ∙ ap production_of here.1
 
-    children_here : children_at s at ≡ here.0.children.items
-    children_here = ap (λ (i : ℕ). children_at s i) (sym (so_many ∙ long)) ∙ ap children_of here.1
-
     -- why, behind the senses so far
-    module _ (first : ChildrenFirst s) (v : Unit) (within : All (IsWithin u) rs) where
+    module _ (first : ChildrenFirst s) (differ : TagsDiffer s) (families : Families s) (v : Unit) (within : All (IsWithin u) rs) where
+      -- a specifier of a structure or union
+      struct_here : production_at s at ≡ p_struct → is_a s p_struct (length (senses_made u rs)) ≡ true
+      struct_here e = eq-eqb (production_at s (length (senses_made u rs))) p_struct (ap (λ (i : ℕ). production_at s i) (so_many ∙ long) ∙ e)
+
       large_behind : (production_at s at ≡ p_struct) → rows.IsLargeBehind s u v (sense_in (senses_made u rs)) (Whole s u rs at) at → IsLargeBehind s (senses_made u rs) here.0
       large_behind e h =
           let m : Made = h.made in
@@ -152,18 +156,12 @@ module _ (s : Source) (u : Unit) (rs : List Made) (made : AreMade s u rs) where
             };
           }
 
-      unread : built_primary (world_at s (senses_made u rs) at) s (sense_in (senses_made u rs)) at (children_at s at) ≡ Refuses NotBuilt at
-          → built_primary (world_at s (senses_made u rs) (length (senses_made u rs))) s (sense_in (senses_made u rs)) (length (senses_made u rs)) here.0.children.items ≡ Refuses NotBuilt (length (senses_made u rs))
-      unread e =
-          subst (λ (xs : List ℕ). built_primary (world_at s (senses_made u rs) (length (senses_made u rs))) s (sense_in (senses_made u rs)) (length (senses_made u rs)) xs ≡ Refuses NotBuilt (length (senses_made u rs))) children_here
-          (subst (λ (i : ℕ). built_primary (world_at s (senses_made u rs) i) s (sense_in (senses_made u rs)) i (children_at s at) ≡ Refuses NotBuilt i) (sym (so_many ∙ long)) e)
-
       stopped : rows.Stops s u v rs at → IsStopped s (senses_made u rs) here.0
       stopped (inl h) = inl (subst (λ (p : ℕ). is_limited p ≡ true) production_here h.0, record { unit = u; results = rs; made = made; senses_are = refl; large = h.1 })
-      stopped (inr (inl h)) = inr (inl (large_behind h.0 h.1))
-      stopped (inr (inr (inl h))) =
-          inr (inr (inl (sym production_here ∙ h.0, subst (λ (i : ℕ). built_struct (world_at s (senses_made u rs) i) s (sense_in (senses_made u rs)) i ≡ Refuses NotBuilt i) (sym (so_many ∙ long)) h.1)))
-      stopped (inr (inr (inr h))) = inr (inr (inr (sym production_here ∙ h.0, unread (h.1 made.senses))))
+      stopped (inr (inl h)) = inr (large_behind h.0 h.1)
+      stopped (inr (inr h)) =
+          absurd (never_unbuilt s (senses_made u rs) (length (senses_made u rs)) made.senses first differ families refl (omega (arith, so_many, long, inside)) (struct_here h.0)
+          (subst (λ (i : ℕ). built_struct (world_at s (senses_made u rs) i) s (sense_in (senses_made u rs)) i ≡ Refuses NotBuilt i) (sym (so_many ∙ long)) h.1))
 
       stops : (named : ℕ) → (Whole s u rs at ≡ Refuses NotBuilt named) ⊎ ((named ≡ at) × rows.Stops s u v rs at) → StopsAt s named
       stops named (inl e) = record {

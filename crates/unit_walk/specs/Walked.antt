@@ -2,7 +2,7 @@
 use Rattle.std.specs.Prelude.{ℕ, ◌≡◌, ◌<◌, ⊤, true, List, [], ◌∷◌, ◌++◌, Some, length, slice_get, ◌⊎◌}
 use Rattle.pta_base.specs.declared.kind.Kind.{Kind}
 use Rattle.pta_base.specs.declared.kind.Kind.TheVariants.{Operand, NotBuilt}
-use Rattle.c_grammar.specs.Productions.{p_struct, p_primary}
+use Rattle.c_grammar.specs.Productions.{p_struct}
 use Rattle.c_grammar.specs.declared.trees.SyntaxNode.{SyntaxNode}
 use Rattle.core_tree.specs.declared.node.Unit.{Unit}
 use Rattle.core_nodes.specs.declared.fault.CheckFault.{CheckFault}
@@ -16,8 +16,6 @@ use Rattle.c_senses.specs.Tags.{tags_below}
 use Rattle.c_senses.specs.Right.{is_tag, TagsDiffer}
 use Rattle.c_senses.specs.Sense.{Sense, sense_in}
 use Rattle.c_senses.specs.Rows.{world_at, row, AreSenses, RefusedAt}
-use Rattle.c_rows.specs.Built.{built_primary}
-use Rattle.struct_rows.specs.Built.{built_struct}
 use Rattle.tag_numbers.specs.Ordered.{AreInOrder}
 use Rattle.unit_limits.specs.Small.{IsSmallTable}
 use Rattle.unit_rows.specs.Built.{is_limited}
@@ -43,15 +41,11 @@ pub record IsLargeBehind (s : Source) (senses : List Sense) (node : SyntaxNode) 
   pub fits : row s senses (length senses) node ≡ Fits sense
   pub large : IsLarge s (senses ++ sense ∷ [])
 
--- why it is said that what stands at the node behind some senses isn't built: types that were made for a member, a declarator, an initialiser,
--- a structure or a union aren't small; the members of a structure or union aren't such as are taken; or a constant or string isn't read
+-- why it is said that what stands at the node behind some senses isn't built: types that were made aren't small, before the row of a member,
+-- a declarator, an initialiser, a structure or a union, or behind that of a structure or union
 abbrev pub IsStopped : Source → List Sense → SyntaxNode → Type 0
 IsStopped s senses node =
-    let i = length senses in
-    ((is_limited node.production ≡ true) × IsLarge s senses)
-    ⊎ (IsLargeBehind s senses node
-    ⊎ (((node.production ≡ p_struct) × (built_struct (world_at s senses i) s (sense_in senses) i ≡ Refuses NotBuilt i))
-    ⊎ ((node.production ≡ p_primary) × (built_primary (world_at s senses i) s (sense_in senses) i node.children.items ≡ Refuses NotBuilt i))))
+    ((is_limited node.production ≡ true) × IsLarge s senses) ⊎ IsLargeBehind s senses node
 
 -- the rows fit up to a node, of which it is said that it isn't built
 pub record StopsAt (s : Source) (named : ℕ) : Type 0 where

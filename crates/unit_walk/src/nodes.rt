@@ -1,5 +1,7 @@
 // All nodes of a unit's tree, in the order in which productions end.
-ghost use Rattle.std.specs.Prelude.{◌≡◌, [], IfOk, MatchResult};
+ghost use Rattle.std.specs.Prelude.{◌≡◌, ℕ, [], IfOk, MatchResult};
+ghost use Rattle.expression_rows.specs.Readable.{IsReadable};
+ghost use Rattle.family_laws.specs.Families.{Families};
 ghost use Rattle.core_nodes.specs.Standing.{IsReady};
 ghost use Rattle.struct_rows.specs.Built.{HasTagTypes};
 ghost use Rattle.unit_limits.specs.Small.{IsSmallTable};
@@ -22,6 +24,8 @@ pub fn walk_nodes(alloc: Global, unit: &mut Unit, known: &Known) -> Result<Vec<M
     requires open { unit.old.types.completed ≡ [] }
     requires small { IsSmallTable unit.old.types }
     requires types { HasTagTypes (source_known known.now) unit.old.types }
+    requires readable { (at : ℕ) → IsReadable (source_known known.now) at }
+    requires families { Families (source_known known.now) }
     requires count { unit.old.types.tags ≡ known.now.numbered.now.tags.count }
     ensures stand { IfOk result (λ results. Stand (nodes_known known.now) unit.new results.items) }
     ensures entities { IfOk result (λ results. unit.new.entities.items ≡ unit.old.entities.items) }

@@ -6,6 +6,8 @@ ghost use Rattle.core_nodes.specs.Standing.{IsReady};
 ghost use Rattle.c_lexer.specs.Cut.{IsTokens};
 ghost use Rattle.c_scope.specs.Resolves.{IsBound};
 ghost use Rattle.c_senses.specs.Names.{source_of, numbered};
+ghost use Rattle.expression_rows.specs.Readable.{IsReadable};
+ghost use Rattle.family_laws.specs.Families.{Families};
 ghost use Rattle.sense_laws.specs.Senses.{ChildrenFirst};
 ghost use Rattle.struct_rows.specs.Built.{HasTagTypes};
 ghost use Rattle.tag_numbers.specs.Known.{AreTags};
@@ -118,10 +120,10 @@ fn open_unit(alloc: Global, numbered: &Numbered) -> Result<Unit, CheckFault>
     })
 }
 
-/// What each node of a unit stands for (C11 6.5 to 6.9), where its tokens and its tree are those of a text whose names are bound; the unit
-/// has no name yet. It is refused as the first node is whose row doesn't fit; `NotBuilt` comes at a node whose types aren't within the limits,
-/// whose members aren't such as are taken, or whose constant or string isn't read (`StopsAt`). Beside that only memory may want. Tags have
-/// the numbers of the order of their first specifiers.
+/// What each node of a unit stands for (C11 6.5 to 6.9), where its tokens and its tree are those of a text that is read (its constants
+/// and strings can be read, and its tree is of families) and whose names are bound; the unit has no name yet. It is refused as the first
+/// node is whose row doesn't fit; `NotBuilt` comes at a node whose types aren't within the limits (`StopsAt`).
+/// Beside that only memory may want. Tags have the numbers of the order of their first specifiers.
 pub fn walk<'a>(
     alloc: Global,
     tokens: &'a Tokens<'a>,
@@ -131,6 +133,8 @@ pub fn walk<'a>(
     requires tokens { IsTokens tokens.now.text.now tokens.now.list.items }
     requires bound { IsBound tokens.now tree.now bound.now }
     requires first { ChildrenFirst (source_of tokens.now tree.now) }
+    requires readable { (at : ℕ) → IsReadable (source_of tokens.now tree.now) at }
+    requires families { Families (source_of tokens.now tree.now) }
     ensures ground { IfOk result (λ w. IsGround w.ground bound.now) }
     ensures tokens { IfOk result (λ w. w.ground.numbered.syntax.tokens.now ≡ tokens.now) }
     ensures tree { IfOk result (λ w. w.ground.numbered.syntax.tree.now ≡ tree.now) }

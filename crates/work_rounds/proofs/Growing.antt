@@ -15,14 +15,14 @@ use Rattle.new_members.specs.News.{IsIn, words_at}
 use Rattle.work_rounds.specs.Work.{count_below, size}
 use Rattle.work_rounds.proofs.Counts.{count_add, count_cut, count_split, ones_counted}
 
-new_small : (done now : ℕ) → new_bits done now < 2 ^ 64
+pub new_small : (done now : ℕ) → new_bits done now < 2 ^ 64
 new_small done now = let a : bit_and now (bit_not w64 done) ≤ bit_not w64 done = and_le_r now (bit_not w64 done) in omega arith
 
 -- a new location is there now, and wasn't done
-new_there : (done now b : ℕ) → bit_at (new_bits done now) b ≡ 1 → bit_at now b ≡ 1
+pub new_there : (done now b : ℕ) → bit_at (new_bits done now) b ≡ 1 → bit_at now b ≡ 1
 new_there done now b h = let m = bit_at_and now (bit_not w64 done) b in let l = bit_at-lt now b in omega arith
 
-new_lacked : (done now b : ℕ) → b < 64 → bit_at (new_bits done now) b ≡ 1 → bit_at done b ≢ 1
+pub new_lacked : (done now b : ℕ) → b < 64 → bit_at (new_bits done now) b ≡ 1 → bit_at done b ≢ 1
 new_lacked done now b lt h was = let m = bit_at_and now (bit_not w64 done) b in
     elim (cases_lt done (2 ^ 64)) [
       | inl small ↦ (let r = bit_at_not w64 done b small lt in omega arith)
@@ -49,7 +49,7 @@ bit_in words k b lt h =
     subst (λ (n : ℕ). bit_at (get_or words ((64 * k + b) / 64) 0) n ≡ 1) (sym bit) (subst (λ (n : ℕ). bit_at (get_or words n 0) b ≡ 1) (sym at) h)
 
 -- the words of a row
-word_at : (done : Rows) (row k : ℕ) → k < done.width → get_or (words_at done row) k 0 ≡ get_or done.words (row * done.width + k) 0
+pub word_at : (done : Rows) (row k : ℕ) → k < done.width → get_or (words_at done row) k 0 ≡ get_or done.words (row * done.width + k) 0
 word_at done row k lt = get_or-take done.width (drop (row * done.width) done.words) k 0 lt ∙ get_or-drop (row * done.width) done.words k 0
 
 -- what was done of a row, and what it gains, is done of it after

@@ -8,6 +8,7 @@ pub mod Growing
 pub mod Marking
 pub mod Once
 pub mod Parts
+pub mod Rests
 pub mod Rings
 pub mod Serving
 pub mod Sharing

@@ -1,5 +1,5 @@
 -- The shares of many workers together.
-use Rattle.std.proofs.Common.{◌≡◌, ◌⊎◌, ℕ, zero, suc, ◌+◌, ◌*◌, ◌/◌, ◌%◌, ◌<◌, ◌≤◌, List, [], ◌∷◌, ◌++◌, length, map, option_map, slice_get, Some, All, Result, Ok, Err, IfOk, Contains, refl, sym, ap, ◌∙◌, subst, inl, inr, arith, append_assoc, length-append, mul_comm}
+use Rattle.std.proofs.Common.{◌≡◌, ◌⊎◌, ℕ, zero, suc, ◌+◌, ◌*◌, ◌/◌, ◌%◌, ◌<◌, ◌≤◌, List, [], ◌∷◌, ◌++◌, length, get_or, map, option_map, slice_get, Some, All, Result, Ok, Err, IfOk, Contains, refl, sym, ap, ◌∙◌, subst, inl, inr, arith, append_assoc, length-append, mul_comm}
 use Rattle.std.proofs.lemmas.List.{append-nil}
 use Rattle.std.proofs.lemmas.Option.{same_Some, none-some, slice_get-map}
 use Rattle.std.proofs.lemmas.List.Elements.{Contains-append_cases, Contains-append_left, Contains-append_right}
@@ -8,15 +8,20 @@ use Rattle.sol_model.proofs.Members.{Contains-at, at_Contains, Contains-map, All
 use Rattle.new_members.proofs.Answering.{element}
 use Rattle.sol_model.specs.declared.system.System.{System}
 use Rattle.sol_model.specs.declared.rows.Rows.{Rows}
-use Rattle.sol_model.specs.Systems.{IsRow, width_of}
+use Rattle.sol_model.specs.Systems.{Fits, IsRow, width_of}
 use Rattle.new_members.specs.News.{words_at}
-use Rattle.work_rounds.proofs.Serving.{turns_served}
+use Rattle.work_rounds.proofs.Serving.{in_within, turns_served}
+use Rattle.work_rounds.proofs.Growing.{word_at}
+use Rattle.std.specs.Int.{bit_at}
+use Rattle.sol_model.proofs.Shown.{shown_from_bit}
+use Rattle.edge_book.proofs.Targets.{only_one}
+use Rattle.delta_prop.specs.Turns.{IsTurn}
 use Rattle.set_rows.specs.declared.view.View.{View}
 use Rattle.set_rows.specs.Views.{half_kept, half_given, met, OnlyAdded}
 use Rattle.set_rows.proofs.Adding.{known_more}
 use Rattle.set_rows.proofs.Samples.{met_first, met_second}
 use Rattle.delta_prop.specs.declared.turn.Turn.{Turn}
-use Rattle.work_rounds.specs.Rounds.{AreRowsApart, HasServed, IsPiece}
+use Rattle.work_rounds.specs.Rounds.{AreRowsApart, HasServed, IsChange, IsPiece}
 use Rattle.work_rounds.specs.Turns.{all_of, row_of, AreTurns, IsShare, HasShares}
 use Rattle.work_rounds.specs.Balance.{spent}
 use Rattle.delta_prop.specs.Deltas.{gained}
@@ -227,3 +232,39 @@ alone S book done todo workers first last v w ts own e all turns rows =
     (turns_served S book (words_at done) ts v w own (λ turn c. let at = at_Contains ts turn c in
     All-at (IsRow S) todo (first + at.0 * workers) turn.row all (sym (rows at.0) ∙ slice_get-map row_of ts at.0 ∙ ap (option_map row_of) at.2)) turns)
     (turns_paid (width_of S) book (words_at done) ts v w turns)
+
+-- the share of a turn
+in_some : (shares : List (List Turn)) (turn : Turn) → Contains (all_of shares) turn → (k : ℕ) × (share : List Turn) × (slice_get shares k ≡ Some share) × Contains share turn
+in_some [] turn c = absurd (let l = c.1 in omega arith)
+in_some (s ∷ rest) turn c = elim (Contains-append_cases s (all_of rest) turn c) [
+  | inl l ↦ (0, s, refl, l)
+  | inr r ↦ (let p = in_some rest turn r in (suc p.0, p.1, p.2, p.3))
+]
+
+module _ (S : System) (book : List (ℕ × ℕ)) (done : Rows) (fits : Fits S done) where
+  change_of : (v u : View) (turn : Turn) → IsTurn (width_of S) book turn.row (words_at done turn.row) v u turn → IsChange S done turn
+  change_of v u turn t = record {
+    among = λ location h out.
+        (let W : ℕ = width_of S in
+        let k : ℕ = location / 64 in
+        let wide : done.width ≡ W = fits.width in
+        let small : location < 64 * W = in_within W location turn.done.items t.sized h in
+        let within : k < done.width = omega arith in
+        let same : get_or turn.done.items k 0 ≡ get_or done.words (turn.row * done.width + k) 0 = t.beside k (omega arith) out ∙ word_at done turn.row k within in
+        shown_from_bit done.width done.words turn.row location (omega arith) (ap (λ (x : ℕ). bit_at x (location % 64)) (sym same) ∙ h));
+    range = t.range.1;
+  }
+
+  turns_changed : (ts : List Turn) (v w : View) → AreTurns (width_of S) book (words_at done) v ts w → (turn : Turn) → Contains ts turn → IsChange S done turn
+  turns_changed [] v w h turn c = absurd (let l = c.1 in omega arith)
+  turns_changed (first ∷ ts) v w h turn c = elim (Contains-append_cases (first ∷ []) ts turn c) [
+    | inl here ↦ subst (IsChange S done) (only_one first turn here) (change_of v h.0 first h.1)
+    | inr there ↦ turns_changed ts h.0 w h.3 turn there
+  ]
+
+  -- what the turns of a round have newly
+  pub each_changed : (todo : List ℕ) (workers first last : ℕ) (v w : View) (turns : List Turn) → HasShares S book done todo workers first last v w turns → (turn : Turn) → Contains turns turn → IsChange S done turn
+  each_changed todo workers first last v w turns h turn c =
+      let p = in_some h.shares turn (subst (λ (ts : List Turn). Contains ts turn) h.all c) in
+      let s = h.each p.0 p.1 p.2 in
+      turns_changed p.1 s.from s.to s.turns_are turn p.3

@@ -10,7 +10,7 @@ use Rattle.set_rows.specs.declared.view.View.{View}
 use Rattle.set_rows.specs.Views.{known, SamePart}
 use Rattle.delta_prop.specs.declared.turn.Turn.{Turn}
 use Rattle.delta_prop.specs.Deltas.{AllDemanded, IsSound}
-use Rattle.new_members.specs.News.{IsIn, IsFact, Renews}
+use Rattle.new_members.specs.News.{AreAmong, IsIn, IsFact, Renews}
 
 -- no row stands twice
 abbrev pub AreRowsApart : List ℕ → Type 0
@@ -62,12 +62,16 @@ pub record IsTreated (S : System) (v : View) (book : List (ℕ × ℕ)) (done : 
   pub edges : (a b : ℕ) → IsEdge S (members done) a b → Contains book (a, b)
   pub facts : (row location : ℕ) → IsFact S (members done) row location → Has (known v) row location
 
+-- what was seen of any row is done, or the row is one of these
+abbrev pub IsRest : View → Rows → List ℕ → Type 0
+IsRest v done todo = (row location : ℕ) → Has (known v) row location → Has (members done) row location ⊎ Contains todo row
+
 -- what holds between two rounds
 pub record IsSettled (S : System) (v : View) (book : List (ℕ × ℕ)) (done : Rows) (todo : List ℕ) : Type 0 where
   pub ready : IsReady S v book done
   pub treated : IsTreated S v book done
   pub sound : IsSound v
-  pub rest : (row location : ℕ) → Has (known v) row location → Has (members done) row location ⊎ Contains todo row
+  pub rest : IsRest v done todo
   pub rows : (row : ℕ) → Contains todo row → IsRow S row
 
 -- the seat has worked, closed the table, and read that it is closed
@@ -86,6 +90,11 @@ pub record IsTurnOf (S : System) (turn : Turn) : Type 0 where
   pub row : IsRow S turn.row
   pub sized : length turn.done.items ≡ width_of S
   pub known : (location : ℕ) → IsIn turn.done.items location → IsLocation S location
+
+-- what a turn's row has newly is in the words that the turn names
+pub record IsChange (S : System) (done : Rows) (turn : Turn) : Type 0 where
+  pub among : AreAmong (members done) turn.row turn.done.items turn.first turn.end
+  pub range : turn.end ≤ width_of S
 
 -- what turns have done was taken in: into what is done, and the edges and facts that rules demand for it
 pub record IsTakenIn (S : System) (turns : List Turn) (done after : Rows) (book more known news : List (ℕ × ℕ)) : Type 0 where
@@ -107,3 +116,4 @@ pub record IsWorked (S : System) (v w : View) (book : List (ℕ × ℕ)) (done :
   pub served : HasServed S book v w turns
   pub each : (row : ℕ) → Contains todo row → (turn : Turn) × Contains turns turn × (turn.row ≡ row)
   pub once : AreRowsApart (map (λ turn. turn.row) turns)
+  pub changes : (turn : Turn) → Contains turns turn → IsChange S done turn

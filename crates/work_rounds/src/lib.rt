@@ -4,6 +4,7 @@
 #![tactic(auto)]
 
 mod dealing;
+mod growth;
 mod joining;
 pub mod laws;
 mod ordering;

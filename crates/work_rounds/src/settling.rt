@@ -10,13 +10,13 @@ ghost use Rattle.set_rows.specs.Calls.{system_of, view, IsOf};
 ghost use Rattle.delta_prop.specs.Deltas.{AllDemanded, IsSound};
 ghost use Rattle.edge_book.specs.Edges.{AreApart, Gains};
 ghost use Rattle.new_members.specs.News.{Extends, IsFact, IsReader, words_at};
-ghost use Rattle.work_rounds.specs.Rounds.{AreCarried, IsNoted, IsSettled, IsTakenIn, IsTurnOf, IsWorked};
+ghost use Rattle.work_rounds.specs.Rounds.{AreCarried, IsChange, IsNoted, IsSettled, IsTakenIn, IsTurnOf, IsWorked};
 ghost use Rattle.work_rounds.specs.Balance.{IsBooked, paid_for, spent};
 ghost use Rattle.work_rounds.specs.Work.{edge_work};
 
 use delta_prop::{Turn, carry};
 use edge_book::{PairBook, PairSet};
-use new_members::{renew, row_words, start};
+use new_members::{Grown, renew, row_words, start};
 use pta_base::OutOfMemory;
 use set_rows::{RowSeat, RowTable};
 use sol_model::{Rows, System};
@@ -55,6 +55,7 @@ fn take_in(
     requires fits { Fits system.now done.old }
     requires readers { (row number : ℕ) → (Contains readers.now (row, number) ↔ IsReader system.now row number) }
     requires turns { (turn : Turn) → Contains turns.now turn → IsTurnOf system.now turn }
+    requires changes { (turn : Turn) → Contains turns.now turn → IsChange system.now done.old turn }
     ensures kept { OnOk result (Extends book.old book.new) }
     ensures taken { OnOk result (IsTakenIn system.now turns.now done.old done.new book.old book.new facts.old.items facts.new.items) }
 {
@@ -66,8 +67,12 @@ fn take_in(
             system,
             readers,
             done,
-            turn.row,
-            turn.done.as_slice(),
+            &Grown {
+                row: turn.row,
+                words: turn.done.as_slice(),
+                first: turn.first,
+                end: turn.end,
+            },
         )?;
     }
     Ok(())
@@ -202,7 +207,16 @@ fn carry_new(
     for i in first..book.len() {
         if let Some((from, to)) = book.get(i) {
             todo.reserve(1)?;
-            if carry(table, seat, from, to, nothing, row_words(done, from)) {
+            if carry(
+                table,
+                seat,
+                from,
+                to,
+                nothing,
+                row_words(done, from),
+                0,
+                nothing.len(),
+            ) {
                 todo.push_reserved(to);
             }
         }

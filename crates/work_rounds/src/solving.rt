@@ -12,6 +12,7 @@ ghost use Rattle.work_rounds.specs.Balance.{IsBooked, paid_for};
 ghost use Rattle.work_rounds.specs.Work.{IsWork};
 
 use crate::dealing::dealt;
+use crate::growth::still_grown;
 use crate::ordering::turn_order;
 use crate::pieces::Round;
 use crate::round::all_pieces;
@@ -40,11 +41,12 @@ fn thread_count(round: u64, rows: usize, workers: u32) -> u32
     (rows / ROWS_A_THREAD).clamp(1, workers as usize) as u32
 }
 
-/// The rows in order of their numbers.
+/// The rows in order of their numbers, each once.
 fn in_order(todo: &mut Vec<u32>)
     ensures { (row : ℕ) → (Contains todo.new.items row → Contains todo.old.items row) × (Contains todo.old.items row → Contains todo.new.items row) }
 {
     todo.sort_unstable();
+    todo.dedup();
 }
 
 /// The rows of a round in the order in which they are dealt out. More than 2^32 - 1 rows are want of memory.
@@ -72,8 +74,8 @@ struct Crew<'a, G> {
     gate: &'a G,
 }
 
-/// One round: the workers' pieces, and then what their turns have done is taken in. It gives the rows that have grown.
-fn work_round<R: Threads + Sync, G: Gate + Sync>(
+/// The pieces of one round, and then what their turns have done is taken in. It gives the rows that have grown.
+fn work_pieces<R: Threads + Sync, G: Gate + Sync>(
     rt: &R,
     alloc: Global,
     ground: &Ground,
@@ -108,6 +110,37 @@ fn work_round<R: Threads + Sync, G: Gate + Sync>(
     };
     let turns = all_pieces(rt, alloc, &round, seat, crew.threads)?;
     settle(alloc, ground, seat, progress, turns.as_slice())
+}
+
+/// One round. It gives the rows that have more than is done of them.
+fn work_round<R: Threads + Sync, G: Gate + Sync>(
+    rt: &R,
+    alloc: Global,
+    ground: &Ground,
+    seat: &mut RowSeat,
+    progress: &mut Progress,
+    todo: &[u32],
+    crew: &Crew<G>,
+) -> Result<Vec<u32>, OutOfMemory>
+    requires own { IsOf ground.now.table.now seat.old }
+    requires valid { IsValid ground.now.system.now }
+    requires system { system_of ground.now.table.now ≡ ground.now.system.now }
+    requires readers { (row number : ℕ) → (Contains ground.now.readers.now (row, number) ↔ IsReader ground.now.system.now row number) }
+    requires nothing { ground.now.nothing.now ≡ replicate (width_of ground.now.system.now) 0 }
+    requires settled { IsSettled ground.now.system.now (view seat.old) progress.old.book progress.old.done todo.now }
+    requires booked { IsBooked ground.now.system.now progress.old.done progress.old.book progress.old.facts }
+    requires once { AreRowsApart todo.now }
+    requires few { length todo.now < 2 ^ 32 }
+    requires workers { (0 < crew.now.workers) × (crew.now.workers ≤ 64) }
+    ensures own { IsOf ground.now.table.now seat.new }
+    ensures worked { HasWorked (view seat.old) (view seat.new) }
+    ensures settled { IfOk result (λ grown. IsSettled ground.now.system.now (view seat.new) progress.new.book progress.new.done grown.items) }
+    ensures booked { OnOk result (IsBooked ground.now.system.now progress.new.done progress.new.book progress.new.facts) }
+    ensures paid { OnOk result ((view seat.new).ors + paid_for ground.now.system.now progress.old.done progress.old.book progress.old.facts ≤ (view seat.old).ors + paid_for ground.now.system.now progress.new.done progress.new.book progress.new.facts) }
+{
+    let mut grown = work_pieces(rt, alloc, ground, seat, progress, todo, crew)?;
+    in_order(&mut grown);
+    still_grown(alloc, ground.table, seat, &progress.done, grown.as_slice())
 }
 
 /// Solves a system on its shared rows with 1 to 64 workers, from a seat that has seen no fact. After Ok the table is

@@ -8,9 +8,8 @@ use Rattle.unit_parts.specs.declared.declared.Declared.{Declared}
 use Rattle.unit_parts.specs.Renamed.{literals_in}
 use Rattle.unit_finish.specs.Complete.{Completes, NoneCompletes}
 use Rattle.unit_finish.specs.Walked.{literal_entry}
-use Rattle.unit_names.specs.Literals.{IsPast}
 use Rattle.c_lower.specs.Lowered.{AreParts}
-use Rattle.c_lower.proofs.Ending.{finished_so, unfinished_past}
+use Rattle.c_lower.proofs.Ending.{finished_so, memory_unfinished}
 use Rattle.c_lower.proofs.lowering.finished.Goals as goal
 
 pub returns : goal.returns
@@ -30,9 +29,5 @@ returns c = λ u walked uses list ready types number is_walked is_kept.
 
 pub returns-in-Err : goal.returns-in-Err
 returns-in-Err c = λ u walked uses list ready types number is_walked is_kept.
-    let s = source_in c.args.syntax.now uses in
-    let senses = senses_made u c.args.results.now in
     let h = c.args.heading in
-    let parts : AreParts s = record { senses = senses; walked = walked; keys = c.args.keys.items; names = list; kept = c.args.kept; ready = ready; made = is_walked; stay = is_kept } in
-    unfinished_past s h.name parts h.root c.in-Err.fault
-    (subst (λ (ns : List Node). IsPast (literals_in ns) (length c.args.syntax.now.tree.now.nodes.items) c.in-Err.fault) c.as_slice-nodes.ensures.value c.in-Err.ensures.refused)
+    memory_unfinished (source_in c.args.syntax.now uses) h.name h.root c.in-Err.fault c.in-Err.ensures.memory

@@ -1,5 +1,8 @@
 use Rattle.std.proofs.Common.{ap}
 use Rattle.c_grammar.specs.declared.trees.Tree.{Tree}
+use Rattle.family_laws.specs.Families.{Families}
+use Rattle.family_laws.proofs.Reading.{units_families}
+use Rattle.literal_laws.proofs.Readable.{units_readable}
 use Rattle.c_senses.specs.Names.{source_of}
 use Rattle.tree_reads.specs.Sources.{number_in}
 use Rattle.unit_walk.specs.Ground.{source_ground}
@@ -15,3 +18,12 @@ returns-in-Ok c =
 
 pub returns-in-Err : goal.returns-in-Err
 returns-in-Err c = refused_first (source_of c.args.tokens.now c.args.tree.now) c.args.name c.args.tree.now.root c.in-Err.fault c.in-Err.ensures.walked
+
+pub walk-requires-clause-readable : goal.walk-requires-clause-readable
+walk-requires-clause-readable c = λ at. units_readable c.args.tokens.now c.args.tree.now.unit c.args.tree.now (λ n. n) c.are_bytes.ensures c.requires.tokens c.requires.read at
+
+pub walk-requires-clause-families : goal.walk-requires-clause-families
+walk-requires-clause-families c =
+    let f = units_families c.args.tokens.now c.args.tree.now.unit c.args.tree.now (λ n. n) c.requires.tokens c.requires.read in
+    let plain : Families (source_of c.args.tokens.now c.args.tree.now) = record { single = f.single; ascend = f.ascend; lists = f.lists; members = f.members; words = f.words; untagged = f.untagged } in
+    plain

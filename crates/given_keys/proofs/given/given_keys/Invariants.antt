@@ -2,7 +2,7 @@ use Rattle.std.proofs.Common.{◌≡◌, ℕ, List, length}
 use Rattle.c_senses.specs.Sense.{Sense}
 use Rattle.tree_reads.specs.Sources.{source_in}
 use Rattle.given_keys.specs.Flags.{AreFlags}
-use Rattle.given_keys.specs.Keyed.{AreKeys}
+use Rattle.given_keys.specs.Kept.{AreKeys}
 use Rattle.given_keys.specs.Given.{AreBelow, AreGiven}
 use Rattle.given_keys.proofs.given.given_keys.Given as goal
 
@@ -11,6 +11,6 @@ abbrev pub invariant-loop-node : goal.invariant-loop-node
 invariant-loop-node l = record {
   long : length l.list.items ≡ l.count;
   given : (uses : List (ℕ × ℕ)) (sense : ℕ → Sense) →
-      AreFlags (source_in l.syntax uses) l.flags → AreBelow (source_in l.syntax uses) l.count → AreKeys (source_in l.syntax uses) sense l.keys (length l.syntax.tree.now.nodes.items) →
+      AreFlags (source_in l.syntax uses) l.flags → AreBelow (source_in l.syntax uses) l.count → AreKeys (source_in l.syntax uses) sense l.keys 0 →
       AreGiven (source_in l.syntax uses) sense l.list.items l.given l.node;
 }

@@ -1,4 +1,4 @@
-use Rattle.std.proofs.Common.{◌≡◌, ◌∙◌, ℕ, List, Option, Bool, length, refl, sym, ap, subst}
+use Rattle.std.proofs.Common.{◌≡◌, ◌∙◌, ℕ, List, Bool, length, refl, sym, ap, subst}
 use Rattle.c_senses.specs.Names.{names_of}
 use Rattle.c_senses.specs.Tree.{Source}
 use Rattle.c_senses.specs.Sense.{Sense, sense_in}
@@ -6,12 +6,8 @@ use Rattle.c_results.specs.Standing.{senses_made}
 use Rattle.tree_reads.specs.Sources.{source_in}
 use Rattle.given_keys.specs.Declares.{Declares}
 use Rattle.given_keys.specs.Flags.{AreFlags}
-use Rattle.given_keys.specs.Keyed.{AreKeys}
 use Rattle.given_keys.proofs.Rightly.{tag_inside, keys_right}
 use Rattle.given_keys.proofs.given.keys_of.Goals as goal
-
-pub given_keys-requires-clause-keys : goal.given_keys-requires-clause-keys
-given_keys-requires-clause-keys c = ap length c.as_slice.ensures.value ∙ c.in_ok-keys.ensures.long
 
 pub given_keys-requires-clause-flags : goal.given_keys-requires-clause-flags
 unfolding names_of
@@ -21,7 +17,7 @@ given_keys-requires-clause-flags c =
     let tags : s.declared.tags ≡ c.args.bound.now.tags.items = sym c.requires.bound.tags in
     let declares : Declares s c.in_ok-declaring.declaring = c.in_ok-declaring.ensures s refl tags in
     let are : AreFlags s c.in_ok-flags.flags.items = c.in_ok-flags.ensures uses declares in
-    ap length c.as_slice-2.ensures.value ∙ are.long
+    ap length c.as_slice.ensures.value ∙ are.long
 
 pub returns-clause-right : goal.returns-clause-right
 unfolding names_of
@@ -33,5 +29,5 @@ returns-clause-right c = λ u.
     let declares : Declares s c.in_ok-declaring.declaring = c.in_ok-declaring.ensures s refl tags in
     let are : AreFlags s c.in_ok-flags.flags.items = c.in_ok-flags.ensures uses declares in
     keys_right s sense c.in_ok-list.list.items (λ d tag. tag_inside s c.in_ok-flags.flags.items d are tag)
-    (c.in_ok-list.ensures.given uses sense (subst (λ (l : List Bool). AreFlags s l) (sym c.as_slice-2.ensures.value) are) (record { below = c.requires.tags.below; differ = c.requires.tags.differ })
-    (subst (λ (l : List (Option (List ℕ))). AreKeys s sense l (length s.nodes)) (sym c.as_slice.ensures.value) (c.in_ok-keys.ensures.keys u uses)))
+    (c.in_ok-list.ensures.given uses sense (subst (λ (l : List Bool). AreFlags s l) (sym c.as_slice.ensures.value) are) (record { below = c.requires.tags.below; differ = c.requires.tags.differ })
+    (c.in_ok-keys.ensures u uses))

@@ -12,36 +12,36 @@ use Rattle.given_keys.proofs.Keying.{by_tag, by_name, by_members, outer_key, is_
 use Rattle.given_keys.proofs.placed.key_of.Goals as goal
 
 pub returns-in-Some : goal.returns-in-Some
-returns-in-Some c = λ u uses keys known.
+returns-in-Some c = λ u uses on keys known.
     let s : Source = source_in c.args.syntax.now uses in
     let sense : ℕ → Sense = sense_in (senses_made u c.args.results.now) in
     let node = c.args.node in
-    let lt : node < length s.nodes = omega (arith, c.requires.node) in
-    let outer = is_outer s sense c.args.known.inner.now node (length c.args.behind.now) known.inner c.requires.node c.if-known-behind.false in
+    let lt : node < length s.nodes = c.requires.node in
+    let outer = is_outer s sense c.args.known.inner.now node _ known.inner lt (omega (arith, c.len.ensures)) c.if-known-len.false in
     let tag : tag_leaf s node ≡ Some c.in-Some.leaf = sym (sym c.in-Some.is ∙ (c.first_where.ensures ∙ ap (first_where (is_name s)) c.children_of.ensures)) in
     ap Some (c.in_ok-key.ensures uses)
     ∙ (sym (by_tag s sense node (first_free s sense node (names_with s sense node)) (key_around s sense node) c.in-Some.leaf tag) ∙ outer_key s sense node (parents_behind s c.requires.first) lt outer)
 
-pub returns-in-Some-free : goal.returns-in-Some-free
-returns-in-Some-free c = λ u uses keys known.
+pub returns-in-Some-get : goal.returns-in-Some-get
+returns-in-Some-get c = λ u uses on keys known.
     let s : Source = source_in c.args.syntax.now uses in
     let sense : ℕ → Sense = sense_in (senses_made u c.args.results.now) in
     let node = c.args.node in
-    let lt : node < length s.nodes = omega (arith, c.requires.node) in
-    let outer = is_outer s sense c.args.known.inner.now node (length c.args.behind.now) known.inner c.requires.node c.if-known-behind.false in
+    let lt : node < length s.nodes = c.requires.node in
+    let outer = is_outer s sense c.args.known.inner.now node _ known.inner lt (omega (arith, c.len.ensures)) c.if-known-len.false in
     let tag : tag_leaf s node ≡ None = sym (sym c.in_default.is ∙ (c.first_where.ensures ∙ ap (first_where (is_name s)) c.children_of.ensures)) in
-    let free : first_free s sense node (names_with s sense node) ≡ Some (spelling_at s c.in-Some-free.leaf) = sym (known.free.each node lt) ∙ ap (option_map (spelling_at s)) c.in-Some-free.is in
+    let free : first_free s sense node (names_with s sense node) ≡ Some (spelling_at s c.in-Some-get.leaf) = sym (known.free.each node lt on) ∙ ap (option_map (spelling_at s)) (sym c.get.ensures ∙ c.in-Some-get.is) in
     ap Some (c.in_ok-key-2.ensures uses)
-    ∙ (sym (by_name s sense node (first_free s sense node (names_with s sense node)) (key_around s sense node) (spelling_at s c.in-Some-free.leaf) tag free) ∙ outer_key s sense node (parents_behind s c.requires.first) lt outer)
+    ∙ (sym (by_name s sense node (first_free s sense node (names_with s sense node)) (key_around s sense node) (spelling_at s c.in-Some-get.leaf) tag free) ∙ outer_key s sense node (parents_behind s c.requires.first) lt outer)
 
 pub returns : goal.returns
-returns c = λ u uses keys known.
+returns c = λ u uses on keys known.
     let s : Source = source_in c.args.syntax.now uses in
     let sense : ℕ → Sense = sense_in (senses_made u c.args.results.now) in
     let node = c.args.node in
-    let lt : node < length s.nodes = omega (arith, c.requires.node) in
-    let outer = is_outer s sense c.args.known.inner.now node (length c.args.behind.now) known.inner c.requires.node c.if-known-behind.false in
+    let lt : node < length s.nodes = c.requires.node in
+    let outer = is_outer s sense c.args.known.inner.now node _ known.inner lt (omega (arith, c.len.ensures)) c.if-known-len.false in
     let tag : tag_leaf s node ≡ None = sym (sym c.in_default.is ∙ (c.first_where.ensures ∙ ap (first_where (is_name s)) c.children_of.ensures)) in
-    let free : first_free s sense node (names_with s sense node) ≡ None = sym (known.free.each node lt) ∙ ap (option_map (spelling_at s)) c.in_default-free.is in
+    let free : first_free s sense node (names_with s sense node) ≡ None = sym (known.free.each node lt on) ∙ ap (option_map (spelling_at s)) (sym c.get.ensures ∙ c.in_default-get.is) in
     c.in_ok-inherited.ensures u uses keys known.positions
     ∙ (sym (by_members s sense node (first_free s sense node (names_with s sense node)) (key_around s sense node) tag free) ∙ outer_key s sense node (parents_behind s c.requires.first) lt outer)

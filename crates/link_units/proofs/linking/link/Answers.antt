@@ -4,4 +4,4 @@ use Rattle.link_merge.specs.Tags.{AreKept}
 use Rattle.link_units.proofs.linking.link.Goals as goal
 
 pub merge-requires : goal.merge-requires
-merge-requires c = subst (λ (l : List Unit). AreKept l) (sym c.as_slice.ensures.value) (record { each = λ u x at. (c.requires.valid u x at).keys })
+merge-requires c = subst (λ (l : List Unit). AreKept l) (sym c.as_slice.ensures.value) (record { each = λ u x at. (c.requires.linkable.valid u x at).keys })

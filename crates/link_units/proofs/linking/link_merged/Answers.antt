@@ -10,19 +10,22 @@ use Rattle.link_units.proofs.Growing.{are_merged_grown}
 use Rattle.link_units.proofs.Noding.{units_placeable}
 use Rattle.link_units.proofs.Typing.{in_range_all}
 use Rattle.link_units.proofs.Whole.{linked_all}
+use Rattle.link_merge.specs.Tags.{AreMade}
+use Rattle.merged_laws.specs.Merged.{AreTables}
+use Rattle.valid_laws.proofs.Whole.{linked_valid}
 use Rattle.link_units.proofs.linking.link_merged.Goals as goal
 
 pub entities_of-requires-clause-merged : goal.entities_of-requires-clause-merged
 entities_of-requires-clause-merged c =
     let units = c.args.units.items in
-    subst (λ (l : List Unit). AreMerged l c.args.type_starts.now c.ready.new.types) (sym c.as_slice-2.ensures.value)
+    subst (λ (l : List Unit). AreMerged l c.args.type_starts.now c.ready.new.types) (sym c.as_slice-3.ensures.value)
     (are_merged_grown units c.args.type_starts.now c.args.merged c.ready.new.types c.type_count-old.ensures.made c.in_ok-ready.ensures.grown c.requires.merged)
 
 pub names_and_nodes-requires-clause-placeable : goal.names_and_nodes-requires-clause-placeable
 names_and_nodes-requires-clause-placeable c =
     let units = c.args.units.items in
     let merged = are_merged_grown units c.args.type_starts.now c.args.merged c.ready.new.types c.type_count-old.ensures.made c.in_ok-ready.ensures.grown c.requires.merged in
-    let h = subst (λ (l : List Unit). AreEntitiesOf (joined_by l c.ready.new.types c.args.type_starts.now) c.in_ok-entities.entities.items c.in_ok-entities.numbers) c.as_slice-2.ensures.value c.in_ok-entities.ensures in
+    let h = subst (λ (l : List Unit). AreEntitiesOf (joined_by l c.ready.new.types c.args.type_starts.now) c.in_ok-entities.entities.items c.in_ok-entities.numbers) c.as_slice-3.ensures.value c.in_ok-entities.ensures in
     let count = c.type_count-now.ensures.count in
     units_placeable units c.args.type_starts.now c.in_ok-entities.numbers c.ready.new.types c.requires.linkable merged (omega arith) h.numbers
 
@@ -33,8 +36,8 @@ returns-clause-linked c =
     let n = c.in_ok-entities.numbers in
     let p : Program = record { names = c.in_ok-names.names; types = c.ready.new.types; nodes = c.in_ok-names.nodes; entities = c.in_ok-entities.entities } in
     let merged = are_merged_grown units c.args.type_starts.now c.args.merged c.ready.new.types c.type_count-old.ensures.made c.in_ok-ready.ensures.grown c.requires.merged in
-    let h = subst (λ (l : List Unit). AreEntitiesOf (joined_by l c.ready.new.types c.args.type_starts.now) c.in_ok-entities.entities.items n) c.as_slice-2.ensures.value c.in_ok-entities.ensures in
-    let own = subst (λ (l : List Unit). AreSums (node_counts_of l) c.in_ok-node_starts.node_starts.items) c.as_slice.ensures.value c.in_ok-node_starts.ensures in
+    let h = subst (λ (l : List Unit). AreEntitiesOf (joined_by l c.ready.new.types c.args.type_starts.now) c.in_ok-entities.entities.items n) c.as_slice-3.ensures.value c.in_ok-entities.ensures in
+    let own = subst (λ (l : List Unit). AreSums (node_counts_of l) c.in_ok-node_starts.node_starts.items) c.as_slice-2.ensures.value c.in_ok-node_starts.ensures in
     let sums = subst (λ (l : List ℕ). AreSums (node_counts_of units) l) (sym c.as_slice-first.ensures.value) own in
     linked_all units c.args.type_starts.now starts n p c.requires.linkable c.in_ok-ready.ensures.ready merged sums h c.in_ok-names.ensures.names c.in_ok-names.ensures.nodes
 
@@ -45,8 +48,24 @@ returns-clause-range c =
     let n = c.in_ok-entities.numbers in
     let p : Program = record { names = c.in_ok-names.names; types = c.ready.new.types; nodes = c.in_ok-names.nodes; entities = c.in_ok-entities.entities } in
     let merged = are_merged_grown units c.args.type_starts.now c.args.merged c.ready.new.types c.type_count-old.ensures.made c.in_ok-ready.ensures.grown c.requires.merged in
-    let h = subst (λ (l : List Unit). AreEntitiesOf (joined_by l c.ready.new.types c.args.type_starts.now) c.in_ok-entities.entities.items n) c.as_slice-2.ensures.value c.in_ok-entities.ensures in
-    let own = subst (λ (l : List Unit). AreSums (node_counts_of l) c.in_ok-node_starts.node_starts.items) c.as_slice.ensures.value c.in_ok-node_starts.ensures in
+    let h = subst (λ (l : List Unit). AreEntitiesOf (joined_by l c.ready.new.types c.args.type_starts.now) c.in_ok-entities.entities.items n) c.as_slice-3.ensures.value c.in_ok-entities.ensures in
+    let own = subst (λ (l : List Unit). AreSums (node_counts_of l) c.in_ok-node_starts.node_starts.items) c.as_slice-2.ensures.value c.in_ok-node_starts.ensures in
     let sums = subst (λ (l : List ℕ). AreSums (node_counts_of units) l) (sym c.as_slice-first.ensures.value) own in
     let linked = linked_all units c.args.type_starts.now starts n p c.requires.linkable c.in_ok-ready.ensures.ready merged sums h c.in_ok-names.ensures.names c.in_ok-names.ensures.nodes in
     in_range_all units c.args.type_starts.now starts n p c.requires.linkable linked merged sums h c.in_ok-names.ensures.nodes
+
+pub returns-clause-valid : goal.returns-clause-valid
+returns-clause-valid c =
+    let units = c.args.units.items in
+    let starts = c.as_slice-first.result.now in
+    let n = c.in_ok-entities.numbers in
+    let p : Program = record { names = c.in_ok-names.names; types = c.ready.new.types; nodes = c.in_ok-names.nodes; entities = c.in_ok-entities.entities } in
+    let merged = are_merged_grown units c.args.type_starts.now c.args.merged c.ready.new.types c.type_count-old.ensures.made c.in_ok-ready.ensures.grown c.requires.merged in
+    let h = subst (λ (l : List Unit). AreEntitiesOf (joined_by l c.ready.new.types c.args.type_starts.now) c.in_ok-entities.entities.items n) c.as_slice-3.ensures.value c.in_ok-entities.ensures in
+    let own = subst (λ (l : List Unit). AreSums (node_counts_of l) c.in_ok-node_starts.node_starts.items) c.as_slice-2.ensures.value c.in_ok-node_starts.ensures in
+    let sums = subst (λ (l : List ℕ). AreSums (node_counts_of units) l) (sym c.as_slice-first.ensures.value) own in
+    let linked = linked_all units c.args.type_starts.now starts n p c.requires.linkable c.in_ok-ready.ensures.ready merged sums h c.in_ok-names.ensures.names c.in_ok-names.ensures.nodes in
+    let range = in_range_all units c.args.type_starts.now starts n p c.requires.linkable linked merged sums h c.in_ok-names.ensures.nodes in
+    let told = subst AreMade c.as_slice.ensures.value c.tables_told.ensures in
+    let tables : AreTables units = record { made = told.made; named = told.named } in
+    linked_valid units p c.requires.linkable tables c.requires.filled linked (record { nodes = range.types; entities = range.entity_types }) c.type_count-now.ensures.made c.type_count-now.ensures.named

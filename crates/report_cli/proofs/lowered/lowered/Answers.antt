@@ -1,3 +1,4 @@
+use Rattle.std.proofs.Common.{refl}
 use Rattle.c_senses.specs.Names.{source_of}
 use Rattle.report_cli.proofs.Refused.{alone_in}
 use Rattle.report_cli.proofs.Linked.{named_refused, lowered_right, cut_tokens}
@@ -23,3 +24,6 @@ returns-clause-refused c =
 
 pub lower_unit-requires-clause-tokens : goal.lower_unit-requires-clause-tokens
 lower_unit-requires-clause-tokens c = cut_tokens c.args.number (c.args.name.now, c.args.text.now) c.in-Ok.read.tokens c.in-Ok.read.tree c.in-Ok.ensures.parsed
+
+pub lower_unit-requires-clause-read : goal.lower_unit-requires-clause-read
+lower_unit-requires-clause-read c = let parsed = c.in-Ok.ensures.parsed.tree_is in (parsed.0, refl, parsed.2)

@@ -7,13 +7,16 @@ use Rattle.report_cli.specs.Printed.{IsPrinted}
 use Rattle.report_cli.specs.Faults.{IsFaultOfTold}
 use Rattle.report_cli.specs.Scripts.{named, named_script, told_with}
 use Rattle.report_cli.proofs.Refused.{zip_names}
-use Rattle.report_cli.proofs.Linkable.{linkable}
+use Rattle.report_cli.proofs.Linkable.{linkable, filled}
 use Rattle.report_cli.proofs.Linked.{reported}
 use Rattle.report_cli.proofs.Scripted.{both_ok, on_fault, units_told, script_told}
 use Rattle.report_cli.proofs.solved.text_of_units.Goals as goal
 
-pub linked-requires : goal.linked-requires
-linked-requires g c =
+pub linked-requires-clause-filled : goal.linked-requires-clause-filled
+linked-requires-clause-filled g c = filled (zip (names_of c.args.names.now) c.args.texts.now) c.in_ok-units.units.items c.in_ok-units.ensures.right
+
+pub linked-requires-clause-linkable : goal.linked-requires-clause-linkable
+linked-requires-clause-linkable g c =
     let texts = zip (names_of c.args.names.now) c.args.texts.now in
     let D : List (List ℕ) → Type 0 = AreDistinct in
     linkable texts c.in_ok-units.units.items (subst D (zip_names c.args.names.now c.args.texts.now c.requires.count) c.requires.distinct) c.in_ok-units.ensures.right

@@ -1,15 +1,14 @@
-use Rattle.std.proofs.Common.{◌≡◌, ℕ, List}
+use Rattle.std.proofs.Common.{ℕ, List}
 use Rattle.core_tree.specs.declared.node.Unit.{Unit}
-use Rattle.c_senses.specs.Keys.{is_taken}
 use Rattle.c_senses.specs.Sense.{sense_in}
 use Rattle.c_results.specs.Standing.{senses_made}
 use Rattle.tree_reads.specs.Sources.{source_in}
 use Rattle.unit_keys.specs.Words.{has_word}
-use Rattle.unit_keys.specs.Free.{AreFree}
+use Rattle.unit_keys.specs.Free.{AreFree, TakenBelow}
 use Rattle.unit_keys.proofs.free.free_names.Given as goal
 
 abbrev pub invariant-loop-node : goal.invariant-loop-node
 invariant-loop-node l = record {
-  taken : (u : Unit) (uses : List (ℕ × ℕ)) (name : List ℕ) → has_word l.taken name ≡ is_taken (source_in l.syntax uses) (sense_in (senses_made u l.results)) name l.node;
-  free : (u : Unit) (uses : List (ℕ × ℕ)) → AreFree (source_in l.syntax uses) (sense_in (senses_made u l.results)) l.free.items l.node;
+  taken : (u : Unit) (uses : List (ℕ × ℕ)) → TakenBelow (source_in l.syntax uses) (sense_in (senses_made u l.results)) (has_word l.taken) l.node;
+  free : (u : Unit) (uses : List (ℕ × ℕ)) → AreFree (source_in l.syntax uses) (sense_in (senses_made u l.results)) l.free l.node;
 }

@@ -7,4 +7,4 @@ use Rattle.unit_keys.specs.Placed.{ArePositions}
 use Rattle.unit_keys.proofs.positions.positions_of.Given as goal
 
 abbrev pub invariant-loop-node : goal.invariant-loop-node
-invariant-loop-node l = (u : Unit) (uses : List (ℕ × ℕ)) → ArePositions (source_in l.syntax uses) (sense_in (senses_made u l.results)) l.positions.items l.node
+invariant-loop-node l = (u : Unit) (uses : List (ℕ × ℕ)) → ArePositions (source_in l.syntax uses) (sense_in (senses_made u l.results)) l.positions l.node

@@ -1,7 +1,7 @@
 use Rattle.std.proofs.Common.{◌≡◌, List, Bool, false, get_or, sym, subst}
 use Rattle.c_senses.specs.Entities.{declares_function}
 use Rattle.tree_reads.specs.Sources.{source_read}
-use Rattle.unit_rows.proofs.Ranging.{results_limited}
+use Rattle.unit_limits.proofs.Within.{results_limited}
 use Rattle.unit_rows.proofs.initials.initial_row.Goals as goal
 
 pub initial-requires-clause-names : goal.initial-requires-clause-names

@@ -1,12 +1,8 @@
-use Rattle.std.proofs.Common.{◌≡◌, ℕ, true, false, inr, refl, sym, ◌∙◌, subst}
+use Rattle.std.proofs.Common.{◌≡◌, ℕ, true, false, refl, sym, ◌∙◌, subst}
 use Rattle.core_nodes.proofs.Growing.{same_builds}
 use Rattle.c_senses.specs.Sense.{sense_in}
 use Rattle.c_senses.specs.Tree.{production_at, children_at}
-use Rattle.pta_base.specs.declared.kind.Kind.TheVariants.{NotBuilt}
-use Rattle.c_grammar.specs.Productions.{p_primary}
-use Rattle.c_rows.specs.Built.{built_primary}
-use Rattle.c_senses.specs.Given.{Refuses}
-use Rattle.c_senses.specs.Rows.{row_of, AreSenses}
+use Rattle.c_senses.specs.Rows.{row_of}
 use Rattle.c_results.specs.Standing.{sense_made, senses_made}
 use Rattle.name_places.specs.Named.{IsNamedSense}
 use Rattle.row_trees.specs.Trees.{SenseHasRows}
@@ -19,7 +15,7 @@ use Rattle.unit_rows.specs.Standing.{source_known, nodes_known, world_there}
 use Rattle.unit_rows.proofs.Nothing.{nothing_of}
 use Rattle.unit_rows.proofs.Cover.{limited_there}
 use Rattle.unit_rows.proofs.Expressions.{expression_there, no_struct, no_initial, no_declarator, lists_no_struct, rows_made, names_in}
-use Rattle.unit_rows.proofs.Answers.{rowed_at, stopped_more, keeps_there, unless, given, anyway, plain_other, plain_own, along_on, along_by, grows_so}
+use Rattle.unit_rows.proofs.Answers.{rowed_at, keeps_there, unless, given, anyway, plain_other, plain_own, along_on, along_by, grows_so}
 use Rattle.unit_rows.proofs.rows.row.Goals as goal
 
 pub returns-then-is_list-clause-row : goal.returns-then-is_list-clause-row
@@ -65,9 +61,8 @@ returns-then-is_expression-clause-row c =
     let ys = children_at s at in
     let p = c.production_of-production.ensures in
     let kind : is_expression q ≡ true = subst (λ (x : ℕ). is_expression x ≡ true) p (sym c.is_expression.ensures ∙ c.if-is_expression.true) in
-    stopped_more c.expression.new.unit c.expression.result (row_of w s S q at ys) ((q ≡ p_primary) × (AreSenses s (senses_made u rs) → built_primary w s S at ys ≡ Refuses NotBuilt at)) (Stops s u c.expression.new.unit rs at) at (λ why. inr (inr (inr why)))
-    (expression_there w s S q at ys c.expression.new.unit c.expression.result (AreSenses s (senses_made u rs)) kind (c.expression.ensures.row k.bound.now.uses.items c.requires.known.pairs c.requires.knows)
-    (λ are. c.expression.ensures.built k.bound.now.uses.items c.requires.known.pairs are c.requires.knows))
+    rowed_at c.expression.new.unit c.expression.result (row_of w s S q at ys) (Stops s u c.expression.new.unit rs at) at
+    (expression_there w s S at c.expression.new.unit c.expression.result kind c.requires.readable (c.expression.ensures.built k.bound.now.uses.items c.requires.known.pairs c.requires.senses c.requires.knows))
 
 pub returns-then-is_expression-clause-keeps : goal.returns-then-is_expression-clause-keeps
 returns-then-is_expression-clause-keeps c =
@@ -82,8 +77,9 @@ returns-then-is_expression-clause-keeps c =
     let ys = children_at s at in
     let p = c.production_of-production.ensures in
     let kind : is_expression q ≡ true = subst (λ (x : ℕ). is_expression x ≡ true) p (sym c.is_expression.ensures ∙ c.if-is_expression.true) in
-    keeps_there ((q ≡ p_primary) × (⊥ → built_primary w s S at ys ≡ Refuses NotBuilt at)) (nodes_known k) u c.expression.new.unit rs w s q at ys c.expression.result c.requires.stand.kept
-    (expression_there w s S q at ys c.expression.new.unit c.expression.result ⊥ kind (c.expression.ensures.row k.bound.now.uses.items c.requires.known.pairs c.requires.knows) (λ no. absurd no))
+    keeps_there (Stops s u c.expression.new.unit rs at) (nodes_known k) u c.expression.new.unit rs w s q at ys c.expression.result c.requires.stand.kept
+    (rowed_at c.expression.new.unit c.expression.result (row_of w s S q at ys) (Stops s u c.expression.new.unit rs at) at
+    (expression_there w s S at c.expression.new.unit c.expression.result kind c.requires.readable (c.expression.ensures.built k.bound.now.uses.items c.requires.known.pairs c.requires.senses c.requires.knows)))
     (given c.expression.result (λ m. SenseHasRows (sense_made c.expression.new.unit m)) (is_expression q) c.expression.ensures.rows)
     (unless (shapes.is_initial q) (no_initial q kind) c.expression.result (λ m. HasAllRows (sense_made c.expression.new.unit m)))
     (unless (shapes.is_declarator q) (no_declarator q kind) c.expression.result (λ m. IsNamedSense (nodes_known k) (sense_made c.expression.new.unit m)))

@@ -1,3 +1,4 @@
+use Rattle.filled_laws.proofs.Placed.{linked_placed}
 use Rattle.unit_system.proofs.Refused.{program_refused}
 use Rattle.unit_system.proofs.Rightness.{right_of}
 use Rattle.unit_system.proofs.systems.linked_system.Goals as goal
@@ -5,7 +6,10 @@ use Rattle.unit_system.proofs.systems.linked_system.Goals as goal
 pub system_of-requires-clause-right : goal.system_of-requires-clause-right
 system_of-requires-clause-right c =
     let told = c.type_count-types.ensures in
-    right_of c.args.units.items c.in_ok-program.program c.requires c.in_ok-program.ensures.tables told.made told.named c.in_ok-program.ensures.linked
+    right_of c.args.units.items c.in_ok-program.program c.requires.linkable c.in_ok-program.ensures.tables told.made told.named c.in_ok-program.ensures.linked
+
+pub system_of-requires-clause-placed : goal.system_of-requires-clause-placed
+system_of-requires-clause-placed c = linked_placed c.args.units.items c.in_ok-program.program c.requires.linkable c.requires.filled c.in_ok-program.ensures.linked
 
 pub returns-in-Err : goal.returns-in-Err
 returns-in-Err c = program_refused c.args.units.items c.in_ok-program.program c.in-Err.fault c.in_ok-program.ensures.linked c.in-Err.ensures

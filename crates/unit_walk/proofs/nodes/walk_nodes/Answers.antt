@@ -2,7 +2,7 @@ use Rattle.std.proofs.Common.{arith, ◌≡◌, ◌∙◌, ◌+◌, ℕ, List, [
 use Rattle.c_results.specs.declared.made.Made.{Made}
 use Rattle.c_senses.specs.Given.{Fits}
 use Rattle.c_senses.specs.Sense.{Sense, sense_in}
-use Rattle.c_senses.specs.Rows.{world_at}
+use Rattle.c_senses.specs.Rows.{world_at, AreSenses}
 use Rattle.c_initials.specs.Filling.{Fills}
 use Rattle.c_results.specs.Standing.{sense_made, senses_made, IsWithin}
 use Rattle.statement_rows.specs.Told.{IsTold}
@@ -97,7 +97,7 @@ returns-in-Err-clause-walked c =
     let inv = c.loop-at.invariant in
     let row =
     subst (λ (l : List Made). RowedAt v (Err c.in-Err.fault) (Whole s u l at) (Stops s u v l at) at) c.as_slice-before.ensures.value c.in-Err.ensures.row in
-    refused s u rs inv.made at inv.long (omega (arith, c.loop-at-test.true)) c.requires.known.ordered v inv.stand.within c.in-Err.fault row
+    refused s u rs inv.made at inv.long (omega (arith, c.loop-at-test.true)) c.requires.known.ordered c.requires.known.tags.differ c.requires.families v inv.stand.within c.in-Err.fault row
 
 pub returns-clause-walked : goal.returns-clause-walked
 returns-clause-walked c =
@@ -105,3 +105,11 @@ returns-clause-walked c =
     let long : c.len-at-end.result ≡ length c.args.known.now.numbered.now.syntax.tree.now.nodes.items = omega (arith, c.len-at-end.ensures, c.args.known.now.numbered.now.syntax.tree.now.nodes.ok) in
     let ends : c.loop-at.at ≡ c.len-at-end.result = omega (arith, c.loop-at.auto.at-end, c.loop-at-test.false) in
     record { made = inv.made; whole = inv.long ∙ (ends ∙ long) }
+
+pub row-requires-clause-senses : goal.row-requires-clause-senses
+row-requires-clause-senses c =
+    let inv = c.loop-at.invariant in
+    subst (λ (l : List Made). AreSenses (source_known c.args.known.now) (senses_made c.loop-at.unit l)) (sym c.as_slice-before.ensures.value) inv.made.senses
+
+pub row-requires-clause-readable : goal.row-requires-clause-readable
+row-requires-clause-readable c = c.requires.readable c.loop-at.at

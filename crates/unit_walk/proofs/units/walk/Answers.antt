@@ -1,4 +1,9 @@
-use Rattle.c_senses.specs.Names.{source_of}
+use Rattle.std.proofs.Common.{ℕ, subst, sym}
+use Rattle.c_senses.specs.Tree.{Source}
+use Rattle.c_senses.specs.Names.{source_of, numbered}
+use Rattle.tree_reads.specs.Sources.{number_in}
+use Rattle.expression_rows.specs.Readable.{IsReadable}
+use Rattle.family_laws.specs.Families.{Families}
 use Rattle.unit_walk.proofs.Sources.{source_same, refused_in, memory_refused}
 use Rattle.unit_walk.proofs.units.walk.Goals as goal
 
@@ -23,3 +28,15 @@ returns-clause-walked c =
     let n = c.in-Ok.ground.numbered in
     let ground = c.in-Ok.ensures.ground c.in-Ok-open_unit.unit in
     refused_in n.syntax c.args.tokens.now c.args.tree.now c.args.bound.now c.in-Ok.ensures.tokens c.in-Ok.ensures.tree c.requires.bound n.tags c.in-Err-walk_nodes.fault ground.tags c.in-Ok.ensures.ordered c.in-Err-walk_nodes.ensures.walked
+
+pub walk_nodes-requires-clause-readable : goal.walk_nodes-requires-clause-readable
+walk_nodes-requires-clause-readable c =
+    subst (λ (s : Source). (at : ℕ) → IsReadable s at)
+    (sym (source_same c.in-Ok.ground.numbered.syntax c.args.tokens.now c.args.tree.now c.args.bound.now c.in-Ok.ensures.tokens c.in-Ok.ensures.tree c.requires.bound)) (λ at. c.requires.readable at)
+
+pub walk_nodes-requires-clause-families : goal.walk_nodes-requires-clause-families
+walk_nodes-requires-clause-families c =
+    let f = c.requires.families in
+    let plain : Families (numbered (number_in c.in-Ok.ground.numbered.syntax.tag_numbers.items) (source_of c.args.tokens.now c.args.tree.now)) = record { single = f.single; ascend = f.ascend; lists = f.lists; members = f.members; words = f.words; untagged = f.untagged } in
+    subst Families
+    (sym (source_same c.in-Ok.ground.numbered.syntax c.args.tokens.now c.args.tree.now c.args.bound.now c.in-Ok.ensures.tokens c.in-Ok.ensures.tree c.requires.bound)) plain

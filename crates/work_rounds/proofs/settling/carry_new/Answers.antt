@@ -1,6 +1,6 @@
 use Rattle.std.proofs.Common.{◌≡◌, ℕ, ◌+◌, ◌*◌, ◌<◌, ◌≤◌, ◌^◌, List, [], ◌∷◌, ◌++◌, length, get_or, take, take_all, slice_get, Some, Contains, Vec, Global, sym, ap, ◌∙◌, subst, subst₂, inl, inr, arith, get_or-take, min}
 use Rattle.std.proofs.lemmas.Bool.{cases_eq}
-use Rattle.std.proofs.lemmas.List.{length-take}
+use Rattle.std.proofs.lemmas.List.{length-replicate, length-take}
 use Rattle.std.proofs.lemmas.Option.{slice_get-get_or, slice_get_within, get_or_from_slice_get, same_Some, none-some}
 use Rattle.sol_model.specs.declared.system.System.{System}
 use Rattle.sol_model.specs.declared.rows.Rows.{Rows}
@@ -71,6 +71,15 @@ carry-requires-clause-read c =
 
 pub carry-requires-clause-was : goal.carry-requires-clause-was
 carry-requires-clause-was c = nothing_seen (width_of (system_of c.args.table.now)) (view c.loop-i.seat).seen c.args.nothing.now c.in-Some.to c.requires.nothing
+
+pub carry-requires-clause-beside : goal.carry-requires-clause-beside
+carry-requires-clause-beside c k lt out = elim out [
+  | inl before ↦ absurd (omega arith)
+  | inr past ↦ absurd (let n : length c.args.nothing.now ≡ width_of (system_of c.args.table.now) = ap (λ (xs : List ℕ). length xs) c.requires.nothing ∙ length-replicate (width_of (system_of c.args.table.now)) 0 in omega arith)
+]
+
+pub carry-requires-clause-range : goal.carry-requires-clause-range
+carry-requires-clause-range c = (omega arith, (let n : length c.args.nothing.now ≡ width_of (system_of c.args.table.now) = ap (λ (xs : List ℕ). length xs) c.requires.nothing ∙ length-replicate (width_of (system_of c.args.table.now)) 0 in omega arith))
 
 -- one edge more was carried
 carried_more : (book : List (ℕ × ℕ)) (F : Family) (u w : View) (i from to : ℕ) → slice_get book i ≡ Some (from, to) → OnlyAdded u w → ((location : ℕ) → Has F from location → Has (known w) to location)

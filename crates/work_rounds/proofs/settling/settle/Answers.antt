@@ -30,6 +30,9 @@ take_in-requires-clause-turns c =
     let turns = c.args.turns.now in
     turns_of S v w book [] [] done done todo turns c.requires.valid own round
 
+pub take_in-requires-clause-changes : goal.take_in-requires-clause-changes
+take_in-requires-clause-changes c = c.requires.worked.2.changes
+
 pub add_facts-requires-clause-known : goal.add_facts-requires-clause-known
 add_facts-requires-clause-known c row location h =
     let S = c.args.ground.now.system.now in

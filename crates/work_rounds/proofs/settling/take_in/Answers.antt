@@ -1,5 +1,6 @@
-use Rattle.std.proofs.Common.{◌≡◌, ℕ, ◌+◌, List, [], ◌∷◌, ◌++◌, take, take_all, sym, ap, ◌∙◌, subst, inl, inr, arith}
+use Rattle.std.proofs.Common.{◌≡◌, ℕ, ◌+◌, List, [], ◌∷◌, ◌++◌, take, take_all, Contains, sym, ap, ◌∙◌, subst, inl, inr, arith}
 use Rattle.std.proofs.lemmas.List.{take_more}
+use Rattle.std.proofs.lemmas.List.Elements.{Contains-get_or}
 use Rattle.delta_prop.specs.declared.turn.Turn.{Turn}
 use Rattle.new_members.specs.News.{IsIn}
 use Rattle.new_members.proofs.Renewals.{extends_none}
@@ -13,6 +14,20 @@ loop-turn-init c = record {
   kept = extends_none c.args.book.now;
   taken = taken_none c.args.system.now c.args.done.now c.args.book.now c.args.facts.now.items c.requires.fits;
 }
+
+pub renew-requires-clause-among : goal.renew-requires-clause-among
+renew-requires-clause-among c location h out =
+    let turns = c.args.turns.now in
+    let turn : Turn = c.turn-item.result in
+    let listed : Contains turns turn = subst (Contains turns) (sym c.turn-item.is) (Contains-get_or turns c.loop-turn.turn-index turn c.loop-turn-test.true) in
+    (c.loop-turn.invariant.taken.has turn.row location).1 (inl ((c.requires.changes turn listed).among location (subst (λ (xs : List ℕ). IsIn xs location) c.as_slice.ensures.value h) out))
+
+pub renew-requires-clause-range : goal.renew-requires-clause-range
+renew-requires-clause-range c =
+    let turns = c.args.turns.now in
+    let turn : Turn = c.turn-item.result in
+    let listed : Contains turns turn = subst (Contains turns) (sym c.turn-item.is) (Contains-get_or turns c.loop-turn.turn-index turn c.loop-turn-test.true) in
+    (c.requires.changes turn listed).range
 
 pub loop-turn-preserved : goal.loop-turn-preserved
 loop-turn-preserved c =

@@ -1,0 +1,6 @@
+//! A memory over a table of types, and calls of the library by name, for tests: answers and memories as text.
+#![tactic(auto)]
+
+mod shown;
+mod steps;
+pub mod world;

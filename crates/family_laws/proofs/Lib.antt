@@ -1,0 +1,5 @@
+mod Owning
+mod Rows
+mod Tokens
+mod Parts
+pub mod Reading

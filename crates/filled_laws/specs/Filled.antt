@@ -1,0 +1,11 @@
+-- Objects that are initialised, in linked programs (C11 6.9.2).
+use Rattle.std.specs.Prelude.{List}
+use Rattle.core_tree.specs.declared.node.Unit.{Unit}
+use Rattle.core_tree.specs.declared.node.Program.{Program}
+use Rattle.unit_link.specs.Linked.{Linked}
+use Rattle.unit_link.specs.Needs.{AreLinkable}
+use Rattle.filled_units.specs.Filled.{AreFilled}
+use Rattle.item_laws.specs.Items.{ArePlaced}
+
+abbrev pub LinkedPlaced : Type 0
+LinkedPlaced = (units : List Unit) (p : Program) → AreLinkable units → AreFilled units → Linked units p → ArePlaced p

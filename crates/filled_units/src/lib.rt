@@ -1,0 +1,2 @@
+//! Which units initialise only objects that they define: definitions alone.
+#![tactic(auto)]

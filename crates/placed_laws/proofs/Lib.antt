@@ -1,0 +1,10 @@
+pub mod Once
+pub mod Rows
+pub mod Adding
+pub mod Single
+pub mod Trees
+pub mod Names
+pub mod Climbing
+pub mod Growing
+pub mod Filling
+pub mod Whole

@@ -1,0 +1,5 @@
+// Library functions that make objects and end them, and those that look at no object.
+#![tactic(auto)]
+
+pub mod allocation;
+pub mod plain;

@@ -1,0 +1,19 @@
+-- The rows of a linked program's nodes.
+use Rattle.std.specs.Prelude.{List}
+use Rattle.c_types.specs.Made.{IsMade}
+use Rattle.core_tree.specs.declared.node.Unit.{Unit}
+use Rattle.core_tree.specs.declared.node.Program.{Program}
+use Rattle.core_tree.specs.Typed.{trees_in}
+use Rattle.core_tree.specs.Valid.{InRows, FixedStatics}
+use Rattle.unit_link.specs.Linked.{Linked}
+use Rattle.unit_link.specs.Needs.{AreLinkable}
+use Rattle.merged_laws.specs.Merged.{AreTables}
+use Rattle.filled_units.specs.Filled.{AreFilled}
+
+-- each node stands in its row, and what a static object is initialised with is fixed
+pub record AreRowsRight (p : Program) : Type 0 where
+  pub rows : InRows (trees_in p)
+  pub fixed : FixedStatics (trees_in p)
+
+abbrev pub LinkedInRows : Type 0
+LinkedInRows = (units : List Unit) (p : Program) → AreLinkable units → AreTables units → AreFilled units → Linked units p → IsMade p.types → AreRowsRight p

@@ -1,0 +1,7 @@
+mod Completing
+mod Terms
+mod Extents
+mod Moving
+pub mod Counting
+mod Tagged
+pub mod Whole

@@ -1,0 +1,4 @@
+//! What a text is: these functions do nothing, and their contracts are the laws.
+#![tactic(auto)]
+
+pub mod laws;

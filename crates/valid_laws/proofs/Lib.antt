@@ -1,0 +1,3 @@
+mod Together
+mod Measured
+pub mod Whole
