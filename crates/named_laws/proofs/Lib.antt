@@ -1,4 +1,3 @@
-pub mod Bodies
 pub mod Moved
 pub mod Members
 pub mod Defined

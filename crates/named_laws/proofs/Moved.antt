@@ -33,7 +33,7 @@ use Rattle.obj_made.specs.Uses.{is_number, literal_entity, is_literal}
 use Rattle.name_shapes.specs.Bytes.{is_letter, IsMadeOf}
 use Rattle.name_laws.specs.Named.{IsPlace, AreUnitNames, IsEntity, IsNode, ByLiteral, IsLocalObject, HasOwner, AreEntities, AreToldApart, IsText, AreNodes}
 use Rattle.named_laws.specs.Units.{IsNarrow, IsLocalOf, SamePlace, IsNamedUnit, AreNamedUnits}
-use Rattle.named_laws.proofs.Bodies.{one_body}
+use Rattle.embedded_laws.proofs.Bodies.{one_body}
 
 one_of : {A : Type 0} {a b : A} → Some a ≡ Some b → a ≡ b
 one_of h = cc
