@@ -1,4 +1,4 @@
-mod Deciding
+pub mod Deciding
 mod Together
 pub mod Entities
 pub mod Origins

@@ -1,6 +1,12 @@
 pub mod Parts
 pub mod Productions
 pub mod Primaries
+pub mod Shapes
+pub mod Stopping
+pub mod Testing
+pub mod Meant
+pub mod Typing
+pub mod Unnamed
 pub mod Walking
 pub mod Expressing
 pub mod Found

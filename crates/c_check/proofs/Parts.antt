@@ -1,78 +1,128 @@
 -- Each built row is part of the table's.
-use Rattle.std.proofs.Common.{◌≡◌, ℕ, ◌==◌, ◌^◌, nat_lt, Bool, true, false, cond, List, [], ◌∷◌, inl, inr, refl, sym, subst}
-use Rattle.std.specs.Prelude.{◌&&◌}
-use Rattle.std.proofs.lemmas.Bool.{eqb-true}
+use Rattle.std.proofs.Common.{arith, ◌≡◌, ℕ, ◌==◌, ◌<◌, nat_lt, Bool, true, false, cond, ◌||◌, List, [], ◌∷◌, Option, Some, None, inl, inr, refl, sym, ◌∙◌, ap, subst}
+use Rattle.std.specs.Prelude.{◌&&◌, nat_le, if◌then◌else◌}
+use Rattle.std.proofs.lemmas.Bool.{eqb-true, ltb-true, leb-true}
+use Rattle.std.proofs.lemmas.Bool.Decides.{eqb_tells}
 use Rattle.pta_base.specs.declared.kind.Kind.TheVariants.{NotBuilt}
-use Rattle.c_lexer.specs.declared.TokenKind.{TokenKind}
-use Rattle.c_lexer.specs.declared.TokenKind.TheVariants.{Identifier, Keyword, Punctuator, Integer, Floating, Character, Text, End}
-use Rattle.c_grammar.specs.Reads.{leaf}
+use Rattle.c_types.specs.Trees.{Ctype}
+use Rattle.c_grammar.specs.Terminals.{contains}
 use Rattle.c_grammar.specs.Productions.{p_primary}
-use Rattle.c_senses.specs.Tree.{Source, place_at, spelling_at, kind_at}
-use Rattle.c_senses.specs.Given.{Given, Fits, Refuses, given_if}
+use Rattle.c_senses.specs.Tree.{Source}
+use Rattle.c_senses.specs.Given.{Given, Fits, Refuses, ◌>>=◌}
 use Rattle.c_senses.specs.World.{World}
-use Rattle.c_senses.specs.Sense.{Sense, Nothing, fits}
-use Rattle.c_senses.specs.Objects.{text_core}
-use Rattle.c_senses.specs.Literals.{value_of_integer}
-use Rattle.c_senses.specs.Expressions as whole
-use Rattle.c_senses.specs.Expressions.{string_bytes, expression_row}
-use Rattle.c_senses.specs.Rows.{row_of}
+use Rattle.c_senses.specs.Sense.{Sense, Nothing, IsCore, IsType, IsSpecified, IsDeclarator, IsDerivation, IsParameter, IsMembers, IsValue, IsRun, IsInitial}
+use Rattle.c_senses.specs.Expressions.{expression_row}
+use Rattle.c_senses.specs.Declarators.{plain_declarator_row, base_type}
+use Rattle.c_senses.specs.Rows.{row_of, declaring_row, declarator_row, at_its_name}
 use Rattle.c_operators.specs.Between.{PartOf}
-use Rattle.c_operators.proofs.Parts.{bind_part}
-use Rattle.c_rows.specs.Literals.{integer_core, are_bytes}
-use Rattle.c_rows.specs.Built.{built_primary, built_primary_of}
-use Rattle.expression_rows.specs.Built.{built_row}
-use Rattle.c_check.specs.Built.{Scene, names_unfinished, is_expression, checked_row}
+use Rattle.c_check.specs.Built.{Scene, names_unfinished, is_expression, is_list, is_type_part, is_declarator, lists, type_parts, finished_row, unless_named, unnamed_row, checked_row}
 use Rattle.c_check.specs.Whole.{RowsArePart}
 
+off : {A : Type 0} (t : Bool) (a b : A) → t ≡ false → cond t a b ≡ b
+off true a b e = cc
+off false a b e = refl
+
+-- what is so of each of some numbers
+abbrev pub AllOf : (ℕ → Type 0) → List ℕ → Type 0
+AllOf P [] = Unit {0}
+AllOf P (k ∷ ks) = P k × AllOf P ks
+
+pub one_of : (P : ℕ → Type 0) (p : ℕ) (ks : List ℕ) → AllOf P ks → contains ks p ≡ true → P p
+one_of P p [] all e = cc
+one_of P p (k ∷ ks) all e = by (k == p) refl e (one_of P p ks all.1)
+  where
+    by : (b : Bool) → (k == p) ≡ b → (b || contains ks p) ≡ true → (contains ks p ≡ true → P p) → P p
+    by true f g rest = subst P (eqb-true k p f) all.0
+    by false f g rest = rest g
+
+apart : (p k : ℕ) → 47 < p → k < 48 → (p == k) ≡ false
+apart p k h l = elim (eqb_tells p k) [ inl q ↦ absurd (omega (arith, q.1, h, l)) | inr q ↦ q.0 ]
+
+none : (a b : Bool) → a ≡ false → b ≡ false → (a || b) ≡ false
+none true b e f = cc
+none false b e f = f
+
+no_expression : (p : ℕ) → 47 < p → (nat_le 31 p && nat_le p 47) ≡ false
+no_expression p h = by (nat_le 31 p) (nat_le p 47) refl
+  where
+    by : (a b : Bool) → nat_le p 47 ≡ b → (a && b) ≡ false
+    by true true e = absurd (let le = leb-true p 47 e in omega (arith, h, le))
+    by true false e = refl
+    by false b e = refl
+
 -- the first of two by a test
-pick : {A : Type 0} (t : Bool) (a b g : Given A) → (t ≡ true → PartOf a g) → PartOf b g → PartOf (cond t a b) g
-pick true a b g h k = h refl
-pick false a b g h k = k
+by_test : {A : Type 0} (t : Bool) (a b g : Given A) → (t ≡ true → PartOf a g) → (t ≡ false → PartOf b g) → PartOf (cond t a b) g
+by_test true a b g h k = h refl
+by_test false a b g h k = k refl
 
-where_built : {A : Type 0} (t : Bool) (at : ℕ) (g : Given A) → PartOf (given_if t NotBuilt at g) g
-where_built true at g = inl refl
-where_built false at g = inr (at, refl)
+module _ (w : World) (s : Source) (sense : ℕ → Sense) (at : ℕ) (children : List ℕ) where
+  no_row : (p : ℕ) → 47 < p → declaring_row w s sense p at children ≡ Fits Nothing
+  no_row p h =
+      off (p == 2) _ _ (apart p 2 h (omega arith)) ∙ (off (p == 3) _ _ (apart p 3 h (omega arith)) ∙ (off (p == 4) _ _ (apart p 4 h (omega arith))
+      ∙ (off (p == 6) _ _ (apart p 6 h (omega arith)) ∙ (off (p == 10) _ _ (apart p 10 h (omega arith)) ∙ (off (p == 11) _ _ (apart p 11 h (omega arith))
+      ∙ (off (p == 12) _ _ (apart p 12 h (omega arith)) ∙ (off (p == 13) _ _ (apart p 13 h (omega arith)) ∙ (off (p == 14) _ _ (apart p 14 h (omega arith))
+      ∙ (off (p == 15) _ _ (apart p 15 h (omega arith)) ∙ (off (p == 16) _ _ (apart p 16 h (omega arith)) ∙ (off (p == 18) _ _ (apart p 18 h (omega arith))
+      ∙ (off (p == 22) _ _ (apart p 22 h (omega arith)) ∙ (off (p == 23) _ _ (apart p 23 h (omega arith)) ∙ (off (p == 24) _ _ (apart p 24 h (omega arith))
+      ∙ (off (p == 25) _ _ (apart p 25 h (omega arith)) ∙ (off (p == 26) _ _ (apart p 26 h (omega arith)) ∙ (off (p == 28) _ _ (apart p 28 h (omega arith))
+      ∙ (off (p == 29) _ _ (apart p 29 h (omega arith)) ∙ (off (p == 30) _ _ (apart p 30 h (omega arith)) ∙ (off ((p == 19) || ((p == 20) || (p == 21))) _ _ (none (p == 19) ((p == 20) || (p == 21)) (apart p 19 h (omega arith)) (none (p == 20) (p == 21) (apart p 20 h (omega arith)) (apart p 21 h (omega arith))))))))))))))))))))))))
 
-module _ (w : World) (s : Source) (sense : ℕ → Sense) where
-  kind_part : (at first : ℕ) (rest : List ℕ) (kind : TokenKind) → PartOf (built_primary_of w s sense at first rest kind) (whole.primary_of w s sense at first rest kind)
-  kind_part at first rest Identifier = inl refl
-  kind_part at first rest Integer =
-      bind_part _ _ fits (where_built (nat_lt (value_of_integer (spelling_at s first)) (2 ^ 64)) at (Fits (integer_core (place_at s first) (spelling_at s first))))
-  kind_part at first rest Character = inl refl
-  kind_part at first rest Text =
-      bind_part _ _ fits (where_built (are_bytes (string_bytes w s sense (first ∷ rest))) at (Fits (text_core (place_at s first) (string_bytes w s sense (first ∷ rest)))))
-  kind_part at first rest (Punctuator p) = inl refl
-  kind_part at first rest (Keyword k) = inl refl
-  kind_part at first rest Floating = inl refl
-  kind_part at first rest End = inl refl
+  past : (p : ℕ) → 47 < p → row_of w s sense p at children ≡ Fits Nothing
+  past p h = off (nat_le 31 p && nat_le p 47) _ _ (no_expression p h) ∙ no_row p h
 
-  primary_part : (at : ℕ) (xs : List ℕ) → PartOf (built_primary w s sense at xs) (whole.primary_row w s sense at xs)
-  primary_part at [] = inl refl
-  primary_part at (first ∷ rest) = kind_part at first rest (kind_at s first)
-
-  both_primary : (t : Bool) (a b c : Given Sense) → PartOf a b → PartOf (cond t a (cond t b c)) (cond t b c)
-  both_primary true a b c p = p
-  both_primary false a b c p = inl refl
-
-  row_part : (production at : ℕ) (xs : List ℕ) → PartOf (built_row w s sense production at xs) (expression_row w s sense production at xs)
-  row_part production at xs = both_primary (production == p_primary) _ _ _ (primary_part at xs)
-
-module _ (scene : Scene) (s : Source) (sense : ℕ → Sense) where
-  unfinished_part : (t : Bool) (at : ℕ) (g h : Given Sense) → PartOf g h → PartOf (cond t (Refuses NotBuilt at) g) h
-  unfinished_part true at g h p = inr (at, refl)
-  unfinished_part false at g h p = p
-
-  within_part : (t : Bool) (at : ℕ) (a c d : Given Sense) → PartOf a c → PartOf (cond t a (Refuses NotBuilt at)) (cond t c d)
-  within_part true at a c d p = p
-  within_part false at a c d p = inr (at, refl)
-
-  checked_part : (production at : ℕ) (xs : List ℕ) → PartOf (checked_row scene s sense production at xs) (row_of scene.world s sense production at xs)
-  checked_part production at xs =
-      pick (production == leaf) _ _ _ (λ h. to leaf (Fits Nothing) h (inl refl))
-      (within_part (is_expression production) at _ _ _ (unfinished_part ((production == p_primary) && names_unfinished scene s xs) at _ _ (row_part scene.world s sense production at xs)))
+  nothing_of : (p : ℕ) → is_list p ≡ true → Fits Nothing ≡ row_of w s sense p at children
+  nothing_of p e = by (contains lists p) (nat_lt 47 p) refl refl e
     where
-      to : (p : ℕ) (g : Given Sense) → (production == p) ≡ true → PartOf g (row_of scene.world s sense p at xs) → PartOf g (row_of scene.world s sense production at xs)
-      to p g h part = subst (λ (q : ℕ). PartOf g (row_of scene.world s sense q at xs)) (sym (eqb-true production p h)) part
+      by : (a b : Bool) → contains lists p ≡ a → nat_lt 47 p ≡ b → (a || b) ≡ true → Fits Nothing ≡ row_of w s sense p at children
+      by true b f g h = one_of (λ q. Fits Nothing ≡ row_of w s sense q at children) p lists (refl, (refl, (refl, (refl, (refl, (refl, (refl, (refl, tt)))))))) f
+      by false true f g h = sym (past p (ltb-true 47 p g))
+      by false false f g h = cc
+
+  declared : (p : ℕ) → is_expression p ≡ false → declaring_row w s sense p at children ≡ row_of w s sense p at children
+  declared p e = sym (off (is_expression p) (expression_row w s sense p at children) (declaring_row w s sense p at children) e)
+
+  expressed : (p : ℕ) → is_expression p ≡ true → expression_row w s sense p at children ≡ row_of w s sense p at children
+  expressed p e = sym (ap (λ (b : Bool). cond b (expression_row w s sense p at children) (declaring_row w s sense p at children)) e)
+
+  -- a declarator
+  named_part : (x : Sense) → PartOf (unless_named at x) (at_its_name w s sense at (Fits x) (base_type w s sense at) x)
+  named_part x = by (base_type w s sense at) x
+    where
+      by : (o : Option Ctype) (x : Sense) → PartOf (unless_named at x) (at_its_name w s sense at (Fits x) o x)
+      by None (IsDeclarator None ds) = inl refl
+      by (Some base) (IsDeclarator None ds) = inl refl
+      by o (IsDeclarator (Some leaf) ds) = inr (at, refl)
+      by o Nothing = inr (at, refl)
+      by o (IsCore c) = inr (at, refl)
+      by o (IsType t) = inr (at, refl)
+      by o (IsSpecified y) = inr (at, refl)
+      by o (IsDerivation d) = inr (at, refl)
+      by o (IsParameter p) = inr (at, refl)
+      by o (IsMembers ms) = inr (at, refl)
+      by o (IsValue n) = inr (at, refl)
+      by o (IsRun cs) = inr (at, refl)
+      by o (IsInitial c n) = inr (at, refl)
+
+  then_part : (g : Given Sense) → PartOf (g >>= unless_named at) (g >>= (λ x. at_its_name w s sense at (Fits x) (base_type w s sense at) x))
+  then_part (Fits x) = named_part x
+  then_part (Refuses kind node) = inl refl
+
+  declarator_is : (p : ℕ) → is_declarator p ≡ true → declarator_row w s sense at children ≡ row_of w s sense p at children
+  declarator_is p e = one_of (λ q. declarator_row w s sense at children ≡ row_of w s sense q at children) p (19 ∷ 20 ∷ 21 ∷ []) (refl, (refl, (refl, tt))) e
+
+  declarator_part : (p : ℕ) → is_declarator p ≡ true → PartOf (unnamed_row w s sense at children) (row_of w s sense p at children)
+  declarator_part p e = subst (PartOf (unnamed_row w s sense at children)) (declarator_is p e) (then_part (plain_declarator_row w s sense at children))
+
+module _ (scene : Scene) (s : Source) (sense : ℕ → Sense) (p at : ℕ) (xs : List ℕ) where
+  expression_part : is_expression p ≡ true → PartOf (finished_row scene s sense p at xs) (row_of scene.world s sense p at xs)
+  expression_part e =
+      by_test ((p == p_primary) && names_unfinished scene s xs) (Refuses NotBuilt at) _ _ (λ t. inr (at, refl)) (λ t. inl (expressed scene.world s sense at xs p e))
+
+  checked_part : PartOf (checked_row scene s sense p at xs) (row_of scene.world s sense p at xs)
+  checked_part =
+      by_test (is_list p) _ _ _ (λ e. inl (nothing_of scene.world s sense at xs p e)) (λ a.
+      by_test (is_expression p) _ _ _ expression_part (λ b.
+      by_test (is_type_part p) _ _ _ (λ e. inl (declared scene.world s sense at xs p b)) (λ c.
+      by_test (is_declarator p) _ (Refuses NotBuilt at) _ (declarator_part scene.world s sense at xs p) (λ d. inr (at, refl)))))
 
 pub rows_part : RowsArePart
 rows_part scene s sense production at children = checked_part scene s sense production at children

@@ -1,16 +1,14 @@
 -- Rows by their productions.
-use Rattle.std.proofs.Common.{arith, ◌≡◌, ◌≢◌, ◌<◌, ◌≤◌, ℕ, ◌==◌, nat_le, Bool, true, false, cond, List, inl, inr, eqb, refl, ap, ◌∙◌}
-use Rattle.std.specs.Prelude.{◌&&◌}
-use Rattle.std.proofs.lemmas.Bool.{le-leb, lt-leb}
-use Rattle.std.proofs.lemmas.Bool.Decides.{eqb_tells}
+use Rattle.std.proofs.Common.{◌≡◌, ℕ, ◌==◌, Bool, true, false, cond, List, refl, ap, ◌∙◌}
+use Rattle.std.specs.Prelude.{◌&&◌, if◌then◌else◌}
 use Rattle.pta_base.specs.declared.kind.Kind.TheVariants.{NotBuilt}
-use Rattle.c_grammar.specs.Reads.{leaf}
 use Rattle.c_grammar.specs.Productions.{p_primary}
 use Rattle.c_senses.specs.Given.{Given, Fits, Refuses}
 use Rattle.c_senses.specs.Tree.{Source}
 use Rattle.c_senses.specs.Sense.{Sense, Nothing}
-use Rattle.expression_rows.specs.Built.{built_row}
-use Rattle.c_check.specs.Built.{Scene, names_unfinished, is_expression, finished_row, checked_row}
+use Rattle.c_senses.specs.Expressions.{expression_row}
+use Rattle.c_senses.specs.Rows.{declaring_row}
+use Rattle.c_check.specs.Built.{Scene, names_unfinished, is_expression, is_list, is_type_part, is_declarator, finished_row, unnamed_row, checked_row}
 
 past : (t : Bool) (a b : Given Sense) → t ≡ false → cond t a b ≡ b
 past t a b e = ap (λ (x : Bool). cond x a b) e
@@ -18,39 +16,36 @@ past t a b e = ap (λ (x : Bool). cond x a b) e
 taken : (t : Bool) (a b : Given Sense) → t ≡ true → cond t a b ≡ a
 taken t a b e = ap (λ (x : Bool). cond x a b) e
 
-apart : (n k : ℕ) → n ≢ k → eqb n k ≡ false
-apart n k ne = elim (eqb_tells n k) [ inl p ↦ absurd (ne p.1) | inr p ↦ p.0 ]
+module _ (scene : Scene) (s : Source) (sense : ℕ → Sense) (production at : ℕ) (xs : List ℕ) where
+  -- an expression whose name is finished, and one whose isn't
+  pub finished : ((production == p_primary) && names_unfinished scene s xs) ≡ false → finished_row scene s sense production at xs ≡ expression_row scene.world s sense production at xs
+  finished e = past ((production == p_primary) && names_unfinished scene s xs) (Refuses NotBuilt at) _ e
 
-and_true : (a b : Bool) → a ≡ true → b ≡ true → (a && b) ≡ true
-and_true true b e f = f
-and_true false b e f = e
+  pub unfinished : ((production == p_primary) && names_unfinished scene s xs) ≡ true → finished_row scene s sense production at xs ≡ Refuses NotBuilt at
+  unfinished e = taken ((production == p_primary) && names_unfinished scene s xs) (Refuses NotBuilt at) _ e
 
-module _ (scene : Scene) (s : Source) (sense : ℕ → Sense) (production at : ℕ) (xs : List ℕ) (inner : production ≢ leaf) where
-  module _ (low : 31 ≤ production) (high : production ≤ 47) where
-    within : is_expression production ≡ true
-    within = and_true (nat_le 31 production) (nat_le production 47) (le-leb 31 production low) (le-leb production 47 high)
+  abbrev others : Given Sense
+  others = if is_declarator production then unnamed_row scene.world s sense at xs else Refuses NotBuilt at
 
-    finished : checked_row scene s sense production at xs ≡ finished_row scene s sense production at xs
-    finished = past (production == leaf) _ _ (apart production leaf inner) ∙ taken (is_expression production) _ (Refuses NotBuilt at) within
+  abbrev parts : Given Sense
+  parts = if is_type_part production then declaring_row scene.world s sense production at xs else others
 
-    -- an expression whose name is finished
-    pub built_checked : ((production == p_primary) && names_unfinished scene s xs) ≡ false → checked_row scene s sense production at xs ≡ built_row scene.world s sense production at xs
-    built_checked e = finished ∙ past ((production == p_primary) && names_unfinished scene s xs) (Refuses NotBuilt at) _ e
+  abbrev inner : Given Sense
+  inner = if is_expression production then finished_row scene s sense production at xs else parts
 
-    -- one whose isn't
-    pub open_checked : ((production == p_primary) && names_unfinished scene s xs) ≡ true → checked_row scene s sense production at xs ≡ Refuses NotBuilt at
-    open_checked e = finished ∙ taken ((production == p_primary) && names_unfinished scene s xs) (Refuses NotBuilt at) _ e
+  pub list_checked : is_list production ≡ true → checked_row scene s sense production at xs ≡ Fits Nothing
+  list_checked a = taken (is_list production) (Fits Nothing) inner a
 
-  and_false : (a b : Bool) → b ≡ false → (a && b) ≡ false
-  and_false true b e = e
-  and_false false b e = refl
+  pub expression_checked : is_list production ≡ false → is_expression production ≡ true → checked_row scene s sense production at xs ≡ finished_row scene s sense production at xs
+  expression_checked a b = past (is_list production) (Fits Nothing) inner a ∙ taken (is_expression production) _ parts b
 
-  outside : is_expression production ≡ false → checked_row scene s sense production at xs ≡ Refuses NotBuilt at
-  outside e = past (production == leaf) _ _ (apart production leaf inner) ∙ past (is_expression production) (finished_row scene s sense production at xs) (Refuses NotBuilt at) e
+  pub part_checked : is_list production ≡ false → is_expression production ≡ false → is_type_part production ≡ true → checked_row scene s sense production at xs ≡ declaring_row scene.world s sense production at xs
+  part_checked a b c = past (is_list production) (Fits Nothing) inner a ∙ (past (is_expression production) _ parts b ∙ taken (is_type_part production) _ others c)
 
-  -- none of an expression's
-  pub below_checked : production < 31 → checked_row scene s sense production at xs ≡ Refuses NotBuilt at
-  below_checked h = outside (ap (λ (t : Bool). t && nat_le production 47) (lt-leb 31 production h))
+  pub declarator_checked : is_list production ≡ false → is_expression production ≡ false → is_type_part production ≡ false → is_declarator production ≡ true → checked_row scene s sense production at xs ≡ unnamed_row scene.world s sense at xs
+  declarator_checked a b c d =
+      past (is_list production) (Fits Nothing) inner a ∙ (past (is_expression production) _ parts b ∙ (past (is_type_part production) _ others c ∙ taken (is_declarator production) _ (Refuses NotBuilt at) d))
 
-  pub above_checked : 47 < production → checked_row scene s sense production at xs ≡ Refuses NotBuilt at
-  above_checked h = outside (and_false (nat_le 31 production) (nat_le production 47) (lt-leb production 47 h))
+  pub other_checked : is_list production ≡ false → is_expression production ≡ false → is_type_part production ≡ false → is_declarator production ≡ false → checked_row scene s sense production at xs ≡ Refuses NotBuilt at
+  other_checked a b c d =
+      past (is_list production) (Fits Nothing) inner a ∙ (past (is_expression production) _ parts b ∙ (past (is_type_part production) _ others c ∙ past (is_declarator production) _ (Refuses NotBuilt at) d))

@@ -1,5 +1,5 @@
 -- Rows one after another.
-use Rattle.std.proofs.Common.{arith, ◌≡◌, ℕ, zero, suc, ◌+◌, ◌<◌, ◌≤◌, List, [], ◌∷◌, ◌++◌, Option, Some, None, IfSome, All, Err, false, cond, length, get_or, take, slice_get, inl, inr, refl, sym, ap, ◌∙◌, subst}
+use Rattle.std.proofs.Common.{arith, ◌≡◌, ℕ, zero, suc, ◌+◌, ◌<◌, ◌≤◌, List, [], ◌∷◌, ◌++◌, Option, Some, None, IfSome, All, Err, true, false, cond, length, get_or, take, slice_get, inl, inr, refl, sym, ap, ◌∙◌, subst}
 use Rattle.std.proofs.lemmas.List.Elements.{All-head, All-tail, All-weaker, All-push, All-same}
 use Rattle.std.proofs.lemmas.Bool.Decides.{eqb_tells}
 use Rattle.std.proofs.lemmas.Option.{slice_get_within, get_or_from_slice_get, slice_get-get_or}
@@ -11,13 +11,13 @@ use Rattle.core_tree.specs.declared.node.Entity.{Entity}
 use Rattle.c_types.specs.Trees.{Ctype}
 use Rattle.c_grammar.specs.declared.trees.SyntaxNode.{SyntaxNode}
 use Rattle.c_senses.specs.World as world
-use Rattle.c_senses.specs.Given.{Given, Fits}
+use Rattle.c_senses.specs.Given.{Given, Fits, Refuses}
 use Rattle.c_senses.specs.Tree.{Source, paired, production_of, children_of, production_at, children_at}
 use Rattle.c_senses.specs.Sense.{Sense, Nothing, sense_in}
 use Rattle.core_nodes.specs.Standing.{Builds}
 use Rattle.core_nodes.specs.declared.fault.CheckFault.{CheckFault}
 use Rattle.core_nodes.specs.declared.fault.CheckFault.TheVariants.{BadOperand, Unsupported, OutOfMemory}
-use Rattle.core_nodes.proofs.Growing.{knows_on}
+use Rattle.core_nodes.proofs.Growing.{knows_on, builds_on}
 use Rattle.c_results.specs.declared.made.Made.{Made}
 use Rattle.c_results.specs.declared.made.Made.TheVariants as made
 use Rattle.c_results.specs.Standing.{sense_made, senses_made, IsWithin, Rowed}
@@ -25,9 +25,13 @@ use Rattle.c_results.proofs.Keeping.{mades_kept, withins_kept}
 use Rattle.c_check.specs.declared.known.Meaning.{Meaning}
 use Rattle.c_check.specs.declared.known.Meaning.TheVariants.{Entity as EntityMeant, TypeName, Tag, Value}
 use Rattle.c_check.specs.Around.{IsMeant, IsKnown, Fitting, known_at, meant, meaning_seen, entity_meaning, object_or_function, is_open, is_open_entity, is_open_type, is_local, may_name_entity, own_name_in, name_of, scene_of}
-use Rattle.c_check.specs.Built.{Scene, checked_row, AreChecked}
+use Rattle.c_check.specs.Built.{Scene, is_declarator, checked_row, AreChecked}
+use Rattle.c_check.specs.Limits.{AreTested, IsTested, RowedOr}
+use Rattle.pta_base.specs.declared.kind.Kind.{Kind}
+use Rattle.pta_base.specs.declared.kind.Kind.TheVariants.{Operand}
+use Rattle.unit_limits.specs.Small.{IsSmallTable}
 use Rattle.c_check.specs.Nothings.{AreNothing}
-use Rattle.c_check.specs.Runs.{Answered}
+use Rattle.c_check.specs.Runs.{StopsAt, IsLargeAt, Answered}
 
 -- what is known of a use has its entity and its type in range
 known_meant : (u : Unit) (list : List (ℕ × Meaning)) (node : ℕ) (m : Meaning) → All (λ k. IsMeant u k.1) list → known_at list node ≡ Some m → IsMeant u m
@@ -179,9 +183,28 @@ module _ (scene : Scene) (s : Source) (start end at : ℕ) (u v : Unit) (results
       sym (ap (λ (p : ℕ). checked_row scene s (sense_in (senses_made u results)) p at (children_at s at)) (ap production_of there) ∙ ap (checked_row scene s (sense_in (senses_made u results)) n.production at) (ap children_of there)) ∙ e in
       (n, ap (slice_get s.nodes) so_many ∙ there, ap (λ (i : ℕ). checked_row scene s (sense_in (senses_made u results)) n.production i n.children.items) so_many ∙ row)
 
-  pub refused : (f : CheckFault) → Rowed v (Err f) (checked_row scene s (sense_in (senses_made u results)) (production_at s at) at (children_at s at)) → Answered scene s start end v (Err f)
-  refused (BadOperand k) m = let found = here _ m in record { senses = senses_made u results; checked = built; begun = omega (arith, so_many, begun); node = found.0; there = found.1; refuses = found.2 }
-  refused (Unsupported kind k) m = let found = here _ m in record { senses = senses_made u results; checked = built; begun = omega (arith, so_many, begun); node = found.0; there = found.1; refuses = found.2 }
+  stops : (kind : Kind) (k : ℕ) → checked_row scene s (sense_in (senses_made u results)) (production_at s at) at (children_at s at) ≡ Refuses kind k → StopsAt scene s start kind k
+  stops kind k e = let found = here (Refuses kind k) e in record { senses = senses_made u results; checked = built; begun = omega (arith, so_many, begun); node = found.0; there = found.1; refuses = found.2 }
+
+  is_large : (k : ℕ) → k ≡ at → is_declarator (production_at s at) ≡ true → (IsSmallTable v.types → ⊥) → IsLargeAt scene s start v k
+  is_large k e declares large =
+      let found = there_is s.nodes at parsed in
+      let there : slice_get s.nodes at ≡ Some found.0 = found.1 in
+      record {
+        senses = senses_made u results;
+        checked = built;
+        begun = omega (arith, so_many, begun);
+        here = e ∙ sym so_many;
+        node = found.0;
+        there = ap (slice_get s.nodes) so_many ∙ there;
+        declarator = sym (ap (λ (p : ℕ). is_declarator p) (ap production_of there)) ∙ declares;
+        large = large;
+      }
+
+  pub refused : (f : CheckFault) → RowedOr v (Err f) (checked_row scene s (sense_in (senses_made u results)) (production_at s at) at (children_at s at)) ((is_declarator (production_at s at) ≡ true) × (IsSmallTable v.types → ⊥)) at → Answered scene s start end v (Err f)
+  refused (BadOperand k) m = stops Operand k m
+  refused (Unsupported kind k) (inl m) = inl (stops kind k m)
+  refused (Unsupported kind k) (inr m) = inr (m.0, is_large k m.1 m.2.0 m.2.1)
   refused OutOfMemory m = tt
 
 -- one result more
@@ -217,3 +240,8 @@ fits_itself u owner list uses = record {
   own_name = refl;
   may_call = refl;
 }
+
+-- the types that were tested, once a unit is built on
+pub tested_on : (u v : Unit) (n : ℕ) → IsTested u n → Builds u v → IsTested v n
+tested_on u v n (inl none) b = inl none
+tested_on u v n (inr t) b = inr (record { earlier = t.earlier; small = t.small; built = builds_on t.earlier u v t.built b; long = t.long })

@@ -1,15 +1,18 @@
--- The rows of expressions as far as they are built over what is known before an expression (C11 6.5): all, but names whose types other
--- declarations may complete say that they aren't, as do constants and strings that no reading of a text takes.
-use Rattle.std.specs.Prelude.{ℕ, ◌==◌, ◌≡◌, ◌<◌, ◌≤◌, Bool, false, ◌&&◌, nat_le, List, [], ◌∷◌, take, Some, slice_get, if◌then◌else◌}
+-- The rows over what is known before an expression (C11 6.5, 6.7.7): those of expressions and of type names are the table's. Names whose types
+-- other declarations may complete say that they aren't built, as do declarators with a name, and all that declares tags, enumerators and
+-- members, initialises, or is a declaration or a statement.
+use Rattle.std.specs.Prelude.{ℕ, ◌==◌, ◌≡◌, ◌<◌, ◌≤◌, Bool, true, false, ◌&&◌, ◌||◌, nat_lt, nat_le, List, [], ◌∷◌, take, Some, None, slice_get, if◌then◌else◌}
 use Rattle.pta_base.specs.declared.kind.Kind.TheVariants.{NotBuilt}
 use Rattle.c_grammar.specs.declared.trees.SyntaxNode.{SyntaxNode}
-use Rattle.c_grammar.specs.Reads.{leaf}
-use Rattle.c_grammar.specs.Productions.{p_expression, p_primary}
+use Rattle.c_grammar.specs.Terminals.{contains}
+use Rattle.c_grammar.specs.Productions.{p_unit, p_external, p_assert, p_asm_name, p_specs, p_storage, p_function, p_qualifier, p_align, p_type, p_enumerators, p_declarator, p_abstract, p_either, p_suffix, p_parameter, p_type_name, p_item, p_expression, p_primary}
 use Rattle.c_senses.specs.Tree.{Source, is_identifier, kind_at}
-use Rattle.c_senses.specs.Given.{Given, Fits, Refuses}
+use Rattle.c_senses.specs.Given.{Given, Fits, Refuses, ◌>>=◌}
 use Rattle.c_senses.specs.World.{World}
-use Rattle.c_senses.specs.Sense.{Sense, Nothing, sense_in}
-use Rattle.expression_rows.specs.Built.{built_row}
+use Rattle.c_senses.specs.Sense.{Sense, Nothing, IsDeclarator, sense_in}
+use Rattle.c_senses.specs.Expressions.{expression_row}
+use Rattle.c_senses.specs.Declarators.{plain_declarator_row}
+use Rattle.c_senses.specs.Rows.{declaring_row}
 
 -- what is around an expression, and which uses name something whose other declarations may complete its type: that isn't built
 pub record Scene : Type 0 where
@@ -23,16 +26,45 @@ names_unfinished scene s (first ∷ rest) = is_identifier (kind_at s first) && s
 abbrev pub is_expression : ℕ → Bool
 is_expression production = nat_le p_expression production && nat_le production p_primary
 
+-- the productions of nodes that stand for nothing of their own, and a leaf's
+abbrev pub lists : List ℕ
+lists = p_unit ∷ p_external ∷ p_asm_name ∷ p_storage ∷ p_function ∷ p_qualifier ∷ p_enumerators ∷ p_item ∷ []
+
+abbrev pub is_list : ℕ → Bool
+is_list production = contains lists production || nat_lt p_primary production
+
+-- a part of a type name, or an assertion; a declarator
+abbrev pub type_parts : List ℕ
+type_parts = p_assert ∷ p_specs ∷ p_align ∷ p_type ∷ p_suffix ∷ p_parameter ∷ p_type_name ∷ []
+
+abbrev pub is_type_part : ℕ → Bool
+is_type_part production = contains type_parts production
+
+abbrev pub is_declarator : ℕ → Bool
+is_declarator production = contains (p_declarator ∷ p_abstract ∷ p_either ∷ []) production
+
 -- an expression's row
 abbrev pub finished_row : Scene → Source → (ℕ → Sense) → ℕ → ℕ → List ℕ → Given Sense
 finished_row scene s sense production at children =
-    if (production == p_primary) && names_unfinished scene s children then Refuses NotBuilt at else built_row scene.world s sense production at children
+    if (production == p_primary) && names_unfinished scene s children then Refuses NotBuilt at else expression_row scene.world s sense production at children
 
--- a leaf stands for nothing, and no other production than those of expressions is built
+-- a declarator's row, where it declares no name
+abbrev pub is_unnamed : Sense → Bool
+is_unnamed (IsDeclarator None ds) = true
+is_unnamed x = false
+
+abbrev pub unless_named : ℕ → Sense → Given Sense
+unless_named at x = if is_unnamed x then Fits x else Refuses NotBuilt at
+
+abbrev pub unnamed_row : World → Source → (ℕ → Sense) → ℕ → List ℕ → Given Sense
+unnamed_row w s sense at children = plain_declarator_row w s sense at children >>= unless_named at
+
 abbrev pub checked_row : Scene → Source → (ℕ → Sense) → ℕ → ℕ → List ℕ → Given Sense
 checked_row scene s sense production at children =
-    if production == leaf then Fits Nothing
+    if is_list production then Fits Nothing
     else if is_expression production then finished_row scene s sense production at children
+    else if is_type_part production then declaring_row scene.world s sense production at children
+    else if is_declarator production then unnamed_row scene.world s sense at children
     else Refuses NotBuilt at
 
 -- the senses of the nodes up to some node, each from a start on what its row gives over those before it; before the start nothing stands

@@ -1,6 +1,7 @@
 pub mod Built
 pub mod Around
 pub mod Lookups
+pub mod Limits
 pub mod Runs
 pub mod Nothings
 pub mod Whole

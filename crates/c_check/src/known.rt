@@ -1,5 +1,7 @@
 // What is known of the declarations before an expression.
+use crate::lookups::Lookups;
 use c_types::term::TypeId;
+use pta_base::Listing;
 
 /// What a declaration gives: the entity of an object or a function, the type that a typedef names, a tag, or the value
 /// of an enumerator.
@@ -17,4 +19,13 @@ pub enum Meaning {
 pub struct Known {
     pub owner: Option<u32>,
     pub list: Vec<(u32, Meaning)>,
+}
+
+/// What is known around an expression: where declarations are found, the own name of the function whose body is read, and which unions hold
+/// a structure that ends in an array without a length.
+#[derive(Drop)]
+pub struct Around {
+    pub found: Lookups,
+    pub own_name: Option<Listing<u8>>,
+    pub flags: Vec<bool>,
 }

@@ -1,12 +1,15 @@
-//! From expressions of C11 to typed core trees.
+//! From expressions of C11, and the type names in them, to typed core trees.
 #![tactic(auto)]
 
+mod declarators;
 mod expression;
 mod known;
 pub mod laws;
+mod limits;
 mod lookups;
 mod names;
 mod rows;
+mod types;
 mod walk;
 
 pub use core_nodes::CheckFault;

@@ -1,44 +1,117 @@
 // The row of a node, by its production.
 #![tactic(auto)]
 
-ghost use Rattle.std.specs.Prelude.{◌≡◌, ℕ, List, None, IfOk, IfSome, All};
+ghost use Rattle.std.specs.Prelude.{◌≡◌, ◌<◌, ℕ, List, None, true, length, IfOk, IfSome, All};
 ghost use Rattle.core_tree.specs.declared.node.Unit.{Unit as UnitSpec};
 ghost use Rattle.std.specs.Option.{option_copied};
 ghost use Rattle.c_lexer.specs.declared.TokenKind.TheVariants.{Identifier};
+ghost use Rattle.c_declarators.specs.Limited.{AreFlexible};
 ghost use Rattle.c_senses.specs.Tree.{production_at, children_at, kind_at};
 ghost use Rattle.c_senses.specs.Sense.{sense_in};
 ghost use Rattle.c_check.specs.Around.{Fitting, IsKnown, IsMeant, meant, first_meant, own_name_in};
 ghost use Rattle.c_check.specs.Built as spec;
 ghost use Rattle.c_check.specs.Built.{Scene};
+ghost use Rattle.c_check.specs.Limits.{IsTested, RowedOr};
 ghost use Rattle.c_check.specs.Lookups.{AreLookups};
 ghost use Rattle.core_nodes.specs.Standing.{IsReady, Builds};
 ghost use Rattle.c_results.specs.Standing.{sense_made, senses_made, IsWithin, Rowed};
-ghost use Rattle.tree_reads.specs.Sources.{source_read};
+ghost use Rattle.expression_rows.specs.Readable.{IsReadable};
+ghost use Rattle.tree_reads.specs.Sources.{source_read, source_in};
+ghost use Rattle.unit_limits.specs.Small.{IsSmallTable};
 ghost use Rattle.whole_rows.specs.Constants.{SenseHasRows, HaveRowsMade};
 
-use crate::known::{Known, Meaning};
-use crate::lookups::{Lookups, meaning_of};
+use crate::declarators::declarator;
+use crate::known::{Around, Known, Meaning};
+use crate::lookups::meaning_of;
 use crate::names::{is_unfinished_meaning, named_of};
+use crate::types::type_part;
 use c_lexer::TokenKind;
 use c_results::Made;
 use core_nodes::CheckFault;
 use core_tree::node::Unit;
 use expression_rows::row as expression_row;
-use pta_base::{Kind, Listing};
+use pta_base::Kind;
 use std::alloc::Global;
 use tree_reads::{Syntax, children_of, kind_of, production_of};
 
-const LEAF: u32 = 4294967295;
+const P_UNIT: u32 = 0;
+
+const P_EXTERNAL: u32 = 1;
+
+const P_ASSERT: u32 = 4;
+
+const P_ASM_NAME: u32 = 5;
+
+const P_SPECS: u32 = 6;
+
+const P_STORAGE: u32 = 7;
+
+const P_FUNCTION: u32 = 8;
+
+const P_QUALIFIER: u32 = 9;
+
+const P_ALIGN: u32 = 10;
+
+const P_TYPE: u32 = 11;
+
+const P_ENUMERATORS: u32 = 17;
+
+const P_DECLARATOR: u32 = 19;
+
+const P_ABSTRACT: u32 = 20;
+
+const P_EITHER: u32 = 21;
+
+const P_SUFFIX: u32 = 22;
+
+const P_PARAMETER: u32 = 23;
+
+const P_TYPE_NAME: u32 = 24;
+
+const P_ITEM: u32 = 27;
 
 const P_EXPRESSION: u32 = 31;
 
 const P_PRIMARY: u32 = 47;
 
-/// What is known around an expression: where declarations are found, and the own name of the function whose body is read.
-#[derive(Drop)]
-pub struct Around {
-    pub found: Lookups,
-    pub own_name: Option<Listing<u8>>,
+// Whether a node stands for nothing of its own: a leaf, or a production that only lists others.
+fn is_list(production: u32) -> bool
+    ensures { result ≡ spec.is_list production }
+{
+    match production {
+        P_UNIT | P_EXTERNAL | P_ASM_NAME => true,
+        P_STORAGE | P_FUNCTION | P_QUALIFIER => true,
+        P_ENUMERATORS | P_ITEM => true,
+        _ => production > P_PRIMARY,
+    }
+}
+
+// Whether a node is an expression.
+fn is_expression(production: u32) -> bool
+    ensures { result ≡ spec.is_expression production }
+{
+    P_EXPRESSION <= production && production <= P_PRIMARY
+}
+
+// Whether a node is a part of a type name, or an assertion.
+fn is_type_part(production: u32) -> bool
+    ensures { result ≡ spec.is_type_part production }
+{
+    match production {
+        P_ASSERT | P_SPECS | P_ALIGN | P_TYPE => true,
+        P_SUFFIX | P_PARAMETER | P_TYPE_NAME => true,
+        _ => false,
+    }
+}
+
+// Whether a node is a declarator.
+fn is_declarator(production: u32) -> bool
+    ensures { result ≡ spec.is_declarator production }
+{
+    match production {
+        P_DECLARATOR | P_ABSTRACT | P_EITHER => true,
+        _ => false,
+    }
 }
 
 // What the first leaf of a primary means, where that is an identifier.
@@ -88,9 +161,8 @@ fn first_meaning(
     meaning_of_first(syntax, around, known, children[0])
 }
 
-/// What a node stands for, by its production (C11 6.5); a production that is none of an expression's isn't built, and neither is a name
-/// whose type other declarations may complete.
-pub fn row(
+// What an expression's node stands for (C11 6.5); a name whose type other declarations may complete isn't built.
+fn expression(
     alloc: Global,
     unit: &mut Unit,
     syntax: &Syntax,
@@ -111,20 +183,12 @@ pub fn row(
         AreLookups around.now.found known.now.list.items uses →
         around.now.own_name ≡ own_name_in unit.old known.now.owner →
         Fitting scene unit.old known.now.owner known.now.list.items uses →
-        let s = source_read syntax.now in
+        let s = source_in syntax.now uses in
+        IsReadable s at →
         let sense = sense_in (senses_made unit.old results.now) in
-        Rowed unit.new result (spec.checked_row scene s sense (production_at s at) at (children_at s at)) }
+        Rowed unit.new result (spec.finished_row scene s sense (production_at s at) at (children_at s at)) }
 {
     let production = production_of(syntax, at);
-    if production == LEAF {
-        return Ok(Made::Nothing);
-    }
-    if production < P_EXPRESSION {
-        return Err(CheckFault::Unsupported(Kind::NotBuilt, at));
-    }
-    if production > P_PRIMARY {
-        return Err(CheckFault::Unsupported(Kind::NotBuilt, at));
-    }
     let meaning = first_meaning(syntax, around, known, production, children_of(syntax, at));
     if is_unfinished_meaning(unit, meaning) {
         return Err(CheckFault::Unsupported(Kind::NotBuilt, at));
@@ -135,4 +199,54 @@ pub fn row(
         own_name: own_name_of(around),
     };
     expression_row(alloc, unit, syntax, results, &looked_up, at)
+}
+
+/// What a node stands for, by its production (C11 6.5, 6.7.7). Not built are a name whose type other declarations may complete, a
+/// declarator with a name or where the unit's types aren't within the limits, and a node that is none of an expression's or a type name's.
+pub fn row(
+    alloc: Global,
+    unit: &mut Unit,
+    syntax: &Syntax,
+    results: &[Made],
+    around: &Around,
+    known: &Known,
+    tested: &mut u32,
+    at: u32,
+) -> Result<Made, CheckFault>
+    requires ready { IsReady unit.old }
+    requires results { All (IsWithin unit.old) results.now }
+    requires rows { HaveRowsMade unit.old results.now }
+    requires known { IsKnown unit.old known.now.list.items }
+    requires tested { IsTested unit.old tested.old }
+    requires at { at < length syntax.now.tree.now.nodes.items }
+    ensures ready { IsReady unit.new }
+    ensures builds { Builds unit.old unit.new }
+    ensures within { IfOk result (IsWithin unit.new) }
+    ensures rows { IfOk result (λ m. SenseHasRows (sense_made unit.new m)) }
+    ensures tested { IsTested unit.new tested.new }
+    ensures row { (scene : Scene) (uses : List (ℕ × ℕ)) →
+        AreLookups around.now.found known.now.list.items uses →
+        around.now.own_name ≡ own_name_in unit.old known.now.owner →
+        AreFlexible scene.world around.now.flags.items →
+        Fitting scene unit.old known.now.owner known.now.list.items uses →
+        let s = source_in syntax.now uses in
+        IsReadable s at →
+        let sense = sense_in (senses_made unit.old results.now) in
+        RowedOr unit.new result (spec.checked_row scene s sense (production_at s at) at (children_at s at))
+        ((spec.is_declarator (production_at s at) ≡ true) × (IsSmallTable unit.new.types → ⊥)) at }
+{
+    let production = production_of(syntax, at);
+    if is_list(production) {
+        return Ok(Made::Nothing);
+    }
+    if is_expression(production) {
+        return expression(alloc, unit, syntax, results, around, known, at);
+    }
+    if is_type_part(production) {
+        return type_part(alloc, unit, syntax, results, around, known, at);
+    }
+    if is_declarator(production) {
+        return declarator(alloc, unit, syntax, results, around, tested, at);
+    }
+    Err(CheckFault::Unsupported(Kind::NotBuilt, at))
 }

@@ -2,20 +2,24 @@
 #![tactic(auto)]
 
 ghost use Rattle.std.specs.Prelude.{◌≡◌, ◌<◌, ◌≤◌, length, IfOk, IfSome, IsOkUnless, List, ℕ};
+ghost use Rattle.c_declarators.specs.Limited.{AreFlexible};
+ghost use Rattle.c_senses.specs.World.{World};
+ghost use Rattle.core_tree.specs.declared.node.Unit.{Unit as UnitSpec};
+ghost use Rattle.expression_rows.specs.Readable.{IsReadable};
 ghost use Rattle.c_check.specs.Around.{Fitting, IsKnown, scene_of, own_name_in};
 ghost use Rattle.c_senses.specs.Names.{source_with};
 ghost use Rattle.c_check.specs.Built.{Scene};
 ghost use Rattle.c_check.specs.Lookups.{AreLookups};
 ghost use Rattle.c_check.specs.Runs.{Answered};
 ghost use Rattle.c_check.specs.Nothings.{AreNothing};
-ghost use Rattle.core_nodes.specs.Standing.{IsReady, Builds};
+ghost use Rattle.core_nodes.specs.Standing.{IsReady, Builds, Knows};
 ghost use Rattle.c_results.specs.Standing.{IsWithin};
 ghost use Rattle.tree_reads.specs.Sources.{source_in};
 
-use crate::known::Known;
+use crate::known::{Around, Known};
 use crate::lookups::lookups_of;
 use crate::names::own_name;
-use crate::rows::{Around, row};
+use crate::rows::row;
 use c_grammar::Tree;
 use c_lexer::Tokens;
 use c_results::{Made, node_at};
@@ -24,6 +28,7 @@ use core_nodes::CheckFault;
 use core_tree::node::Unit;
 use std::alloc::{AllocError, Global};
 use tree_reads::Syntax;
+use union_flags::union_flags;
 
 // So many nodes that stand for nothing.
 fn nothings(alloc: Global, count: u32) -> Result<Vec<Made>, AllocError>
@@ -57,12 +62,16 @@ fn walk_nodes(
     ensures answer { (scene : Scene) (uses : List (ℕ × ℕ)) →
         AreLookups around.now.found known.now.list.items uses →
         around.now.own_name ≡ own_name_in unit.old known.now.owner →
+        AreFlexible scene.world around.now.flags.items →
         Fitting scene unit.old known.now.owner known.now.list.items uses →
+        ((at : ℕ) → IsReadable (source_in syntax.now uses) at) →
         Answered scene (source_in syntax.now uses) start end unit.new result }
 {
     let mut results = nothings(alloc, start)?;
+    let mut tested = 0;
     for at in start..end {
-        match row(alloc, unit, syntax, results.as_slice(), around, known, at) {
+        let before = results.as_slice();
+        match row(alloc, unit, syntax, before, around, known, &mut tested, at) {
             Ok(made) => results.push(made)?,
             Err(fault) => return Err(fault),
         }
@@ -74,11 +83,20 @@ fn walk_nodes(
 fn around(alloc: Global, unit: &Unit, bound: &Bound, known: &Known) -> Result<Around, CheckFault>
     ensures found { IfOk result (λ around. AreLookups around.found known.now.list.items bound.now.uses.items) }
     ensures own { IfOk result (λ around. around.own_name ≡ own_name_in unit.now known.now.owner) }
+    ensures flags { (w : World) → Knows w unit.now → IfOk result (λ around. AreFlexible w around.flags.items) }
     ensures memory { IsOkUnless result CheckFault.OutOfMemory }
 {
     let found = lookups_of(alloc, bound.uses.as_slice(), known.list.as_slice())?;
     let own_name = own_name(alloc, unit, known.owner)?;
-    Ok(Around { found, own_name })
+    let flags = match union_flags(alloc, &unit.types) {
+        Ok(flags) => flags,
+        Err(_) => return Err(CheckFault::OutOfMemory),
+    };
+    Ok(Around {
+        found,
+        own_name,
+        flags,
+    })
 }
 
 /// The core node of an expression's last node, if it has one, over the nodes from a start up to an end.
@@ -99,8 +117,9 @@ pub fn walked(
     ensures ready { IsReady unit.new }
     ensures builds { Builds unit.old unit.new }
     ensures within { IfOk result (λ r. IfSome r (λ k. k < length unit.new.nodes.items)) }
-    ensures answer { Answered (scene_of unit.old known.now.owner known.now.list.items bound.now.uses.items)
-        (source_with tokens.now tree.now bound.now.uses.items) start end unit.new result }
+    ensures answer { let s = source_with tokens.now tree.now bound.now.uses.items in
+        ((at : ℕ) → IsReadable s at) →
+        Answered (scene_of unit.old known.now.owner known.now.list.items bound.now.uses.items) s start end unit.new result }
 {
     let Ok(syntax) = Syntax::new(alloc, tokens, tree) else {
         return Err(CheckFault::OutOfMemory);

@@ -1,12 +1,7 @@
 -- Lengths of arrays.
-use Rattle.std.proofs.Common.{arith, ◌≡◌, ℕ, zero, suc, ◌<◌, ◌≤◌, ◌+◌, ◌-◌, Bool, true, false, cond, ◌||◌, not, List, [], ◌∷◌, ◌++◌, Option, Some, None, Result, Ok, Err, All, length, get_or, slice_get, drop, ◌*◌, ◌^◌, lit≤, SFits, refl, sym, ap, ◌∙◌, subst}
-use Rattle.std.specs.Prelude.{ℤ, pos, ◌<ℤ◌, nat_eq}
-use Rattle.std.proofs.lemmas.Int.{ints}
-use Rattle.std.specs.Int.{w128}
-use Rattle.std.proofs.Common.{inl, inr, append_assoc, length-append}
-use Rattle.std.proofs.lemmas.Bool.{false≢true, cases_lt}
-use Rattle.std.proofs.lemmas.List.Elements.{All-head, All-tail}
-use Rattle.std.proofs.lemmas.List.{get_or_append_left, get_or_at, append-nil}
+use Rattle.std.proofs.Common.{arith, ◌≡◌, ℕ, ◌≤◌, Bool, true, false, cond, ◌||◌, not, List, [], ◌∷◌, Option, Some, None, Result, Ok, Err, length, get_or, slice_get, drop, refl, sym, ap, ◌∙◌, subst}
+use Rattle.std.specs.Prelude.{ℤ}
+use Rattle.std.proofs.lemmas.Bool.{false≢true}
 use Rattle.pta_base.specs.declared.kind.Kind.TheVariants.{Operand, Vla, ConstantRange, DivideByZero}
 use Rattle.pta_base.specs.declared.place.Place.{Place}
 use Rattle.c_types.specs.Trees.{Ctype, VoidType, BoolType, IntegerType, FloatingType, VaListType, PointerTo, ArrayOf, FunctionFrom, StructureOf, UnionOf}
@@ -14,14 +9,12 @@ use Rattle.c_types.specs.Table.{Table}
 use Rattle.core_tree.specs.declared.node.Node.{Node}
 use Rattle.core_tree.specs.declared.node.NodeKind.{NodeKind}
 use Rattle.core_tree.specs.declared.node.Unit.{Unit}
-use Rattle.core_tree.specs.Typed.{Sort, PlaceNode, ValueNode, Holds, half_of}
-use Rattle.c_consts.specs.Core.{Core, Cores, Of, Stands, StandAll, InOrder, number_at, part_at, place_of, ctype_of, core_sort}
+use Rattle.core_tree.specs.Typed.{Sort, PlaceNode, ValueNode}
+use Rattle.c_consts.specs.Core.{Core, Cores, Of, Stands, number_at, ctype_of, core_sort}
 use Rattle.c_consts.specs.declared.fault.ConstFault.TheVariants.{NotConstant, Range, DivideByZero as ZeroFault}
-use Rattle.c_consts.specs.Operators.{Wrong, NoForm, OutOfRange, ZeroDivisor}
+use Rattle.c_consts.specs.Operators.{NoForm, OutOfRange, ZeroDivisor}
 use Rattle.c_consts.specs.Answer.{Found, Value, Fails, answer, located}
-use Rattle.c_consts.proofs.Faults.{fault_stands}
-use Rattle.c_consts.proofs.Trees.{stands_push}
-use Rattle.c_senses.specs.Tree.{Source, any_where, has_sign, has_word, is_a, child_of, first_where, numbers_from}
+use Rattle.c_senses.specs.Tree.{Source, any_where, has_sign, has_word, is_a, child_of}
 use Rattle.c_grammar.specs.Productions.{p_assignment, p_qualifier}
 use Rattle.c_grammar.specs.Words.{word_static, sign_star, sign_left_bracket, sign_ellipsis}
 use Rattle.c_senses.specs.Given.{Given, Fits, Refuses, given_if, ◌>>=◌}
@@ -34,7 +27,6 @@ use Rattle.core_nodes.specs.declared.fault.CheckFault.{CheckFault}
 use Rattle.core_nodes.specs.declared.fault.CheckFault.TheVariants.{BadOperand, Unsupported, OutOfMemory}
 use Rattle.c_results.specs.Standing.{Rowed}
 use Rattle.c_results.specs.Parts.{core_in}
-use Rattle.core_nodes.specs.Standing.{core_at, cores_of, cores_grown, cores_among, core_over, no_core}
 use Rattle.constant_values.specs.Constants.{place_in}
 use Rattle.constant_values.proofs.Valuing.{found_value, wrong_place}
 use Rattle.c_declarators.specs.Suffixes.{LengthMade, open_length, length_by}

@@ -19,7 +19,7 @@ ghost use Rattle.c_declarators.specs.Suffixes.{LengthMade, open_length, length_b
 use crate::lists::list_of;
 use crate::parameters::is_parameter_array;
 use c_consts::{ConstFault, constant};
-use c_results::{Derivation, Made, node_at};
+use c_results::{BoxedDerivation, Derivation, Made, node_at};
 use c_types::table::TypeTable;
 use c_types::term::{Term, TypeId};
 use constant_values::leaf_of_node;
@@ -249,13 +249,19 @@ pub fn suffix_row(
     let rest = behind_first(children);
     if has_sign(syntax, SIGN_LEFT_BRACKET, first) {
         return match array_suffix(unit, syntax, results, at, rest) {
-            Ok(length) => Ok(Made::Derived(Derivation::Elements(length))),
+            Ok(length) => {
+                let held = BoxedDerivation::of(alloc, Derivation::Elements(length))?;
+                Ok(Made::Derived(held))
+            }
             Err(fault) => Err(fault),
         };
     }
     let variadic = any_where(syntax, Test::Sign(SIGN_ELLIPSIS), rest);
     match list_of(alloc, unit, results, rest, variadic) {
-        Ok(list) => Ok(Made::Derived(list)),
+        Ok(list) => {
+            let held = BoxedDerivation::of(alloc, list)?;
+            Ok(Made::Derived(held))
+        }
         Err(_) => Err(CheckFault::OutOfMemory),
     }
 }

@@ -1,3 +1,5 @@
+pub mod Items
+pub mod Held
 pub mod Words
 pub mod Productions
 pub mod Names

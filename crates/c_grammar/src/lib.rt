@@ -5,6 +5,7 @@ ghost use Rattle.c_grammar.specs.Table.{item_of};
 ghost use Rattle.std.specs.Prelude.{◌≡◌, ◌<◌, ◌^◌};
 ghost use Rattle.std.specs.Option.{OnSome};
 
+mod children;
 mod firsts;
 pub mod laws;
 pub mod looks;
@@ -17,6 +18,7 @@ pub mod terminals;
 mod trees;
 mod words;
 
+pub use children::Children;
 pub use rows::Item;
 use rows::{ITEMS, STARTS};
 pub use scopes::Scopes;

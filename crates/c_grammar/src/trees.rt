@@ -1,4 +1,5 @@
 //! Syntax trees.
+use crate::children::Children;
 
 /// A node of a syntax tree: a production with its children, or a leaf for a token.
 #[derive(Drop)]
@@ -8,7 +9,7 @@ pub struct SyntaxNode {
     /// The number of the first token, or of the token that follows where the node takes none.
     pub token: u32,
     /// The numbers of the children, in the order of the text.
-    pub children: Vec<u32>,
+    pub children: Children,
 }
 
 /// A syntax tree. The nodes stand in the order in which their productions end, so children have smaller numbers than their

@@ -46,23 +46,26 @@ fn finished(
     kept: Kept,
     names: &Names,
     syntax: &Syntax,
-    results: &[Made],
+    results: Vec<Made>,
 ) -> Result<Unit, CheckFault>
-    requires names { AreNamed syntax.now results.now names.now }
-    requires named { All (IsNamedIn (length syntax.now.tree.now.nodes.items)) results.now }
+    requires names { AreNamed syntax.now results.items names.now }
+    requires named { All (IsNamedIn (length syntax.now.tree.now.nodes.items)) results.items }
     requires first { ChildrenFirst (source_read syntax.now) }
     ensures { (u walked : UnitSpec) (uses : List (ℕ × ℕ)) (list : List DeclaredSpec) →
         let s = source_in syntax.now uses in
         IsReady walked → walked.types ≡ types → s.unit ≡ heading.unit →
-        finish.IsWalked s (senses_made u results.now) walked keys.items list →
+        finish.IsWalked s (senses_made u results.items) walked keys.items list →
         IsKept walked.nodes.items list kept →
         MatchResult result (Right s heading.name) (IsUnfinished s heading.name heading.root) }
 {
     let nodes = kept.nodes.as_slice();
-    let literals = match declared_literals(alloc, names, syntax, results, nodes) {
+    let literals = match declared_literals(alloc, names, syntax, results.as_slice(), nodes) {
         Ok(literals) => literals,
         Err(fault) => return Err(fault),
     };
+
+    // Nothing reads what was made for the nodes from here on, and it takes more memory than the unit does.
+    std::mem::drop(results);
     finish(alloc, heading, types, keys, kept, literals)
 }
 
@@ -101,7 +104,7 @@ fn completed(alloc: Global, bound: &Bound, name: Text, walked: Walked) -> Result
         kept,
         &ground.names,
         syntax,
-        made,
+        results,
     )
 }
 
@@ -112,8 +115,8 @@ fn are_bytes(text: &[u8])
 
 /// The unit that a text stands for, where its tokens and its tree are those of a text whose names are bound, and each node stands behind
 /// its children. The text is refused at its first node, in order, whose row doesn't fit: `BadOperand` and `Unsupported` hold the kind and
-/// the node that the row names. `NotBuilt` comes at a node whose types aren't within the limits; and, where the rows of all nodes fit, at the
-/// root, where no valid unit is made of what they stand for. Beside that only memory may want. Tags have the numbers of the order of their first specifiers (C11 6.7.2.3).
+/// the node that the row names. Where the rows of all nodes fit, `NotBuilt` comes at the root, where no valid unit is made of what they stand
+/// for. Beside that only memory may want. Tags have the numbers of the order of their first specifiers (C11 6.7.2.3).
 pub fn lower_unit(
     alloc: Global,
     tokens: &Tokens,

@@ -14,7 +14,7 @@ use c_grammar::looks::{chosen, fits, makes_node, nests, refusal, refused_token};
 use c_grammar::notes::Notes;
 use c_grammar::steps::step_scopes;
 use c_grammar::terminals::{takes, terminal};
-use c_grammar::{Item, Scopes, SyntaxNode, Tree, item};
+use c_grammar::{Children, Item, Scopes, SyntaxNode, Tree, item};
 use c_lexer::{Token, Tokens};
 use pta_base::OutOfMemory;
 use std::alloc::Global;
@@ -131,7 +131,7 @@ fn take_token(
     let leaf = SyntaxNode {
         production: LEAF,
         token,
-        children: Vec::new(input.alloc),
+        children: Children::none(),
     };
     add_node(nodes, &mut progress.own.children, leaf)?;
     progress
@@ -159,10 +159,12 @@ fn make_node(
     ensures child { OnOk result (own.new.children.items ≡ own.old.children.items ++ length nodes.old.items ∷ []) }
     ensures notes { OnOk result (noted own.new.notes ≡ notes_after production (noted inner.notes) (noted own.old.notes)) }
 {
+    let alloc = *inner.children.allocator();
+    let children = Children::of(alloc, inner.children)?;
     let node = SyntaxNode {
         production,
         token,
-        children: inner.children,
+        children,
     };
     add_node(nodes, &mut own.children, node)?;
     own.notes.after(production, inner.notes)

@@ -4,6 +4,7 @@ ghost use Rattle.core_tree.specs.declared.node.Unit.{Unit as UnitSpec};
 ghost use Rattle.c_senses.specs.Sense.{sense_in};
 ghost use Rattle.c_results.specs.Standing.{sense_made, senses_made, IsWithin};
 
+use crate::boxed::{BoxedDerivation, BoxedList};
 use crate::derivation::Derivation;
 use crate::made::{Made, made_at};
 use c_types::term::{MemberTerm, Name};
@@ -83,8 +84,8 @@ impl Made {
                 let storage = Vec::from_slice(alloc, storage.as_slice())?;
                 let functions = Vec::from_slice(alloc, functions.as_slice())?;
                 Ok(Made::Specifiers {
-                    storage,
-                    functions,
+                    storage: BoxedList::of(alloc, storage)?,
+                    functions: BoxedList::of(alloc, functions)?,
                     ty: *ty,
                 })
             }
@@ -92,11 +93,12 @@ impl Made {
                 let derivations = copied_derivations(alloc, derivations.as_slice())?;
                 Ok(Made::Declarator {
                     name: *name,
-                    derivations,
+                    derivations: BoxedList::of(alloc, derivations)?,
                 })
             }
             Made::Derived(derivation) => {
-                let copy = derivation.copied(alloc)?;
+                let copy = derivation.get().copied(alloc)?;
+                let copy = BoxedDerivation::of(alloc, copy)?;
                 Ok(Made::Derived(copy))
             }
             Made::Parameter { name, ty } => Ok(Made::Parameter {

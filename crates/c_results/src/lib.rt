@@ -1,12 +1,14 @@
 //! What has been made for the nodes of a syntax tree, by node number.
 #![tactic(auto)]
 
+mod boxed;
 mod copies;
 mod derivation;
 mod made;
 mod members;
 mod parts;
 
+pub use boxed::{BoxedDerivation, BoxedList};
 pub use copies::{copied_at, copied_member};
 pub use derivation::Derivation;
 pub use made::{Made, made_at};

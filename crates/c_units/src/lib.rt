@@ -41,6 +41,7 @@ pub fn parse_unit(alloc: Global, tokens: &Tokens, unit: u32) -> Result<Tree, Par
         Ok(_) => match last_of(tree.nodes.len()) {
             Ok(root) => {
                 tree.root = root;
+                tree.nodes.shrink_to_fit();
                 Ok(tree)
             }
             Err(_) => Err(ParseFault::OutOfMemory),

@@ -12,7 +12,7 @@ use Rattle.sol_model.specs.declared.system.Function.{Function}
 use Rattle.sol_model.specs.declared.system.LocationFact.{LocationFact}
 use Rattle.obj_space.specs.View.{SpaceView}
 use Rattle.obj_space.proofs.Placed.{get_mapped}
-use Rattle.row_numbers.specs.Functions.{begins_at, object_at, objects_at, function_keys, functions_below}
+use Rattle.row_numbers.specs.Functions.{begins_at, object_at, function_keys, functions_below}
 use Rattle.normal_form.specs.Facts.{IsFunctionFact, AreFunctions, location_fact, location_facts}
 use Rattle.constraints.specs.System.{AreInOrder, AgreesWith}
 

@@ -4,3 +4,4 @@ pub mod Demanded
 pub mod Laws
 pub mod OwnedLemmas
 pub mod Agreeing
+pub mod CallLemmas

@@ -3,6 +3,7 @@
 ghost use Rattle.std.specs.Prelude.{◌≡◌, ℕ, ◌+◌, ◌<◌, ◌^◌, ◌++◌, ◌∷◌, [], Some, None, Option, IfOk, IfSome, MatchOption, OnOk, All, List, length, map, replicate, slice_get, IsTrue};
 ghost use Rattle.std.specs.List.{range_with_len};
 ghost use Rattle.c_types.specs.Table.{type_of, members_in};
+ghost use Rattle.c_types.specs.Made.{IsMade};
 ghost use Rattle.c_types.specs.declared.term.TypeId.{TypeId};
 ghost use Rattle.row_numbers.specs.Kept.{member_node};
 ghost use Rattle.normal_form.specs.Facts.{plain_fact, positions_by, tag_fact_by, tag_fact, type_facts};
@@ -47,12 +48,16 @@ fn no_ids(alloc: Global, tags: u32) -> Result<Vec<Option<TypeId>>, OutOfMemory>
     Ok(ids)
 }
 
-// The position of a member's node.
-fn member_node(types: &TypeTable, id: TypeId, k: u32) -> u32
-    requires { id.0 < length types.now.terms }
+// The position of a member's node. A member past the numbers of 32 bits stands behind as many nodes, so it has none there.
+fn member_node(types: &TypeTable, id: TypeId, k: usize) -> u32
+    requires id { id.0 < length types.now.terms }
+    requires made { IsMade types.now }
     ensures { result ≡ member_node types.now (type_of types.now id.0) k }
 {
-    types.field_node(id, k).unwrap_or(0)
+    if k > u32::MAX as usize {
+        return 0;
+    }
+    types.field_node(id, k as u32).unwrap_or(0)
 }
 
 // The position of each member's node.
@@ -60,9 +65,10 @@ fn positions(
     alloc: Global,
     types: &TypeTable,
     id: TypeId,
-    members: u32,
+    members: usize,
 ) -> Result<Vec<u32>, OutOfMemory>
-    requires { id.0 < length types.now.terms }
+    requires id { id.0 < length types.now.terms }
+    requires made { IsMade types.now }
     ensures { IfOk result (λ list. list.items ≡ positions_by types.now (type_of types.now id.0) members) }
 {
     let list = (0..members)
@@ -85,19 +91,15 @@ fn plain_fact(alloc: Global) -> TypeFact
 fn tag_fact(alloc: Global, types: &TypeTable, tag: u32, id: TypeId) -> Result<TypeFact, OutOfMemory>
     requires tag { tag < types.now.tags }
     requires id { id.0 < length types.now.terms }
+    requires made { IsMade types.now }
     ensures { IfOk result (λ fact. fact ≡ tag_fact_by types.now (type_of types.now id.0) (members_in types.now tag)) }
 {
     match types.members(tag) {
         None => Ok(plain_fact(alloc)),
-        Some(members) => {
-            if members.len() > u32::MAX as usize {
-                return Err(OutOfMemory);
-            }
-            Ok(TypeFact {
-                nodes: node_count(types, id),
-                members: Listing::of(positions(alloc, types, id, members.len() as u32)?),
-            })
-        }
+        Some(members) => Ok(TypeFact {
+            nodes: node_count(types, id),
+            members: Listing::of(positions(alloc, types, id, members.len())?),
+        }),
     }
 }
 
@@ -110,6 +112,7 @@ fn fact_at(
 ) -> Result<TypeFact, OutOfMemory>
     requires tag { tag < types.now.tags }
     requires id { IsTagId types.now tag id }
+    requires made { IsMade types.now }
     ensures { IfOk result (λ fact. fact ≡ tag_fact types.now tag) }
 {
     match id {
@@ -138,6 +141,7 @@ fn plain_facts(alloc: Global) -> Result<Listing<TypeFact>, OutOfMemory>
 pub(crate) fn type_facts(alloc: Global, types: &TypeTable) -> Result<Listing<TypeFact>, OutOfMemory>
     ensures { IfOk result (λ facts. facts ≡ type_facts types.now) }
 {
+    let _types = types.type_count();
     let ids = tag_ids(alloc, types)?;
     let mut facts = plain_facts(alloc)?;
     for tag in 0..types.tag_count() {

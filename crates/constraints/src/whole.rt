@@ -1,6 +1,6 @@
 // The whole system.
 
-ghost use Rattle.std.specs.Prelude.{◌≡◌, ℕ, ◌+◌, ◌*◌, ◌/◌, ◌<◌, ◌≤◌, ◌^◌, IfOk, IfErr, IsTrue, length, slice_get};
+ghost use Rattle.std.specs.Prelude.{◌≡◌, ℕ, ◌+◌, ◌*◌, ◌/◌, ◌<◌, ◌≤◌, ◌^◌, IfOk, IfErr, length, slice_get};
 ghost use Rattle.std.specs.Option.{option_and_then};
 ghost use Rattle.core_tree.specs.Typed.{trees_in};
 ghost use Rattle.core_tree.specs.Range.{InRange};
@@ -95,16 +95,6 @@ fn constraints(
     Ok(Listing::of(list))
 }
 
-// Whether the numbers of a program's nodes, entities, types and tags fit.
-fn is_numbered(program: &Program) -> bool
-    ensures { IsTrue result → IsNumbered program.now }
-{
-    program.nodes.as_slice().len() < u32::MAX as usize
-        && program.entities.as_slice().len() < u32::MAX as usize
-        && program.types.type_count() < u32::MAX - 2
-        && program.types.tag_count() < u32::MAX - 8
-}
-
 // The system of a program whose functions' rows are numbered.
 fn numbered(
     alloc: Global,
@@ -119,9 +109,6 @@ fn numbered(
     requires normal { IsWhole program.now (view_of space.now) normal.now }
     ensures { IfOk result (λ system. SystemOf program.now (view_of space.now) system) }
 {
-    if normal.calls.len() > u32::MAX as usize {
-        return Err(OutOfMemory);
-    }
     let owned = owned_parameters(alloc, program, space)?;
     Ok(System {
         rows: results.none + 1,
@@ -141,13 +128,11 @@ fn within(
     normal: &Normal,
 ) -> Result<System, OutOfMemory>
     requires range { InRange (trees_in program.now) }
+    requires numbered { IsNumbered program.now }
     requires normal { NormalOf program.now (view_of space.now) normal.now }
     requires few { row_total (trees_in program.now) (view_of space.now) ≤ 2 ^ 24 }
     ensures { IfOk result (λ system. SystemOf program.now (view_of space.now) system) }
 {
-    if !is_numbered(program) {
-        return Err(OutOfMemory);
-    }
     let results = number_results(alloc, program, space, normal.rows)?;
     numbered(alloc, program, space, normal, &results)
 }
@@ -159,10 +144,11 @@ fn word_total(space: &Space, normal: &Normal) -> u128
     u128::from(normal.rows) * u128::from((u64::from(space.count()) + 63) / 64)
 }
 
-/// The system of a program, in which every type, node and entity that is named is in range, from its normal form. `Nodes`
-/// comes exactly where the program has over 2^24 nodes, and then `Words` exactly where its rows have over 2^24 words. A
-/// program has a location, that of its main function. The system's functions stand in the order of their locations, and
-/// what it knows of its locations is what the space says.
+/// The system of a program, in which every type, node and entity that is named is in range, from its normal form, which
+/// tells that their numbers have 32 bits. `Nodes` comes exactly where the program has over 2^24 nodes, and then `Words`
+/// exactly where its rows have over 2^24 words; want of memory is an allocation that failed. A program has a location,
+/// that of its main function. The system's functions stand in the order of their locations, and what it knows of its
+/// locations is what the space says.
 pub fn system(
     alloc: Global,
     program: &Program,
@@ -170,6 +156,7 @@ pub fn system(
     normal: &Normal,
 ) -> Result<System, SystemFault>
     requires range { InRange (trees_in program.now) }
+    requires numbered { IsNumbered program.now }
     requires located { 0 < (view_of space.now).count }
     requires normal { NormalOf program.now (view_of space.now) normal.now }
     ensures system { IfOk result (λ system. SystemOf program.now (view_of space.now) system) }

@@ -143,7 +143,7 @@ pub fn push_over_three(
     push_node(unit, kind, place, ty, children)
 }
 
-/// One more type, which names no tag.
+/// The type of a term that names no tag: the first of the unit that is the same, where there is one, else one more.
 pub fn add_type(unit: &mut Unit, term: Term) -> Result<TypeId, CheckFault>
     requires ready { IsReady unit.old }
     requires types { IsAfter (length unit.old.types.terms) term }
@@ -156,6 +156,9 @@ pub fn add_type(unit: &mut Unit, term: Term) -> Result<TypeId, CheckFault>
     ensures within { IfOk result (λ id. id.0 < length unit.new.types.terms) }
 {
     let _count = unit.types.type_count();
+    if let Some(known) = unit.types.find(&term)? {
+        return Ok(known);
+    }
     let ty = unit.types.add(term)?;
     Ok(ty)
 }

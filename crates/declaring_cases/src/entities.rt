@@ -7,7 +7,7 @@ use c_entities::{
 };
 use c_grammar::productions::{DECLARATOR, EXTERNAL, INIT, PRIMARY, REST, SPECS, STORAGE, TYPE};
 use c_lexer::lexer::tokens;
-use c_results::Made;
+use c_results::{BoxedList, Made};
 use c_types::term::{Term, TypeId};
 use core_nodes::trees::{add_type, int_type};
 use std::alloc::Global;
@@ -26,8 +26,8 @@ fn specified(alloc: Global, word: u8) -> Result<Vec<Made>, Fail> {
         results.push(Made::Nothing)?;
     }
     results.push(Made::Specifiers {
-        storage: Vec::from_slice(alloc, &[word])?,
-        functions: Vec::new(alloc),
+        storage: BoxedList::of(alloc, Vec::from_slice(alloc, &[word])?)?,
+        functions: BoxedList::of(alloc, Vec::new(alloc))?,
         ty: TypeId(0),
     })?;
     Ok(results)

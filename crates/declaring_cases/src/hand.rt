@@ -6,7 +6,7 @@ ghost use Rattle.core_nodes.specs.Standing.{IsReady};
 ghost use Rattle.c_results.specs.Standing.{IsWithin};
 ghost use Rattle.constant_values.specs.Constants.{HasConstants};
 
-use c_grammar::{SyntaxNode, Tree};
+use c_grammar::{Children, SyntaxNode, Tree};
 use c_results::Made;
 use c_types::table::TypeTable;
 use core_tree::node::Unit;
@@ -27,7 +27,7 @@ pub(crate) fn tree_of(alloc: Global, rows: &[Row<'_>]) -> Result<Tree, Fail> {
         nodes.push(SyntaxNode {
             production: row.0,
             token: row.1,
-            children: Vec::from_slice(alloc, row.2)?,
+            children: Children::of(alloc, Vec::from_slice(alloc, row.2)?)?,
         })?;
     }
     Ok(Tree {

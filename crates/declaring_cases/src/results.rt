@@ -1,5 +1,7 @@
 // Results that are read by number and kind.
-use c_results::{Derivation, Made, copied_at, declarator_at, node_at, parameter_at, type_at};
+use c_results::{
+    BoxedList, Derivation, Made, copied_at, declarator_at, node_at, parameter_at, type_at,
+};
 use c_types::term::{Form, TypeId, TypeList};
 use std::alloc::Global;
 use std::test::Fail;
@@ -17,7 +19,7 @@ fn three(alloc: Global) -> Result<Vec<Made>, Fail> {
     results.push(Made::Typed(TypeId(3)))?;
     results.push(Made::Declarator {
         name: Some(5),
-        derivations,
+        derivations: BoxedList::of(alloc, derivations)?,
     })?;
     results.push(Made::Parameter {
         name: None,

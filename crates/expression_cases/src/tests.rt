@@ -139,12 +139,13 @@ fn unit_of_six(alloc: Global) -> Result<Unit, Fail>
     add_entity(five, object(alloc, "f", types.function)?)
 }
 
-// The objects of a unit, which the syntax nodes 1000 to 1005 declare.
+// The objects of a unit, which the syntax nodes 1000 to 1005 declare, and the typedef name t of p's type, which the node 1006 declares.
 fn known_objects(alloc: Global, unit: &Unit) -> Result<Known, Fail>
     requires known { IsKnown unit.now [] }
     requires count { length unit.now.entities.items ≡ 6 }
     ensures { IfOk result (λ known. IsKnown unit.now known.list.items) }
 {
+    let pointer = unit.entities[2].ty;
     let entries = [
         (1000, Meaning::Entity(0)),
         (1001, Meaning::Entity(1)),
@@ -152,6 +153,7 @@ fn known_objects(alloc: Global, unit: &Unit) -> Result<Known, Fail>
         (1003, Meaning::Entity(3)),
         (1004, Meaning::Entity(4)),
         (1005, Meaning::Entity(5)),
+        (1006, Meaning::TypeName(pointer)),
     ];
     Ok(Known {
         owner: None,
@@ -168,6 +170,7 @@ fn declaring(name: &[u8]) -> u32 {
         b"v" => 1003,
         b"e" => 1004,
         b"f" => 1005,
+        b"t" => 1006,
         _ => 0,
     }
 }
@@ -211,9 +214,10 @@ fn bound_of(alloc: Global, found: &Tokens<'_>, tree: &Tree) -> Result<Bound, Fai
     })
 }
 
-// The tree of an expression.
+// The tree of an expression, where t is a typedef name.
 fn parsed(alloc: Global, found: &Tokens<'_>) -> Result<Tree, Fail> {
     let mut scopes = Scopes::new(alloc);
+    scopes.declare(b"t", true)?;
     let mut tree = Tree {
         unit: UNIT,
         nodes: Vec::new(alloc),
@@ -338,7 +342,7 @@ fn refusal(alloc: Global, text: &[u8]) -> Result<Option<Refusal>, Fail> {
 }
 
 // Texts with their core nodes, written by hand.
-static TREES: [(&[u8], &[Shape<'static>]); 20] = [
+static TREES: [(&[u8], &[Shape<'static>]); 30] = [
     // A size leaves nothing but its number: the operand isn't evaluated, and an array stays one (C11 6.5.3.4p2, 6.3.2.1p3).
     (b"sizeof a", &[(b'4', 1, &[])]),
     (b"sizeof e", &[(b'4', 1, &[])]),
@@ -352,6 +356,31 @@ static TREES: [(&[u8], &[Shape<'static>]); 20] = [
     (b"(\"xy\")", &[(b'T', 2, &[])]),
     (b"\"ab\" \"c\"", &[(b'T', 1, &[])]),
     (b"&e", &[(b'e', 2, &[]), (b'&', 1, &[0])]),
+    // The size of a type, and its alignment, where an array has its element's (C11 6.5.3.4p2, p3). A pointer to a function that takes two
+    // parameters is a pointer (6.7.7).
+    (b"sizeof(char)", &[(b'1', 1, &[])]),
+    (b"sizeof(int[2])", &[(b'8', 1, &[])]),
+    (b"sizeof(char(*)(int,char*))", &[(b'8', 1, &[])]),
+    (b"sizeof(t)", &[(b'8', 1, &[])]),
+    (b"_Alignof(int[2])", &[(b'4', 1, &[])]),
+    // A cast to the type that a value has adds nothing; one to another type is a conversion at the operand's place (C11 6.5.4).
+    (b"(int)a", &[(b'a', 6, &[]), (b'F', 6, &[0])]),
+    (
+        b"(char)a",
+        &[(b'a', 7, &[]), (b'F', 7, &[0]), (b'C', 7, &[1])],
+    ),
+    (b"(t)v", &[(b'd', 4, &[]), (b'F', 4, &[0]), (b'C', 4, &[1])]),
+    (
+        b"*(int*)v",
+        &[
+            (b'd', 8, &[]),
+            (b'F', 8, &[0]),
+            (b'C', 8, &[1]),
+            (b'*', 1, &[2]),
+        ],
+    ),
+    // A cast of the constant 0 to a pointer is a null value (C11 6.3.2.3p3).
+    (b"(void*)0", &[(b'N', 8, &[])]),
     // A product is made before the sum that it is part of (C11 6.5.5, 6.5.6).
     (
         b"a+b*2",
@@ -476,8 +505,9 @@ fn trees(rt: HostRuntime) -> Result<(), Fail> {
 }
 
 // Texts that are refused, with the kind and the column of the first node in the tree's order that doesn't fit (C11 6.5.2.2p1, p2,
-// 6.5.2.3p1, p2, 6.5.3.2p1, p2, 6.5.3.4p1, 6.5.5p2, 6.5.8p2, 6.5.9p2, 6.5.15p3, 6.5.16.1p1).
-static REFUSALS: [(&[u8], Kind, u32); 13] = [
+// 6.5.2.3p1, p2, 6.5.3.2p1, p2, 6.5.3.4p1, 6.5.4p2, 6.5.5p2, 6.5.8p2, 6.5.9p2, 6.5.15p3, 6.5.16.1p1, 6.7.6.2p1, p4); and
+// what isn't built yet.
+static REFUSALS: [(&[u8], Kind, u32); 21] = [
     (b"&1", Kind::Operand, 1),
     (b"a+sizeof *v", Kind::Operand, 10),
     (b"p*a+&2", Kind::Operand, 1),
@@ -491,6 +521,14 @@ static REFUSALS: [(&[u8], Kind, u32); 13] = [
     (b"p<v", Kind::Operand, 1),
     (b"p==1", Kind::Operand, 1),
     (b"*a", Kind::Operand, 1),
+    (b"sizeof(void)", Kind::Operand, 1),
+    (b"(int[2])a", Kind::Operand, 1),
+    (b"(t)a", Kind::NumberToPointer, 1),
+    (b"sizeof(int[0])", Kind::Operand, 11),
+    (b"sizeof(int[a])", Kind::Vla, 11),
+    (b"sizeof(int()[2])", Kind::Operand, 11),
+    (b"(int(*)(int b))0", Kind::NotBuilt, 13),
+    (b"sizeof(struct s)", Kind::NotBuilt, 8),
 ];
 
 #[test]

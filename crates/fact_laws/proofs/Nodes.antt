@@ -11,42 +11,13 @@ use Rattle.c_types.specs.Table.{Table, type_of, look_in, extent_in, extents_in, 
 use Rattle.c_types.specs.Made.{IsMade, IsFlexible}
 use Rattle.c_types.proofs.Nodes.{structure_nodes, union_nodes, extents_get}
 use Rattle.row_numbers.specs.Kept.{nodes_in, nodes_of, member_node}
+use Rattle.normal_form.proofs.MemberNodes.{positive, or_some, unless_is}
 
 some_one : {X : Type 0} → {x y : X} → ◌≡◌ {A = Option X} (Some x) (Some y) → x ≡ y
 some_one h = cc
 
 none_some : {X : Type 0} → {x : X} → ◌≡◌ {A = Option X} None (Some x) → ⊥
 none_some h = cc
-
--- a complete type has a node
-abbrev pub Positive : Option Extent → Type 0
-Positive None = ⊤
-Positive (Some e) = 0 < length e.nodes
-
-positive_repeated : (n : ℕ) (o : Option Extent) → Positive o → Positive (repeated n o)
-positive_repeated n None h = h
-positive_repeated n (Some e) h = h
-
-positive_structure : (t : Ctype) (o : Option (List Extent)) → Positive (of_members (structure_of t) o)
-positive_structure t None = tt
-positive_structure t (Some es) = subst (λ (ns : List Ctype). 0 < length ns) (sym (structure_nodes t es)) (omega arith)
-
-positive_union : (t : Ctype) (o : Option (List Extent)) → Positive (of_members (union_of t) o)
-positive_union t None = tt
-positive_union t (Some es) = subst (λ (ns : List Ctype). 0 < length ns) (sym (union_nodes t es)) (omega arith)
-
-pub positive : (look : Look) (t : Ctype) → Positive (extent_of look t)
-positive look VoidType = tt
-positive look BoolType = omega arith
-positive look (IntegerType size rank signed) = omega arith
-positive look FloatingType = omega arith
-positive look VaListType = omega arith
-positive look (PointerTo to) = omega arith
-positive look (ArrayOf of None) = tt
-positive look (ArrayOf of (Some n)) = positive_repeated n (extent_of look of) (positive look of)
-positive look (FunctionFrom result parameters form) = tt
-positive look (StructureOf tag) = positive_structure (StructureOf tag) (look tag)
-positive look (UnionOf tag) = positive_union (UnionOf tag) (look tag)
 
 -- what stands in a list of extents
 pub take_all_nodes : (es : List Extent) (k : ℕ) (e : Extent) → slice_get es k ≡ Some e → length (all_nodes (take k es)) + length e.nodes ≤ length (all_nodes es)
@@ -61,11 +32,6 @@ take_all_nodes (d ∷ es) (suc k) e at =
     let before = length-append d.nodes (all_nodes (take k es)) in
     omega arith
 
-unless_is : (t : Ctype) (n r : ℕ) → unless_flexible t n ≡ Some r → n ≡ r
-unless_is (ArrayOf of None) n r h = absurd (none_some h)
-unless_is (ArrayOf of (Some m)) n r h = some_one h
-unless_is t n r h = some_one h
-
 flexible_none : (table : Table) (t : Ctype) (n r : ℕ) → IsFlexible table t → unless_flexible t n ≡ Some r → ⊥
 flexible_none table (ArrayOf of None) n r f h = none_some h
 flexible_none table (ArrayOf of (Some m)) n r f h = f
@@ -78,11 +44,6 @@ flexible_none table (PointerTo to) n r f h = f
 flexible_none table (FunctionFrom result parameters form) n r f h = f
 flexible_none table (StructureOf tag) n r f h = f
 flexible_none table (UnionOf tag) n r f h = f
-
--- a complete member has a node
-or_some : (o other : Option Extent) → Positive o → IsSome o → 0 < length (or_flexible o other).nodes
-or_some None other p h = absurd (false≢true h)
-or_some (Some d) other p h = p
 
 -- a number that is below, where it is there
 pub below_or_none : (o : Option ℕ) (bound : ℕ) → ((n : ℕ) → o ≡ Some n → n < bound) → 0 < bound → unwrap_or (within_32 o) 0 < bound

@@ -18,7 +18,7 @@ use Rattle.obj_space.specs.Parts.{nodes_of}
 use Rattle.obj_space.proofs.Preorder.{get_before, get_behind, nodes_member, nodes_repeated, structure_nodes_some}
 use Rattle.row_numbers.specs.Kept.{member_node}
 use Rattle.normal_form.specs.Assignments.{is_union_type, step_node, path_node}
-use Rattle.fact_laws.proofs.Nodes.{Positive, positive}
+use Rattle.normal_form.proofs.MemberNodes.{Positive, positive}
 
 some_one : {X : Type 0} → {x y : X} → ◌≡◌ {A = Option X} (Some x) (Some y) → x ≡ y
 some_one h = cc

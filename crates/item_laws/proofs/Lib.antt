@@ -1,3 +1,4 @@
 mod Objects
 mod Along
+pub mod Spots
 pub mod Items

@@ -15,6 +15,7 @@ use Rattle.obj_space.specs.Space.{locations_in}
 use Rattle.obj_space.specs.Spots.{HasWholes}
 use Rattle.obj_space.specs.View.{view_of}
 use Rattle.normal_form.specs.SystemOf.{SystemOf}
+use Rattle.normal_form.specs.Spots.{HasSpots}
 use Rattle.initial_laws.specs.Initials.{HasInitials}
 use Rattle.demand_laws.specs.Demands.{InitialsFit}
 
@@ -45,3 +46,9 @@ abbrev pub ItemsFit : Type 0
 ItemsFit =
     (p : Program) (space : List Location) (system : System) → space ≡ locations_in p → SystemOf p (view_of space) system → IsMade p.types → HasWholes p.types space
     → length space < 2 ^ 32 → HasInitials p → ArePlaced p → InitialsFit p (view_of space) system
+
+-- the spots of initialisers are locations
+abbrev pub SpotsFit : Type 0
+SpotsFit =
+    (p : Program) (space : List Location) → space ≡ locations_in p → IsMade p.types → HasWholes p.types space → length space < 2 ^ 32 → HasInitials p → ArePlaced p
+    → HasSpots (trees_in p) (view_of space)

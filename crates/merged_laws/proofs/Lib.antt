@@ -1,5 +1,5 @@
 pub mod Members
-mod Completing
+pub mod Completing
 mod Alike
-mod Terms
+pub mod Terms
 pub mod Fitting

@@ -3,7 +3,7 @@ use Rattle.std.proofs.Common.{arith, ◌≡◌, ◌∙◌, ℕ, zero, suc, ◌+�
 use Rattle.std.proofs.lemmas.Option.{slice_get_cases}
 use Rattle.c_types.specs.declared.term.Term.{Term}
 use Rattle.c_types.specs.declared.term.Term.TheVariants.{Void, Bool, Integer, Floating, VaList, Pointer, Array, Function, Structure, Union}
-use Rattle.c_types.specs.Trees.{Ctype, UnionOf, tree_at, grow, grown}
+use Rattle.c_types.specs.Trees.{Ctype, StructureOf, UnionOf, tree_at, grow, grown}
 use Rattle.c_types.specs.Table.{Table, type_of}
 use Rattle.c_types.proofs.Grow.{tree_before}
 
@@ -53,5 +53,24 @@ grow_union trees (Structure other) tag h = cc
 pub union_term : (table : Table) (id tag : ℕ) → id < length table.terms → type_of table id ≡ UnionOf tag → slice_get table.terms id ≡ Some (Union tag)
 union_term table id tag lt h = elim (slice_get_cases table.terms id).1 [
   | inl p ↦ let r = type_of_term table id p.0 p.2 in p.2 ∙ ap Some (grow_union r.0 p.0 tag (sym r.1 ∙ h))
+  | inr past ↦ let far = past.0 in absurd (omega arith)
+]
+
+grow_structure : (trees : List Ctype) (t : Term) (tag : ℕ) → grow trees t ≡ StructureOf tag → t ≡ Structure tag
+grow_structure trees (Structure other) tag h = cc
+grow_structure trees Void tag h = cc
+grow_structure trees Bool tag h = cc
+grow_structure trees (Integer size rank signed) tag h = cc
+grow_structure trees Floating tag h = cc
+grow_structure trees VaList tag h = cc
+grow_structure trees (Pointer to) tag h = cc
+grow_structure trees (Array of n) tag h = cc
+grow_structure trees (Function r ps f) tag h = cc
+grow_structure trees (Union other) tag h = cc
+
+-- the term of a structure
+pub structure_term : (table : Table) (id tag : ℕ) → id < length table.terms → type_of table id ≡ StructureOf tag → slice_get table.terms id ≡ Some (Structure tag)
+structure_term table id tag lt h = elim (slice_get_cases table.terms id).1 [
+  | inl p ↦ let r = type_of_term table id p.0 p.2 in p.2 ∙ ap Some (grow_structure r.0 p.0 tag (sym r.1 ∙ h))
   | inr past ↦ let far = past.0 in absurd (omega arith)
 ]

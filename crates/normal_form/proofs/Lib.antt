@@ -1,3 +1,5 @@
 pub mod EachLemmas
 pub mod InitialLemmas
 pub mod WholeLemmas
+pub mod SpotLemmas
+pub mod MemberNodes

@@ -12,7 +12,8 @@ use Rattle.type_rules.specs.Conversions.{result_of}
 use Rattle.core_tree.specs.declared.node.Node.{Node}
 use Rattle.core_tree.specs.declared.node.NodeKind.{NodeKind}
 use Rattle.core_tree.specs.declared.node.NodeKind.TheVariants.{Named, Text, Literal, FunctionName, Deref, Member, Fetch, AddressOf, Decay, PointerAdd, Convert, Upcast, Assign, Update, Choose, Sequence, MemberOfValue, Return, Initialise}
-use Rattle.core_tree.specs.Typed.{type_at}
+use Rattle.core_tree.specs.Typed.{CoreTrees, type_at}
+use Rattle.obj_space.specs.View.{SpaceView}
 use Rattle.normal_form.specs.declared.normal.Assignment.{Assignment}
 use Rattle.normal_form.specs.declared.normal.Assignment.TheVariants.{Address, Copy, Load, Store, Field}
 use Rattle.row_numbers.specs.Kept.{nodes_of, member_node, kept, kept_row}
@@ -154,14 +155,18 @@ abbrev pub step_node : Table → Ctype → PathStep → ℕ
 step_node table t (Index i) = 0
 step_node table t (MemberStep k) = if is_structure_type t then member_node table t k else 0
 
--- how far the node at the end of a path stands behind an object's first; what is in a union is at the union's node
+-- how far the node at the end of a path stands behind an object's first; what is in a union is at the union's node (6.7.2.1p16)
 abbrev pub path_node : Table → Option Ctype → List PathStep → ℕ
 path_node table None path = 0
 path_node table (Some t) [] = 0
 path_node table (Some t) (step ∷ rest) = if is_union_type t then 0 else step_node table t step + path_node table (part_type table t step) rest
 
-abbrev pub target_node : Setting → ℕ → List PathStep → ℕ
-target_node w e path = path_node w.trees.types (option_map (λ id. type_of w.trees.types id.0) (key_id w.trees (EntityKey e))) path
+-- how far it stands behind the first location of an entity's object, and which location it is
+abbrev pub target_node : CoreTrees → ℕ → List PathStep → ℕ
+target_node u e path = path_node u.types (option_map (λ id. type_of u.types id.0) (key_id u (EntityKey e))) path
+
+abbrev pub spot : CoreTrees → SpaceView → ℕ → List PathStep → ℕ
+spot u s e path = location_of u s e + target_node u e path
 
 -- what a value puts at a location: one row for each node, or all into one where the location is collapsed
 abbrev pub put_at : List Ctype → Bool → ℕ → ℕ → List Assignment
@@ -173,8 +178,9 @@ abbrev pub item_at : Setting → ℕ → ℕ → List Assignment
 item_at w location v = put_at (type_nodes w (type_at w.trees v)) (w.space.collapsed location) location (row_in w v)
 
 abbrev pub item_row : Setting → ℕ → List PathStep → ℕ → List Assignment
-item_row w e path v = item_at w (location_of w.trees w.space e + target_node w e path) v
+item_row w e path v = item_at w (spot w.trees w.space e path) v
 
+-- an initialiser (6.7.9p19): each of its items, in order
 abbrev pub initialise_row : Setting → ℕ → List (List PathStep) → List ℕ → List Assignment
 initialise_row w e (path ∷ paths) (v ∷ values) = item_row w e path v ++ initialise_row w e paths values
 initialise_row w e paths values = []

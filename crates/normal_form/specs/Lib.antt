@@ -1,4 +1,5 @@
 pub mod Each
 pub mod Assignments
+pub mod Spots
 pub mod Facts
 pub mod SystemOf

@@ -1,9 +1,10 @@
 // What the items of an initialiser put where.
 
-ghost use Rattle.std.specs.Prelude.{◌≡◌, ℕ, ◌+◌, ◌<◌, ◌≤◌, ◌^◌, ◌++◌, List, Option, Some, IfOk, OnOk, All, length, min};
+ghost use Rattle.std.specs.Prelude.{◌≡◌, ℕ, ◌+◌, ◌<◌, ◌≤◌, ◌^◌, ◌++◌, List, Option, Some, OnOk, All, length, min};
 ghost use Rattle.c_types.specs.Table.{type_of};
 ghost use Rattle.c_types.specs.declared.term.PathStep.{PathStep};
 ghost use Rattle.normal_form.specs.Assignments.{is_structure_type, step_node, path_node, item_row, initialise_row, target_node};
+ghost use Rattle.normal_form.specs.Spots.{IsSpotted, AreSpotted};
 ghost use Rattle.row_numbers.specs.Frame.{IsFrame, IsNodeIn, setting_in};
 
 use crate::each::Each;
@@ -14,6 +15,7 @@ use c_types::table::TypeTable;
 use c_types::term::{Class, PathStep, TypeId};
 use pta_base::{Listing, OutOfMemory};
 use row_numbers::frame::{Frame, type_at};
+use row_numbers::kept::node_count;
 use row_numbers::numbering::key_id;
 use row_numbers::objects::location_of;
 use std::alloc::Global;
@@ -48,48 +50,40 @@ fn step_node(types: &TypeTable, id: TypeId, step: PathStep) -> u32
     }
 }
 
-// How far a path leads. No type has so many nodes that their numbers don't fit.
-fn path_node(types: &TypeTable, id: TypeId, path: &[PathStep]) -> Result<u32, OutOfMemory>
-    requires { id.0 < length types.now.terms }
-    ensures { IfOk result (λ node. node ≡ path_node types.now (Some (type_of types.now id.0)) path.now) }
+// How far a path leads.
+fn path_node(types: &TypeTable, id: TypeId, path: &[PathStep]) -> u32
+    requires known { id.0 < length types.now.terms }
+    requires small { path_node types.now (Some (type_of types.now id.0)) path.now < 2 ^ 32 }
+    ensures { result ≡ path_node types.now (Some (type_of types.now id.0)) path.now }
 {
     let mut at = id;
     let mut node = 0;
     for step in path {
         if is_union(types, at) {
-            return Ok(node);
+            return node;
         }
-        node = sum(node, step_node(types, at, *step))?;
+        node += step_node(types, at, *step);
         match part_of(types, at, *step) {
             Some(part) => at = part,
-            None => return Ok(node),
+            None => return node,
         }
     }
-    Ok(node)
-}
-
-// A sum that fits.
-fn sum(a: u32, b: u32) -> Result<u32, OutOfMemory>
-    ensures { IfOk result (λ c. c ≡ a + b) }
-{
-    match a.checked_add(b) {
-        Some(c) => Ok(c),
-        None => Err(OutOfMemory),
-    }
+    node
 }
 
 // The node at the end of a path in an entity's object.
-fn target_node(frame: &Frame<'_>, e: u32, path: &[PathStep]) -> Result<u32, OutOfMemory>
-    requires { IsFrame frame.now }
-    ensures { IfOk result (λ node. node ≡ target_node (setting_in frame.now) e path.now) }
+fn target_node(frame: &Frame<'_>, e: u32, path: &[PathStep]) -> u32
+    requires frame { IsFrame frame.now }
+    requires small { target_node (setting_in frame.now).trees e path.now < 2 ^ 32 }
+    ensures { result ≡ target_node (setting_in frame.now).trees e path.now }
 {
     match key_id(frame.program, ObjectKey::Entity(e)) {
         Some(id) => path_node(&frame.program.types, id, path),
-        None => Ok(0),
+        None => 0,
     }
 }
 
-// One item.
+// One item. A value without nodes demands nothing.
 fn item(
     alloc: Global,
     frame: &Frame<'_>,
@@ -100,20 +94,22 @@ fn item(
 ) -> Result<(), OutOfMemory>
     requires frame { IsFrame frame.now }
     requires value { v < length frame.now.program.now.nodes.items }
+    requires spotted { IsSpotted (setting_in frame.now).trees (setting_in frame.now).space e path.now v }
     ensures { OnOk result (out.new ≡ out.old ++ item_row (setting_in frame.now) e path.now v) }
 {
-    let first = location_of(frame.program, frame.space, e);
-    let location = sum(first, target_node(frame, e, path)?)?;
-    if location >= frame.space.count() {
-        return Err(OutOfMemory);
+    let types = &frame.program.types;
+    let ty = type_at(frame, v);
+    if node_count(types, ty) == 0 {
+        return Ok(());
     }
+    let location = location_of(frame.program, frame.space, e) + target_node(frame, e, path);
     let from = frame.row(v);
     let each = if frame.space.collapsed(location) {
         Each::Gathers { location, from }
     } else {
         Each::Puts { location, from }
     };
-    push_kept(alloc, &frame.program.types, type_at(frame, v), each, out)
+    push_kept(alloc, types, ty, each, out)
 }
 
 /// An initialiser (C11 6.7.9): each item's value goes to the location at the end of its path.
@@ -127,6 +123,7 @@ pub(crate) fn initialised(
 ) -> Result<(), OutOfMemory>
     requires frame { IsFrame frame.now }
     requires values { All (IsNodeIn frame.now) values.now }
+    requires spotted { AreSpotted (setting_in frame.now).trees (setting_in frame.now).space e paths.now values.now }
     ensures { OnOk result (out.new ≡ out.old ++ initialise_row (setting_in frame.now) e paths.now values.now) }
 {
     let count = paths.len().min(values.len());

@@ -3,6 +3,7 @@
 ghost use Rattle.std.specs.Prelude.{◌≡◌, ℕ, ◌<◌, ◌^◌, ◌++◌, OnOk, IfOk, All, length, slice_get};
 ghost use Rattle.c_types.specs.Table.{type_of};
 ghost use Rattle.normal_form.specs.Assignments.{place_of_kind, value_of_kind, statement_of_kind, row_of_kind};
+ghost use Rattle.normal_form.specs.Spots.{KindSpotted};
 ghost use Rattle.row_numbers.specs.Frame.{IsFrame, IsNodeIn, setting_in};
 
 use crate::initial::initialised;
@@ -84,6 +85,7 @@ fn statement(
     requires frame { IsFrame frame.now }
     requires node { n < length frame.now.program.now.nodes.items }
     requires children { All (IsNodeIn frame.now) children.now }
+    requires spotted { KindSpotted (setting_in frame.now).trees (setting_in frame.now).space kind.now children.now }
     ensures { OnOk result (out.new ≡ out.old ++ statement_of_kind (setting_in frame.now) n kind.now children.now) }
 {
     match kind {
@@ -114,6 +116,7 @@ pub(crate) fn demanded(
     requires node { n < length frame.now.program.now.nodes.items }
     requires ty { ty.0 < length frame.now.program.now.types.terms }
     requires children { All (IsNodeIn frame.now) children.now }
+    requires spotted { KindSpotted (setting_in frame.now).trees (setting_in frame.now).space kind.now children.now }
     ensures { OnOk result (out.new ≡ out.old ++ row_of_kind (setting_in frame.now) n kind.now (type_of frame.now.program.now.types ty.0) children.now) }
 {
     place(frame, n, kind, children, out)?;

@@ -4,6 +4,7 @@ ghost use Rattle.std.specs.Prelude.{◌≡◌, ℕ, ◌<◌, ◌^◌, ◌++◌, 
 ghost use Rattle.normal_form.specs.Assignments.{assignments_at, assignments_of};
 ghost use Rattle.row_numbers.specs.Frame.{IsFrame, AreNumbers, IsNumbered, setting_in};
 ghost use Rattle.normal_form.specs.SystemOf.{NormalOf};
+ghost use Rattle.normal_form.specs.Spots.{HasSpots};
 ghost use Rattle.core_tree.specs.Typed.{trees_in};
 ghost use Rattle.core_tree.specs.Range.{InRange};
 ghost use Rattle.obj_space.specs.View.{view_of};
@@ -27,6 +28,7 @@ fn node(
 ) -> Result<(), OutOfMemory>
     requires frame { IsFrame frame.now }
     requires node { n < length frame.now.program.now.nodes.items }
+    requires spots { HasSpots (setting_in frame.now).trees (setting_in frame.now).space }
     ensures { OnOk result (out.new ≡ out.old ++ assignments_at (setting_in frame.now) n) }
 {
     let node = &frame.program.nodes[n as usize];
@@ -42,10 +44,11 @@ fn node(
     Ok(())
 }
 
-/// What all nodes demand.
+/// What all nodes demand, where the spots of initialisers are locations.
 pub fn assignments(alloc: Global, frame: &Frame<'_>) -> Result<Listing<Assignment>, OutOfMemory>
     requires frame { IsFrame frame.now }
     requires nodes { length frame.now.program.now.nodes.items < 2 ^ 32 }
+    requires spots { HasSpots (setting_in frame.now).trees (setting_in frame.now).space }
     ensures { IfOk result (λ out. out ≡ assignments_of (setting_in frame.now)) }
 {
     let mut out = Listing::new(alloc);
@@ -55,14 +58,14 @@ pub fn assignments(alloc: Global, frame: &Frame<'_>) -> Result<Listing<Assignmen
     Ok(out)
 }
 
-// Whether the numbers of a program's nodes, entities, types and tags fit.
+// Whether a program's entities, types and tags have numbers of 32 bits, with room for the nine of types without tags.
 fn is_numbered(program: &Program) -> bool
+    requires { length program.now.nodes.items < 2 ^ 32 }
     ensures { IsTrue result → IsNumbered program.now }
 {
-    program.nodes.as_slice().len() < u32::MAX as usize
-        && program.entities.as_slice().len() < u32::MAX as usize
-        && program.types.type_count() < u32::MAX - 2
-        && program.types.tag_count() < u32::MAX - 8
+    program.entities.as_slice().len() <= u32::MAX as usize
+        && program.types.type_count() < u32::MAX - 1
+        && program.types.tag_count() < u32::MAX - 7
 }
 
 // The normal form of a program whose rows are numbered.
@@ -75,6 +78,7 @@ fn numbered(
     requires range { InRange (trees_in program.now) }
     requires numbered { IsNumbered program.now }
     requires numbers { AreNumbers (trees_in program.now) (view_of space.now) numbering.now }
+    requires spots { HasSpots (trees_in program.now) (view_of space.now) }
     ensures { IfOk result (λ normal. NormalOf program.now (view_of space.now) normal) }
 {
     let owners = owners_of(alloc, program)?;
@@ -93,11 +97,16 @@ fn numbered(
     })
 }
 
-/// The normal form of a program in which every type, node and entity that is named is in range: its rows, the assignments
-/// that its nodes demand, and its calls in order of node. Past 2^24 rows it has no assignments and no calls.
+/// The normal form of a program in which every type, node and entity that is named is in range, and whose initialisers put
+/// values at locations (C11 6.7.9): its rows, the assignments that its nodes demand, and its calls in order of node. Past
+/// 2^24 rows it has no assignments and no calls. The error is want of memory: an allocation that failed, or entities, types
+/// or tags past numbers of 32 bits, which take over 2^37 bytes.
 pub fn normalise(alloc: Global, program: &Program, space: &Space) -> Result<Normal, OutOfMemory>
-    requires { InRange (trees_in program.now) }
-    ensures { IfOk result (λ normal. NormalOf program.now (view_of space.now) normal) }
+    requires range { InRange (trees_in program.now) }
+    requires nodes { length program.now.nodes.items < 2 ^ 32 }
+    requires spots { HasSpots (trees_in program.now) (view_of space.now) }
+    ensures normal { IfOk result (λ normal. NormalOf program.now (view_of space.now) normal) }
+    ensures numbered { IfOk result (λ normal. IsNumbered program.now) }
 {
     if !is_numbered(program) {
         return Err(OutOfMemory);

@@ -26,11 +26,11 @@ fn show_node(
         }
         return Ok(text);
     }
-    let many = node.children.len() != 1;
+    let many = node.children.as_slice().len() != 1;
     if many {
         text.push('(')?;
     }
-    for (i, child) in node.children.iter().enumerate() {
+    for (i, child) in node.children.as_slice().iter().enumerate() {
         if i > 0 {
             text.push(' ')?;
         }

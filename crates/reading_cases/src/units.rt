@@ -160,7 +160,7 @@ fn nested_blocks(rt: HostRuntime) -> Result<(), Fail> {
 /// The number of statements at and under the children of a node that has an `else` among its leaves.
 fn statements(tree: &Tree, keyword: u32) -> Option<usize> {
     for node in &tree.nodes {
-        for child in &node.children {
+        for child in node.children.as_slice() {
             if let Some(leaf) = tree.nodes.get(*child as usize)
                 && leaf.production == u32::MAX
                 && leaf.token == keyword

@@ -39,7 +39,7 @@ broken_or_whole text list other fault s one two h k =
     let both : Err fault ≡ Ok s = opens_one text other _ _ _ _ (subst P same h) _ k in cc
 
 -- a unit that is refused alone isn't read
-alone_or_read : (unit : NamedText) (answer : Answer) (list : List Token) → IsRefusedAlone unit answer → IsReadAs unit list → ⊥
+pub alone_or_read : (unit : NamedText) (answer : Answer) (list : List Token) → IsRefusedAlone unit answer → IsReadAs unit list → ⊥
 unfolding IsRefusedAlone IsReadAs
 alone_or_read unit answer list (inl h) read = one_cut.either unit.1 list h.0 h.1 read.0 h.2
 alone_or_read unit answer list (inr (inl h)) read =
@@ -54,7 +54,7 @@ alone_or_read unit answer list (inr (inr h)) read =
     cc (fault, none)
 
 -- a unit is refused alone in one way
-one_alone : (unit : NamedText) (one other : Answer) → IsRefusedAlone unit one → IsRefusedAlone unit other → one ≡ other
+pub one_alone : (unit : NamedText) (one other : Answer) → IsRefusedAlone unit one → IsRefusedAlone unit other → one ≡ other
 unfolding IsRefusedAlone
 one_alone unit one other (inl h) (inl k) =
     h.3 ∙ ap (lexical_refusal unit) (one_cut.fault unit.1 h.0 k.0 h.1 k.1 h.2 k.2) ∙ sym k.3
@@ -79,7 +79,7 @@ one_alone unit one other (inr (inl h)) (inr (inl k)) =
     h.4 ∙ ap (λ (list : List Token). syntax_refusal unit.0 list h.2) same ∙ ap (syntax_refusal unit.0 k.0) is ∙ sym k.4
 
 -- a text that is right is read alone
-alone_or_right : (number : ℕ) (text : NamedText) (u : Unit) (answer : Answer) → IsRefusedAlone text answer → IsRightText number text u → ⊥
+pub alone_or_right : (number : ℕ) (text : NamedText) (u : Unit) (answer : Answer) → IsRefusedAlone text answer → IsRightText number text u → ⊥
 alone_or_right number text u answer h k = alone_or_read text answer k.tokens.list.items h k.parsed.read
 
 -- the first text that isn't right, refused alone

@@ -7,6 +7,8 @@ pub mod Answered
 pub mod Feeds
 pub mod Pieces
 pub mod Exclusion
+pub mod OneOutcome
+pub mod ProgramSize
 pub mod Linked
 pub mod Linkable
 pub mod Scripted

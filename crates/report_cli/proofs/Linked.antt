@@ -1,5 +1,5 @@
 -- The refusals of a text that is read alone, and those of texts that are right.
-use Rattle.std.proofs.Common.{◌≡◌, ◌⊎◌, ℕ, List, [], map, inl, inr, refl, sym, subst}
+use Rattle.std.proofs.Common.{◌≡◌, ℕ, List, [], map, inl, inr, refl, sym, ap, subst}
 use Rattle.pta_base.specs.declared.kind.Kind.{Kind}
 use Rattle.pta_base.specs.declared.kind.Kind.TheVariants.{Operand, NotBuilt}
 use Rattle.c_lexer.specs.declared.Tokens.{Tokens}
@@ -15,7 +15,7 @@ use Rattle.c_senses.specs.Names.{source_of, numbered}
 use Rattle.c_senses.specs.Rows.{RefusedAt}
 use Rattle.c_senses.specs.Right.{Right}
 use Rattle.unit_walk.specs.Walked.{AreDense}
-use Rattle.c_lower.specs.Lowered.{IsLowered, IsNotLowered}
+use Rattle.c_lower.specs.Lowered.{IsLowered, IsNotLowered, UnfinishedIn}
 use Rattle.link_names.specs.declared.fault.LinkFault.{LinkFault}
 use Rattle.link_names.specs.declared.fault.LinkFault.TheVariants as link
 use Rattle.unit_link.specs.Linked.{LinksBadly}
@@ -49,13 +49,6 @@ memory_in number text fault is = let P : UnitsFault → Type 0 = λ f. IsFaultIn
 FirstRow : Source → Kind → ℕ → Type 0
 FirstRow s kind node = (tag_number : ℕ → ℕ) × AreDense (numbered tag_number s) × RefusedAt (numbered tag_number s) kind node
 
--- a fault of a node is that of the first node whose row doesn't fit, or what isn't built
-row_or_not : (s : Source) (name : List ℕ) (root : ℕ) (kind : Kind) (node : ℕ) → IsNotLowered s name root (check.Unsupported kind node) → (kind ≡ NotBuilt) ⊎ FirstRow s kind node
-unfolding FirstRow
-row_or_not s name root NotBuilt node h = inl refl
-row_or_not s name root kind node (inl h) = inr h
-row_or_not s name root kind node (inr h) = absurd h.2
-
 module _ (number : ℕ) (text : NamedText) (tokens : Tokens) (tree : Tree) (parsed : IsParsed number text tokens tree) where
   refusal_at : Kind → ℕ → Answer
   refusal_at kind node = kind_refusal text.0 tokens tree kind node
@@ -65,17 +58,16 @@ module _ (number : ℕ) (text : NamedText) (tokens : Tokens) (tree : Tree) (pars
   row_refused kind node h =
       inr (inl (record { tokens = tokens; tree = tree; parsed = parsed; tag_number = h.0; dense = h.1; kind = kind; node = node; refused = h.2; answer_is = refl }))
 
-  unbuilt_refused : (node : ℕ) → IsNotLowered (source_of tokens tree) text.0 tree.root (check.Unsupported NotBuilt node) → IsRefusedText number text (refusal_at NotBuilt node)
+  unbuilt_refused : (node : ℕ) → UnfinishedIn (source_of tokens tree) text.0 tree.root (check.Unsupported NotBuilt node) → IsRefusedText number text (refusal_at NotBuilt node)
   unfolding refusal_at
-  unbuilt_refused node h = inr (inr (record { tokens = tokens; tree = tree; parsed = parsed; node = node; unbuilt = h; answer_is = refl }))
+  unbuilt_refused node h =
+      inr (inr (record { tokens = tokens; tree = tree; parsed = parsed; tag_number = h.0; dense = h.1; none = h.2.1; answer_is = ap (λ (n : ℕ). kind_refusal text.0 tokens tree NotBuilt n) h.2.0 }))
 
-  kind_refused : (kind : Kind) (node : ℕ) → IsNotLowered (source_of tokens tree) text.0 tree.root (check.Unsupported kind node) → (kind ≡ NotBuilt) ⊎ FirstRow (source_of tokens tree) kind node
-      → IsRefusedText number text (refusal_at kind node)
-  kind_refused kind node h (inl unbuilt) =
-      let P : Kind → Type 0 = λ k. IsNotLowered (source_of tokens tree) text.0 tree.root (check.Unsupported k node) in
-      let Q : Kind → Type 0 = λ k. IsRefusedText number text (refusal_at k node) in
-      subst Q (sym unbuilt) (unbuilt_refused node (subst P unbuilt h))
-  kind_refused kind node h (inr first) = row_refused kind node first
+  kind_refused : (kind : Kind) (node : ℕ) → IsNotLowered (source_of tokens tree) text.0 tree.root (check.Unsupported kind node) → IsRefusedText number text (refusal_at kind node)
+  unfolding FirstRow
+  kind_refused kind node (inl h) = row_refused kind node h
+  kind_refused NotBuilt node (inr h) = unbuilt_refused node h
+  kind_refused kind node (inr h) = absurd h.2
 
   operand_refused : (node : ℕ) → IsNotLowered (source_of tokens tree) text.0 tree.root (check.BadOperand node) → IsRefusedText number text (refusal_at Operand node)
   unfolding FirstRow
@@ -88,7 +80,7 @@ module _ (number : ℕ) (text : NamedText) (tokens : Tokens) (tree : Tree) (pars
   unfolding refusal_at
   node_refused (check.BadOperand node) fault h is = refused_in number text (refusal_at Operand node) fault is refl (operand_refused node h)
   node_refused (check.Unsupported kind node) fault h is =
-      refused_in number text (refusal_at kind node) fault is refl (kind_refused kind node h (row_or_not (source_of tokens tree) text.0 tree.root kind node h))
+      refused_in number text (refusal_at kind node) fault is refl (kind_refused kind node h)
   node_refused check.OutOfMemory fault h is = memory_in number text fault is
 
   -- the same under a name that is the text's

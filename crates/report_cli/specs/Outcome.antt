@@ -1,5 +1,5 @@
 -- What the words, the texts of the units and the script of questions say of the answer.
-use Rattle.std.specs.Prelude.{◌≡◌, ◌⊎◌, ℕ, ◌+◌, List, [], ◌∷◌, Option, Some, None, map, codes}
+use Rattle.std.specs.Prelude.{◌≡◌, ◌⊎◌, ℕ, ◌+◌, ⊤, List, [], ◌∷◌, Option, Some, None, map, codes}
 use Rattle.core_tree.specs.declared.node.Unit.{Unit}
 use Rattle.core_tree.specs.declared.node.Program.{Program}
 use Rattle.sol_model.specs.declared.system.System.{System}
@@ -45,6 +45,19 @@ Refuses texts answer = FirstRefused IsRefusedText 0 texts answer ⊎ AreRefusedT
 abbrev pub RefusesRead : List NamedText → Answer → Type 0
 RefusesRead texts answer = FirstRefused IsRefusedRead 0 texts answer ⊎ AreRefusedTogether texts answer
 
+-- the refusal of a text for its tokens, its syntax or its names, or for its first row that doesn't fit
+abbrev pub IsFaultyText : ℕ → NamedText → Answer → Type 0
+IsFaultyText number text answer = IsRefusedAlone text answer ⊎ IsRefusedRow number text answer
+
+-- each text has a right unit, the first of them as unit of that number
+abbrev pub HaveRightUnits : ℕ → List NamedText → Type 0
+HaveRightUnits number [] = ⊤
+HaveRightUnits number (text ∷ texts) = ((u : Unit) × IsRightText number text u) × HaveRightUnits (number + 1) texts
+
+-- what refuses texts that each have a right unit: a text is said not to be built, or they are refused together
+abbrev pub RefusesRight : List NamedText → Answer → Type 0
+RefusesRight texts answer = FirstRefused IsUnbuilt 0 texts answer ⊎ AreRefusedTogether texts answer
+
 -- a script is refused on the program that texts denote
 pub record IsScriptRefusal (texts : List NamedText) (script : NamedText) (answer : Answer) : Type 0 where
   pub program : Program
@@ -65,6 +78,10 @@ RefusesTold told answer = Refuses told.units answer ⊎ RefusesScript told.units
 -- the same of units whose texts are read alone
 abbrev pub RefusesToldRead : Told → Answer → Type 0
 RefusesToldRead told answer = RefusesRead told.units answer ⊎ RefusesScript told.units told.script answer
+
+-- the same of units whose texts each have a right unit
+abbrev pub RefusesToldRight : Told → Answer → Type 0
+RefusesToldRight told answer = RefusesRight told.units answer ⊎ RefusesScript told.units told.script answer
 
 -- the answer of what is told: what is printed of the program that the units denote, or the first refusal
 abbrev pub OutcomeOf : Told → Answer → Type 0

@@ -3,9 +3,9 @@ use Rattle.std.specs.Prelude.{◌≡◌, ℕ, List, ◌++◌, codes}
 use Rattle.pta_base.specs.declared.kind.Kind.TheVariants.{NotBuilt}
 use Rattle.c_lexer.specs.declared.Tokens.{Tokens}
 use Rattle.c_grammar.specs.declared.trees.Tree.{Tree}
-use Rattle.core_nodes.specs.declared.fault.CheckFault.TheVariants.{Unsupported}
-use Rattle.c_senses.specs.Names.{source_of}
-use Rattle.c_lower.specs.Lowered.{IsNotLowered}
+use Rattle.c_senses.specs.Names.{source_of, numbered}
+use Rattle.unit_walk.specs.Walked.{AreDense}
+use Rattle.c_lower.specs.Lowered.{NoneCompletes}
 use Rattle.report_cli.specs.Answers.{NamedText, Answer, refusal}
 use Rattle.report_cli.specs.Lowered.{IsParsed, kind_refusal}
 
@@ -13,11 +13,13 @@ use Rattle.report_cli.specs.Lowered.{IsParsed, kind_refusal}
 abbrev pub not_built : List ℕ → Answer
 not_built place = refusal 4 (place ++ codes ": not accepted not-built")
 
--- the refusal of a text at a node of its tree of which it may be said that what stands there isn't built
+-- the refusal of a text at the root of its tree, the rows of whose nodes all fit, but of whose parts, with such numbers of its tags, no
+-- valid unit is made
 pub record IsUnbuilt (number : ℕ) (named : NamedText) (answer : Answer) : Type 0 where
   pub tokens : Tokens
   pub tree : Tree
   pub parsed : IsParsed number named tokens tree
-  pub node : ℕ
-  pub unbuilt : IsNotLowered (source_of tokens tree) named.0 tree.root (Unsupported NotBuilt node)
-  pub answer_is : answer ≡ kind_refusal named.0 tokens tree NotBuilt node
+  pub tag_number : ℕ → ℕ
+  pub dense : AreDense (numbered tag_number (source_of tokens tree))
+  pub none : NoneCompletes (numbered tag_number (source_of tokens tree)) named.0
+  pub answer_is : answer ≡ kind_refusal named.0 tokens tree NotBuilt tree.root

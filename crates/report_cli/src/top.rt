@@ -11,7 +11,7 @@ ghost use Rattle.report_cli.specs.Told.{names_for, told_as, told_for};
 ghost use Rattle.report_cli.specs.Printed.{IsPrinted};
 ghost use Rattle.report_cli.specs.Alone.{AreReadAlone};
 ghost use Rattle.report_cli.specs.Scripts.{named_script};
-ghost use Rattle.report_cli.specs.Outcome.{Denotes, IsRefusedBy, RefusesToldRead, Outcome};
+ghost use Rattle.report_cli.specs.Outcome.{Denotes, HaveRightUnits, IsRefusedBy, RefusesToldRead, RefusesToldRight, Outcome};
 ghost use Rattle.report_text.specs.Outside.{Grows, GrowsInPart};
 ghost use Rattle.report_cli.specs.Outside.{Receives, source_fault, sink_fault, out_of_memory, usage_line};
 ghost use Rattle.unit_report.specs.Solved.{IsKept};
@@ -223,6 +223,15 @@ pub fn analyse<R: Threads + Sync, U: Units, O: Sink, E: Sink, G: Gate + Sync>(
         → ((name : List ℕ) → Contains (names_read (texts_of words.now)) name → IsSteady (U.faults units.old name) (U.faults units.new name))
         → IsSteady (O.faults out.old) (O.faults out.new)
         → (result ≡ 0) ⊎ ((result ≡ 9) ⊎ ((answer : Answer) × RefusesToldRead told answer × (result ≡ answer.status)))) }
+
+    // Where the words are right, each text has a right unit, and the outside doesn't fail, the answer is a report or answers, or that a text
+    // isn't built, or the refusal of all texts together, by linking or by a limit, or that of the script; no token, no syntax, no name and
+    // no row is refused.
+    ensures right { IfSome (told_for (U.text units.old) (texts_of words.now)) (λ told. AreRight (texts_of words.now)
+        → HaveRightUnits 0 told.units
+        → ((name : List ℕ) → Contains (names_read (texts_of words.now)) name → IsSteady (U.faults units.old name) (U.faults units.new name))
+        → IsSteady (O.faults out.old) (O.faults out.new)
+        → (result ≡ 0) ⊎ ((result ≡ 9) ⊎ ((answer : Answer) × RefusesToldRight told answer × (result ≡ answer.status)))) }
 
     // The outside: each of its statuses has its cause, and each of its faults its status.
     ensures source { result ≡ 7 → (name : List ℕ) × Contains (names_read (texts_of words.now)) name × HasRisen (U.faults units.old name) (U.faults units.new name)

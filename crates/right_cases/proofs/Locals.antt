@@ -2,7 +2,6 @@
 use Rattle.std.proofs.Common.{◌≡◌, ℕ, ◌<◌, Bool, true, false, eqb, List, [], ◌∷◌, Option, Some, None, slice_get, length, inl, inr, refl, sym, ap, subst, arith, ◌∙◌}
 use Rattle.std.specs.Prelude.{pos, ◌⊎◌}
 use Rattle.std.proofs.lemmas.Bool.Decides.{eqb_tells}
-use Rattle.std.specs.Global.{Vec}
 use Rattle.core_tree.specs.declared.node.Node.{Node}
 use Rattle.core_tree.specs.declared.node.Entity.{Entity}
 use Rattle.core_tree.specs.declared.node.Unit.{Unit}
@@ -86,9 +85,9 @@ either_true : (b : Bool) → (b || (b || false)) ≡ true → b ≡ true
 either_true true h = refl
 either_true false h = cc
 
-module _ (any : Vec ℕ) (called : List ℕ) (w : Vectors) (parts : HasParts w) where
+module _ (called : List ℕ) (w : Vectors) (parts : HasParts w) where
   abbrev s : Source
-  s = numbered (λ tag. 0) (source any tree)
+  s = numbered (λ tag. 0) (source tree)
 
   abbrev senses : List Sense
   senses = senses_of (all_senses s)

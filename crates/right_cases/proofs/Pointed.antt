@@ -1,7 +1,6 @@
 -- The unit with a pointer is right for its tree.
 use Rattle.std.proofs.Common.{◌≡◌, ℕ, ◌<◌, true, false, List, [], ◌∷◌, Option, Some, slice_get, length, inl, inr, refl, sym, subst, arith}
 use Rattle.std.specs.Prelude.{pos, ◌⊎◌}
-use Rattle.std.specs.Global.{Vec}
 use Rattle.core_tree.specs.declared.node.Node.{Node}
 use Rattle.core_tree.specs.declared.node.Entity.{Entity}
 use Rattle.core_tree.specs.declared.node.Unit.{Unit}
@@ -73,9 +72,9 @@ no_initial i e h =
     let n = some_initial (slice_get nodes i) e h in
     each_of (λ k y. InitialisesEntity y.kind e → ⊥) nodes (λ a. a, (λ a. a, (λ a. a, (λ a. a, (λ a. a, (λ a. a, (λ a. a, (λ a. a, tt)))))))) i n.0 n.1 n.2
 
-module _ (any : Vec ℕ) (called : List ℕ) (v : Vectors) (parts : HasParts v) where
+module _ (called : List ℕ) (v : Vectors) (parts : HasParts v) where
   abbrev s : Source
-  s = source any tree
+  s = source tree
 
   abbrev senses : List Sense
   senses = senses_of (all_senses s)

@@ -1,6 +1,5 @@
 -- The unit `struct s{int*q;};int f(void){typedef struct s T;static int n;T v={&n};return 0;}`.
 use Rattle.std.specs.Prelude.{◌≡◌, ℕ, pos, List, [], ◌∷◌, Some, None, true, codes}
-use Rattle.std.specs.Global.{Vec}
 use Rattle.c_grammar.specs.Productions.{p_assignment, p_block, p_declaration, p_declarator, p_external, p_field, p_init, p_item, p_items, p_member, p_members, p_rest, p_specs, p_storage, p_struct, p_type, p_unary, p_unit}
 use Rattle.c_grammar.specs.Words.{sign_ampersand, word_int, word_static, word_struct, word_typedef}
 use Rattle.c_types.specs.declared.term.Form.TheVariants.{Fixed}
@@ -100,4 +99,4 @@ pub record HasParts (parts : Vectors) : Type 0 where
   pub entities_are : parts.entities.items ≡ entities
 
 abbrev pub LocalsRight : Type 0
-LocalsRight = (any : Vec ℕ) (called : List ℕ) (parts : Vectors) → HasParts parts → Right (numbered (λ tag. 0) (source any tree)) called (unit called types parts)
+LocalsRight = (called : List ℕ) (parts : Vectors) → HasParts parts → Right (numbered (λ tag. 0) (source tree)) called (unit called types parts)

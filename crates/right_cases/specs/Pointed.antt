@@ -1,6 +1,5 @@
 -- The unit `int x,*p;int main(void){p=&x;return 0;}`.
 use Rattle.std.specs.Prelude.{◌≡◌, ℕ, pos, List, [], ◌∷◌, Some, None, true, codes}
-use Rattle.std.specs.Global.{Vec}
 use Rattle.c_grammar.specs.Productions.{p_assignment, p_block, p_declarator, p_external, p_rest, p_unary, p_unit}
 use Rattle.c_grammar.specs.Words.{sign_ampersand, word_int}
 use Rattle.c_types.specs.declared.term.Form.TheVariants.{Fixed}
@@ -71,4 +70,4 @@ pub record HasParts (v : Vectors) : Type 0 where
   pub entities_are : v.entities.items ≡ entities
 
 abbrev pub PointedRight : Type 0
-PointedRight = (any : Vec ℕ) (called : List ℕ) (v : Vectors) → HasParts v → Right (source any tree) called (unit called types v)
+PointedRight = (called : List ℕ) (v : Vectors) → HasParts v → Right (source tree) called (unit called types v)

@@ -16,7 +16,7 @@ use Rattle.link_names.specs.declared.declared.Declared.{Declared}
 use Rattle.link_names.specs.Externals.{Joined, item_of, name_at, declared_type, is_named}
 use Rattle.link_names.specs.Together.{composite, together, of_name, type_together, linked_type}
 use Rattle.link_names.specs.Faults.{IsClean, AreClean}
-use Rattle.row_laws.proofs.Deciding.{agree_stable}
+use Rattle.alike_laws.proofs.Deciding.{agree_stable}
 
 some_one : {X : Type 0} → {x y : X} → ◌≡◌ {A = Option X} (Some x) (Some y) → x ≡ y
 some_one h = cc

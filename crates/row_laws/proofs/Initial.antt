@@ -29,7 +29,7 @@ use Rattle.alike_laws.specs.Alike.{IsClosed}
 use Rattle.filled_units.specs.Filled.{AreFilled}
 use Rattle.embedded_laws.proofs.Lists.{some_one}
 use Rattle.embedded_laws.proofs.Entities.{stands_at, keeps_type}
-use Rattle.row_laws.proofs.Paths.{path_none, part_closed, path_moved}
+use Rattle.initial_laws.proofs.Paths.{path_none, part_closed, path_moved}
 use Rattle.row_laws.proofs.Fixed.{fixed_closed}
 
 -- whether a type is closed

@@ -1,7 +1,5 @@
 -- Syntax trees written as data, and the sources that they are.
-use Rattle.std.specs.Prelude.{refl, ℕ, suc, ◌+◌, ◌-◌, ◌^◌, ◌<◌, List, [], ◌∷◌, ◌++◌, length}
-use Rattle.std.specs.Global.{Vec}
-use native.Mathlib.Nat.{le-add_right}
+use Rattle.std.specs.Prelude.{ℕ, suc, ◌+◌, ◌-◌, List, [], ◌∷◌, ◌++◌, length}
 use Rattle.c_lexer.specs.declared.Token.{Token}
 use Rattle.c_lexer.specs.declared.TokenKind.{TokenKind}
 use Rattle.c_lexer.specs.declared.TokenKind.TheVariants.{Identifier, Keyword, Punctuator, Integer, Character, Text, End}
@@ -111,30 +109,6 @@ evaluates e = Node p_statement ((Node p_expression (e ▸ Done)) ▸ semicolon �
 abbrev pub returns : Branch → Branch
 returns e = Node p_statement (word word_return ▸ (Node p_expression (e ▸ Done)) ▸ semicolon ▸ Done)
 
--- a vector of at most sixteen numbers
-pub within_memory : 16 < 2 ^ 63
-within_memory = le-add_right 17 9223372036854775791
-
-abbrev pub vector : Vec ℕ → List ℕ → Vec ℕ
-vector any [] = record any { len = 0; cap = 16; items = []; ok = (refl, le-add_right 0 16); small = within_memory }
-vector any (a ∷ []) = record any { len = 1; cap = 16; items = a ∷ []; ok = (refl, le-add_right 1 15); small = within_memory }
-vector any (a ∷ b ∷ []) = record any { len = 2; cap = 16; items = a ∷ b ∷ []; ok = (refl, le-add_right 2 14); small = within_memory }
-vector any (a ∷ b ∷ c ∷ []) = record any { len = 3; cap = 16; items = a ∷ b ∷ c ∷ []; ok = (refl, le-add_right 3 13); small = within_memory }
-vector any (a ∷ b ∷ c ∷ d ∷ []) = record any { len = 4; cap = 16; items = a ∷ b ∷ c ∷ d ∷ []; ok = (refl, le-add_right 4 12); small = within_memory }
-vector any (a ∷ b ∷ c ∷ d ∷ e ∷ []) = record any { len = 5; cap = 16; items = a ∷ b ∷ c ∷ d ∷ e ∷ []; ok = (refl, le-add_right 5 11); small = within_memory }
-vector any (a ∷ b ∷ c ∷ d ∷ e ∷ f ∷ []) = record any { len = 6; cap = 16; items = a ∷ b ∷ c ∷ d ∷ e ∷ f ∷ []; ok = (refl, le-add_right 6 10); small = within_memory }
-vector any (a ∷ b ∷ c ∷ d ∷ e ∷ f ∷ g ∷ []) = record any { len = 7; cap = 16; items = a ∷ b ∷ c ∷ d ∷ e ∷ f ∷ g ∷ []; ok = (refl, le-add_right 7 9); small = within_memory }
-vector any (a ∷ b ∷ c ∷ d ∷ e ∷ f ∷ g ∷ h ∷ []) = record any { len = 8; cap = 16; items = a ∷ b ∷ c ∷ d ∷ e ∷ f ∷ g ∷ h ∷ []; ok = (refl, le-add_right 8 8); small = within_memory }
-vector any (a ∷ b ∷ c ∷ d ∷ e ∷ f ∷ g ∷ h ∷ i ∷ []) = record any { len = 9; cap = 16; items = a ∷ b ∷ c ∷ d ∷ e ∷ f ∷ g ∷ h ∷ i ∷ []; ok = (refl, le-add_right 9 7); small = within_memory }
-vector any (a ∷ b ∷ c ∷ d ∷ e ∷ f ∷ g ∷ h ∷ i ∷ j ∷ []) = record any { len = 10; cap = 16; items = a ∷ b ∷ c ∷ d ∷ e ∷ f ∷ g ∷ h ∷ i ∷ j ∷ []; ok = (refl, le-add_right 10 6); small = within_memory }
-vector any (a ∷ b ∷ c ∷ d ∷ e ∷ f ∷ g ∷ h ∷ i ∷ j ∷ k ∷ []) = record any { len = 11; cap = 16; items = a ∷ b ∷ c ∷ d ∷ e ∷ f ∷ g ∷ h ∷ i ∷ j ∷ k ∷ []; ok = (refl, le-add_right 11 5); small = within_memory }
-vector any (a ∷ b ∷ c ∷ d ∷ e ∷ f ∷ g ∷ h ∷ i ∷ j ∷ k ∷ l ∷ []) = record any { len = 12; cap = 16; items = a ∷ b ∷ c ∷ d ∷ e ∷ f ∷ g ∷ h ∷ i ∷ j ∷ k ∷ l ∷ []; ok = (refl, le-add_right 12 4); small = within_memory }
-vector any (a ∷ b ∷ c ∷ d ∷ e ∷ f ∷ g ∷ h ∷ i ∷ j ∷ k ∷ l ∷ m ∷ []) = record any { len = 13; cap = 16; items = a ∷ b ∷ c ∷ d ∷ e ∷ f ∷ g ∷ h ∷ i ∷ j ∷ k ∷ l ∷ m ∷ []; ok = (refl, le-add_right 13 3); small = within_memory }
-vector any (a ∷ b ∷ c ∷ d ∷ e ∷ f ∷ g ∷ h ∷ i ∷ j ∷ k ∷ l ∷ m ∷ n ∷ []) = record any { len = 14; cap = 16; items = a ∷ b ∷ c ∷ d ∷ e ∷ f ∷ g ∷ h ∷ i ∷ j ∷ k ∷ l ∷ m ∷ n ∷ []; ok = (refl, le-add_right 14 2); small = within_memory }
-vector any (a ∷ b ∷ c ∷ d ∷ e ∷ f ∷ g ∷ h ∷ i ∷ j ∷ k ∷ l ∷ m ∷ n ∷ o ∷ []) = record any { len = 15; cap = 16; items = a ∷ b ∷ c ∷ d ∷ e ∷ f ∷ g ∷ h ∷ i ∷ j ∷ k ∷ l ∷ m ∷ n ∷ o ∷ []; ok = (refl, le-add_right 15 1); small = within_memory }
-vector any (a ∷ b ∷ c ∷ d ∷ e ∷ f ∷ g ∷ h ∷ i ∷ j ∷ k ∷ l ∷ m ∷ n ∷ o ∷ p ∷ []) = record any { len = 16; cap = 16; items = a ∷ b ∷ c ∷ d ∷ e ∷ f ∷ g ∷ h ∷ i ∷ j ∷ k ∷ l ∷ m ∷ n ∷ o ∷ p ∷ []; ok = (refl, le-add_right 16 0); small = within_memory }
-vector any list = any
-
 -- what has been written: the text, its tokens, and the nodes in the order in which their productions end
 pub record Written : Type 0 where
   pub bytes : List ℕ
@@ -148,8 +122,8 @@ nothing_written = record { bytes = []; tokens = []; nodes = [] }
 abbrev pub token_after : Written → TokenKind → List ℕ → Token
 token_after w kind spelling = record { kind = kind; start = length w.bytes; end = length w.bytes + length spelling; line = 1; column = suc (length w.tokens) }
 
-abbrev pub with_node : Vec ℕ → ℕ → ℕ → List ℕ → Written → Written
-with_node any production first children w = record w { nodes = w.nodes ++ (record { production = production; token = first; children = vector any children }) ∷ [] }
+abbrev pub with_node : ℕ → ℕ → List ℕ → Written → Written
+with_node production first children w = record w { nodes = w.nodes ++ (record { production = production; token = first; children = record { items = children } }) ∷ [] }
 
 abbrev pub with_token : TokenKind → List ℕ → Written → Written
 with_token kind spelling w = record w { bytes = w.bytes ++ spelling; tokens = w.tokens ++ token_after w kind spelling ∷ [] }
@@ -159,27 +133,26 @@ pub record Parts : Type 0 where
   pub children : List ℕ
   pub written : Written
 
-module _ (any : Vec ℕ) where
-  abbrev mutual
-    pub written : Branch → Written → Written
-    written (Leaf kind spelling) w = with_node any reads.leaf (length w.tokens) [] (with_token kind spelling w)
-    written (Node production parts) w = let all = written_all parts [] w in with_node any production (length w.tokens) all.children all.written
+abbrev mutual
+  pub written : Branch → Written → Written
+  written (Leaf kind spelling) w = with_node reads.leaf (length w.tokens) [] (with_token kind spelling w)
+  written (Node production parts) w = let all = written_all parts [] w in with_node production (length w.tokens) all.children all.written
 
-    pub written_all : Branches → List ℕ → Written → Parts
-    written_all Done children w = record { children = children; written = w }
-    written_all (b ▸ rest) children w = let more = written b w in written_all rest (children ++ (length more.nodes - 1) ∷ []) more
+  pub written_all : Branches → List ℕ → Written → Parts
+  written_all Done children w = record { children = children; written = w }
+  written_all (b ▸ rest) children w = let more = written b w in written_all rest (children ++ (length more.nodes - 1) ∷ []) more
 
-  abbrev pub source_from : Written → Source
-  source_from w = record {
-    unit = 0;
-    text = w.bytes;
-    tokens = w.tokens;
-    nodes = w.nodes;
-    uses = (bindings w.bytes w.tokens (nodes_of w.nodes)).uses;
-    declared = names_of w.bytes w.tokens w.nodes;
-    tag_number = λ node. node;
-  }
+abbrev pub source_from : Written → Source
+source_from w = record {
+  unit = 0;
+  text = w.bytes;
+  tokens = w.tokens;
+  nodes = w.nodes;
+  uses = (bindings w.bytes w.tokens (nodes_of w.nodes)).uses;
+  declared = names_of w.bytes w.tokens w.nodes;
+  tag_number = λ node. node;
+}
 
-  -- the source that a tree is, by name resolution
-  abbrev pub source : Branch → Source
-  source b = source_from (written b nothing_written)
+-- the source that a tree is, by name resolution
+abbrev pub source : Branch → Source
+source b = source_from (written b nothing_written)

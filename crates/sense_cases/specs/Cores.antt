@@ -1,6 +1,5 @@
 -- Short words for core trees and types in cases.
 use Rattle.std.specs.Prelude.{◌≡◌, ℕ, pos, false, true, List, [], ◌∷◌, Bool, Some}
-use Rattle.std.specs.Global.{Vec}
 use Rattle.pta_base.specs.declared.kind.Kind.{Kind}
 use Rattle.c_types.specs.declared.term.Form.TheVariants.{Fixed, Variadic, Unspecified}
 use Rattle.c_types.specs.Trees.{Ctype, NoTypes, MoreTypes, VoidType, IntegerType, PointerTo, ArrayOf, FunctionFrom, StructureOf}
@@ -151,11 +150,11 @@ statement kind column parts = Of kind (at column) VoidType (cores parts)
 
 -- the body of a unit's last function is this; the unit is refused with that kind in that column
 abbrev pub HasBody : Branch → Core → Type 0
-HasBody b c = (any : Vec ℕ) → outcome any b p_block ≡ Stands (IsCore c)
+HasBody b c = outcome b p_block ≡ Stands (IsCore c)
 
 abbrev pub IsRefused : Branch → Kind → ℕ → Type 0
-IsRefused b kind column = (any : Vec ℕ) → outcome any b p_block ≡ Refused kind column
+IsRefused b kind column = outcome b p_block ≡ Refused kind column
 
 -- the last operand in a unit's last initialiser is this, before that initialiser is judged as a whole
 abbrev pub HasOperand : Branch → Core → Type 0
-HasOperand b c = (any : Vec ℕ) → outcome_before any b p_init p_primary ≡ Stands (IsCore c)
+HasOperand b c = outcome_before b p_init p_primary ≡ Stands (IsCore c)

@@ -1,6 +1,5 @@
 -- What a unit's names declare, its tags and its keys, by columns.
 use Rattle.std.specs.Prelude.{◌≡◌, ℕ, true, false, List, [], ◌∷◌, ◌++◌, Option, Some, None, option_map}
-use Rattle.std.specs.Global.{Vec}
 use Rattle.pta_base.specs.declared.kind.Kind.{Kind}
 use Rattle.c_types.specs.Trees.{Ctype}
 use Rattle.core_tree.specs.declared.node.Linkage.{Linkage}
@@ -82,11 +81,11 @@ abbrev pub unit_of : Source → Given (List Sense) → Contents
 unit_of s (Fits senses) = Declares (all_told s senses (all_nodes s)) (all_tagged s senses (all_nodes s))
 unit_of s (Refuses kind node) = Stops kind node
 
-abbrev pub declared_in : Vec ℕ → Branch → Contents
-declared_in any b = let s = source any b in unit_of s (all_senses s)
+abbrev pub declared_in : Branch → Contents
+declared_in b = let s = source b in unit_of s (all_senses s)
 
 abbrev pub IsUnit : Branch → List Told → List TaggedAs → Type 0
-IsUnit b entities tags = (any : Vec ℕ) → declared_in any b ≡ Declares entities tags
+IsUnit b entities tags = declared_in b ≡ Declares entities tags
 
 -- the structures and unions that a unit completes, where tags have other numbers
 abbrev pub completed_in : Source → Given (List Sense) → List TagParts
@@ -97,7 +96,7 @@ abbrev pub completed_by : (ℕ → ℕ) → Source → List TagParts
 completed_by number s = completed_in (numbered number s) (all_senses (numbered number s))
 
 abbrev pub HasTags : Branch → (ℕ → ℕ) → List TagParts → Type 0
-HasTags b number tags = (any : Vec ℕ) → completed_by number (source any b) ≡ tags
+HasTags b number tags = completed_by number (source b) ≡ tags
 
 -- an object at file scope, a function that is only declared, one that is defined, a local object of a function, its parameter, and an
 -- internal object with the column of its place

@@ -1,6 +1,5 @@
 -- All rows of a tree in order.
 use Rattle.std.specs.Prelude.{◌≡◌, ℕ, List, [], ◌∷◌, ◌++◌, length, take, Some, None, ◌⊎◌, All, true, is_some}
-use Rattle.std.specs.Global.{Vec}
 use Rattle.pta_base.specs.declared.kind.Kind.{Kind}
 use Rattle.c_lexer.specs.declared.Tokens.{Tokens}
 use Rattle.c_grammar.specs.declared.trees.Tree.{Tree}
@@ -60,12 +59,12 @@ abbrev pub come_of : Source → ℕ → Given (List Sense) → Outcome
 come_of s production (Fits senses) = Stands (sense_by s (sense_of_last s production senses))
 come_of s production (Refuses kind node) = Refused kind (own_place s node).column
 
-abbrev pub outcome : Vec ℕ → Branch → ℕ → Outcome
-outcome any b production = let s = source any b in come_of s production (all_senses s)
+abbrev pub outcome : Branch → ℕ → Outcome
+outcome b production = let s = source b in come_of s production (all_senses s)
 
 -- what it comes to before the row of the last node of another production
 abbrev pub nodes_before : Source → ℕ → List SyntaxNode
 nodes_before s production = elim (last_where (is_a s production) (all_nodes s)) [ None ↦ s.nodes | Some i ↦ take i s.nodes ]
 
-abbrev pub outcome_before : Vec ℕ → Branch → (stop production : ℕ) → Outcome
-outcome_before any b stop production = let s = source any b in come_of s production (run s [] (nodes_before s stop))
+abbrev pub outcome_before : Branch → (stop production : ℕ) → Outcome
+outcome_before b stop production = let s = source b in come_of s production (run s [] (nodes_before s stop))

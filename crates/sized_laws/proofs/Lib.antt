@@ -1,5 +1,3 @@
-mod Completing
-mod Terms
 mod Extents
 mod Moving
 pub mod Counting

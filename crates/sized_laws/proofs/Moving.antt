@@ -13,7 +13,7 @@ use Rattle.core_tree.specs.declared.node.Unit.{Unit}
 use Rattle.link_model.specs.Merged.{Numbering, moved, AreMoved, IsMerged}
 use Rattle.merged_laws.specs.Merged.{AreTables}
 use Rattle.merged_laws.proofs.Members.{types_is, list_moved}
-use Rattle.sized_laws.proofs.Completing.{IsAmong, among_first, among_some, known_completed, none_known, take_within}
+use Rattle.merged_laws.proofs.Completing.{IsAmong, among_first, among_some, known_completed, none_known, take_within}
 use Rattle.sized_laws.proofs.Extents.{IsAsLarge, Alike, AreAsLarge, ListsAlike, KnowAlike, LooksSo, extent_alike, member_alike}
 
 pub some_of : {A : Type 0} (o : Option A) → IsSome o → (x : A) × (o ≡ Some x)

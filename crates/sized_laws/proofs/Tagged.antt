@@ -18,7 +18,7 @@ use Rattle.link_model.specs.Apart.{CountsAs}
 use Rattle.link_model.specs.Merged.{Numbering, moved, tag_of, IsMerged}
 use Rattle.merged_laws.specs.Merged.{AreTables, AreSizes}
 use Rattle.sized_laws.specs.Sizes.{AreKeyed}
-use Rattle.sized_laws.proofs.Terms.{type_of_term, union_term, structure_term}
+use Rattle.merged_laws.proofs.Terms.{type_of_term, union_term, structure_term}
 use Rattle.sized_laws.proofs.Extents.{ListsAlike, of_structure, of_union}
 use Rattle.sized_laws.proofs.Moving.{lists_alike, sized_alike, list_alike}
 use Rattle.sized_laws.proofs.Counting.{some_one, none_some, one_tag}

@@ -1,3 +1,4 @@
 pub mod Marking
 pub mod Bodies
 pub mod Keeping
+pub mod Ring

@@ -3,3 +3,4 @@ pub mod Numbered
 pub mod Renamed
 pub mod Uses
 pub mod Entities
+pub mod Turns

@@ -1,9 +1,10 @@
 // The nodes that stay, and their new numbers.
 #![tactic(auto)]
 
-ghost use Rattle.std.specs.Prelude.{◌≡◌, ◌<◌, ◌^◌, length, map, IfOk, ℕ};
+ghost use Rattle.std.specs.Prelude.{◌≡◌, ◌<◌, ◌≤◌, ◌^◌, length, map, IfOk, OnOk, ℕ};
 ghost use Rattle.unit_parts.specs.Numbered as spec;
 ghost use Rattle.unit_parts.specs.Numbered.{numbered_from, kept_of};
+ghost use Rattle.unit_parts.specs.Turns.{Turns};
 
 use core_tree::node::Node;
 use pta_base::Listing;
@@ -66,6 +67,40 @@ fn moved(alloc: Global, numbers: &[Option<u32>], node: Node) -> Result<Node, All
     })
 }
 
+// Takes a node from the front, and puts it at the end over the new numbers of its children, if it has a new number.
+fn turn(
+    alloc: Global,
+    numbers: &[Option<u32>],
+    ring: &mut VecDeque<Node>,
+    at: usize,
+) -> Result<(), AllocError>
+    requires place { at < length numbers.now }
+    requires filled { 0 < length ring.old.items }
+    ensures { OnOk result (Turns numbers.now at ring.old.items ring.new.items) }
+{
+    let Some(node) = ring.pop_front() else {
+        return Ok(());
+    };
+    if numbers[at].is_none() {
+        return Ok(());
+    }
+    ring.push_back(moved(alloc, numbers, node)?)?;
+    Ok(())
+}
+
+// Of nodes that each have a place in the list of numbers, those that have a new number, with no second list beside theirs.
+fn turned(alloc: Global, numbers: &[Option<u32>], nodes: Vec<Node>) -> Result<Vec<Node>, AllocError>
+    requires { length nodes.items ≤ length numbers.now }
+    ensures { IfOk result (λ kept. kept.items ≡ kept_of nodes.items numbers.now) }
+{
+    let count = nodes.len();
+    let mut ring = VecDeque::from_vec(nodes);
+    for at in 0..count {
+        turn(alloc, numbers, &mut ring, at)?;
+    }
+    Ok(ring.into_vec())
+}
+
 /// The nodes that have a new number, in order, over the new numbers of their children.
 pub fn kept_nodes(
     alloc: Global,
@@ -74,15 +109,9 @@ pub fn kept_nodes(
 ) -> Result<Vec<Node>, AllocError>
     ensures { IfOk result (λ kept. kept.items ≡ kept_of nodes.items numbers.now) }
 {
-    let mut rest = VecDeque::from_vec(nodes);
-    let mut kept = Vec::new(alloc);
-    for number in numbers {
-        let Some(node) = rest.pop_front() else {
-            return Ok(kept);
-        };
-        if number.is_some() {
-            kept.push(moved(alloc, numbers, node)?)?;
-        }
-    }
+    let mut nodes = nodes;
+    nodes.truncate(numbers.len());
+    let mut kept = turned(alloc, numbers, nodes)?;
+    kept.shrink_to_fit();
     Ok(kept)
 }

@@ -1,9 +1,10 @@
 // Nodes that name entities by their numbers.
 #![tactic(auto)]
 
-ghost use Rattle.std.specs.Prelude.{◌≡◌, ◌↔◌, map, IfOk, IsTrue, All, ℕ};
+ghost use Rattle.std.specs.Prelude.{◌≡◌, ◌↔◌, ◌<◌, length, map, IfOk, OnOk, IsTrue, All, ℕ};
 ghost use Rattle.leaf_maps.specs.Numbers.{number_at};
 ghost use Rattle.unit_parts.specs.Renamed as spec;
+ghost use Rattle.unit_parts.specs.Turns.{Comes};
 
 use core_tree::node::{Node, NodeKind};
 use leaf_maps::LeafMap;
@@ -72,6 +73,18 @@ fn renamed_node(alloc: Global, numbers: &LeafMap, node: Node) -> Result<Node, Al
     })
 }
 
+// Takes a node from the front, and puts it at the end with the numbers of the entities that it names.
+fn turn(alloc: Global, numbers: &LeafMap, ring: &mut VecDeque<Node>) -> Result<(), AllocError>
+    requires { 0 < length ring.old.items }
+    ensures { OnOk result (Comes (spec.renamed_node (number_at numbers.now)) ring.old.items ring.new.items) }
+{
+    let Some(node) = ring.pop_front() else {
+        return Ok(());
+    };
+    ring.push_back(renamed_node(alloc, numbers, node)?)?;
+    Ok(())
+}
+
 /// The same nodes, with numbers of entities in place of leaves; a leaf without a number has 0.
 pub fn rename_all(
     alloc: Global,
@@ -80,12 +93,12 @@ pub fn rename_all(
 ) -> Result<Vec<Node>, AllocError>
     ensures { IfOk result (λ new. new.items ≡ map (spec.renamed_node (number_at numbers.now)) nodes.items) }
 {
-    let mut rest = VecDeque::from_vec(nodes);
-    let mut list = Vec::new(alloc);
-    while let Some(node) = rest.pop_front() {
-        list.push(renamed_node(alloc, numbers, node)?)?;
+    let count = nodes.len();
+    let mut ring = VecDeque::from_vec(nodes);
+    for _at in 0..count {
+        turn(alloc, numbers, &mut ring)?;
     }
-    Ok(list)
+    Ok(ring.into_vec())
 }
 
 // Whether each of some leaves has a number.

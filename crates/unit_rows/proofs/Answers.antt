@@ -1,12 +1,18 @@
 -- What a row's answer shows.
-use Rattle.std.proofs.Common.{◌≡◌, ◌==◌, ℕ, zero, suc, All, ◌++◌, Bool, true, false, cond, ◌||◌, List, [], ◌∷◌, Result, Ok, Err, IfOk, refl, sym, ap, ◌∙◌, subst, ◌⊎◌, inl, inr}
+use Rattle.std.proofs.Common.{◌≡◌, ◌==◌, ◌<◌, ℕ, zero, suc, length, All, ◌++◌, Bool, true, false, cond, ◌||◌, List, [], ◌∷◌, Result, Ok, Err, IfOk, refl, sym, ap, ◌∙◌, subst, ◌⊎◌, inl, inr}
 use Rattle.std.proofs.lemmas.Bool.{eqb-true, eq-eqb}
+use Rattle.std.proofs.lemmas.List.{length-map}
 use Rattle.pta_base.specs.declared.kind.Kind.TheVariants.{NotBuilt}
 use Rattle.core_tree.specs.declared.node.Unit.{Unit}
 use Rattle.c_grammar.specs.Terminals.{contains}
 use Rattle.c_grammar.specs.Productions.{p_struct, p_members, p_member, p_field, p_enum}
 use Rattle.c_senses.specs.Tags.{is_tag_specifier, struct_row}
 use Rattle.struct_rows.specs.Built.{built_struct}
+use Rattle.struct_rows.proofs.Building.{struct_part}
+use Rattle.struct_laws.proofs.Members.{never_unbuilt}
+use Rattle.family_laws.specs.Families.{Families}
+use Rattle.sense_laws.specs.Senses.{ChildrenFirst}
+use Rattle.c_senses.specs.Right.{TagsDiffer}
 use Rattle.constant_values.specs.Constants as constants
 use Rattle.name_places.specs.Named.{IsNamedSense, IsNamedIn}
 use Rattle.c_results.specs.declared.made.Made.TheVariants as made
@@ -18,12 +24,9 @@ use Rattle.unit_limits.specs.Unions.{AreUnions}
 use Rattle.unit_limits.proofs.Flags.{unions_built}
 use Rattle.unit_rows.specs.declared.along.Along.{Along}
 use Rattle.unit_rows.specs.Along.{AreAlong}
-use Rattle.unit_rows.specs.Limits.{AreTested}
-use Rattle.core_nodes.proofs.Growing.{builds_on}
 use Rattle.unit_rows.specs.Standing.{AreKept}
 use Rattle.std.proofs.lemmas.List.Elements.{All-weaker, All-head, All-tail}
 use Rattle.core_nodes.specs.declared.fault.CheckFault.{CheckFault}
-use Rattle.core_nodes.specs.declared.fault.CheckFault.TheVariants.{BadOperand, Unsupported, OutOfMemory}
 use Rattle.core_nodes.specs.Standing.{Builds}
 use Rattle.c_results.specs.declared.made.Made.{Made}
 use Rattle.c_results.specs.Standing.{sense_made, senses_made, Rowed}
@@ -31,7 +34,7 @@ use Rattle.c_senses.specs.Given.{Given, Fits, Refuses}
 use Rattle.c_senses.specs.Tree.{Source, production_at, children_at, is_a}
 use Rattle.c_senses.specs.World.{World}
 use Rattle.c_senses.specs.Sense.{Sense, Nothing, IsCore, IsType, IsSpecified, IsDeclarator, IsDerivation, IsParameter, IsMembers, IsValue, IsRun, IsInitial, sense_in}
-use Rattle.c_senses.specs.Rows.{row_of, declaring_row, declarator_row, world_at}
+use Rattle.c_senses.specs.Rows.{row_of, declaring_row, declarator_row, world_at, AreSenses}
 use Rattle.c_senses.specs.Expressions.{expression_row}
 use Rattle.row_trees.specs.Trees.{SenseHasRows}
 use Rattle.row_shapes.specs.Kept.{Keeps}
@@ -41,37 +44,8 @@ use Rattle.sense_laws.specs.Sound.{Gives}
 use Rattle.statement_rows.specs.Told.{IsStatementPart}
 use Rattle.unit_worlds.specs.Growing.{Grows, completed_at}
 use Rattle.unit_worlds.proofs.Sensing.{none_at}
-use Rattle.unit_rows.specs.Built.{RowedAt, IsLargeBehind, Stops, is_part, is_derivation, is_statement, is_plain, is_limited, is_member, is_declarator, is_initial, is_expression}
+use Rattle.unit_rows.specs.Built.{is_part, is_derivation, is_statement, is_plain, is_limited, is_member, is_declarator, is_initial, is_expression}
 use Rattle.unit_rows.proofs.Cover.{AllOf, one_of}
-
--- an exact answer is one that may say that a node isn't built
-pub rowed_at : (u : Unit) (r : Result Made CheckFault) (g : Given Sense) (S : Type 0) (at : ℕ) → Rowed u r g → RowedAt u r g S at
-rowed_at u (Ok m) g S at h = h
-rowed_at u (Err (BadOperand node)) g S at h = h
-rowed_at u (Err (Unsupported NotBuilt node)) g S at h = inl h
-rowed_at u (Err (Unsupported kind node)) g S at h = h
-rowed_at u (Err OutOfMemory) g S at h = tt
-
--- and so is one that may say so itself, of another form of the row, where there is a reason
-pub stopped_at : (u : Unit) (r : Result Made CheckFault) (f g : Given Sense) (S : Type 0) (at : ℕ) → (f ≡ g) ⊎ (f ≡ Refuses NotBuilt at) → (r ≡ Err (Unsupported NotBuilt at) → f ≡ Refuses NotBuilt at → S) → Rowed u r f → RowedAt u r g S at
-stopped_at u r f g S at (inl same) why h = rowed_at u r g S at (subst (Rowed u r) same h)
-stopped_at u (Ok m) f g S at (inr none) why h = let no : Refuses NotBuilt at ≡ Fits (sense_made u m) = sym none ∙ h in cc
-stopped_at u (Err (BadOperand node)) f g S at (inr none) why h = let no : f ≡ Refuses _ node = h in cc
-stopped_at u (Err (Unsupported NotBuilt node)) f g S at (inr none) why h =
-    let both : Refuses NotBuilt at ≡ Refuses NotBuilt node = sym none ∙ h in
-    let same : node ≡ at = cc in
-    inr (same, why (ap (λ (n : ℕ). Err (Unsupported NotBuilt n)) same) none)
-stopped_at u (Err (Unsupported kind node)) f g S at (inr none) why h = let no : Refuses NotBuilt at ≡ Refuses kind node = sym none ∙ h in cc
-stopped_at u (Err OutOfMemory) f g S at (inr none) why h = tt
-
--- for a reason that is one of others
-pub stopped_more : (u : Unit) (r : Result Made CheckFault) (g : Given Sense) (S T : Type 0) (at : ℕ) → (S → T) → RowedAt u r g S at → RowedAt u r g T at
-stopped_more u (Ok m) g S T at more h = h
-stopped_more u (Err (BadOperand node)) g S T at more h = h
-stopped_more u (Err (Unsupported NotBuilt node)) g S T at more (inl h) = inl h
-stopped_more u (Err (Unsupported NotBuilt node)) g S T at more (inr h) = inr (h.0, more h.1)
-stopped_more u (Err (Unsupported kind node)) g S T at more h = h
-stopped_more u (Err OutOfMemory) g S T at more h = tt
 
 pub row_declaring : (w : World) (s : Source) (sense : ℕ → Sense) (p at : ℕ) (xs : List ℕ) → is_expression p ≡ false → row_of w s sense p at xs ≡ declaring_row w s sense p at xs
 row_declaring w s sense p at xs e = ap (λ (b : Bool). cond b (expression_row w s sense p at xs) (declaring_row w s sense p at xs)) e
@@ -149,39 +123,35 @@ kept_at count u (m ∷ rs) h (suc i) = kept_at count u rs (All-tail (λ (r : Mad
 given_there : (u : Unit) (m : Made) (g : Given Sense) (P : Sense → Type 0) → g ≡ Fits (sense_made u m) → P (sense_made u m) → Gives P g
 given_there u m g P e h = subst (Gives P) (sym e) h
 
-pub keeps_there : (S : Type 0) (count : ℕ) (u v : Unit) (rs : List Made) (w : World) (s : Source) (p at : ℕ) (xs : List ℕ) (r : Result Made CheckFault) → AreKept count u rs
-    → RowedAt v r (row_of w s (sense_in (senses_made u rs)) p at xs) S at
+pub keeps_there : (count : ℕ) (u v : Unit) (rs : List Made) (w : World) (s : Source) (p at : ℕ) (xs : List ℕ) (r : Result Made CheckFault) → AreKept count u rs
+    → Rowed v r (row_of w s (sense_in (senses_made u rs)) p at xs)
     → IfOk r (λ m. is_expression p ≡ true → SenseHasRows (sense_made v m))
     → IfOk r (λ m. shapes.is_initial p ≡ true → HasAllRows (sense_made v m))
     → IfOk r (λ m. shapes.is_declarator p ≡ true → IsNamedSense count (sense_made v m))
     → IfOk r (λ m. Keeps count (sense_made v m))
-keeps_there S count u v rs w s p at xs (Err fault) kept row rows initial named = tt
-keeps_there S count u v rs w s p at xs (Ok m) kept row rows initial named =
+keeps_there count u v rs w s p at xs (Err fault) kept row rows initial named = tt
+keeps_there count u v rs w s p at xs (Ok m) kept row rows initial named =
     let g = row_of w s (sense_in (senses_made u rs)) p at xs in
     subst (Gives (Keeps count)) row
     (rows_keep count w s (sense_in (senses_made u rs)) (kept_at count u rs kept) p at xs
     (λ e. given_there v m g SenseHasRows row (rows e)) (λ e. given_there v m g HasAllRows row (initial e)) (λ e. given_there v m g (IsNamedSense count) row (named e)))
 
--- a structure or union, by the reasons of its own row
-pub structure_there : (w : World) (s : Source) (u v : Unit) (rs : List Made) (at : ℕ) (r : Result Made CheckFault) → production_at s at ≡ p_struct
-    → RowedAt v r (struct_row (world_at s (senses_made u rs) at) s (sense_in (senses_made u rs)) at)
-    (IsLargeBehind s u v (sense_in (senses_made u rs)) (struct_row (world_at s (senses_made u rs) at) s (sense_in (senses_made u rs)) at) at ⊎ (built_struct (world_at s (senses_made u rs) at) s (sense_in (senses_made u rs)) at ≡ Refuses NotBuilt at)) at
-    → RowedAt v r (row_of (world_at s (senses_made u rs) at) s (sense_in (senses_made u rs)) (production_at s at) at (children_at s at)) (Stops s u v rs at) at
-structure_there w s u v rs at r e h =
-    subst (λ (p : ℕ). RowedAt v r (row_of (world_at s (senses_made u rs) at) s (sense_in (senses_made u rs)) p at (children_at s at)) (Stops s u v rs at) at) (sym e)
-    (stopped_more v r (struct_row (world_at s (senses_made u rs) at) s (sense_in (senses_made u rs)) at)
-    (IsLargeBehind s u v (sense_in (senses_made u rs)) (struct_row (world_at s (senses_made u rs) at) s (sense_in (senses_made u rs)) at) at ⊎ (built_struct (world_at s (senses_made u rs) at) s (sense_in (senses_made u rs)) at ≡ Refuses NotBuilt at))
-    (Stops s u v rs at) at why h)
-  where
-    why : IsLargeBehind s u v (sense_in (senses_made u rs)) (struct_row (world_at s (senses_made u rs) at) s (sense_in (senses_made u rs)) at) at ⊎ (built_struct (world_at s (senses_made u rs) at) s (sense_in (senses_made u rs)) at ≡ Refuses NotBuilt at) → Stops s u v rs at
-    why (inl large) =
-        inr (inl (e, subst (λ (p : ℕ). IsLargeBehind s u v (sense_in (senses_made u rs)) (row_of (world_at s (senses_made u rs) at) s (sense_in (senses_made u rs)) p at (children_at s at)) at) (sym e) large))
-    why (inr untaken) = inr (inr (e, untaken))
+-- a structure or union, by its own row
+pub structure_there : (s : Source) (v : Unit) (w : World) (sense : ℕ → Sense) (at : ℕ) (r : Result Made CheckFault) → production_at s at ≡ p_struct → Rowed v r (struct_row w s sense at) → Rowed v r (row_of w s sense (production_at s at) at (children_at s at))
+structure_there s v w sense at r e h = subst (λ (p : ℕ). Rowed v r (row_of w s sense p at (children_at s at))) (sym e) h
 
--- a form of a row that fits
-pub fits_whole : (f g : Given Sense) (at : ℕ) (x : Sense) → (f ≡ g) ⊎ (f ≡ Refuses NotBuilt at) → f ≡ Fits x → g ≡ Fits x
-fits_whole f g at x (inl same) e = sym same ∙ e
-fits_whole f g at x (inr none) e = let no : Refuses NotBuilt at ≡ Fits x = sym none ∙ e in cc
+pub length_made : (u : Unit) (rs : List Made) → length (senses_made u rs) ≡ length rs
+length_made u rs = length-map rs (sense_made u)
+
+-- its row is built, since each specifier's is behind the rows of the nodes before it
+pub built_there : (s : Source) (senses : List Sense) (at : ℕ) → AreSenses s senses → ChildrenFirst s → TagsDiffer s → Families s → length senses ≡ at → at < length s.nodes → is_a s p_struct at ≡ true
+    → built_struct (world_at s senses at) s (sense_in senses) at ≡ struct_row (world_at s senses at) s (sense_in senses) at
+built_there s senses at are first differ families long inside struct = by (struct_part (world_at s senses at) s (sense_in senses) at)
+  where
+    by : (built_struct (world_at s senses at) s (sense_in senses) at ≡ struct_row (world_at s senses at) s (sense_in senses) at) ⊎ (built_struct (world_at s senses at) s (sense_in senses) at ≡ Refuses NotBuilt at)
+        → built_struct (world_at s senses at) s (sense_in senses) at ≡ struct_row (world_at s senses at) s (sense_in senses) at
+    by (inl same) = same
+    by (inr none) = absurd (never_unbuilt s senses at are first differ families (sym long) inside struct none)
 
 -- a specifier of a structure or union
 pub specified_struct : (s : Source) (at : ℕ) → is_a s p_struct at ≡ true → is_tag_specifier s at ≡ true
@@ -242,17 +212,13 @@ limited_so p e = one_of (λ q. is_expression q ≡ false) p of_limited (refl, (r
 pub row_at : (w : World) (s : Source) (sense : ℕ → Sense) (p q at : ℕ) (xs ys : List ℕ) → p ≡ q → xs ≡ ys → is_expression q ≡ false → declaring_row w s sense p at xs ≡ row_of w s sense q at ys
 row_at w s sense p q at xs ys e f h = ap (λ (r : ℕ). declaring_row w s sense r at xs) e ∙ (ap (declaring_row w s sense q at) f ∙ sym (row_declaring w s sense q at ys h))
 
--- the types that were tested, once a unit is built on
-pub tested_on : (u v : Unit) (n : ℕ) → AreTested u n → Builds u v → AreTested v n
-tested_on u v n t b = record { earlier = t.earlier; small = t.small; built = builds_on t.earlier u v t.built b; long = t.long }
-
 -- what is kept beside a unit, once it is built on
 pub along_on : (syntax : Syntax) (u v : Unit) (rs : List Made) (a : Along) → AreAlong syntax u rs a → Builds u v → AreAlong syntax v rs a
-along_on syntax u v rs a h b = record { tested = tested_on u v a.tested h.tested b; lists = h.lists; unions = unions_built u v a.unions.items b h.unions }
+along_on syntax u v rs a h b = record { lists = h.lists; unions = unions_built u v a.unions.items b h.unions }
 
-pub along_by : (syntax : Syntax) (u : Unit) (rs : List Made) (a : Along) (r : Result Made CheckFault) → IfOk r (λ m. AreTested u a.tested) → AreLists syntax rs a.lists → IfOk r (λ m. AreUnions u.types a.unions.items) → IfOk r (λ m. AreAlong syntax u rs a)
-along_by syntax u rs a (Ok m) tested lists unions = record { tested = tested; lists = lists; unions = unions }
-along_by syntax u rs a (Err fault) tested lists unions = tt
+pub along_by : (syntax : Syntax) (u : Unit) (rs : List Made) (a : Along) (r : Result Made CheckFault) → AreLists syntax rs a.lists → IfOk r (λ m. AreUnions u.types a.unions.items) → IfOk r (λ m. AreAlong syntax u rs a)
+along_by syntax u rs a (Ok m) lists unions = record { lists = lists; unions = unions }
+along_by syntax u rs a (Err fault) lists unions = tt
 
 -- a unit that grows has the tags that it had
 pub tags_grown : (u v : Unit) (es : List TagParts) → Grows u v es → v.types.tags ≡ u.types.tags

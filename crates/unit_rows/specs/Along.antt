@@ -6,9 +6,7 @@ use Rattle.c_structures.specs.Listed.{AreLists}
 use Rattle.tree_reads.specs.declared.syntax.Syntax.{Syntax}
 use Rattle.unit_limits.specs.Unions.{AreUnions}
 use Rattle.unit_rows.specs.declared.along.Along.{Along}
-use Rattle.unit_rows.specs.Limits.{AreTested}
 
 pub record AreAlong (syntax : Syntax) (u : Unit) (results : List Made) (a : Along) : Type 0 where
-  pub tested : AreTested u a.tested
   pub lists : AreLists syntax results a.lists
   pub unions : AreUnions u.types a.unions.items

@@ -2,7 +2,6 @@
 ghost use Rattle.std.specs.Prelude.{◌≡◌, [], IfOk, IsOkUnless};
 ghost use Rattle.core_nodes.specs.declared.fault.CheckFault.TheVariants.{OutOfMemory};
 ghost use Rattle.tree_reads.specs.declared.syntax.Syntax.{Syntax as SyntaxSpec};
-ghost use Rattle.unit_limits.specs.Small.{IsSmallTable};
 ghost use Rattle.unit_rows.specs.Along.{AreAlong};
 
 use c_structures::MemberLists;
@@ -11,12 +10,10 @@ use core_tree::node::Unit;
 use std::alloc::Global;
 use unit_limits::open_flags;
 
-/// What is kept beside a unit while its rows are made: how many of its types are known to be within the limits, the lists of members that
-/// are being gone through, and for each tag whether it has as a member a structure that ends in an array without a length, or a union that
-/// has one (C11 6.7.2.1p3).
+/// What is kept beside a unit while its rows are made: the lists of members that are being gone through, and for each tag whether it has
+/// as a member a structure that ends in an array without a length, or a union that has one (C11 6.7.2.1p3).
 #[derive(Drop)]
 pub struct Along {
-    pub(crate) tested: u32,
     pub(crate) lists: MemberLists,
     pub(crate) unions: Vec<bool>,
 }
@@ -25,7 +22,6 @@ impl Along {
     /// What is kept before the first row, when no tag is complete. Only memory may want.
     pub fn new(alloc: Global, unit: &Unit) -> Result<Along, CheckFault>
         requires open { unit.now.types.completed ≡ [] }
-        requires small { IsSmallTable unit.now.types }
         ensures along { (syntax : SyntaxSpec) → IfOk result (AreAlong syntax unit.now []) }
         ensures memory { IsOkUnless result OutOfMemory }
     {
@@ -33,7 +29,6 @@ impl Along {
             return Err(CheckFault::OutOfMemory);
         };
         Ok(Along {
-            tested: unit.types.type_count(),
             lists: MemberLists::new(alloc),
             unions,
         })

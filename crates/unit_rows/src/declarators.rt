@@ -6,13 +6,13 @@ ghost use Rattle.c_senses.specs.World.{World};
 ghost use Rattle.c_senses.specs.Sense.{sense_in};
 ghost use Rattle.c_senses.specs.Rows.{declarator_row};
 ghost use Rattle.core_nodes.specs.Standing.{IsReady, Builds, Knows};
+ghost use Rattle.c_declarators.specs.Limited.{AreLimited};
 ghost use Rattle.c_meanings.specs.Known.{AreNamed};
 ghost use Rattle.c_named.specs.Said.{IsSaidIn, AreSaid};
 ghost use Rattle.c_results.specs.Standing.{senses_made, IsWithin, Rowed};
 ghost use Rattle.name_places.specs.Named.{IsNamedIn};
 ghost use Rattle.name_sayings.specs.Listed.{AreListed};
 ghost use Rattle.tree_reads.specs.Sources.{source_in};
-ghost use Rattle.unit_limits.specs.Small.{IsSmallTable};
 ghost use Rattle.unit_limits.specs.Unions.{AreUnions};
 ghost use Rattle.unit_rows.specs.Standing.{IsKnown, Stand, source_known, nodes_known};
 
@@ -52,8 +52,8 @@ fn said_in(
     }
 }
 
-/// The row of a declarator (C11 6.7.6), with what its declaration may say of the name that it declares (6.2.2p7, 6.7, 6.9.1). `unions` are
-/// the tags that have a structure that ends in an array without a length.
+/// The row of a declarator (C11 6.7.6), with what its declaration may say of the name that it declares (6.2.2p7, 6.7, 6.9.1), where the
+/// types made so far are within the limits. `unions` are the tags that have a structure that ends in an array without a length.
 pub(crate) fn declared_name(
     alloc: Global,
     unit: &mut Unit,
@@ -64,19 +64,23 @@ pub(crate) fn declared_name(
 ) -> Result<Made, CheckFault>
     requires known { IsKnown known.now }
     requires stand { Stand (nodes_known known.now) unit.old results.now }
-    requires small { IsSmallTable unit.old.types }
     requires unions { AreUnions unit.old.types unions.now }
     requires at { at < nodes_known known.now }
     ensures ready { IsReady unit.new }
     ensures builds { Builds unit.old unit.new }
     ensures within { IfOk result (IsWithin unit.new) }
-    ensures named { (w : World) → Knows w unit.old → IfOk result (IsNamedIn (nodes_known known.now)) }
+    ensures named { (w : World) →
+        Knows w unit.old →
+        AreLimited w (senses_made unit.old results.now) → IfOk result (IsNamedIn (nodes_known known.now)) }
     ensures row { (w : World) →
         Knows w unit.old →
+        AreLimited w (senses_made unit.old results.now) →
         let s = source_known known.now in
         let sense = sense_in (senses_made unit.old results.now) in
         Rowed unit.new result (declarator_row w s sense at (children_at s at)) }
 {
+    // (What every table keeps is told by its count.)
+    let _count = unit.types.type_count();
     let syntax = &known.numbered.syntax;
     let children = children_of(syntax, at);
     let said = match said_in(alloc, syntax, known.names, known.lists, results, children) {

@@ -7,12 +7,12 @@ ghost use Rattle.c_senses.specs.Sense.{sense_in};
 ghost use Rattle.c_senses.specs.Rows.{declaring_row};
 ghost use Rattle.core_nodes.specs.Standing.{IsReady, Builds, Knows};
 ghost use Rattle.c_results.specs.Standing.{sense_made, senses_made, IsWithin, Rowed};
+ghost use Rattle.c_declarators.specs.Limited.{AreLimited};
 ghost use Rattle.c_initials.specs.Filling.{Fills};
 ghost use Rattle.c_named.specs.Said.{IsSaid, IsSaidIn};
 ghost use Rattle.init_rows.specs.Around.{object_at};
 ghost use Rattle.name_places.specs.Named.{IsNamedIn};
 ghost use Rattle.statement_rows.specs.Kept.{HasAllRows};
-ghost use Rattle.unit_limits.specs.Small.{IsSmallTable};
 ghost use Rattle.unit_rows.specs.Built.{is_initial};
 ghost use Rattle.unit_rows.specs.Standing.{IsKnown, AreKept, source_known, nodes_known};
 
@@ -60,7 +60,8 @@ fn said_at(alloc: Global, known: &Known, results: &[Made], at: u32) -> Result<Sa
     }
 }
 
-/// The row of an initialiser, of the list of a compound literal or of a designator (C11 6.5.2.5, 6.7.9).
+/// The row of an initialiser, of the list of a compound literal or of a designator (C11 6.5.2.5, 6.7.9), where the types made so far are
+/// within the limits.
 pub(crate) fn initial_row(
     alloc: Global,
     unit: &mut Unit,
@@ -72,7 +73,6 @@ pub(crate) fn initial_row(
     requires ready { IsReady unit.old }
     requires results { All (IsWithin unit.old) results.now }
     requires kept { AreKept (nodes_known known.now) unit.old results.now }
-    requires small { IsSmallTable unit.old.types }
     requires at { at < nodes_known known.now }
     requires part { is_initial (production_at (source_known known.now) at) ≡ true }
     ensures ready { IsReady unit.new }
@@ -82,6 +82,7 @@ pub(crate) fn initial_row(
     ensures row { (w : World) →
         Knows w unit.old →
         Fills w unit.old →
+        AreLimited w (senses_made unit.old results.now) →
         let s = source_known known.now in
         let sense = sense_in (senses_made unit.old results.now) in
         Rowed unit.new result (declaring_row w s sense (production_at s at) at (children_at s at)) }

@@ -5,7 +5,6 @@ mod along;
 mod declarators;
 mod initials;
 mod known;
-mod limits;
 mod names;
 mod parts;
 mod rows;

@@ -1,27 +1,27 @@
 // The row of a node, by its production.
-ghost use Rattle.std.specs.Prelude.{◌≡◌, ◌<◌, true, IfOk};
+ghost use Rattle.std.specs.Prelude.{◌≡◌, ◌<◌, true, length, IfOk};
 ghost use Rattle.c_senses.specs.Tree.{production_at};
 ghost use Rattle.c_senses.specs.Rows.{AreSenses};
 ghost use Rattle.c_senses.specs.Sense.{sense_in};
+ghost use Rattle.c_declarators.specs.Limited.{AreLimited};
 ghost use Rattle.c_structures.specs.Listed.{AreLists};
 ghost use Rattle.core_nodes.specs.Standing.{IsReady, Builds, Knows};
 ghost use Rattle.c_results.specs.Standing.{sense_made, senses_made, IsWithin, Rowed};
 ghost use Rattle.c_initials.specs.Filling.{Fills};
 ghost use Rattle.expression_rows.specs.Readable.{IsReadable};
+ghost use Rattle.family_laws.specs.Families.{Families};
 ghost use Rattle.row_shapes.specs.Kept.{Keeps};
 ghost use Rattle.struct_rows.specs.Built.{HasTagTypes};
 ghost use Rattle.unit_limits.specs.Unions.{AreUnions};
 ghost use Rattle.unit_worlds.specs.Growing.{Grows, completed_at};
-ghost use Rattle.unit_rows.specs.Built.{RowedAt, Stops, lists_others, is_part, is_derivation, is_statement, is_plain, is_expression, is_member, is_declarator, is_limited};
+ghost use Rattle.unit_rows.specs.Built.{lists_others, is_part, is_derivation, is_statement, is_plain, is_expression, is_member, is_declarator, is_limited};
 ghost use Rattle.unit_rows.specs.Along.{AreAlong};
-ghost use Rattle.unit_rows.specs.Limits.{AreTested};
 ghost use Rattle.unit_rows.specs.Standing.{IsKnown, Stand, ChoicesFit, source_known, nodes_known, world_there, row_there};
 
 use crate::along::Along;
 use crate::declarators::declared_name;
 use crate::initials::initial_row;
 use crate::known::Known;
-use crate::limits::all_small;
 use crate::parts::{derivation, specifier};
 use crate::structures::structure;
 use c_results::Made;
@@ -30,7 +30,6 @@ use c_structures::{MemberLists, listed_member};
 use core_nodes::CheckFault;
 use core_tree::node::Unit;
 use name_uses::expression;
-use pta_base::Kind;
 use statement_rows::{Told, row as statement_row};
 use std::alloc::Global;
 use tree_reads::{children_of, production_of};
@@ -172,14 +171,12 @@ fn is_declarator(production: u32) -> bool
     }
 }
 
-// The row of a node that asks for types within the limits, once they are tested: a structure or union, a member, a declarator or an
-// initialiser.
+// The row of a node that asks for types within the limits: a structure or union, a member, a declarator or an initialiser.
 fn limited(
     alloc: Global,
     unit: &mut Unit,
     known: &Known,
     results: &[Made],
-    tested: &mut u32,
     lists: &mut MemberLists,
     unions: &mut Vec<bool>,
     at: u32,
@@ -188,10 +185,13 @@ fn limited(
     requires stand { Stand (nodes_known known.now) unit.old results.now }
     requires knows { Knows (world_there known.now unit.old results.now at) unit.old }
     requires fills { Fills (world_there known.now unit.old results.now at) unit.old }
+    requires limits { AreLimited (world_there known.now unit.old results.now at) (senses_made unit.old results.now) }
     requires types { HasTagTypes (source_known known.now) unit.old.types }
-    requires tested { AreTested unit.old tested.old }
+    requires senses { AreSenses (source_known known.now) (senses_made unit.old results.now) }
+    requires families { Families (source_known known.now) }
     requires lists { AreLists known.now.numbered.now.syntax results.now lists.old }
     requires unions { AreUnions unit.old.types unions.old.items }
+    requires long { length results.now ≡ at }
     requires at { at < nodes_known known.now }
     requires limited { is_limited (production_at (source_known known.now) at) ≡ true }
     ensures ready { IsReady unit.new }
@@ -199,19 +199,16 @@ fn limited(
     ensures keeps { IfOk result (λ m. Keeps (nodes_known known.now) (sense_made unit.new m)) }
     ensures grows { let sense = sense_in (senses_made unit.old results.now) in
         IfOk result (λ m. Grows unit.old unit.new (completed_at (source_known known.now) sense at)) }
-    ensures tested { IfOk result (λ m. AreTested unit.new tested.new) }
     ensures lists { AreLists known.now.numbered.now.syntax results.now lists.new }
     ensures unions { IfOk result (λ m. AreUnions unit.new.types unions.new.items) }
-    ensures row { let s = source_known known.now in
-        RowedAt unit.new result (row_there known.now unit.old results.now at) (Stops s unit.old unit.new results.now at) at }
+    ensures row { Rowed unit.new result (row_there known.now unit.old results.now at) }
 {
+    // (What every table keeps is told by its count.)
+    let _count = unit.types.type_count();
     let syntax = &known.numbered.syntax;
     let production = production_of(syntax, at);
-    if !all_small(unit, tested) {
-        return Err(CheckFault::Unsupported(Kind::NotBuilt, at));
-    }
     if production == P_STRUCT {
-        return structure(alloc, unit, known, results, tested, unions, at);
+        return structure(alloc, unit, known, results, unions, at);
     }
     if is_member(production) {
         return listed_member(alloc, unit, syntax, results, unions.as_slice(), lists, at);
@@ -255,9 +252,9 @@ fn declared(
     statement_row(alloc, unit, syntax, results, &Told { kinds, choices }, at)
 }
 
-/// What a node stands for, by its production (C11 6.5 to 6.9), over what was made for the nodes before it and the cases and defaults before
-/// it: exactly the row of its production, where an answer comes. It may be `NotBuilt` at the node where types that were made aren't within
-/// the limits, and where the members of a structure or union aren't such as are taken (`Stops`). Beside that only memory may want. `along` is what is kept beside the unit.
+/// What a node stands for, by its production (C11 6.5 to 6.9), over what was made for the nodes before it and the cases and defaults
+/// before it: exactly the row of its production, with its refusals. Beside that only memory may want. `along` is what is kept beside the
+/// unit. What is made so far is within the limits of the world around the node (`AreLimited`), and the tree's nodes are in families.
 pub fn row(
     alloc: Global,
     unit: &mut Unit,
@@ -275,6 +272,9 @@ pub fn row(
     requires choices { ChoicesFit known.now unit.old results.now at choices.now }
     requires senses { AreSenses (source_known known.now) (senses_made unit.old results.now) }
     requires readable { IsReadable (source_known known.now) at }
+    requires families { Families (source_known known.now) }
+    requires limits { AreLimited (world_there known.now unit.old results.now at) (senses_made unit.old results.now) }
+    requires long { length results.now ≡ at }
     requires along { AreAlong known.now.numbered.now.syntax unit.old results.now along.old }
     requires at { at < nodes_known known.now }
     ensures ready { IsReady unit.new }
@@ -283,8 +283,7 @@ pub fn row(
     ensures grows { let sense = sense_in (senses_made unit.old results.now) in
         IfOk result (λ m. Grows unit.old unit.new (completed_at (source_known known.now) sense at)) }
     ensures along { IfOk result (λ m. AreAlong known.now.numbered.now.syntax unit.new results.now along.new) }
-    ensures row { let s = source_known known.now in
-        RowedAt unit.new result (row_there known.now unit.old results.now at) (Stops s unit.old unit.new results.now at) at }
+    ensures row { Rowed unit.new result (row_there known.now unit.old results.now at) }
 {
     let syntax = &known.numbered.syntax;
     let production = production_of(syntax, at);
@@ -302,7 +301,6 @@ pub fn row(
         unit,
         known,
         results,
-        &mut along.tested,
         &mut along.lists,
         &mut along.unions,
         at,

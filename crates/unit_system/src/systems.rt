@@ -1,6 +1,6 @@
 //! The system of a program.
 
-ghost use Rattle.std.specs.Prelude.{◌≡◌, MatchResult};
+ghost use Rattle.std.specs.Prelude.{◌≡◌, ◌≤◌, ◌^◌, length, MatchResult};
 ghost use Rattle.core_tree.specs.declared.node.Program.{Program as ProgramSpec};
 ghost use Rattle.core_tree.specs.Range.{InRange};
 ghost use Rattle.core_tree.specs.Typed.{trees_in};
@@ -47,6 +47,7 @@ fn fault_of(fault: SystemFault) -> UnitFault
 // The system of a program over its locations.
 fn system_over(alloc: Global, program: &Program, space: &Space) -> Result<System, UnitFault>
     requires range { InRange (trees_in program.now) }
+    requires few { length program.now.nodes.items ≤ 2 ^ 24 }
     requires space { space.now ≡ locations_in program.now }
     requires right { IsRight program.now }
     requires placed { ArePlaced program.now }
@@ -55,9 +56,9 @@ fn system_over(alloc: Global, program: &Program, space: &Space) -> Result<System
     requires wholes { HasWholes program.now.types space.now }
     ensures { MatchResult result (IsSystemOf program.now space.now) (IsProgramFault program.now) }
 {
-    let normal = normalise(alloc, program, space)?;
     let _types = program.types.type_count();
     let _locations = space.count();
+    let normal = normalise(alloc, program, space)?;
     let system = match system(alloc, program, space, &normal) {
         Ok(system) => system,
         Err(fault) => return Err(fault_of(fault)),
@@ -65,13 +66,18 @@ fn system_over(alloc: Global, program: &Program, space: &Space) -> Result<System
     Ok(system)
 }
 
-// The locations of a program, and its system over these.
+// The locations of a program, and its system over these. A program with over 2^24 nodes is refused before anything is made
+// of its nodes.
 fn system_of(alloc: Global, program: &Program) -> Result<(Space, System), UnitFault>
     requires range { InRange (trees_in program.now) }
     requires right { IsRight program.now }
     requires placed { ArePlaced program.now }
     ensures { MatchResult result (λ made. IsSystemOf program.now made.0 made.1) (IsProgramFault program.now) }
 {
+    let nodes = program.nodes.as_slice().len();
+    if nodes > 1 << 24 {
+        return Err(UnitFault::Nodes(nodes as u64));
+    }
     let space = objects(alloc, program)?;
     let system = system_over(alloc, program, &space)?;
     Ok((space, system))

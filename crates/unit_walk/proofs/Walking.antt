@@ -1,20 +1,17 @@
 -- Rows one after another.
-use Rattle.std.proofs.Common.{arith, ◌≡◌, ◌+◌, ℕ, ◌<◌, List, [], ◌∷◌, ◌++◌, Some, true, All, Err, length, get_or, map, slice_get, ◌⊎◌, inl, inr, refl, sym, ap, ◌∙◌, subst}
+use Rattle.std.proofs.Common.{arith, ◌≡◌, ◌+◌, ℕ, ◌<◌, List, [], ◌∷◌, ◌++◌, Some, All, Err, length, get_or, map, slice_get, sym, ap, ◌∙◌, subst}
 use Rattle.std.proofs.lemmas.List.Elements.{All-push, All-same}
 use Rattle.std.proofs.lemmas.List.{map-append, length-map}
 use Rattle.std.proofs.lemmas.Option.{slice_get-get_or}
 use Rattle.pta_base.specs.declared.kind.Kind.{Kind}
-use Rattle.pta_base.specs.declared.kind.Kind.TheVariants.{Operand, NotBuilt}
+use Rattle.pta_base.specs.declared.kind.Kind.TheVariants.{Operand}
 use Rattle.c_types.specs.Table.{TagMembers, type_of, members_among}
 use Rattle.c_types.specs.Layout.{extent_of, looked_up, laid_out}
 use Rattle.core_tree.specs.declared.node.Unit.{Unit}
 use Rattle.c_inits.specs.Made.{TagParts}
-use Rattle.c_grammar.specs.Productions.{p_struct}
 use Rattle.c_grammar.specs.declared.trees.SyntaxNode.{SyntaxNode}
-use Rattle.struct_rows.specs.Built.{built_struct}
 use Rattle.c_senses.specs.Given.{Given, Fits, Refuses}
-use Rattle.c_senses.specs.Right.{TagsDiffer}
-use Rattle.c_senses.specs.Tree.{Source, is_a, production_at, children_at, production_of}
+use Rattle.c_senses.specs.Tree.{Source, production_at, children_at}
 use Rattle.c_senses.specs.Tags.{tags_below}
 use Rattle.c_senses.specs.Sense.{Sense, sense_in}
 use Rattle.c_senses.specs.Rows.{world_at, row_of, AreSenses, RefusedAt}
@@ -23,26 +20,21 @@ use Rattle.core_nodes.specs.Standing.{parts_in, IsReady, Knows}
 use Rattle.core_nodes.specs.declared.fault.CheckFault.{CheckFault}
 use Rattle.core_nodes.specs.declared.fault.CheckFault.TheVariants.{BadOperand, Unsupported, OutOfMemory}
 use Rattle.c_results.specs.declared.made.Made.{Made}
-use Rattle.c_results.specs.Standing.{sense_made, senses_made, IsWithin}
+use Rattle.c_results.specs.Standing.{sense_made, senses_made, IsWithin, Rowed}
 use Rattle.c_types.specs.Made.{IsMade}
 use Rattle.c_initials.specs.Filling.{Fills}
 use Rattle.filling_laws.proofs.Worlds.{fills_one}
-use Rattle.family_laws.specs.Families.{Families}
-use Rattle.struct_laws.proofs.Members.{never_unbuilt}
-use Rattle.std.proofs.lemmas.Bool.{eq-eqb}
 use Rattle.row_shapes.specs.Kept.{Keeps}
 use Rattle.unit_worlds.specs.Growing.{Grows, completed_at}
 use Rattle.unit_worlds.proofs.Sensing.{no_senses, row_as, senses_more}
 use Rattle.unit_worlds.proofs.Worlds.{known_one}
-use Rattle.unit_rows.specs.Built as rows
-use Rattle.unit_rows.specs.Built.{is_limited}
 use Rattle.c_structures.specs.Listed.{AreLists}
 use Rattle.c_structures.proofs.Opening.{lists_more}
 use Rattle.tree_reads.specs.declared.syntax.Syntax.{Syntax}
 use Rattle.unit_rows.specs.declared.along.Along.{Along}
 use Rattle.unit_rows.specs.Along.{AreAlong}
 use Rattle.unit_rows.specs.Standing.{Stand, AreMade}
-use Rattle.unit_walk.specs.Walked.{IsLargeBehind, IsStopped, StopsAt, RefusedBy}
+use Rattle.unit_walk.specs.Walked.{RefusedBy}
 use Rattle.unit_walk.proofs.Keeping.{mades_grown, withins_grown, kept_grown}
 
 -- before the first row
@@ -67,7 +59,6 @@ senses_with s u v rs more m at pushed within grows =
 -- what is kept beside a unit stays right with one result more
 pub along_more : (syntax : Syntax) (v : Unit) (rs more : List Made) (m : Made) (a : Along) → more ≡ rs ++ m ∷ [] → AreAlong syntax v rs a → AreAlong syntax v more a
 along_more syntax v rs more m a e h = record {
-  tested = h.tested;
   lists = subst (λ (l : List Made). AreLists syntax l a.lists) (sym e) (lists_more syntax rs m a.lists h.lists);
   unions = h.unions;
 }
@@ -129,61 +120,10 @@ module _ (s : Source) (u : Unit) (rs : List Made) (made : AreMade s u rs) where
       refuses = row_as s (senses_made u rs) here.0 here.1 ∙ at_end (Whole s u rs) (Refuses kind named) e;
     }
 
-    production_here : production_at s at ≡ here.0.production
-    production_here = ap (λ (i : ℕ). production_at s i) (sym (so_many ∙ long)) ∙ ap production_of here.1
-
-    -- why, behind the senses so far
-    module _ (first : ChildrenFirst s) (differ : TagsDiffer s) (families : Families s) (v : Unit) (within : All (IsWithin u) rs) where
-      -- a specifier of a structure or union
-      struct_here : production_at s at ≡ p_struct → is_a s p_struct (length (senses_made u rs)) ≡ true
-      struct_here e = eq-eqb (production_at s (length (senses_made u rs))) p_struct (ap (λ (i : ℕ). production_at s i) (so_many ∙ long) ∙ e)
-
-      large_behind : (production_at s at ≡ p_struct) → rows.IsLargeBehind s u v (sense_in (senses_made u rs)) (Whole s u rs at) at → IsLargeBehind s (senses_made u rs) here.0
-      large_behind e h =
-          let m : Made = h.made in
-          let fits : Whole s u rs (length rs) ≡ Fits (sense_made v h.made) = subst (λ (i : ℕ). Whole s u rs i ≡ Fits (sense_made v h.made)) (sym long) h.fits in
-          let grows : Grows u v (completed_at s (sense_in (senses_made u rs)) (length rs)) = subst (λ (i : ℕ). Grows u v (completed_at s (sense_in (senses_made u rs)) i)) (sym long) h.grows in
-          record {
-            structure = sym production_here ∙ e;
-            sense = sense_made v h.made;
-            fits = row_as s (senses_made u rs) here.0 here.1 ∙ at_end (Whole s u rs) (Fits (sense_made v h.made)) h.fits;
-            large = record {
-              unit = v;
-              results = rs ++ h.made ∷ [];
-              made = made_more first v h.made (rs ++ h.made ∷ []) refl within (omega (arith, long, inside)) fits grows;
-              senses_are = senses_pushed first v h.made (rs ++ h.made ∷ []) refl within (omega (arith, long, inside)) fits grows;
-              large = h.large;
-            };
-          }
-
-      stopped : rows.Stops s u v rs at → IsStopped s (senses_made u rs) here.0
-      stopped (inl h) = inl (subst (λ (p : ℕ). is_limited p ≡ true) production_here h.0, record { unit = u; results = rs; made = made; senses_are = refl; large = h.1 })
-      stopped (inr (inl h)) = inr (large_behind h.0 h.1)
-      stopped (inr (inr h)) =
-          absurd (never_unbuilt s (senses_made u rs) (length (senses_made u rs)) made.senses first differ families refl (omega (arith, so_many, long, inside)) (struct_here h.0)
-          (subst (λ (i : ℕ). built_struct (world_at s (senses_made u rs) i) s (sense_in (senses_made u rs)) i ≡ Refuses NotBuilt i) (sym (so_many ∙ long)) h.1))
-
-      stops : (named : ℕ) → (Whole s u rs at ≡ Refuses NotBuilt named) ⊎ ((named ≡ at) × rows.Stops s u v rs at) → StopsAt s named
-      stops named (inl e) = record {
-        senses = senses_made u rs;
-        before = made.senses;
-        node = here.0;
-        stands = here.1;
-        stops = inl (row_as s (senses_made u rs) here.0 here.1 ∙ at_end (Whole s u rs) (Refuses NotBuilt named) e);
-      }
-      stops named (inr h) = record {
-        senses = senses_made u rs;
-        before = made.senses;
-        node = here.0;
-        stands = here.1;
-        stops = inr (h.0 ∙ sym (so_many ∙ long), stopped h.1);
-      }
-
-      pub refused : (fault : CheckFault) → rows.RowedAt v (Err fault) (Whole s u rs at) (rows.Stops s u v rs at) at → RefusedBy s fault
-      refused (BadOperand named) e = refuses_at Operand named e
-      refused (Unsupported NotBuilt named) e = stops named e
-      refused (Unsupported kind named) e = refuses_at kind named e
-      refused OutOfMemory e = tt
+    pub refused : (v : Unit) (fault : CheckFault) → Rowed v (Err fault) (Whole s u rs at) → RefusedBy s fault
+    refused v (BadOperand named) e = refuses_at Operand named e
+    refused v (Unsupported kind named) e = refuses_at kind named e
+    refused v OutOfMemory e = tt
 
 -- the results stand with one more
 pub stand_more : (count : ℕ) (u v : Unit) (es : List TagParts) → Grows u v es → IsReady v → (rs more : List Made) (m : Made) → more ≡ rs ++ m ∷ [] → Stand count u rs → IsWithin v m → Keeps count (sense_made v m) → Stand count v more

@@ -3,8 +3,8 @@ ghost use Rattle.std.specs.Prelude.{◌≡◌, ℕ, [], IfOk, MatchResult};
 ghost use Rattle.expression_rows.specs.Readable.{IsReadable};
 ghost use Rattle.family_laws.specs.Families.{Families};
 ghost use Rattle.core_nodes.specs.Standing.{IsReady};
+ghost use Rattle.limit_laws.specs.Limits.{AlwaysLimited};
 ghost use Rattle.struct_rows.specs.Built.{HasTagTypes};
-ghost use Rattle.unit_limits.specs.Small.{IsSmallTable};
 ghost use Rattle.unit_rows.specs.Standing.{IsKnown, Stand, source_known, nodes_known};
 ghost use Rattle.unit_walk.specs.Walked.{IsWalked, RefusedBy};
 
@@ -16,24 +16,26 @@ use unit_choices::{no_choices, note};
 use unit_rows::{Along, Known, row};
 
 /// What each node of a unit stands for, over what was made for those before it (C11 6.5 to 6.9). The unit's table of types has all tags of
-/// structures and unions before the first row, none of them complete. A refusal is that of the first node whose row doesn't fit, or says
-/// why what stands there isn't built (`StopsAt`).
+/// structures and unions before the first row, none of them complete. A refusal is that of the first node whose row doesn't fit. Beside
+/// that only memory may want: what the rows make is within the limits as long as they fit (`AlwaysLimited`).
 pub fn walk_nodes(alloc: Global, unit: &mut Unit, known: &Known) -> Result<Vec<Made>, CheckFault>
     requires known { IsKnown known.now }
     requires ready { IsReady unit.old }
     requires open { unit.old.types.completed ≡ [] }
-    requires small { IsSmallTable unit.old.types }
     requires types { HasTagTypes (source_known known.now) unit.old.types }
     requires readable { (at : ℕ) → IsReadable (source_known known.now) at }
     requires families { Families (source_known known.now) }
+    requires limits { AlwaysLimited (source_known known.now) }
     requires count { unit.old.types.tags ≡ known.now.numbered.now.tags.count }
     ensures stand { IfOk result (λ results. Stand (nodes_known known.now) unit.new results.items) }
     ensures entities { IfOk result (λ results. unit.new.entities.items ≡ unit.old.entities.items) }
     ensures walked { let s = source_known known.now in
         MatchResult result (λ results. IsWalked s unit.new results.items) (λ fault. RefusedBy s fault) }
 {
+    // (What every table keeps is told by its count.)
+    let _count = unit.types.type_count();
     let syntax = &known.numbered.syntax;
-    let mut results = Vec::new(alloc);
+    let mut results = Vec::with_capacity(alloc, syntax.tree.nodes.len())?;
     let mut choices = no_choices(alloc);
     let Ok(mut along) = Along::new(alloc, unit) else {
         return Err(CheckFault::OutOfMemory);

@@ -8,12 +8,12 @@ ghost use Rattle.c_scope.specs.Resolves.{IsBound};
 ghost use Rattle.c_senses.specs.Names.{source_of, numbered};
 ghost use Rattle.expression_rows.specs.Readable.{IsReadable};
 ghost use Rattle.family_laws.specs.Families.{Families};
+ghost use Rattle.limit_laws.specs.Limits.{AlwaysLimited};
 ghost use Rattle.sense_laws.specs.Senses.{ChildrenFirst};
 ghost use Rattle.struct_rows.specs.Built.{HasTagTypes};
 ghost use Rattle.tag_numbers.specs.Known.{AreTags};
 ghost use Rattle.tag_numbers.specs.Ordered.{AreInOrder};
 ghost use Rattle.tree_reads.specs.Sources.{source_in, number_in};
-ghost use Rattle.unit_limits.specs.Small.{IsSmallTable};
 ghost use Rattle.unit_rows.specs.Standing.{Stand};
 ghost use Rattle.unit_walk.specs.Ground.{IsGround, source_ground, nodes_ground};
 ghost use Rattle.unit_walk.specs.Walked.{IsWalked, RefusedIn};
@@ -97,7 +97,6 @@ fn ground_of<'a>(
 fn open_unit(alloc: Global, numbered: &Numbered) -> Result<Unit, CheckFault>
     ensures ready { IfOk result IsReady }
     ensures open { IfOk result (λ unit. unit.types.completed ≡ []) }
-    ensures small { IfOk result (λ unit. IsSmallTable unit.types) }
     ensures count { IfOk result (λ unit. unit.types.tags ≡ numbered.now.tags.count) }
     ensures tags { (uses : List (ℕ × ℕ)) →
         let s = source_in numbered.now.syntax uses in
@@ -121,9 +120,9 @@ fn open_unit(alloc: Global, numbered: &Numbered) -> Result<Unit, CheckFault>
 }
 
 /// What each node of a unit stands for (C11 6.5 to 6.9), where its tokens and its tree are those of a text that is read (its constants
-/// and strings can be read, and its tree is of families) and whose names are bound; the unit has no name yet. It is refused as the first
-/// node is whose row doesn't fit; `NotBuilt` comes at a node whose types aren't within the limits (`StopsAt`).
-/// Beside that only memory may want. Tags have the numbers of the order of their first specifiers.
+/// and strings can be read, its tree is of families, and what its rows make is within the limits as long as they fit) and whose names are
+/// bound; the unit has no name yet. It is refused as the first node is whose row doesn't fit. Beside that only memory may want. Tags have
+/// the numbers of the order of their first specifiers.
 pub fn walk<'a>(
     alloc: Global,
     tokens: &'a Tokens<'a>,
@@ -135,6 +134,7 @@ pub fn walk<'a>(
     requires first { ChildrenFirst (source_of tokens.now tree.now) }
     requires readable { (at : ℕ) → IsReadable (source_of tokens.now tree.now) at }
     requires families { Families (source_of tokens.now tree.now) }
+    requires limits { (tag_number : ℕ → ℕ) → AlwaysLimited (numbered tag_number (source_of tokens.now tree.now)) }
     ensures ground { IfOk result (λ w. IsGround w.ground bound.now) }
     ensures tokens { IfOk result (λ w. w.ground.numbered.syntax.tokens.now ≡ tokens.now) }
     ensures tree { IfOk result (λ w. w.ground.numbered.syntax.tree.now ≡ tree.now) }

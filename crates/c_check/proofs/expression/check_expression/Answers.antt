@@ -13,7 +13,7 @@ returns-in-Ok-Some-clause-builds c =
     keeps_builds c.args.unit.now c.walked.new.unit c.keep_under.new.unit c.in-Ok.from from c.in-Ok-Some.ensures.builds c.keep_under.ensures.keeps
 
 pub returns-in-Ok-Some-clause-answer : goal.returns-in-Ok-Some-clause-answer
-returns-in-Ok-Some-clause-answer c =
+returns-in-Ok-Some-clause-answer c = λ readable.
     let u0 = c.args.unit.now in
     let u1 = c.walked.new.unit in
     let u2 = c.keep_under.new.unit in
@@ -25,7 +25,7 @@ returns-in-Ok-Some-clause-answer c =
     let end = c.in-Some.end in
     let found = c.in-Ok-Some.found in
     let last : end ≡ c.args.node + 1 = search rules in
-    let ends = subst (λ (o : Option ℕ). Answered scene s start end u1 (Ok o)) c.in-Ok-Some.field-0-is c.in-Ok-Some.ensures.answer in
+    let ends = subst (λ (o : Option ℕ). Answered scene s start end u1 (Ok o)) c.in-Ok-Some.field-0-is (c.in-Ok-Some.ensures.answer readable) in
     record {
       start = start;
       begins = c.first_node-start.ensures.begins;
@@ -34,7 +34,7 @@ returns-in-Ok-Some-clause-answer c =
     }
 
 pub returns-in-Ok-None-clause-answer : goal.returns-in-Ok-None-clause-answer
-returns-in-Ok-None-clause-answer c =
+returns-in-Ok-None-clause-answer c = λ readable.
     let u0 = c.args.unit.now in
     let u1 = c.walked.new.unit in
     let known = c.args.known.now in
@@ -44,7 +44,7 @@ returns-in-Ok-None-clause-answer c =
     let start = c.first_node-start.result in
     let end = c.in-Some.end in
     let last : end ≡ c.args.node + 1 = search rules in
-    let ends = subst (λ (o : Option ℕ). Answered scene s start end u1 (Ok o)) c.in-Ok-None.field-0-is c.in-Ok-None.ensures.answer in
+    let ends = subst (λ (o : Option ℕ). Answered scene s start end u1 (Ok o)) c.in-Ok-None.field-0-is (c.in-Ok-None.ensures.answer readable) in
     record {
       start = start;
       begins = c.first_node-start.ensures.begins;
@@ -52,7 +52,7 @@ returns-in-Ok-None-clause-answer c =
     }
 
 pub returns-in-Err-clause-answer : goal.returns-in-Err-clause-answer
-returns-in-Err-clause-answer c =
+returns-in-Err-clause-answer c = λ readable.
     let u0 = c.args.unit.now in
     let u1 = c.walked.new.unit in
     let known = c.args.known.now in
@@ -60,5 +60,5 @@ returns-in-Err-clause-answer c =
     record {
       start = c.first_node-start.result;
       begins = c.first_node-start.ensures.begins;
-      answer = expressed_fault (scene_of u0 known.owner known.list.items uses) (source_with c.args.tokens.now c.args.tree.now uses) c.first_node-start.result c.args.node c.in-Some.end u1 c.in-Err.fault c.in-Err.ensures.answer;
+      answer = expressed_fault (scene_of u0 known.owner known.list.items uses) (source_with c.args.tokens.now c.args.tree.now uses) c.first_node-start.result c.args.node c.in-Some.end u1 c.in-Err.fault (c.in-Err.ensures.answer readable);
     }

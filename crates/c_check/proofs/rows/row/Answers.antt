@@ -1,70 +1,80 @@
-use Rattle.std.proofs.Common.{arith, ◌≡◌, ◌∙◌, ◌==◌, ℕ, List, false, true, [], sym, ap, subst}
-use Rattle.std.specs.Prelude.{◌&&◌}
-use Rattle.c_grammar.specs.Productions.{p_primary}
-use Rattle.c_senses.specs.Given.{Given}
-use Rattle.c_senses.specs.Sense.{Sense, sense_in}
+use Rattle.std.proofs.Common.{◌≡◌, ◌∙◌, ℕ, List, inl, inr, refl, sym, ap, subst, true, false}
+use Rattle.c_senses.specs.Given.{Given, Fits}
+use Rattle.c_senses.specs.Sense.{Sense, Nothing, sense_in}
 use Rattle.c_senses.specs.Tree.{production_at, children_at}
 use Rattle.c_results.specs.Standing.{senses_made, Rowed}
-use Rattle.tree_reads.specs.Sources.{source_read}
-use Rattle.expression_rows.specs.declared.around.Around.{Around}
-use Rattle.expression_rows.specs.Fitting.{FitsAround}
-use Rattle.expression_rows.specs.Built.{built_row}
-use Rattle.c_check.specs.Around.{meant, is_open}
-use Rattle.c_check.specs.Built.{names_unfinished, checked_row}
-use Rattle.c_check.proofs.Productions.{built_checked, open_checked, below_checked, above_checked}
-use Rattle.c_check.proofs.Primaries.{unfinished_is, named_first}
+use Rattle.tree_reads.specs.Sources.{source_in}
+use Rattle.unit_limits.specs.Small.{IsSmallTable}
+use Rattle.c_check.specs.Built.{is_list, is_expression, is_type_part, is_declarator, checked_row}
+use Rattle.c_check.specs.Limits.{RowedOr}
+use Rattle.c_check.proofs.Productions.{list_checked, expression_checked, part_checked, declarator_checked, other_checked}
+use Rattle.c_check.proofs.Stopping.{rowed_or, rowed_more}
+use Rattle.c_check.proofs.Walking.{tested_on}
 use Rattle.c_check.proofs.rows.row.Goals as goal
 
-pub returns-then-production-lt-P_EXPRESSION-clause-row : goal.returns-then-production-lt-P_EXPRESSION-clause-row
-returns-then-production-lt-P_EXPRESSION-clause-row c scene uses found own fit =
-    let s = source_read c.args.syntax.now in
+pub returns-then-is_list-clause-row : goal.returns-then-is_list-clause-row
+returns-then-is_list-clause-row c scene uses found own flexible fit readable =
+    let s = source_in c.args.syntax.now uses in
     let S = sense_in (senses_made c.args.unit.now c.args.results.now) in
     let at = c.args.at in
-    let xs = children_at s at in
-    sym (ap (λ (q : ℕ). checked_row scene s S q at xs) c.production_of-production.ensures) ∙ below_checked scene s S c.production_of-production.result at xs c.if-production.false (omega arith)
+    let a : is_list (production_at s at) ≡ true = sym (c.is_list.ensures ∙ ap is_list c.production_of-production.ensures) ∙ c.if-is_list.true in
+    list_checked scene s S (production_at s at) at (children_at s at) a
 
-pub returns-then-production-gt-P_PRIMARY-clause-row : goal.returns-then-production-gt-P_PRIMARY-clause-row
-returns-then-production-gt-P_PRIMARY-clause-row c scene uses found own fit =
-    let s = source_read c.args.syntax.now in
+pub returns-then-is_expression-clause-row : goal.returns-then-is_expression-clause-row
+returns-then-is_expression-clause-row c scene uses found own flexible fit readable =
+    let s = source_in c.args.syntax.now uses in
     let S = sense_in (senses_made c.args.unit.now c.args.results.now) in
     let at = c.args.at in
-    let xs = children_at s at in
-    sym (ap (λ (q : ℕ). checked_row scene s S q at xs) c.production_of-production.ensures) ∙ above_checked scene s S c.production_of-production.result at xs c.if-production.false (omega arith)
+    let q = production_at s at in
+    let a : is_list q ≡ false = sym (c.is_list.ensures ∙ ap is_list c.production_of-production.ensures) ∙ c.if-is_list.false in
+    let b : is_expression q ≡ true = sym (c.is_expression.ensures ∙ ap is_expression c.production_of-production.ensures) ∙ c.if-is_expression.true in
+    rowed_or c.expression.new.unit c.expression.result _ _ at
+    (subst (λ (g : Given Sense). Rowed c.expression.new.unit c.expression.result g) (sym (expression_checked scene s S q at (children_at s at) a b)) (c.expression.ensures.row scene uses found own fit readable))
 
-pub returns-then-is_unfinished_meaning-clause-row : goal.returns-then-is_unfinished_meaning-clause-row
-returns-then-is_unfinished_meaning-clause-row c scene uses found own fit =
-    let u = c.args.unit.now in
-    let s = source_read c.args.syntax.now in
-    let S = sense_in (senses_made u c.args.results.now) in
+pub returns-then-is_type_part-clause-row : goal.returns-then-is_type_part-clause-row
+returns-then-is_type_part-clause-row c scene uses found own flexible fit readable =
+    let s = source_in c.args.syntax.now uses in
+    let S = sense_in (senses_made c.args.unit.now c.args.results.now) in
     let at = c.args.at in
-    let p = c.production_of-production.result in
-    let xs = c.children_of.result.now in
-    let means = meant c.args.known.now.list.items uses in
-    let yes : ((p == p_primary) && names_unfinished scene s xs) ≡ true =
-    unfinished_is scene s u means fit.unfinished p xs ∙ (ap (is_open u) (sym (c.first_meaning-meaning.ensures.meant uses found)) ∙ sym c.if-is_unfinished_meaning.ensures) in
-    let same = ap (λ (q : ℕ). checked_row scene s S q at xs) c.production_of-production.ensures ∙ ap (checked_row scene s S (production_at s at) at) c.children_of.ensures in
-    sym same ∙ open_checked scene s S p at xs c.if-production.false (omega arith) (omega arith) yes
+    let q = production_at s at in
+    let a : is_list q ≡ false = sym (c.is_list.ensures ∙ ap is_list c.production_of-production.ensures) ∙ c.if-is_list.false in
+    let b : is_expression q ≡ false = sym (c.is_expression.ensures ∙ ap is_expression c.production_of-production.ensures) ∙ c.if-is_expression.false in
+    let d : is_type_part q ≡ true = sym (c.is_type_part.ensures ∙ ap is_type_part c.production_of-production.ensures) ∙ c.if-is_type_part.true in
+    rowed_or c.type_part.new.unit c.type_part.result _ _ at
+    (subst (λ (g : Given Sense). Rowed c.type_part.new.unit c.type_part.result g) (sym (part_checked scene s S q at (children_at s at) a b d)) (c.type_part.ensures.row scene.world uses fit.knows found fit.meaning))
+
+pub returns-then-is_declarator-clause-row : goal.returns-then-is_declarator-clause-row
+returns-then-is_declarator-clause-row c scene uses found own flexible fit readable =
+    let s = source_in c.args.syntax.now uses in
+    let S = sense_in (senses_made c.args.unit.now c.args.results.now) in
+    let at = c.args.at in
+    let q = production_at s at in
+    let v = c.declarator.new.unit in
+    let a : is_list q ≡ false = sym (c.is_list.ensures ∙ ap is_list c.production_of-production.ensures) ∙ c.if-is_list.false in
+    let b : is_expression q ≡ false = sym (c.is_expression.ensures ∙ ap is_expression c.production_of-production.ensures) ∙ c.if-is_expression.false in
+    let d : is_type_part q ≡ false = sym (c.is_type_part.ensures ∙ ap is_type_part c.production_of-production.ensures) ∙ c.if-is_type_part.false in
+    let e : is_declarator q ≡ true = sym (c.is_declarator.ensures ∙ ap is_declarator c.production_of-production.ensures) ∙ c.if-is_declarator.true in
+    let large : Type 0 = IsSmallTable v.types → ⊥ in
+    subst (λ (g : Given Sense). RowedOr v c.declarator.result g ((is_declarator q ≡ true) × large) at) (sym (declarator_checked scene s S q at (children_at s at) a b d e))
+    (rowed_more v c.declarator.result _ large ((is_declarator q ≡ true) × large) at (λ l. (e, l)) (c.declarator.ensures.row scene.world uses fit.knows flexible))
 
 pub returns-clause-row : goal.returns-clause-row
-returns-clause-row c scene uses found own fit =
-    let u = c.args.unit.now in
-    let u1 = c.row.new.unit in
-    let s = source_read c.args.syntax.now in
-    let S = sense_in (senses_made u c.args.results.now) in
-    let w = scene.world in
+returns-clause-row c scene uses found own flexible fit readable =
+    let s = source_in c.args.syntax.now uses in
+    let S = sense_in (senses_made c.args.unit.now c.args.results.now) in
     let at = c.args.at in
-    let p = c.production_of-production.result in
-    let xs = c.children_of.result.now in
-    let around : Around = record { first = c.named_of.result; may_call = true; own_name = c.own_name_of.result } in
-    let means = meant c.args.known.now.list.items uses in
-    let no : ((p == p_primary) && names_unfinished scene s xs) ≡ false =
-    unfinished_is scene s u means fit.unfinished p xs ∙ (ap (is_open u) (sym (c.first_meaning-meaning.ensures.meant uses found)) ∙ sym c.if-is_unfinished_meaning.ensures) in
-    let given : FitsAround w u s p xs around = record {
-      primary = named_first means s p w u fit.meaning xs around c.first_meaning-meaning.result (c.first_meaning-meaning.ensures.meant uses found) (c.named_of.ensures.named w fit.may_name) (fit.own_name ∙ (sym own ∙ sym c.own_name_of.ensures));
-      post = λ e. fit.may_call;
-    } in
-    let there = subst (λ (l : List ℕ). FitsAround w u s (production_at s at) l around) c.children_of.ensures (subst (λ (q : ℕ). FitsAround w u s q xs around) c.production_of-production.ensures given) in
-    let from = ap (λ (q : ℕ). built_row w s S q at xs) c.production_of-production.ensures ∙ ap (built_row w s S (production_at s at) at) c.children_of.ensures in
-    let to = ap (λ (q : ℕ). checked_row scene s S q at xs) c.production_of-production.ensures ∙ ap (checked_row scene s S (production_at s at) at) c.children_of.ensures in
-    let same = sym from ∙ (sym (built_checked scene s S p at xs c.if-production.false (omega arith) (omega arith) no) ∙ to) in
-    subst (λ (g : Given Sense). Rowed u1 c.row.result g) same (c.row.ensures.built w [] fit.knows there)
+    let q = production_at s at in
+    let a : is_list q ≡ false = sym (c.is_list.ensures ∙ ap is_list c.production_of-production.ensures) ∙ c.if-is_list.false in
+    let b : is_expression q ≡ false = sym (c.is_expression.ensures ∙ ap is_expression c.production_of-production.ensures) ∙ c.if-is_expression.false in
+    let d : is_type_part q ≡ false = sym (c.is_type_part.ensures ∙ ap is_type_part c.production_of-production.ensures) ∙ c.if-is_type_part.false in
+    let e : is_declarator q ≡ false = sym (c.is_declarator.ensures ∙ ap is_declarator c.production_of-production.ensures) ∙ c.if-is_declarator.false in
+    inl (other_checked scene s S q at (children_at s at) a b d e)
+
+pub type_part-requires-clause-part : goal.type_part-requires-clause-part
+type_part-requires-clause-part c uses = sym (c.is_type_part.ensures ∙ ap is_type_part c.production_of-production.ensures) ∙ c.if-is_type_part.true
+
+pub returns-then-is_expression-clause-tested : goal.returns-then-is_expression-clause-tested
+returns-then-is_expression-clause-tested c = tested_on c.args.unit.now c.expression.new.unit c.args.tested.now c.requires.tested c.expression.ensures.builds
+
+pub returns-then-is_type_part-clause-tested : goal.returns-then-is_type_part-clause-tested
+returns-then-is_type_part-clause-tested c = tested_on c.args.unit.now c.type_part.new.unit c.args.tested.now c.requires.tested c.type_part.ensures.builds

@@ -1,4 +1,4 @@
-use Rattle.std.proofs.Common.{arith, ◌≡◌, ◌∙◌, ◌+◌, ◌-◌, ℕ, List, Err, length, All, refl, sym, ap, subst}
+use Rattle.std.proofs.Common.{arith, ◌≡◌, ◌∙◌, ◌+◌, ◌-◌, ℕ, List, Err, true, length, All, inl, refl, sym, ap, subst}
 use Rattle.std.proofs.lemmas.List.{length-map}
 use Rattle.std.proofs.lemmas.List.Elements.{All-weaker}
 use Rattle.c_results.specs.declared.made.Made.{Made}
@@ -10,7 +10,9 @@ use Rattle.core_nodes.proofs.Growing.{builds_on}
 use Rattle.c_results.specs.Standing.{sense_made, senses_made, IsWithin, Rowed}
 use Rattle.c_results.specs.Parts.{core_in, NodeSeen}
 use Rattle.tree_reads.specs.Sources.{source_in}
-use Rattle.c_check.specs.Built.{AreChecked, checked_row}
+use Rattle.unit_limits.specs.Small.{IsSmallTable}
+use Rattle.c_check.specs.Built.{AreChecked, is_declarator, checked_row}
+use Rattle.c_check.specs.Limits.{RowedOr}
 use Rattle.c_check.proofs.Walking.{builds_same, fitting_on, own_on, one_more, refused, pushed, within_on, longer, none_yet}
 use Rattle.whole_rows.specs.Constants.{SenseHasRows}
 use Rattle.c_check.proofs.Keeping.{rows_pushed}
@@ -26,7 +28,8 @@ loop-at-init c =
       long = c.in_ok-results.ensures.long;
       within = All-weaker (λ (m : Made). m ≡ made.Nothing) (IsWithin u) (λ m e. subst (IsWithin u) (sym e) tt) rs c.in_ok-results.ensures.nothing;
       rows = All-weaker (λ (m : Made). m ≡ made.Nothing) (λ (m : Made). SenseHasRows (sense_made u m)) (λ m e. subst (λ (m : Made). SenseHasRows (sense_made u m)) (sym e) tt) rs c.in_ok-results.ensures.nothing;
-      checked = λ scene uses found own fit. none_yet scene (source_in c.args.syntax.now uses) c.args.start u rs c.in_ok-results.ensures;
+      tested = inl refl;
+      checked = λ scene uses found own flexible fit readable. none_yet scene (source_in c.args.syntax.now uses) c.args.start u rs c.in_ok-results.ensures;
     }
 
 pub loop-at-preserved : goal.loop-at-preserved
@@ -51,17 +54,18 @@ loop-at-preserved c =
       long = longer u u1 ok.builds rs c.push.new.self.items c.in-Ok.made items inv.within ∙ ap (λ (n : ℕ). n + 1) inv.long;
       within = within_on u u1 ok.builds rs c.push.new.self.items c.in-Ok.made items inv.within ok.within;
       rows = rows_pushed u u1 ok.builds rs c.push.new.self.items c.in-Ok.made items inv.within inv.rows ok.rows;
-      checked = λ scene uses found own fit.
+      tested = ok.tested;
+      checked = λ scene uses found own flexible fit readable.
           let fit1 = fitting_on u0 u inv.builds scene owner list uses c.requires.known fit in
           let own1 = own_on u0 u inv.builds owner c.args.around.now.own_name own in
-          let row = subst (λ (l : List Made). checked_row scene (s uses) (sense_in (senses_made u l)) (production_at (s uses) at) at (children_at (s uses) at) ≡ Fits (sense_made u1 c.in-Ok.made)) c.as_slice.ensures.value (ok.row scene uses found own1 fit1) in
+          let row = subst (λ (l : List Made). checked_row scene (s uses) (sense_in (senses_made u l)) (production_at (s uses) at) at (children_at (s uses) at) ≡ Fits (sense_made u1 c.in-Ok.made)) c.as_slice-before.ensures.value (ok.row scene uses found own1 flexible fit1 (readable at)) in
           let row1 = subst (λ (i : ℕ). checked_row scene (s uses) (sense_in senses) (production_at (s uses) i) i (children_at (s uses) i) ≡ Fits (sense_made u1 c.in-Ok.made)) (sym many) row in
           subst (AreChecked scene (s uses) start) (sym (pushed u u1 ok.builds rs c.push.new.self.items c.in-Ok.made items inv.within))
-          (one_more scene (s uses) start senses (sense_made u1 c.in-Ok.made) (inv.checked scene uses found own fit) (omega (arith, many, c.loop-at.auto.at)) row1);
+          (one_more scene (s uses) start senses (sense_made u1 c.in-Ok.made) (inv.checked scene uses found own flexible fit readable) (omega (arith, many, c.loop-at.auto.at)) row1);
     }
 
 pub returns-in-Err-clause-answer : goal.returns-in-Err-clause-answer
-returns-in-Err-clause-answer c scene uses found own fit =
+returns-in-Err-clause-answer c scene uses found own flexible fit readable =
     let u0 = c.args.unit.now in
     let u = c.loop-at.unit in
     let u1 = c.row.new.unit in
@@ -73,11 +77,11 @@ returns-in-Err-clause-answer c scene uses found own fit =
     let inv = c.loop-at.invariant in
     let fit1 = fitting_on u0 u inv.builds scene owner list uses c.requires.known fit in
     let own1 = own_on u0 u inv.builds owner c.args.around.now.own_name own in
-    let row = subst (λ (l : List Made). Rowed u1 (Err c.in-Err.fault) (checked_row scene (s uses) (sense_in (senses_made u l)) (production_at (s uses) at) at (children_at (s uses) at))) c.as_slice.ensures.value (c.in-Err.ensures.row scene uses found own1 fit1) in
-    refused scene (s uses) c.args.start c.args.end at u u1 rs inv.long c.loop-at.auto.at (omega (arith, c.loop-at-test.true, c.requires.parsed)) (inv.checked scene uses found own fit) c.in-Err.fault row
+    let row = subst (λ (l : List Made). RowedOr u1 (Err c.in-Err.fault) (checked_row scene (s uses) (sense_in (senses_made u l)) (production_at (s uses) at) at (children_at (s uses) at)) ((is_declarator (production_at (s uses) at) ≡ true) × (IsSmallTable u1.types → ⊥)) at) c.as_slice-before.ensures.value (c.in-Err.ensures.row scene uses found own1 flexible fit1 (readable at)) in
+    refused scene (s uses) c.args.start c.args.end at u u1 rs inv.long c.loop-at.auto.at (omega (arith, c.loop-at-test.true, c.requires.parsed)) (inv.checked scene uses found own flexible fit readable) c.in-Err.fault row
 
 pub returns-clause-answer : goal.returns-clause-answer
-returns-clause-answer c scene uses found own fit =
+returns-clause-answer c scene uses found own flexible fit readable =
     let u = c.loop-at.unit in
     let rs = c.loop-at.results.items in
     let inv = c.loop-at.invariant in
@@ -86,8 +90,8 @@ returns-clause-answer c scene uses found own fit =
     let seen = c.node_at.ensures.seen u in
     record {
       sense = sense_in S (c.args.end - 1);
-      fits = record { senses = S; checked = inv.checked scene uses found own fit; long = length-map rs (sense_made u) ∙ (inv.long ∙ ends); last = refl };
-      seen = subst (λ (l : List Made). NodeSeen u c.node_at.result (core_in (sense_in (senses_made u l) (c.args.end - 1)))) c.as_slice-2.ensures.value seen;
+      fits = record { senses = S; checked = inv.checked scene uses found own flexible fit readable; long = length-map rs (sense_made u) ∙ (inv.long ∙ ends); last = refl };
+      seen = subst (λ (l : List Made). NodeSeen u c.node_at.result (core_in (sense_in (senses_made u l) (c.args.end - 1)))) c.as_slice.ensures.value seen;
     }
 
 pub returns-in_err-push-in-Ok-clause-builds : goal.returns-in_err-push-in-Ok-clause-builds
@@ -97,4 +101,4 @@ pub returns-in-Err-clause-builds : goal.returns-in-Err-clause-builds
 returns-in-Err-clause-builds c = builds_on c.args.unit.now c.loop-at.unit c.row.new.unit c.loop-at.invariant.builds c.in-Err.ensures.builds
 
 pub returns-clause-within : goal.returns-clause-within
-returns-clause-within c = c.node_at.ensures.within c.loop-at.unit (subst (λ (l : List Made). All (IsWithin c.loop-at.unit) l) (sym c.as_slice-2.ensures.value) c.loop-at.invariant.within)
+returns-clause-within c = c.node_at.ensures.within c.loop-at.unit (subst (λ (l : List Made). All (IsWithin c.loop-at.unit) l) (sym c.as_slice.ensures.value) c.loop-at.invariant.within)

@@ -5,6 +5,9 @@ use Rattle.whole_rows.specs.Constants.{HaveRowsMade}
 use Rattle.tree_reads.specs.Sources.{source_in}
 use Rattle.c_check.specs.Built.{Scene, AreChecked}
 use Rattle.c_check.specs.Around.{Fitting, own_name_in}
+use Rattle.c_declarators.specs.Limited.{AreFlexible}
+use Rattle.expression_rows.specs.Readable.{IsReadable}
+use Rattle.c_check.specs.Limits.{IsTested}
 use Rattle.c_check.specs.Lookups.{AreLookups}
 use Rattle.c_check.proofs.walk.walk_nodes.Given as goal
 
@@ -16,5 +19,6 @@ invariant-loop-at l = record {
   long : length l.results.items ≡ l.at;
   within : All (IsWithin l.unit) l.results.items;
   rows : HaveRowsMade l.unit l.results.items;
-  checked : (scene : Scene) (uses : List (ℕ × ℕ)) → AreLookups l.around.found l.known.list.items uses → l.around.own_name ≡ own_name_in l.fn.unit l.known.owner → Fitting scene l.fn.unit l.known.owner l.known.list.items uses → AreChecked scene (source_in l.syntax uses) l.start (senses_made l.unit l.results.items);
+  tested : IsTested l.unit l.tested;
+  checked : (scene : Scene) (uses : List (ℕ × ℕ)) → AreLookups l.around.found l.known.list.items uses → l.around.own_name ≡ own_name_in l.fn.unit l.known.owner → AreFlexible scene.world l.around.flags.items → Fitting scene l.fn.unit l.known.owner l.known.list.items uses → ((at : ℕ) → IsReadable (source_in l.syntax uses) at) → AreChecked scene (source_in l.syntax uses) l.start (senses_made l.unit l.results.items);
 }

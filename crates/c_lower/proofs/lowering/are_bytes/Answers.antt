@@ -1,4 +1,4 @@
-use Rattle.std.proofs.Common.{arith, ◌<◌, ℕ, get_or, sym, subst}
+use Rattle.std.proofs.Common.{arith, ◌<◌, ℕ, get_or, subst}
 use Rattle.std.proofs.lemmas.List.{get_or_default}
 use Rattle.c_lower.proofs.lowering.are_bytes.Goals as goal
 

@@ -1,8 +1,11 @@
-use Rattle.std.proofs.Common.{ℕ, List, map, ap, ◌∙◌, ◌++◌, length, sym, subst}
+use Rattle.std.proofs.Common.{ℕ, List, All, map, ap, ◌∙◌, ◌++◌, length, sym, subst}
 use Rattle.std.specs.Prelude.{MatchResult}
 use Rattle.c_types.specs.Table.{Table}
 use Rattle.core_tree.specs.declared.node.Node.{Node}
+use Rattle.c_meanings.specs.Known.{AreNamed}
+use Rattle.c_results.specs.declared.made.Made.{Made}
 use Rattle.c_results.specs.Standing.{senses_made}
+use Rattle.name_places.specs.Named.{IsNamedIn}
 use Rattle.tree_reads.specs.Sources.{source_in}
 use Rattle.unit_parts.specs.declared.declared.Declared.{Declared}
 use Rattle.unit_parts.specs.Renamed.{literals_in}
@@ -15,10 +18,11 @@ use Rattle.c_lower.proofs.lowering.finished.Goals as goal
 pub returns : goal.returns
 returns c = λ u walked uses list ready types number is_walked is_kept.
     let s = source_in c.args.syntax.now uses in
-    let senses = senses_made u c.args.results.now in
+    let senses = senses_made u c.args.results.items in
     let h = c.args.heading in
     let nodes = c.args.kept.nodes.items in
-    let entries = c.in-Ok.ensures.entries u uses ∙ ap (λ (nodes : List Node). map (literal_entry s senses) (literals_in nodes)) c.as_slice-nodes.ensures.value in
+    let read = ap (λ (l : List Made). map (literal_entry s (senses_made u l)) (literals_in c.as_slice-nodes.result.now)) c.as_slice.ensures.value in
+    let entries = c.in-Ok.ensures.entries u uses ∙ (read ∙ ap (λ (nodes : List Node). map (literal_entry s senses) (literals_in nodes)) c.as_slice-nodes.ensures.value) in
     let parts : AreParts s = record { senses = senses; walked = walked; keys = c.args.keys.items; names = list; kept = c.args.kept; ready = ready; made = is_walked; stay = is_kept } in
     let right = c.finish.ensures.right s senses walked list ready types number is_walked is_kept entries in
     finished_so s h.name parts h.root c.finish.result right
@@ -31,3 +35,9 @@ pub returns-in-Err : goal.returns-in-Err
 returns-in-Err c = λ u walked uses list ready types number is_walked is_kept.
     let h = c.args.heading in
     memory_unfinished (source_in c.args.syntax.now uses) h.name h.root c.in-Err.fault c.in-Err.ensures.memory
+
+pub declared_literals-requires-clause-names : goal.declared_literals-requires-clause-names
+declared_literals-requires-clause-names c = subst (λ (l : List Made). AreNamed c.args.syntax.now l c.args.names.now) (sym c.as_slice.ensures.value) c.requires.names
+
+pub declared_literals-requires-clause-named : goal.declared_literals-requires-clause-named
+declared_literals-requires-clause-named c = subst (All (IsNamedIn (length c.args.syntax.now.tree.now.nodes.items))) (sym c.as_slice.ensures.value) c.requires.named

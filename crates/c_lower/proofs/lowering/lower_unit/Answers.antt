@@ -2,6 +2,7 @@ use Rattle.std.proofs.Common.{ap}
 use Rattle.c_grammar.specs.declared.trees.Tree.{Tree}
 use Rattle.family_laws.specs.Families.{Families}
 use Rattle.family_laws.proofs.Reading.{units_families}
+use Rattle.limit_laws.proofs.Limited.{units_limited}
 use Rattle.literal_laws.proofs.Readable.{units_readable}
 use Rattle.c_senses.specs.Names.{source_of}
 use Rattle.tree_reads.specs.Sources.{number_in}
@@ -27,3 +28,6 @@ walk-requires-clause-families c =
     let f = units_families c.args.tokens.now c.args.tree.now.unit c.args.tree.now (λ n. n) c.requires.tokens c.requires.read in
     let plain : Families (source_of c.args.tokens.now c.args.tree.now) = record { single = f.single; ascend = f.ascend; lists = f.lists; members = f.members; words = f.words; untagged = f.untagged } in
     plain
+
+pub walk-requires-clause-limits : goal.walk-requires-clause-limits
+walk-requires-clause-limits c = λ tag_number. units_limited c.args.tokens.now c.args.tree.now.unit c.args.tree.now tag_number c.requires.tokens c.requires.read

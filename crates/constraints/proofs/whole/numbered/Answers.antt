@@ -1,7 +1,11 @@
 use Rattle.std.proofs.Common.{◌+◌, ℕ, ap}
 use Rattle.obj_space.specs.View.{view_of}
+use Rattle.constraints.proofs.CallLemmas.{calls_few}
 use Rattle.constraints.proofs.Demanded.{demanded}
 use Rattle.constraints.proofs.whole.numbered.Goals as goal
+
+pub constraints-requires-clause-calls : goal.constraints-requires-clause-calls
+constraints-requires-clause-calls c = calls_few c.args.program.now (view_of c.args.space.now) c.args.normal.now c.requires.numbered c.requires.normal
 
 pub returns : goal.returns
 returns c =

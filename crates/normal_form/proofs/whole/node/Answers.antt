@@ -9,3 +9,8 @@ pub returns : goal.returns
 returns c =
     let at = slice_get_read c.args.frame.now.program.now.nodes.items _ c.args.n c.index-node.result.now refl c.requires.node c.index-node.ensures in
     c.in_ok-demanded.ensures ∙ rw c.as_slice.ensures (ap (λ (xs : List Assignment). c.args.out.now ++ xs) (at_node (setting_in c.args.frame.now) c.args.n c.index-node.result.now at))
+
+pub demanded-requires-clause-spotted : goal.demanded-requires-clause-spotted
+demanded-requires-clause-spotted c =
+    let at = slice_get_read c.args.frame.now.program.now.nodes.items _ c.args.n c.index-node.result.now refl c.requires.node c.index-node.ensures in
+    rw c.as_slice.ensures (c.requires.spots c.args.n c.index-node.result.now at)

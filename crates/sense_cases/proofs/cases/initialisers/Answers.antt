@@ -5,25 +5,25 @@ use Rattle.sense_cases.proofs.cases.initialisers.Goals as goal
 pub returns : goal.returns
 unfolding computing
 returns c = record {
-  nested_lists = λ any. refl;
-  inner_braces = λ any. refl;
-  rows = λ any. refl;
-  strings_in_arrays = λ any. refl;
-  string_in_braces = λ any. refl;
-  rows_of_strings = λ any. refl;
-  empty_list = λ any. refl;
-  union_initialised = λ any. refl;
-  designated_unnamed = λ any. refl;
-  designated_path = λ any. refl;
-  unnamed_field_passed = λ any. refl;
-  empty_structure_passed = λ any. refl;
-  overridden = λ any. refl;
-  replaced_whole = λ any. refl;
-  whole_then_part = λ any. refl;
-  value_in_list = λ any. refl;
-  fixed_pointers = λ any. refl;
-  moved_addresses = λ any. refl;
-  static_pair = λ any. refl;
-  file_literal = λ any. refl;
-  converted_items = λ any. refl;
+  nested_lists = refl;
+  inner_braces = refl;
+  rows = refl;
+  strings_in_arrays = refl;
+  string_in_braces = refl;
+  rows_of_strings = refl;
+  empty_list = refl;
+  union_initialised = refl;
+  designated_unnamed = refl;
+  designated_path = refl;
+  unnamed_field_passed = refl;
+  empty_structure_passed = refl;
+  overridden = refl;
+  replaced_whole = refl;
+  whole_then_part = refl;
+  value_in_list = refl;
+  fixed_pointers = refl;
+  moved_addresses = refl;
+  static_pair = refl;
+  file_literal = refl;
+  converted_items = refl;
 }

@@ -5,15 +5,15 @@ use Rattle.sense_cases.proofs.cases.statements.Goals as goal
 pub returns : goal.returns
 unfolding computing
 returns c = record {
-  switched = λ any. refl;
-  nested_switches = λ any. refl;
-  declared_in_switch = λ any. refl;
-  loops = λ any. refl;
-  declaration_in_loop = λ any. refl;
-  branches = λ any. refl;
-  else_if = λ any. refl;
-  jumps = λ any. refl;
-  run_declarations = λ any. refl;
-  for_parts = λ any. refl;
-  nothing_returned = λ any. refl;
+  switched = refl;
+  nested_switches = refl;
+  declared_in_switch = refl;
+  loops = refl;
+  declaration_in_loop = refl;
+  branches = refl;
+  else_if = refl;
+  jumps = refl;
+  run_declarations = refl;
+  for_parts = refl;
+  nothing_returned = refl;
 }

@@ -5,9 +5,9 @@ use Rattle.sense_cases.proofs.refusals.floating_faults.Goals as goal
 pub returns : goal.returns
 unfolding computing
 returns c = record {
-  floating_name = λ any. refl;
-  floating_call = λ any. refl;
-  floating_cast = λ any. refl;
-  floating_literal = λ any. refl;
-  floating_pointed = λ any. refl;
+  floating_name = refl;
+  floating_call = refl;
+  floating_cast = refl;
+  floating_literal = refl;
+  floating_pointed = refl;
 }

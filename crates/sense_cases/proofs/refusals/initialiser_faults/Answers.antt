@@ -5,23 +5,23 @@ use Rattle.sense_cases.proofs.refusals.initialiser_faults.Goals as goal
 pub returns : goal.returns
 unfolding computing
 returns c = record {
-  too_many = λ any. refl;
-  braces_in_scalar = λ any. refl;
-  index_past = λ any. refl;
-  no_member = λ any. refl;
-  later_expression = λ any. refl;
-  string_too_long = λ any. refl;
-  whole_array = λ any. refl;
-  other_structure = λ any. refl;
-  string_beside = λ any. refl;
-  value_in_elided = λ any. refl;
-  designated_in_scalar = λ any. refl;
-  negative_index = λ any. refl;
-  negative_in_largest = λ any. refl;
-  incomplete_initial = λ any. refl;
-  static_structure = λ any. refl;
-  past_designator = λ any. refl;
-  past_union = λ any. refl;
-  past_flexible = λ any. refl;
-  string_for_numbers = λ any. refl;
+  too_many = refl;
+  braces_in_scalar = refl;
+  index_past = refl;
+  no_member = refl;
+  later_expression = refl;
+  string_too_long = refl;
+  whole_array = refl;
+  other_structure = refl;
+  string_beside = refl;
+  value_in_elided = refl;
+  designated_in_scalar = refl;
+  negative_index = refl;
+  negative_in_largest = refl;
+  incomplete_initial = refl;
+  static_structure = refl;
+  past_designator = refl;
+  past_union = refl;
+  past_flexible = refl;
+  string_for_numbers = refl;
 }

@@ -5,20 +5,20 @@ use Rattle.sense_cases.proofs.refusals.length_faults.Goals as goal
 pub returns : goal.returns
 unfolding computing
 returns c = record {
-  no_constant_length = λ any. refl;
-  no_length = λ any. refl;
-  pointer_length = λ any. refl;
-  length_divided = λ any. refl;
-  large_array = λ any. refl;
-  variable_inner_length = λ any. refl;
-  parameter_length_zero = λ any. refl;
-  static_length = λ any. refl;
-  starred_length = λ any. refl;
-  static_in_other_array = λ any. refl;
-  size_of_void = λ any. refl;
-  size_of_open = λ any. refl;
-  size_of_function = λ any. refl;
-  alignment_variable = λ any. refl;
-  alignment_incomplete = λ any. refl;
-  large_structure = λ any. refl;
+  no_constant_length = refl;
+  no_length = refl;
+  pointer_length = refl;
+  length_divided = refl;
+  large_array = refl;
+  variable_inner_length = refl;
+  parameter_length_zero = refl;
+  static_length = refl;
+  starred_length = refl;
+  static_in_other_array = refl;
+  size_of_void = refl;
+  size_of_open = refl;
+  size_of_function = refl;
+  alignment_variable = refl;
+  alignment_incomplete = refl;
+  large_structure = refl;
 }

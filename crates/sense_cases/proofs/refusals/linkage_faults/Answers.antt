@@ -5,9 +5,9 @@ use Rattle.sense_cases.proofs.refusals.linkage_faults.Goals as goal
 pub returns : goal.returns
 unfolding computing
 returns c = record {
-  both_linkages = λ any. refl;
-  internal_differs = λ any. refl;
-  length_differs = λ any. refl;
-  internal_again = λ any. refl;
-  typedef_differs = λ any. refl;
+  both_linkages = refl;
+  internal_differs = refl;
+  length_differs = refl;
+  internal_again = refl;
+  typedef_differs = refl;
 }

@@ -5,8 +5,8 @@ use Rattle.sense_cases.proofs.refusals.static_faults.Goals as goal
 pub returns : goal.returns
 unfolding computing
 returns c = record {
-  not_fixed = λ any. refl;
-  call_in_static = λ any. refl;
-  literal_in_static = λ any. refl;
-  automatic_in_static = λ any. refl;
+  not_fixed = refl;
+  call_in_static = refl;
+  literal_in_static = refl;
+  automatic_in_static = refl;
 }

@@ -5,21 +5,21 @@ use Rattle.sense_cases.proofs.refusals.word_faults.Goals as goal
 pub returns : goal.returns
 unfolding computing
 returns c = record {
-  two_storages = λ any. refl;
-  auto_at_file = λ any. refl;
-  static_parameter = λ any. refl;
-  inline_object = λ any. refl;
-  typedef_initialised = λ any. refl;
-  block_extern_initialised = λ any. refl;
-  block_static_function = λ any. refl;
-  for_static = λ any. refl;
-  storage_in_member = λ any. refl;
-  storage_in_type_name = λ any. refl;
-  inline_alone = λ any. refl;
-  external_then_static = λ any. refl;
-  function_then_static = λ any. refl;
-  extern_inline = λ any. refl;
-  typedef_defined = λ any. refl;
-  incomplete_result = λ any. refl;
-  incomplete_parameter = λ any. refl;
+  two_storages = refl;
+  auto_at_file = refl;
+  static_parameter = refl;
+  inline_object = refl;
+  typedef_initialised = refl;
+  block_extern_initialised = refl;
+  block_static_function = refl;
+  for_static = refl;
+  storage_in_member = refl;
+  storage_in_type_name = refl;
+  inline_alone = refl;
+  external_then_static = refl;
+  function_then_static = refl;
+  extern_inline = refl;
+  typedef_defined = refl;
+  incomplete_result = refl;
+  incomplete_parameter = refl;
 }

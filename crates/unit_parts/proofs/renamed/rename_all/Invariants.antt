@@ -1,11 +1,11 @@
-use Rattle.std.proofs.Common.{◌≡◌, ◌++◌, map}
-use Rattle.std.specs.VecDeque.{deque_len}
+use Rattle.std.proofs.Common.{◌≡◌, ◌+◌, ◌-◌, ◌≤◌, ◌++◌, length, map, take, drop}
 use Rattle.leaf_maps.specs.Numbers.{number_at}
 use Rattle.unit_parts.specs.Renamed.{renamed_node}
 use Rattle.unit_parts.proofs.renamed.rename_all.Given as goal
 
-abbrev pub invariant-loop-node : goal.invariant-loop-node
-invariant-loop-node l = l.list.items ++ map (renamed_node (number_at l.numbers)) l.rest.items ≡ map (renamed_node (number_at l.numbers)) l.fn.nodes.items
-
-abbrev pub decreases-loop-node : goal.decreases-loop-node
-decreases-loop-node l = deque_len l.rest
+-- the nodes that came back, and those that are still to come
+abbrev pub invariant-loop-at : goal.invariant-loop-at
+invariant-loop-at l = record {
+  room : l.count ≤ l._at + length l.ring.items;
+  kept : drop (l.count - l._at) l.ring.items ++ map (renamed_node (number_at l.numbers)) (take (l.count - l._at) l.ring.items) ≡ map (renamed_node (number_at l.numbers)) l.fn.nodes.items;
+}

@@ -2,20 +2,19 @@ use Rattle.std.proofs.Common.{◌≡◌, ℕ, true, false, refl, sym, ◌∙◌,
 use Rattle.core_nodes.proofs.Growing.{same_builds}
 use Rattle.c_senses.specs.Sense.{sense_in}
 use Rattle.c_senses.specs.Tree.{production_at, children_at}
-use Rattle.c_senses.specs.Rows.{row_of}
 use Rattle.c_results.specs.Standing.{sense_made, senses_made}
 use Rattle.name_places.specs.Named.{IsNamedSense}
 use Rattle.row_trees.specs.Trees.{SenseHasRows}
 use Rattle.row_shapes.specs.Kept as shapes
 use Rattle.statement_rows.specs.Kept.{HasAllRows}
 use Rattle.unit_worlds.specs.Growing.{Grows, completed_at}
-use Rattle.unit_rows.specs.Built.{Stops, lists_others, is_expression, is_plain}
+use Rattle.unit_rows.specs.Built.{lists_others, is_expression, is_plain}
 use Rattle.unit_rows.specs.Along.{AreAlong}
 use Rattle.unit_rows.specs.Standing.{source_known, nodes_known, world_there}
 use Rattle.unit_rows.proofs.Nothing.{nothing_of}
 use Rattle.unit_rows.proofs.Cover.{limited_there}
 use Rattle.unit_rows.proofs.Expressions.{expression_there, no_struct, no_initial, no_declarator, lists_no_struct, rows_made, names_in}
-use Rattle.unit_rows.proofs.Answers.{rowed_at, keeps_there, unless, given, anyway, plain_other, plain_own, along_on, along_by, grows_so}
+use Rattle.unit_rows.proofs.Answers.{keeps_there, unless, given, anyway, plain_other, plain_own, along_on, along_by, grows_so}
 use Rattle.unit_rows.proofs.rows.row.Goals as goal
 
 pub returns-then-is_list-clause-row : goal.returns-then-is_list-clause-row
@@ -61,7 +60,6 @@ returns-then-is_expression-clause-row c =
     let ys = children_at s at in
     let p = c.production_of-production.ensures in
     let kind : is_expression q ≡ true = subst (λ (x : ℕ). is_expression x ≡ true) p (sym c.is_expression.ensures ∙ c.if-is_expression.true) in
-    rowed_at c.expression.new.unit c.expression.result (row_of w s S q at ys) (Stops s u c.expression.new.unit rs at) at
     (expression_there w s S at c.expression.new.unit c.expression.result kind c.requires.readable (c.expression.ensures.built k.bound.now.uses.items c.requires.known.pairs c.requires.senses c.requires.knows))
 
 pub returns-then-is_expression-clause-keeps : goal.returns-then-is_expression-clause-keeps
@@ -77,9 +75,8 @@ returns-then-is_expression-clause-keeps c =
     let ys = children_at s at in
     let p = c.production_of-production.ensures in
     let kind : is_expression q ≡ true = subst (λ (x : ℕ). is_expression x ≡ true) p (sym c.is_expression.ensures ∙ c.if-is_expression.true) in
-    keeps_there (Stops s u c.expression.new.unit rs at) (nodes_known k) u c.expression.new.unit rs w s q at ys c.expression.result c.requires.stand.kept
-    (rowed_at c.expression.new.unit c.expression.result (row_of w s S q at ys) (Stops s u c.expression.new.unit rs at) at
-    (expression_there w s S at c.expression.new.unit c.expression.result kind c.requires.readable (c.expression.ensures.built k.bound.now.uses.items c.requires.known.pairs c.requires.senses c.requires.knows)))
+    keeps_there (nodes_known k) u c.expression.new.unit rs w s q at ys c.expression.result c.requires.stand.kept
+    ((expression_there w s S at c.expression.new.unit c.expression.result kind c.requires.readable (c.expression.ensures.built k.bound.now.uses.items c.requires.known.pairs c.requires.senses c.requires.knows)))
     (given c.expression.result (λ m. SenseHasRows (sense_made c.expression.new.unit m)) (is_expression q) c.expression.ensures.rows)
     (unless (shapes.is_initial q) (no_initial q kind) c.expression.result (λ m. HasAllRows (sense_made c.expression.new.unit m)))
     (unless (shapes.is_declarator q) (no_declarator q kind) c.expression.result (λ m. IsNamedSense (nodes_known k) (sense_made c.expression.new.unit m)))
@@ -125,7 +122,7 @@ returns-then-is_plain-clause-row c =
     let q = production_at s at in
     let ys = children_at s at in
     let p = c.production_of-production.ensures in
-    rowed_at c.declared.new.unit c.declared.result (row_of w s S q at ys) (Stops s u c.declared.new.unit rs at) at c.declared.ensures.row
+    c.declared.ensures.row
 
 pub returns-then-is_plain-clause-keeps : goal.returns-then-is_plain-clause-keeps
 returns-then-is_plain-clause-keeps c =
@@ -140,8 +137,8 @@ returns-then-is_plain-clause-keeps c =
     let ys = children_at s at in
     let p = c.production_of-production.ensures in
     let kind : is_plain q ≡ true = subst (λ (x : ℕ). is_plain x ≡ true) p (sym c.is_plain.ensures ∙ c.if-is_plain.true) in
-    keeps_there (Stops s u c.declared.new.unit rs at) (nodes_known k) u c.declared.new.unit rs w s q at ys c.declared.result c.requires.stand.kept
-    (rowed_at c.declared.new.unit c.declared.result (row_of w s S q at ys) (Stops s u c.declared.new.unit rs at) at c.declared.ensures.row)
+    keeps_there (nodes_known k) u c.declared.new.unit rs w s q at ys c.declared.result c.requires.stand.kept
+    (c.declared.ensures.row)
     (unless (is_expression q) (plain_other q kind) c.declared.result (λ m. SenseHasRows (sense_made c.declared.new.unit m)))
     (unless (shapes.is_initial q) (plain_own q kind).0 c.declared.result (λ m. HasAllRows (sense_made c.declared.new.unit m)))
     (unless (shapes.is_declarator q) (plain_own q kind).1.0 c.declared.result (λ m. IsNamedSense (nodes_known k) (sense_made c.declared.new.unit m)))
@@ -216,5 +213,5 @@ expression-requires-clause-names c = record { named = c.requires.known.names c.a
 
 pub returns-clause-along : goal.returns-clause-along
 returns-clause-along c =
-    along_by c.args.known.now.numbered.now.syntax c.limited.new.unit c.args.results.now (record { tested = c.limited.new.tested; lists = c.limited.new.lists; unions = c.limited.new.unions }) c.limited.result
-    c.limited.ensures.tested c.limited.ensures.lists c.limited.ensures.unions
+    along_by c.args.known.now.numbered.now.syntax c.limited.new.unit c.args.results.now (record { lists = c.limited.new.lists; unions = c.limited.new.unions }) c.limited.result
+    c.limited.ensures.lists c.limited.ensures.unions

@@ -3,8 +3,15 @@ use Rattle.obj_space.specs.declared.location.Location.{Location}
 use Rattle.obj_space.specs.View.{view_of}
 use Rattle.constraints.specs.System.{IsFaultOf as IsSystemFault}
 use Rattle.demand_laws.proofs.Fitting.{count_is}
+use Rattle.item_laws.proofs.Spots.{spots_fit}
 use Rattle.unit_system.proofs.Validity.{some_located, valid_of}
 use Rattle.unit_system.proofs.systems.system_over.Goals as goal
+
+pub normalise-requires-clause-spots : goal.normalise-requires-clause-spots
+normalise-requires-clause-spots c =
+    let told = c.type_count-types.ensures in
+    let count = c.count-locations.ensures in
+    spots_fit c.args.program.now c.args.space.now c.requires.space told.made c.requires.wholes (omega arith) c.requires.right.initials c.requires.placed
 
 pub system-requires-clause-located : goal.system-requires-clause-located
 system-requires-clause-located c = some_located c.args.program.now c.args.space.now c.requires.space c.requires.right

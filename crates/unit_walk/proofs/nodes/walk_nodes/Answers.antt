@@ -4,13 +4,13 @@ use Rattle.c_senses.specs.Given.{Fits}
 use Rattle.c_senses.specs.Sense.{Sense, sense_in}
 use Rattle.c_senses.specs.Rows.{world_at, AreSenses}
 use Rattle.c_initials.specs.Filling.{Fills}
-use Rattle.c_results.specs.Standing.{sense_made, senses_made, IsWithin}
+use Rattle.c_results.specs.Standing.{sense_made, senses_made, IsWithin, Rowed}
 use Rattle.statement_rows.specs.Told.{IsTold}
 use Rattle.filling_laws.proofs.Worlds.{fills_first}
 use Rattle.struct_rows.proofs.Growing.{tag_types_grow}
 use Rattle.unit_worlds.specs.Growing.{Grows, completed_at}
+use Rattle.c_declarators.specs.Limited.{AreLimited}
 use Rattle.unit_rows.specs.Along.{AreAlong}
-use Rattle.unit_rows.specs.Built.{RowedAt, Stops}
 use Rattle.unit_rows.specs.Standing.{Stand, AreMade, source_known, nodes_known}
 use Rattle.unit_walk.proofs.Keeping.{entities_grown}
 use Rattle.unit_walk.proofs.Walking.{stand_empty, made_empty, Whole, length_made, made_there, refused, stand_more, along_more, senses_with, fills_more}
@@ -21,7 +21,7 @@ loop-at-init c =
     let u = c.args.unit.now in
     let k = c.args.known.now in
     let s = source_known k in
-    let none = c.new-results.ensures.items in
+    let none = c.in_ok-results.ensures.items in
     record {
       stand = subst (Stand (nodes_known k) u) (sym none) (stand_empty (nodes_known k) u c.requires.ready);
       long = ap length none;
@@ -33,7 +33,7 @@ loop-at-init c =
           subst (λ (l : List Made). IsTold (world_at s (senses_made u l) 0) s (sense_in (senses_made u l)) 0 c.no_choices-choices.result) (sym none)
           (c.no_choices-choices.ensures (world_at s (senses_made u []) 0) s (sense_in (senses_made u [])) c.requires.known.spelled);
       along = subst (λ (l : List Made). AreAlong k.numbered.now.syntax u l c.in-Ok.along) (sym none) (c.in-Ok.ensures.along k.numbered.now.syntax);
-      table = c.requires.small.made;
+      table = c.type_count-count.ensures.made;
     }
 
 pub loop-at-preserved : goal.loop-at-preserved
@@ -96,8 +96,8 @@ returns-in-Err-clause-walked c =
     let rs = c.loop-at.results.items in
     let inv = c.loop-at.invariant in
     let row =
-    subst (λ (l : List Made). RowedAt v (Err c.in-Err.fault) (Whole s u l at) (Stops s u v l at) at) c.as_slice-before.ensures.value c.in-Err.ensures.row in
-    refused s u rs inv.made at inv.long (omega (arith, c.loop-at-test.true)) c.requires.known.ordered c.requires.known.tags.differ c.requires.families v inv.stand.within c.in-Err.fault row
+    subst (λ (l : List Made). Rowed v (Err c.in-Err.fault) (Whole s u l at)) c.as_slice-before.ensures.value c.in-Err.ensures.row in
+    refused s u rs inv.made at inv.long (omega (arith, c.loop-at-test.true)) v c.in-Err.fault row
 
 pub returns-clause-walked : goal.returns-clause-walked
 returns-clause-walked c =
@@ -113,3 +113,17 @@ row-requires-clause-senses c =
 
 pub row-requires-clause-readable : goal.row-requires-clause-readable
 row-requires-clause-readable c = c.requires.readable c.loop-at.at
+
+pub row-requires-clause-limits : goal.row-requires-clause-limits
+row-requires-clause-limits c =
+    let u = c.loop-at.unit in
+    let s = source_known c.args.known.now in
+    let rs = c.loop-at.results.items in
+    let inv = c.loop-at.invariant in
+    let long : length (senses_made u rs) ≡ c.loop-at.at = length_made u rs ∙ inv.long in
+    let here : AreLimited (world_at s (senses_made u rs) c.loop-at.at) (senses_made u rs) =
+    subst (λ (i : ℕ). AreLimited (world_at s (senses_made u rs) i) (senses_made u rs)) long (c.requires.limits c.requires.known.tags.differ (senses_made u rs) inv.made.senses) in
+    subst (λ (l : List Made). AreLimited (world_at s (senses_made u l) c.loop-at.at) (senses_made u l)) (sym c.as_slice-before.ensures.value) here
+
+pub row-requires-clause-long : goal.row-requires-clause-long
+row-requires-clause-long c = ap length c.as_slice-before.ensures.value ∙ c.loop-at.invariant.long

@@ -4,6 +4,7 @@ use Rattle.c_senses.specs.Names.{source_of, numbered}
 use Rattle.tree_reads.specs.Sources.{number_in}
 use Rattle.expression_rows.specs.Readable.{IsReadable}
 use Rattle.family_laws.specs.Families.{Families}
+use Rattle.limit_laws.specs.Limits.{AlwaysLimited}
 use Rattle.unit_walk.proofs.Sources.{source_same, refused_in, memory_refused}
 use Rattle.unit_walk.proofs.units.walk.Goals as goal
 
@@ -40,3 +41,9 @@ walk_nodes-requires-clause-families c =
     let plain : Families (numbered (number_in c.in-Ok.ground.numbered.syntax.tag_numbers.items) (source_of c.args.tokens.now c.args.tree.now)) = record { single = f.single; ascend = f.ascend; lists = f.lists; members = f.members; words = f.words; untagged = f.untagged } in
     subst Families
     (sym (source_same c.in-Ok.ground.numbered.syntax c.args.tokens.now c.args.tree.now c.args.bound.now c.in-Ok.ensures.tokens c.in-Ok.ensures.tree c.requires.bound)) plain
+
+pub walk_nodes-requires-clause-limits : goal.walk_nodes-requires-clause-limits
+walk_nodes-requires-clause-limits c =
+    subst AlwaysLimited
+    (sym (source_same c.in-Ok.ground.numbered.syntax c.args.tokens.now c.args.tree.now c.args.bound.now c.in-Ok.ensures.tokens c.in-Ok.ensures.tree c.requires.bound))
+    (c.requires.limits (number_in c.in-Ok.ground.numbered.syntax.tag_numbers.items))

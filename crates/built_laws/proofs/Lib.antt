@@ -1,0 +1,4 @@
+pub mod Keys
+pub mod Uses
+pub mod Placed
+pub mod Range

@@ -1,0 +1,4 @@
+//! Where the calls of a unit stand.
+#![tactic(auto)]
+
+pub mod laws;

@@ -1,0 +1,4 @@
+mod Rows
+mod Covering
+pub mod Reading
+pub mod Locals

@@ -1,0 +1,4 @@
+//! How long the objects of compound literals live.
+#![tactic(auto)]
+
+pub mod laws;

@@ -1,0 +1,4 @@
+//! Facts of the nodes that name entities, in all trees that rows give.
+#![tactic(auto)]
+
+pub mod laws;

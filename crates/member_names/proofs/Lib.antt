@@ -1,0 +1,6 @@
+mod Steps
+pub mod Order
+mod Counted
+mod Among
+pub mod Members
+pub mod Few

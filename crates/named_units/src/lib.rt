@@ -1,0 +1,4 @@
+//! That the parts of a unit are told apart by their names and places.
+#![tactic(auto)]
+
+pub mod laws;

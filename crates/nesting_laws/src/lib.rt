@@ -1,0 +1,4 @@
+//! What stands in what in the tree of a unit that is read: external declarations, blocks and statements.
+#![tactic(auto)]
+
+pub mod laws;

@@ -1,0 +1,4 @@
+//! Parameters have no initialisers.
+#![tactic(auto)]
+
+pub mod laws;

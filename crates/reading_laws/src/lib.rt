@@ -1,0 +1,4 @@
+//! Laws of reading a text: its tokens, its syntax tree and its source are one.
+#![tactic(auto)]
+
+pub mod laws;
