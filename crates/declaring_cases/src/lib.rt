@@ -13,3 +13,5 @@ mod reads;
 mod results;
 #[cfg(test)]
 mod specifiers;
+#[cfg(test)]
+mod types;

@@ -17,7 +17,7 @@ use Rattle.unit_walk.specs.Walked.{AreDense}
 use Rattle.reading_laws.specs.Reading.{IsRead, AreOne}
 use Rattle.reading_laws.proofs.Reading.{one_tree}
 use Rattle.report_cli.specs.Answers.{NamedText, Answer, refusal, place_text}
-use Rattle.report_cli.specs.Alone.{IsReadAs, IsRefusedAlone}
+use Rattle.report_cli.specs.Alone.{IsReadAs}
 use Rattle.report_cli.specs.Lowered.{IsParsed, IsRightText, AreRightTexts, IsRefusedRow, kind_refusal}
 use Rattle.report_cli.specs.Unbuilt.{IsUnbuilt}
 use Rattle.report_cli.specs.Told.{Told}

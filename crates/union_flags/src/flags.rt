@@ -5,7 +5,7 @@ ghost use Rattle.c_senses.specs.World.{World};
 ghost use Rattle.core_nodes.specs.Standing.{Knows};
 ghost use Rattle.c_declarators.specs.Limited.{AreFlexible};
 
-use crate::members::deeper;
+use crate::levels::deeper;
 use c_types::table::TypeTable;
 use c_types::term::OutOfMemory;
 use std::alloc::Global;

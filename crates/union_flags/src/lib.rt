@@ -2,6 +2,6 @@
 #![tactic(auto)]
 
 mod flags;
-mod members;
+mod levels;
 
 pub use flags::union_flags;

@@ -1,13 +1,11 @@
 // Whether types are small.
-ghost use Rattle.std.specs.Prelude.{◌≡◌, ◌<◌, ◌↔◌, ℕ, List, [], true, length, IsTrue, IfSome, Some};
+ghost use Rattle.std.specs.Prelude.{◌≡◌, ◌<◌, ◌↔◌, [], length, IsTrue};
 ghost use Rattle.core_tree.specs.declared.node.Unit.{Unit as UnitSpec};
 ghost use Rattle.c_types.specs.Table.{type_of, extent_in};
-ghost use Rattle.c_inits.specs.Made.{Part, TagParts};
 ghost use Rattle.c_senses.specs.Limits.{is_small};
 ghost use Rattle.core_nodes.specs.Standing.{Builds};
-ghost use Rattle.unit_worlds.specs.Growing.{Completes, Grows};
 ghost use Rattle.unit_limits.specs.Small as spec;
-ghost use Rattle.unit_limits.specs.Small.{AreSmallFrom, IsSmallTable, IsTypeOf, tag_in, is_small_tag, is_small_completed};
+ghost use Rattle.unit_limits.specs.Small.{AreSmallFrom, IsSmallTable};
 
 use c_types::table::TypeTable;
 use c_types::term::{Term, TypeId};
@@ -59,40 +57,4 @@ pub fn new_types_are_small(unit: &Unit, from: u32) -> bool
         }
     }
     true
-}
-
-/// Whether a structure or union is small: it has no size, or one below 2^63 and at most 2^24 nodes. Where it is, and so are the new types,
-/// a table that was small before its tag was completed still is.
-pub fn completed_is_small(unit: &Unit, ty: TypeId) -> bool
-    requires { ty.0 < length unit.now.types.terms }
-    ensures result { result ≡ is_small_tag unit.now.types (type_of unit.now.types ty.0) }
-    ensures completed { (old : UnitSpec) (tag : ℕ) (parts : List Part) →
-        IsTrue result →
-        Completes old unit.now tag parts →
-        tag_in (type_of unit.now.types ty.0) ≡ Some tag →
-        AreSmallFrom unit.now.types (length old.types.terms) → IsSmallTable old.types → IsSmallTable unit.now.types }
-{
-    // (What every table keeps is told by its count.)
-    let _count = unit.types.type_count();
-    is_small_type(&unit.types, ty)
-}
-
-/// Whether a unit that has grown by a row is small still: its new types are, those from a number on, and the structure or union that the
-/// row's node completes is, whose type is given. It takes a step for each new type.
-pub fn grown_is_small(unit: &Unit, from: u32, completed: Option<TypeId>) -> bool
-    requires { IfSome completed (λ ty. ty.0 < length unit.now.types.terms) }
-    ensures result { IsTrue result ↔ (AreSmallFrom unit.now.types from × (is_small_completed unit.now.types completed ≡ true)) }
-    ensures grown { (old : UnitSpec) (es : List TagParts) →
-        IsTrue result →
-        Grows old unit.now es →
-        from ≡ length old.types.terms →
-        IsTypeOf unit.now.types completed es → IsSmallTable old.types → IsSmallTable unit.now.types }
-{
-    if !new_types_are_small(unit, from) {
-        return false;
-    }
-    match completed {
-        Some(ty) => completed_is_small(unit, ty),
-        None => true,
-    }
 }

@@ -1,5 +1,5 @@
-// Whether types are still small behind the row of a node.
-ghost use Rattle.std.specs.Prelude.{◌≡◌, ◌<◌, ℕ, List, true, length, IfSome, IsTrue, Some};
+// What is noted of tags behind the row of a node.
+ghost use Rattle.std.specs.Prelude.{◌≡◌, ◌<◌, ℕ, List, true, length, IfSome, Some};
 ghost use Rattle.core_tree.specs.declared.node.Unit.{Unit as UnitSpec};
 ghost use Rattle.c_grammar.specs.Productions.{p_struct};
 ghost use Rattle.c_senses.specs.Tree.{is_a};
@@ -13,10 +13,9 @@ ghost use Rattle.c_results.specs.Standing.{sense_made, IsWithin, TypeSeen};
 ghost use Rattle.unit_worlds.specs.Growing.{Grows, completed_at};
 ghost use Rattle.c_types.specs.Table.{type_of};
 ghost use Rattle.c_types.specs.Made.{IsMade};
-ghost use Rattle.unit_limits.specs.Small.{IsSmallTable, IsTypeOf, tag_in};
+ghost use Rattle.unit_limits.specs.Small.{IsTypeOf, tag_in};
 ghost use Rattle.unit_limits.specs.Unions.{AreUnions};
 
-use crate::small::grown_is_small;
 use crate::unions::note_type;
 use c_results::Made;
 use c_types::term::TypeId;
@@ -59,22 +58,6 @@ fn completed_type(syntax: &Syntax, at: u32, made: &Made) -> Option<TypeId>
         Some(_) => typed(made),
         None => None,
     }
-}
-
-/// Whether a unit's types are still small once the row of node `at` is made, before which it had `from` types: its new types are, and so
-/// is the structure or union that the node completes. Where they are, a small table stays small over what the row adds to the unit; it is
-/// false only where the table isn't small. It takes a step for each new type, and for each member of that structure or union.
-pub fn stays_small_behind(unit: &Unit, from: u32, syntax: &Syntax, at: u32, made: &Made) -> bool
-    requires { IsWithin unit.now made.now }
-    ensures small { IsSmallTable unit.now.types → IsTrue result }
-    ensures kept { (old : UnitSpec) (w : World) (uses : List (ℕ × ℕ)) (sense : ℕ → Sense) →
-        let s = source_in syntax.now uses in
-        IsTrue result →
-        (is_a s p_struct at ≡ true → struct_row w s sense at ≡ Fits (sense_made unit.now made.now)) →
-        Grows old unit.now (completed_at s sense at) →
-        from ≡ length old.types.terms → IsSmallTable old.types → IsSmallTable unit.now.types }
-{
-    grown_is_small(unit, from, completed_type(syntax, at, made))
 }
 
 /// Notes of the structure or union that a node completes, if it completes one, whether it has as a member a structure that ends in an array

@@ -73,8 +73,9 @@ fn some_open(types: &TypeTable, unions: &[bool], members: &[MemberTerm]) -> bool
     false
 }
 
-// Whether a tag has such a member.
-fn has_open(types: &TypeTable, unions: &[bool], tag: u32) -> bool
+/// Whether a tag has as a member a structure that ends in an array without a length, or a union that has one by the flags (C11 6.7.2.1p3).
+/// It takes a step for each member.
+pub fn has_open(types: &TypeTable, unions: &[bool], tag: u32) -> bool
     requires { tag < types.now.tags }
     ensures { result ≡ spec.has_open (members_at types.now) unions.now tag }
 {

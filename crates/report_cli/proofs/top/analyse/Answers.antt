@@ -77,7 +77,7 @@ returns-in-Err-Source-clause-complete g c =
           let A : List (List ℕ) → Type 0 = λ n. slice_get n c.in-Err-Source.number ≡ Some given.0 in
           let at : slice_get names c.in-Err-Source.number ≡ Some given.0 = subst A sliced given.1 in
           let C : List (List ℕ) → Type 0 = λ n. Contains n given.0 in
-          absurd (not_risen _ _ (sources given.0 (subst C (names_asked (texts_of c.args.words.now) c.in-Ok.command c.in-Ok.ensures.ok.says) (Contains-at names c.in-Err-Source.number given.0 at))) given.2)
+          inr (inl (absurd (not_risen _ _ (sources given.0 (subst C (names_asked (texts_of c.args.words.now) c.in-Ok.command c.in-Ok.ensures.ok.says) (Contains-at names c.in-Err-Source.number given.0 at))) given.2)))
       | inr nine ↦ inr (inl nine)
     ])
 
@@ -92,7 +92,7 @@ returns-in-Err-Source-clause-right g c =
           let A : List (List ℕ) → Type 0 = λ n. slice_get n c.in-Err-Source.number ≡ Some given.0 in
           let at : slice_get names c.in-Err-Source.number ≡ Some given.0 = subst A sliced given.1 in
           let C : List (List ℕ) → Type 0 = λ n. Contains n given.0 in
-          absurd (not_risen _ _ (sources given.0 (subst C (names_asked (texts_of c.args.words.now) c.in-Ok.command c.in-Ok.ensures.ok.says) (Contains-at names c.in-Err-Source.number given.0 at))) given.2)
+          inr (inl (absurd (not_risen _ _ (sources given.0 (subst C (names_asked (texts_of c.args.words.now) c.in-Ok.command c.in-Ok.ensures.ok.says) (Contains-at names c.in-Err-Source.number given.0 at))) given.2)))
       | inr nine ↦ inr (inl nine)
     ])
 
