@@ -7,20 +7,22 @@ use Rattle.std.proofs.lemmas.Option.{slice_get_within}
 use Rattle.c_types.specs.Trees.{Ctype}
 use Rattle.c_types.specs.Layout.{Extent}
 use Rattle.core_tree.specs.Typed.{Holds}
-use Rattle.c_grammar.specs.Productions.{p_declaration}
-use Rattle.c_senses.specs.Tree.{Source, is_a}
+use Rattle.c_grammar.specs.Productions.{p_declaration, p_primary}
+use Rattle.c_senses.specs.Tree.{Source, is_a, children_at}
 use Rattle.c_senses.specs.Given.{Fits}
-use Rattle.c_senses.specs.World.{World, Meaning, extent}
+use Rattle.c_senses.specs.World.{World, extent}
 use Rattle.c_senses.specs.Literals.{unsigned_long}
+use Rattle.c_senses.specs.Entities.{entity_of}
+use Rattle.c_senses.specs.Initialised.{opening}
 use Rattle.c_senses.specs.Statements.{objects_declared}
 use Rattle.c_senses.specs.Tags.{completed_from, look_of}
 use Rattle.c_senses.specs.Sense.{Sense, IsMembers, sense_in}
 use Rattle.c_senses.specs.Rows.{AreSenses, world_at, row}
-use Rattle.sense_laws.specs.Sound.{MeaningFits, IsProper}
-use Rattle.sense_laws.specs.Senses.{ChildrenFirst, ConstantsFit, StatementGrammar, RunsIn, InitialisersFit, SoundSense}
-use Rattle.sense_laws.specs.Laws.{SensesFit}
-use Rattle.sense_laws.proofs.All.{senses_sound}
-use Rattle.align_laws.specs.Aligns.{AllElseFits, AlignsFit}
+use Rattle.sense_laws.specs.Sound.{IsProper}
+use Rattle.sense_laws.specs.Senses.{ChildrenFirst, ConstantsFit, StatementGrammar, RunsIn, SoundSense}
+use Rattle.sense_laws.specs.Asked.{FirstFits, InitialAsks, OutcomeStands, AskedFit}
+use Rattle.sense_laws.proofs.All.{asked_sound, first_fits, weaker_outcome}
+use Rattle.align_laws.specs.Aligns.{AllElseFits, AlignsFit, AskedElseFit, AskedAlignsFit}
 use Rattle.align_laws.proofs.Low.{HasProperParts, completed_proper, look_of_low, extent_low, low_holds, some_low}
 
 taken_get : (n : ℕ) (xs : List Sense) (i : ℕ) (x : Sense) → slice_get (take n xs) i ≡ Some x → slice_get xs i ≡ Some x
@@ -33,7 +35,7 @@ parts_of : (w : World) (entities : ℕ → Option Ctype) (x : Sense) → SoundSe
 parts_of w entities (IsMembers parts) h = h
 parts_of w entities x h = tt
 
-module _ (entities : ℕ → Option Ctype) (s : Source) (senses : List Sense) (are : AreSenses s senses) (first : ChildrenFirst s) (ints : ConstantsFit s) (grammar : StatementGrammar s) (fit : AllElseFits entities s senses) where
+module _ (entities : ℕ → Option Ctype) (s : Source) (senses : List Sense) (are : AreSenses s senses) (first : ChildrenFirst s) (ints : ConstantsFit s) (grammar : StatementGrammar s) (fit : AskedElseFit entities s senses) where
   abbrev AlignsAt : List Sense → ℕ → Type 0
   AlignsAt xs i = (t : Ctype) (e : Extent) → IsProper t → extent (world_at s xs i) t ≡ Some e → Holds unsigned_long (pos e.align)
 
@@ -56,11 +58,11 @@ module _ (entities : ℕ → Option Ctype) (s : Source) (senses : List Sense) (a
           subst (λ (xs : List Sense). row s xs i node ≡ Fits x) (sym (shorter i lt)) (are.each i node x at (taken_get n senses i x is));
     }
 
-    fit_taken : ((i : ℕ) → i < n → AlignsAt (take i senses) i) → SensesFit entities s (take n senses)
+    fit_taken : ((i : ℕ) → i < n → AlignsAt (take i senses) i) → AskedFit entities s (take n senses)
     fit_taken aligns = record {
       names = λ i lt.
           let few : i < n = before i lt in
-          subst (λ (xs : List Sense). (leaf : ℕ) (m : Meaning) → (world_at s xs i).meaning leaf ≡ Some m → MeaningFits entities m) (sym (shorter i few)) (fit.names i (omega (arith, few, le)));
+          subst (λ (xs : List Sense). is_a s p_primary i ≡ true → FirstFits (world_at s xs i) entities (children_at s i)) (sym (shorter i few)) (fit.names i (omega (arith, few, le)));
       aligns = λ i lt.
           let few : i < n = before i lt in
           subst (λ (xs : List Sense). AlignsAt xs i) (sym (shorter i few)) (aligns i few);
@@ -69,13 +71,13 @@ module _ (entities : ℕ → Option Ctype) (s : Source) (senses : List Sense) (a
           subst (λ (xs : List Sense). (d : ℕ) → is_a s p_declaration d ≡ true → RunsIn (objects_declared (world_at s xs i) s (sense_in xs) d) (sense_in xs d)) (sym (shorter i few)) (fit.runs i (omega (arith, few, le)));
       initials = λ i lt.
           let few : i < n = before i lt in
-          subst (λ (xs : List Sense). InitialisersFit (world_at s xs i) entities s (sense_in xs)) (sym (shorter i few)) (fit.initials i (omega (arith, few, le)));
+          subst (λ (xs : List Sense). InitialAsks (OutcomeStands (world_at s xs i) entities s (sense_in xs)) (world_at s xs i) s (sense_in xs) i) (sym (shorter i few)) (fit.initials i (omega (arith, few, le)));
     }
 
     align_here : ((i : ℕ) → i < n → AlignsAt (take i senses) i) → AlignsAt (take n senses) n
     align_here aligns t e proper at =
         let xs : List Sense = take n senses in
-        let sound : (j : ℕ) → HasProperParts (sense_in xs j) = λ j. parts_of (world_at s xs (length xs)) entities (sense_in xs j) (senses_sound entities s xs are_taken first ints grammar (fit_taken aligns) j).0 in
+        let sound : (j : ℕ) → HasProperParts (sense_in xs j) = λ j. parts_of (world_at s xs (length xs)) entities (sense_in xs j) (asked_sound entities s xs are_taken first ints grammar (fit_taken aligns) j).0 in
         let tags = completed_from s xs (sense_in xs) 0 in
         let low = extent_low (look_of tags) (look_of_low tags (completed_proper s (sense_in xs) sound xs 0)) t proper in
         low_holds e.align (some_low (extent (world_at s xs n) t) e at low)
@@ -90,8 +92,28 @@ module _ (entities : ℕ → Option Ctype) (s : Source) (senses : List Sense) (a
         | inr (inr more) ↦ absurd (omega (arith, lt, more))
       ]
 
-  all_fit : SensesFit entities s senses
-  all_fit = record { names = fit.names; aligns = λ i lt. aligns_up (length senses) (omega arith) i lt; runs = fit.runs; initials = fit.initials }
+  all_aligned : (i : ℕ) → i < length senses → AlignsAt (take i senses) i
+  all_aligned i lt = aligns_up (length senses) (omega arith) i lt
+
+  asked_fit : AskedFit entities s senses
+  asked_fit = record { names = fit.names; aligns = λ i lt. all_aligned i lt; runs = fit.runs; initials = fit.initials }
+
+pub asked_aligns_fit : AskedAlignsFit
+asked_aligns_fit entities s senses are first ints grammar fit = asked_fit entities s senses are first ints grammar fit
+
+asked_of : (entities : ℕ → Option Ctype) (s : Source) (senses : List Sense) → AllElseFits entities s senses → AskedElseFit entities s senses
+asked_of entities s senses fit = record {
+  names = λ i lt primary. first_fits (world_at s (take i senses) i) entities (fit.names i lt) (children_at s i);
+  runs = fit.runs;
+  initials = λ i lt.
+      let w : World = world_at s (take i senses) i in
+      let f : ℕ → Sense = sense_in (take i senses) in
+      record {
+        objects = λ p declarator leaf t is parent rest by name type. weaker_outcome w entities s f (entity_of s f leaf) t _ ((fit.initials i lt).objects i declarator leaf t type);
+        literals = λ p name t is parent over named type. weaker_outcome w entities s f (opening w s f p) t _ ((fit.initials i lt).literals i p t);
+      };
+}
 
 pub aligns_fit : AlignsFit
-aligns_fit entities s senses are first ints grammar fit = all_fit entities s senses are first ints grammar fit
+aligns_fit entities s senses are first ints grammar fit =
+    record { names = fit.names; aligns = all_aligned entities s senses are first ints grammar (asked_of entities s senses fit); runs = fit.runs; initials = fit.initials }

@@ -1,32 +1,35 @@
 -- The nodes of a built unit stand in their rows.
-use Rattle.std.proofs.Common.{◌≡◌, ℕ, zero, suc, List, length, Option, Some, None, refl, sym, ap, subst}
+use Rattle.std.proofs.Common.{inl, inr, ◌&&◌, ◌∙◌, ◌≡◌, ℕ, zero, suc, List, [], ◌∷◌, length, Option, Some, None, refl, sym, ap, subst}
 use Rattle.std.specs.Prelude.{option_map, option_and_then, if◌then◌else◌, Bool, true, false, ⊤}
 use Rattle.std.proofs.lemmas.Option.{slice_get_within}
 use Rattle.c_types.specs.Trees.{Ctype}
 use Rattle.core_tree.specs.declared.node.Unit.{Unit}
 use Rattle.core_tree.specs.declared.node.Node.{Node}
+use Rattle.core_tree.specs.declared.node.NodeKind.{NodeKind}
+use Rattle.core_tree.specs.declared.node.NodeKind.TheVariants.{Literal}
 use Rattle.core_tree.specs.Typed.{trees_of}
 use Rattle.core_tree.specs.Rows.{entity_type}
-use Rattle.core_tree.specs.Valid.{entity_at}
-use Rattle.c_consts.specs.Core.{Core, Cores, Of, NoCores, MoreCores, cores_under, core_in}
+use Rattle.core_tree.specs.Valid.{InRows, entity_at}
+use Rattle.c_consts.specs.Core.{Core, Cores, Of, NoCores, MoreCores, kind_of, ctype_of, cores_under, core_in}
 use Rattle.core_nodes.specs.Standing.{core_at, cores_at, IsReady}
 use Rattle.core_nodes.proofs.Reading.{core_is}
-use Rattle.c_senses.specs.Tree.{Source}
+use Rattle.c_senses.specs.Tree.{Source, is_name}
 use Rattle.c_senses.specs.World.{World}
 use Rattle.c_senses.specs.Sense.{Sense, IsCore, IsInitial, sense_in}
 use Rattle.c_senses.specs.Entities.{is_defined, initialiser_for}
 use Rattle.c_senses.specs.Rows.{world_at}
-use Rattle.c_senses.specs.Right.{Numbering, StandsBy, AllStandBy, Within, Itself, Below, sense_of, declares_entity, entity_type as declared_type, representative, core_of_sense, block_for, body_at, declared_as, declared_name}
+use Rattle.c_senses.specs.Right.{Numbering, IsDeclaredAt, is_declaring, StandsBy, AllStandBy, Within, Itself, Below, sense_of, declares_entity, entity_type as declared_type, representative, core_of_sense, block_for, body_at, declared_as, declared_name}
 use Rattle.c_senses.specs.Right as right
-use Rattle.sense_laws.specs.Sound.{Sound, AllSound}
+use Rattle.sense_laws.specs.Sound.{Sound, AllSound, RowOver, list_of}
 use Rattle.sense_laws.specs.Senses.{SoundSense}
 use Rattle.sense_laws.specs.Laws.{Backs}
-use Rattle.align_laws.proofs.Fitting.{aligns_fit}
-use Rattle.sense_laws.proofs.All.{senses_sound}
+use Rattle.align_laws.proofs.Fitting.{aligns_fit, asked_aligns_fit}
+use Rattle.sense_laws.proofs.All.{senses_sound, asked_sound}
 use Rattle.sense_laws.proofs.Standing.{node_stands}
+use Rattle.built_units.specs.Built.{IsBuilt}
 use Rattle.built_laws.specs.Placed.{IsInBody, Stands}
 use Rattle.built_laws.proofs.Placed.{nodes_stand}
-use Rattle.built_rows.specs.Rows.{type_by, RowsAreRight}
+use Rattle.built_rows.specs.Rows.{type_by, types_declared, literal_type, RowsAreRight, RowsAreAsked}
 use Rattle.built_rows.proofs.Renaming.{Renames, AllRename, sound_on}
 
 some_one : {X : Type 0} → {x y : X} → ◌≡◌ {A = Option X} (Some x) (Some y) → x ≡ y
@@ -97,15 +100,73 @@ module _ (w : World) (entities : ℕ → Option Ctype) where
     in_body_sound c h =
         within_sound h.within (some_sound h.what.body h.body h.has (declared_by h.leaf (declares_entity s senses h.leaf) (declared_type s senses h.leaf) h.what h.declared))
 
-pub rows_right : RowsAreRight
-rows_right s name u b first constants grammar fit i node at =
+-- where entities have the types that they had by their leaves, and all senses are sound
+rows_by : (s : Source) (name : List ℕ) (u : Unit) (b : IsBuilt s name u) (old : ℕ → Option Ctype) → ((j : ℕ) → SoundSense (world_at s b.senses (length b.senses)) old (sense_in b.senses j))
+    → ((d e : ℕ) → b.numbering d ≡ Some e → old d ≡ entity_type (trees_of u) (entity_at (trees_of u) e)) → InRows (trees_of u)
+rows_by s name u b old all typed i node at =
     let w : World = world_at s b.senses (length b.senses) in
-    let old : ℕ → Option Ctype = type_by u b.numbering in
     let new : ℕ → Option Ctype = λ e. entity_type (trees_of u) (entity_at (trees_of u) e) in
-    let all : (j : ℕ) → SoundSense w old (sense_in b.senses j) = λ j. (senses_sound old s b.senses b.are_senses first constants grammar (aligns_fit old s b.senses b.are_senses first constants grammar fit) j).0 in
     let stands : Stands s b.senses b.numbering u i = nodes_stand s name u b i (slice_get_within u.nodes.items i node at) in
     let sound : Sound w old stands.tree = in_body_sound w old s b.senses all stands.tree stands.in_body in
-    let typed : (d e : ℕ) → b.numbering d ≡ Some e → old d ≡ new e = λ d e number. ap (λ (o : Option ℕ). option_and_then new o) number in
     let here : Sound w new (core_at u i) = sound_on w b.numbering old new typed stands.tree (core_at u i) (renamed_at w b.numbering u b.ready stands.tree i stands.by) sound in
     let backs : Backs w new u = record { knows = b.knows; typed = λ e. refl } in
     node_stands w new u b.ready backs i node at here
+
+pub rows_right : RowsAreRight
+rows_right s name u b first constants grammar fit =
+    let old : ℕ → Option Ctype = type_by u b.numbering in
+    rows_by s name u b old (λ j. (senses_sound old s b.senses b.are_senses first constants grammar (aligns_fit old s b.senses b.are_senses first constants grammar fit) j).0)
+    (λ d e number. ap (λ (o : Option ℕ). option_and_then (λ x. entity_type (trees_of u) (entity_at (trees_of u) x)) o) number)
+
+-- what is declared has the type that its leaf has by the senses
+and_first : (a b : Bool) → (a && b) ≡ true → a ≡ true
+and_first true b h = refl
+and_first false b h = cc
+
+module _ (s : Source) (senses : List Sense) (w : World) (all : (j : ℕ) → SoundSense w (types_declared s senses) (sense_in senses j)) where
+  by_name : (d : ℕ) (b : Bool) → declares_entity s senses d ≡ b → (o : Option Ctype) → declared_type s senses d ≡ o → (what : right.Declared)
+      → (if b then option_map (declared_as s senses d) o else None) ≡ Some what → types_declared s senses d ≡ Some what.type
+  by_name d false is o typed what e = absurd (none_some e)
+  by_name d true is None typed what e = absurd (none_some e)
+  by_name d true is (Some t) typed what e =
+      let named : is_name s d ≡ true = and_first (is_name s d) _ (and_first (is_declaring s senses d) _ is) in
+      let same : t ≡ what.type = ap (λ (x : right.Declared). x.type) (some_one e) in
+      ap (λ (b : Bool). if b then declared_type s senses d else literal_type s senses d) named ∙ (typed ∙ ap Some same)
+
+  by_kind : (c : Core) (d : ℕ) → kind_of c ≡ Literal d → Sound w (types_declared s senses) c → types_declared s senses d ≡ Some (ctype_of c)
+  by_kind (Of kind place type under) d is h =
+      let row : RowOver w (types_declared s senses) (Literal d) type (list_of under) = subst (λ (k : NodeKind). RowOver w (types_declared s senses) k type (list_of under)) is h.0 in
+      by_list (list_of under) row
+    where
+      by_list : (l : List Core) → RowOver w (types_declared s senses) (Literal d) type l → types_declared s senses d ≡ Some type
+      by_list [] h = absurd h
+      by_list (x ∷ []) h = h.0
+      by_list (x ∷ y ∷ l) h = absurd h
+
+  declared_typed : (d : ℕ) (what : right.Declared) → IsDeclaredAt s senses d what → types_declared s senses d ≡ Some what.type
+  declared_typed d what (inl named) = by_name d (declares_entity s senses d) refl (declared_type s senses d) refl what named
+  declared_typed d what (inr literal) =
+      let c : Core = literal.0 in
+      let is = literal.1 in
+      let stands = is.1 in
+      let in_body : IsInBody s senses c = record { leaf = stands.0; what = stands.1; body = stands.2; declared = stands.3; has = stands.4; within = stands.5 } in
+      by_kind c d is.0 (in_body_sound w (types_declared s senses) s senses all c in_body) ∙ ap (λ (x : right.Declared). Some x.type) (sym literal.2)
+
+number_typed : (s : Source) (name : List ℕ) (u : Unit) (b : IsBuilt s name u) → ((j : ℕ) → SoundSense (world_at s b.senses (length b.senses)) (types_declared s b.senses) (sense_in b.senses j))
+    → (d e : ℕ) → b.numbering d ≡ Some e → types_declared s b.senses d ≡ entity_type (trees_of u) (entity_at (trees_of u) e)
+number_typed s name u b all d e number =
+    let w : World = world_at s b.senses (length b.senses) in
+    let found = b.no_other_entity e (b.numbered d e number) in
+    let same : d ≡ found.0 = b.entity_once d found.0 e number found.3 in
+    let entered = b.each_declared found.0 found.1 found.2 in
+    let one : e ≡ entered.0 = some_one (sym found.3 ∙ entered.2) in
+    let at : entity_at (trees_of u) e ≡ Some entered.1 = ap (entity_at (trees_of u)) one ∙ entered.3 in
+    ap (types_declared s b.senses) same
+    ∙ (declared_typed s b.senses w all found.0 found.1 found.2 ∙ sym (ap (entity_type (trees_of u)) at ∙ ap Some entered.4.type))
+
+pub rows_asked : RowsAreAsked
+rows_asked s name u b first constants grammar fit =
+    let old : ℕ → Option Ctype = types_declared s b.senses in
+    let all : (j : ℕ) → SoundSense (world_at s b.senses (length b.senses)) old (sense_in b.senses j) =
+    λ j. (asked_sound old s b.senses b.are_senses first constants grammar (asked_aligns_fit old s b.senses b.are_senses first constants grammar fit) j).0 in
+    rows_by s name u b old all (λ d e number. number_typed s name u b all d e number)

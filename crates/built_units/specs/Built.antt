@@ -6,7 +6,9 @@ use Rattle.c_inits.specs.Tables.{parts_in}
 use Rattle.core_tree.specs.declared.node.Entity.{Entity}
 use Rattle.core_tree.specs.declared.node.Unit.{Unit}
 use Rattle.core_tree.specs.Typed.{trees_of}
-use Rattle.core_tree.specs.Range.{IsChild, EachEntity, entity_at}
+use Rattle.core_tree.specs.declared.node.Storage.TheVariants.{FunctionBody}
+use Rattle.core_tree.specs.Range.{IsChild, ChildOnce, EachNode, EachEntity, Has, entity_at}
+use Rattle.core_tree.specs.Valid.{OnlyBody}
 use Rattle.core_nodes.specs.Standing.{IsReady, Knows}
 use Rattle.c_senses.specs.Tree.{Source}
 use Rattle.c_senses.specs.Tags.{completed_from, members_under}
@@ -19,6 +21,14 @@ use Rattle.unit_parts.specs.Uses.{least_use}
 pub record IsEntered (u : Unit) (e : ℕ) (entity : Entity) : Type 0 where
   pub type : entity.ty.0 < length u.types.terms
   pub used : entity.used ≡ least_use None e u.nodes.items
+
+-- a function's body is no node's child
+abbrev pub IsTop : Unit → Entity → Type 0
+IsTop u entity = entity.storage ≡ FunctionBody → (b : ℕ) → entity.body ≡ Some b → EachNode (trees_of u) (λ n node. Has node.children b → ⊥)
+
+-- and no other entity's body
+abbrev pub IsAlone : Unit → ℕ → Entity → Type 0
+IsAlone u e entity = entity.storage ≡ FunctionBody → (b : ℕ) → entity.body ≡ Some b → OnlyBody (trees_of u) e b
 
 pub record IsBuilt (s : Source) (name : List ℕ) (u : Unit) : Type 0 where
   pub named : u.name ≡ name
@@ -47,7 +57,11 @@ pub record IsBuilt (s : Source) (name : List ℕ) (u : Unit) : Type 0 where
   pub one_key_each : length u.tags.items ≡ u.types.tags
   -- the table knows the members and the sizes at the tree's end
   pub knows : Knows (world_at s senses (length senses)) u
-  -- nodes: each one has a type of the table and stands behind its parts, is a body or stands under one, and each initialiser is a body
+  -- nodes: each one has a type of the table and stands behind its parts, is the child of one at most, is a body or stands under one, and
+  -- each initialiser is a body
   pub ready : IsReady u
+  pub child_once : ChildOnce (trees_of u)
+  pub tops : EachEntity (trees_of u) (λ e entity. IsTop u entity)
+  pub alone : EachEntity (trees_of u) (λ e entity. IsAlone u e entity)
   pub initialises_once : InitialisesOnce u
   pub no_other_node : (i : ℕ) → i < length u.nodes.items → IsBody u i ⊎ ((p : ℕ) × IsChild (trees_of u) p i)

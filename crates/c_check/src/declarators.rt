@@ -16,7 +16,7 @@ ghost use Rattle.whole_rows.specs.Constants.{SenseHasRows};
 use crate::known::Around;
 use crate::limits::all_small;
 use c_declarators::plain_declarator_row;
-use c_results::Made;
+use c_results::{Made, Results};
 use core_nodes::CheckFault;
 use core_tree::node::Unit;
 use pta_base::Kind;
@@ -54,7 +54,7 @@ pub(crate) fn declarator(
     alloc: Global,
     unit: &mut Unit,
     syntax: &Syntax,
-    results: &[Made],
+    results: &Results,
     around: &Around,
     tested: &mut u32,
     at: u32,

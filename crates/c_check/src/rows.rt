@@ -26,7 +26,7 @@ use crate::lookups::meaning_of;
 use crate::names::{is_unfinished_meaning, named_of};
 use crate::types::type_part;
 use c_lexer::TokenKind;
-use c_results::Made;
+use c_results::{Made, Results};
 use core_nodes::CheckFault;
 use core_tree::node::Unit;
 use expression_rows::row as expression_row;
@@ -166,7 +166,7 @@ fn expression(
     alloc: Global,
     unit: &mut Unit,
     syntax: &Syntax,
-    results: &[Made],
+    results: &Results,
     around: &Around,
     known: &Known,
     at: u32,
@@ -207,7 +207,7 @@ pub fn row(
     alloc: Global,
     unit: &mut Unit,
     syntax: &Syntax,
-    results: &[Made],
+    results: &Results,
     around: &Around,
     known: &Known,
     tested: &mut u32,

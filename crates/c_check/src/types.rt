@@ -19,7 +19,7 @@ ghost use Rattle.whole_rows.specs.Constants.{SenseHasRows, HaveRowsMade};
 use crate::known::{Around, Known, Meaning};
 use crate::lookups::meaning_of;
 use c_declarators::{NamedType, parameter_row, specs_row, suffix_row, type_name_row, type_row};
-use c_results::Made;
+use c_results::{Made, Results};
 use c_tags::{align_specifier, assert_row};
 use core_nodes::CheckFault;
 use core_tree::node::Unit;
@@ -67,7 +67,7 @@ fn type_specifier(
     alloc: Global,
     unit: &mut Unit,
     syntax: &Syntax,
-    results: &[Made],
+    results: &Results,
     around: &Around,
     known: &Known,
     at: u32,
@@ -107,7 +107,7 @@ pub(crate) fn type_part(
     alloc: Global,
     unit: &mut Unit,
     syntax: &Syntax,
-    results: &[Made],
+    results: &Results,
     around: &Around,
     known: &Known,
     at: u32,

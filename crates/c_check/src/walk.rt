@@ -22,7 +22,7 @@ use crate::names::own_name;
 use crate::rows::row;
 use c_grammar::Tree;
 use c_lexer::Tokens;
-use c_results::{Made, node_at};
+use c_results::{Made, Results, node_at};
 use c_scope::Bound;
 use core_nodes::CheckFault;
 use core_tree::node::Unit;
@@ -31,10 +31,10 @@ use tree_reads::Syntax;
 use union_flags::union_flags;
 
 // So many nodes that stand for nothing.
-fn nothings(alloc: Global, count: u32) -> Result<Vec<Made>, AllocError>
-    ensures { IfOk result (λ list. AreNothing list.items count) }
+fn nothings(alloc: Global, count: u32) -> Result<Results, AllocError>
+    ensures { IfOk result (λ list. AreNothing list count) }
 {
-    let mut list = Vec::new(alloc);
+    let mut list = Results::new(alloc);
     for _added in 0..count {
         list.push(Made::Nothing)?;
     }
@@ -70,13 +70,21 @@ fn walk_nodes(
     let mut results = nothings(alloc, start)?;
     let mut tested = 0;
     for at in start..end {
-        let before = results.as_slice();
-        match row(alloc, unit, syntax, before, around, known, &mut tested, at) {
+        match row(
+            alloc,
+            unit,
+            syntax,
+            &results,
+            around,
+            known,
+            &mut tested,
+            at,
+        ) {
             Ok(made) => results.push(made)?,
             Err(fault) => return Err(fault),
         }
     }
-    Ok(node_at(results.as_slice(), end - 1))
+    Ok(node_at(&results, end - 1))
 }
 
 // What is known around an expression.

@@ -11,7 +11,7 @@ ghost use Rattle.c_results.specs.Parts.{DeclaratorSeen, derivation_in};
 ghost use Rattle.tree_reads.specs.Sources.{source_read};
 ghost use Rattle.c_declarators.specs.Parts.{first_declarator, step_of};
 
-use c_results::{Derivation, Made, declarator_at, derivation_at, specified_at};
+use c_results::{Derivation, Results, declarator_at, derivation_at, specified_at};
 use c_types::term::TypeId;
 use core_nodes::CheckFault;
 use std::alloc::Global;
@@ -26,7 +26,7 @@ const P_FIELD: u32 = 15;
 const SIGN_STAR: u8 = 11;
 
 /// The first declarator among some nodes, by its name and its derivations.
-pub fn inner<'a>(results: &'a [Made], list: &[u32]) -> Option<(Option<u32>, &'a [Derivation])>
+pub fn inner<'a>(results: &'a Results, list: &[u32]) -> Option<(Option<u32>, &'a [Derivation])>
     ensures seen { (u : UnitSpec) →
         DeclaratorSeen u result (first_declarator (sense_in (senses_made u results.now)) list.now) }
     ensures within { (u : UnitSpec) →
@@ -41,7 +41,7 @@ pub fn inner<'a>(results: &'a [Made], list: &[u32]) -> Option<(Option<u32>, &'a 
 }
 
 /// The name of a declarator: its own, or that of the declarator in it (C11 6.7.6).
-pub fn name_in(syntax: &Syntax, results: &[Made], list: &[u32]) -> Option<u32>
+pub fn name_in(syntax: &Syntax, results: &Results, list: &[u32]) -> Option<u32>
     ensures { (u : UnitSpec) (w : World) →
         result ≡ spec.name_in w (source_read syntax.now) (sense_in (senses_made u results.now)) list.now }
 {
@@ -87,7 +87,7 @@ fn add_stars(steps: &mut Vec<Derivation>, syntax: &Syntax, list: &[u32]) -> Resu
 fn add_step(
     alloc: Global,
     steps: &mut Vec<Derivation>,
-    results: &[Made],
+    results: &Results,
     node: u32,
 ) -> Result<(), CheckFault>
     ensures seen { (u : UnitSpec) →
@@ -113,7 +113,7 @@ fn add_step(
 fn add_suffixes(
     alloc: Global,
     steps: &mut Vec<Derivation>,
-    results: &[Made],
+    results: &Results,
     list: &[u32],
 ) -> Result<(), CheckFault>
     ensures seen { (u : UnitSpec) (w : World) (s : Source) →
@@ -154,7 +154,7 @@ fn add_copies(
 pub fn derivations(
     alloc: Global,
     syntax: &Syntax,
-    results: &[Made],
+    results: &Results,
     list: &[u32],
 ) -> Result<Vec<Derivation>, CheckFault>
     ensures seen { (u : UnitSpec) (w : World) →
@@ -201,7 +201,7 @@ pub fn specs_of(syntax: &Syntax, node: u32) -> Option<u32>
 }
 
 /// The type of the specifiers before a declarator.
-pub fn base_of(syntax: &Syntax, results: &[Made], node: u32) -> Option<TypeId>
+pub fn base_of(syntax: &Syntax, results: &Results, node: u32) -> Option<TypeId>
     requires { node < length syntax.now.tree.now.nodes.items }
     ensures seen { (u : UnitSpec) (w : World) →
         TypeSeen u result (spec.base_type w (source_read syntax.now) (sense_in (senses_made u results.now)) node) }

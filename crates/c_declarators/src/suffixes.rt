@@ -19,7 +19,7 @@ ghost use Rattle.c_declarators.specs.Suffixes.{LengthMade, open_length, length_b
 use crate::lists::list_of;
 use crate::parameters::is_parameter_array;
 use c_consts::{ConstFault, constant};
-use c_results::{BoxedDerivation, Derivation, Made, node_at};
+use c_results::{BoxedDerivation, Derivation, Made, Results, node_at};
 use c_types::table::TypeTable;
 use c_types::term::{Term, TypeId};
 use constant_values::leaf_of_node;
@@ -54,7 +54,7 @@ fn positive(at: u32, value: i128) -> Result<Option<u64>, CheckFault>
 }
 
 // The length of what is no constant.
-fn unless_constant(syntax: &Syntax, results: &[Made], at: u32) -> Result<Option<u64>, CheckFault>
+fn unless_constant(syntax: &Syntax, results: &Results, at: u32) -> Result<Option<u64>, CheckFault>
     requires at { at < length syntax.now.tree.now.nodes.items }
     ensures { (u : UnitSpec) (w : World) →
         LengthMade result
@@ -82,7 +82,7 @@ fn is_whole(types: &TypeTable, ty: TypeId) -> bool
 fn value_length(
     unit: &Unit,
     syntax: &Syntax,
-    results: &[Made],
+    results: &Results,
     at: u32,
     node: u32,
 ) -> Result<Option<u64>, CheckFault>
@@ -115,7 +115,7 @@ fn value_length(
 fn node_length(
     unit: &Unit,
     syntax: &Syntax,
-    results: &[Made],
+    results: &Results,
     at: u32,
     node: u32,
 ) -> Result<Option<u64>, CheckFault>
@@ -143,7 +143,7 @@ fn node_length(
 fn array_length(
     unit: &Unit,
     syntax: &Syntax,
-    results: &[Made],
+    results: &Results,
     at: u32,
     rest: &[u32],
 ) -> Result<Option<u64>, CheckFault>
@@ -179,7 +179,7 @@ fn has_array_words(syntax: &Syntax, rest: &[u32]) -> bool
 }
 
 // Whether static and qualifiers stand in a parameter's outermost array alone.
-fn words_allowed(syntax: &Syntax, results: &[Made], at: u32, rest: &[u32]) -> bool
+fn words_allowed(syntax: &Syntax, results: &Results, at: u32, rest: &[u32]) -> bool
     requires { at < length syntax.now.tree.now.nodes.items }
     ensures { (u : UnitSpec) (w : World) →
         let s = source_read syntax.now in
@@ -205,7 +205,7 @@ fn behind_first(children: &[u32]) -> &[u32]
 fn array_suffix(
     unit: &Unit,
     syntax: &Syntax,
-    results: &[Made],
+    results: &Results,
     at: u32,
     rest: &[u32],
 ) -> Result<Option<u64>, CheckFault>
@@ -229,7 +229,7 @@ pub fn suffix_row(
     alloc: Global,
     unit: &Unit,
     syntax: &Syntax,
-    results: &[Made],
+    results: &Results,
     at: u32,
     children: &[u32],
 ) -> Result<Made, CheckFault>

@@ -1,6 +1,5 @@
 -- What is read of words, of what is found, and of one of two.
-use Rattle.std.proofs.Common.{◌≡◌, ℕ, Bool, true, false, Option, Some, None, List, [], ◌∷◌, length, eqb, get_or, cond, refl, sym, ap, subst, ◌∙◌}
-use Rattle.c_grammar.specs.Terminals.{contains}
+use Rattle.std.proofs.Common.{◌≡◌, ℕ, Bool, true, false, Option, Some, None, List, [], ◌∷◌, length, eqb, get_or, cond, refl, sym, ap, ◌∙◌}
 use Rattle.c_types.specs.Trees.{Ctype}
 use Rattle.c_grammar.specs.Productions.{p_rest}
 use Rattle.c_senses.specs.Tree.{Source, is_a, children_at}
@@ -9,7 +8,7 @@ use Rattle.c_senses.specs.Sense as senses
 use Rattle.c_senses.specs.Declarators.{derived}
 use Rattle.c_senses.specs.Entities.{initialiser_in, in_rest, specified, derived_type}
 use Rattle.c_results.specs.Parts.{specified_in, declarator_in, parameter_in}
-use Rattle.c_entities.specs.Words.{storage_in, functions_in, is_nothing, is_something}
+use Rattle.c_entities.specs.Words.{storage_in, functions_in}
 
 pub chosen : {X : Type 0} (b : Bool) (x y : X) → b ≡ true → x ≡ cond b x y
 chosen true x y e = refl

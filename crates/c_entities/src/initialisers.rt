@@ -1,12 +1,13 @@
 // The initialisers of declarators.
-ghost use Rattle.std.specs.Prelude.{◌≡◌, ◌<◌, ℕ, length, None, if◌then◌else◌};
+ghost use Rattle.std.specs.Prelude.{◌≡◌, ◌<◌, ℕ, length, None, true, if◌then◌else◌};
 ghost use Rattle.c_grammar.specs.Productions.{p_rest};
 ghost use Rattle.c_senses.specs.Tree.{is_a, children_at};
 ghost use Rattle.c_senses.specs.Sense.{Sense};
 ghost use Rattle.c_senses.specs.Entities as spec;
+ghost use Rattle.tree_reads.specs.Order.{ascends};
 ghost use Rattle.tree_reads.specs.Sources.{source_read};
 
-use tree_reads::{Above, Syntax, children_of, has_sign, is_a, nearest_above};
+use tree_reads::{Above, Syntax, children_of, first_from, has_sign, is_a, nearest_above};
 
 const P_REST: u32 = 2;
 
@@ -38,6 +39,30 @@ fn behind(node: u32, list: &[u32]) -> &[u32]
         }
     }
     &list[list.len()..]
+}
+
+// The same for an ascending list.
+fn behind_in_order(node: u32, list: &[u32]) -> &[u32]
+    requires { ascends list.now ≡ true }
+    ensures { result.now ≡ spec.behind node list.now }
+{
+    let at = first_from(list, node);
+    if at < list.len() && list[at] == node {
+        return &list[at + 1..];
+    }
+    &list[list.len()..]
+}
+
+// What stands behind a node among the children of another one.
+fn behind_among<'a>(syntax: &Syntax<'a>, parent: u32, node: u32) -> &'a [u32]
+    ensures { result.now ≡ spec.behind node (children_at (source_read syntax.now) parent) }
+{
+    let list = children_of(syntax, parent);
+    if syntax.is_ordered() {
+        behind_in_order(node, list)
+    } else {
+        behind(node, list)
+    }
 }
 
 // The nodes without an assembler name at their head.
@@ -84,7 +109,7 @@ fn initialiser_within(syntax: &Syntax, parent: u32, declarator: u32) -> Option<u
         let list = spec.without_asm s sense (spec.behind declarator (children_at s parent)) in
         result ≡ (if is_a s p_rest parent then spec.initialiser_in s sense list else spec.in_rest s sense list) }
 {
-    let list = without_asm(syntax, behind(declarator, children_of(syntax, parent)));
+    let list = without_asm(syntax, behind_among(syntax, parent, declarator));
     if is_a(syntax, P_REST, parent) {
         initialiser_in(syntax, list)
     } else {

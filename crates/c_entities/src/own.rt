@@ -14,7 +14,7 @@ use crate::declaring::{declaration_of, is_parameter};
 use crate::initialisers::initialiser_for;
 use crate::types::with_length;
 use c_declarators::{derived, specs_of};
-use c_results::{Made, declarator_at, made_at, parameter_at, specified_at};
+use c_results::{Made, Results, declarator_at, made_at, parameter_at, specified_at};
 use c_types::term::TypeId;
 use core_nodes::CheckFault;
 use core_tree::node::Unit;
@@ -35,7 +35,7 @@ fn length_made(made: &Made) -> Option<u64>
 
 /// The number of elements that the initialiser of a name gives an array without a length (C11 6.7.9p22); None where it has no
 /// initialiser, where that gives none, or where it isn't made yet.
-pub fn length_given(syntax: &Syntax, results: &[Made], leaf: u32) -> Option<u64>
+pub fn length_given(syntax: &Syntax, results: &Results, leaf: u32) -> Option<u64>
     requires { leaf < length syntax.now.tree.now.nodes.items }
     ensures { (u : UnitSpec) →
         let s = source_read syntax.now in
@@ -52,7 +52,7 @@ pub fn length_given(syntax: &Syntax, results: &[Made], leaf: u32) -> Option<u64>
 }
 
 // The adjusted type of a parameter by the leaf of its name.
-fn parameter_type(syntax: &Syntax, results: &[Made], leaf: u32) -> Option<TypeId>
+fn parameter_type(syntax: &Syntax, results: &Results, leaf: u32) -> Option<TypeId>
     requires { leaf < length syntax.now.tree.now.nodes.items }
     ensures seen { (u : UnitSpec) →
         let s = source_read syntax.now in
@@ -74,7 +74,7 @@ fn derived_type(
     alloc: Global,
     unit: &mut Unit,
     syntax: &Syntax,
-    results: &[Made],
+    results: &Results,
     leaf: u32,
 ) -> Result<Option<TypeId>, CheckFault>
     requires ready { IsReady unit.old }
@@ -113,7 +113,7 @@ pub fn own_type(
     alloc: Global,
     unit: &mut Unit,
     syntax: &Syntax,
-    results: &[Made],
+    results: &Results,
     leaf: u32,
 ) -> Result<Option<TypeId>, CheckFault>
     requires ready { IsReady unit.old }

@@ -11,7 +11,7 @@ ghost use Rattle.tree_reads.specs.Sources.{source_read};
 ghost use Rattle.c_entities.specs.Words.{storage_in, functions_in, specified_in, is_nothing, is_something, WordsSeen};
 
 use c_declarators::specs_of;
-use c_results::{Made, made_at};
+use c_results::{Made, Results, made_at};
 use tree_reads::{Above, Syntax, nearest_above};
 
 // Whether a word is among some.
@@ -65,7 +65,7 @@ fn functions_made(made: &Made) -> Option<&[u8]>
 }
 
 // What has been made for the specifiers before a name.
-fn specifiers_before<'a>(syntax: &Syntax, results: &'a [Made], leaf: u32) -> Option<&'a Made>
+fn specifiers_before<'a>(syntax: &Syntax, results: &'a Results, leaf: u32) -> Option<&'a Made>
     requires { leaf < length syntax.now.tree.now.nodes.items }
     ensures { (u : UnitSpec) →
         specified_in (sense_read u (option_copied result))
@@ -77,7 +77,7 @@ fn specifiers_before<'a>(syntax: &Syntax, results: &'a [Made], leaf: u32) -> Opt
 }
 
 // The words for storage before a name; None where it has no specifiers.
-fn storage_before<'a>(syntax: &Syntax, results: &'a [Made], leaf: u32) -> Option<&'a [u8]>
+fn storage_before<'a>(syntax: &Syntax, results: &'a Results, leaf: u32) -> Option<&'a [u8]>
     requires { leaf < length syntax.now.tree.now.nodes.items }
     ensures { (u : UnitSpec) →
         WordsSeen result
@@ -90,7 +90,7 @@ fn storage_before<'a>(syntax: &Syntax, results: &'a [Made], leaf: u32) -> Option
 }
 
 // The words for functions before a name; None where it has no specifiers.
-fn functions_before<'a>(syntax: &Syntax, results: &'a [Made], leaf: u32) -> Option<&'a [u8]>
+fn functions_before<'a>(syntax: &Syntax, results: &'a Results, leaf: u32) -> Option<&'a [u8]>
     requires { leaf < length syntax.now.tree.now.nodes.items }
     ensures { (u : UnitSpec) →
         WordsSeen result
@@ -103,7 +103,7 @@ fn functions_before<'a>(syntax: &Syntax, results: &'a [Made], leaf: u32) -> Opti
 }
 
 /// Whether a name is declared with a word for storage, by the number of its keyword (C11 6.7.1).
-pub fn has_storage(syntax: &Syntax, results: &[Made], word: u8, leaf: u32) -> bool
+pub fn has_storage(syntax: &Syntax, results: &Results, word: u8, leaf: u32) -> bool
     requires { leaf < length syntax.now.tree.now.nodes.items }
     ensures { (u : UnitSpec) →
         result ≡ spec.has_storage (source_read syntax.now) (sense_in (senses_made u results.now)) word leaf }
@@ -115,7 +115,7 @@ pub fn has_storage(syntax: &Syntax, results: &[Made], word: u8, leaf: u32) -> bo
 }
 
 /// Whether a name is declared with a word for functions, `inline` or `_Noreturn`, by the number of its keyword (C11 6.7.4).
-pub fn has_function_word(syntax: &Syntax, results: &[Made], word: u8, leaf: u32) -> bool
+pub fn has_function_word(syntax: &Syntax, results: &Results, word: u8, leaf: u32) -> bool
     requires { leaf < length syntax.now.tree.now.nodes.items }
     ensures { (u : UnitSpec) →
         result ≡ spec.has_function_word (source_read syntax.now) (sense_in (senses_made u results.now)) word leaf }
@@ -127,7 +127,7 @@ pub fn has_function_word(syntax: &Syntax, results: &[Made], word: u8, leaf: u32)
 }
 
 /// Whether a name is declared without a word for storage.
-pub fn is_without_storage(syntax: &Syntax, results: &[Made], leaf: u32) -> bool
+pub fn is_without_storage(syntax: &Syntax, results: &Results, leaf: u32) -> bool
     requires { leaf < length syntax.now.tree.now.nodes.items }
     ensures { (u : UnitSpec) →
         result ≡ spec.is_without_storage (source_read syntax.now) (sense_in (senses_made u results.now)) leaf }
@@ -139,7 +139,7 @@ pub fn is_without_storage(syntax: &Syntax, results: &[Made], leaf: u32) -> bool
 }
 
 /// Whether a name is declared with any word for functions.
-pub fn has_function_words(syntax: &Syntax, results: &[Made], leaf: u32) -> bool
+pub fn has_function_words(syntax: &Syntax, results: &Results, leaf: u32) -> bool
     requires { leaf < length syntax.now.tree.now.nodes.items }
     ensures { (u : UnitSpec) (w : World) →
         result ≡ spec.has_function_words w (source_read syntax.now) (sense_in (senses_made u results.now)) leaf }

@@ -14,7 +14,7 @@ ghost use Rattle.c_initialise.specs.Facts.{AreKnown, no_world, told, index_told}
 
 use c_inits::cursor::Expression;
 use c_inits::designators::Designator;
-use c_results::{Made, node_at, value_at};
+use c_results::{Results, node_at, value_at};
 use c_types::term::{Name, OutOfMemory, TypeId};
 use core_nodes::reads::{kind_of_node, type_of_node};
 use core_tree::node::{NodeKind, Unit};
@@ -32,7 +32,7 @@ const PAST_EVERY_ARRAY: u128 = 18446744073709551616;
 pub struct Source<'a> {
     pub unit: &'a Unit,
     pub syntax: &'a Syntax<'a>,
-    pub results: &'a [Made],
+    pub results: &'a Results,
     pub void: TypeId,
 }
 

@@ -8,7 +8,7 @@ ghost use Rattle.constant_values.specs.Constants.{HasConstants};
 ghost use Rattle.c_results.specs.Standing.{senses_made, IsWithin, Rowed};
 ghost use Rattle.tree_reads.specs.Sources.{source_in};
 
-use c_results::Made;
+use c_results::{Made, Number, Results};
 use constant_values::constant_in;
 use core_nodes::CheckFault;
 use core_tree::node::Unit;
@@ -23,7 +23,7 @@ const SIGN_LEFT_BRACKET: u8 = 0;
 pub fn designator_row(
     unit: &Unit,
     syntax: &Syntax,
-    results: &[Made],
+    results: &Results,
     at: u32,
     children: &[u32],
 ) -> Result<Made, CheckFault>
@@ -46,7 +46,7 @@ pub fn designator_row(
         return Err(CheckFault::BadOperand(at));
     };
     match constant_in(unit, syntax, results, at, child) {
-        Ok(index) => Ok(Made::Value(index)),
+        Ok(index) => Ok(Made::Value(Number::of(index))),
         Err(fault) => Err(fault),
     }
 }

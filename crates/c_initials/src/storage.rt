@@ -12,7 +12,7 @@ ghost use Rattle.tree_reads.specs.Sources.{source_read};
 ghost use Rattle.c_initials.specs.Scope.{AreFunctions};
 
 use c_entities::{has_storage, is_at_file, is_parameter};
-use c_results::Made;
+use c_results::Results;
 use tree_reads::{Syntax, is_a, is_name};
 
 const P_BLOCK: u32 = 29;
@@ -26,7 +26,7 @@ const WORD_STATIC: u8 = 25;
 #[derive(Clone, Copy, Drop)]
 pub struct Scope<'a> {
     pub syntax: &'a Syntax<'a>,
-    pub results: &'a [Made],
+    pub results: &'a Results,
     pub functions: &'a [bool],
 }
 
@@ -58,7 +58,7 @@ pub fn is_in_body(syntax: &Syntax, node: u32) -> bool
 
 /// Whether an object has its place for the whole run, by the leaf of its name: it is declared at file scope, or with `static` or `extern`
 /// (C11 6.2.4p3).
-pub fn is_static_object(syntax: &Syntax, results: &[Made], leaf: u32) -> bool
+pub fn is_static_object(syntax: &Syntax, results: &Results, leaf: u32) -> bool
     requires { leaf < length syntax.now.tree.now.nodes.items }
     ensures { (u : UnitSpec) →
         result ≡ entities.is_static_object (source_read syntax.now) (sense_in (senses_made u results.now)) leaf }

@@ -21,7 +21,7 @@ ghost use Rattle.c_initials.specs.Scope.{value_as};
 use c_consts::converted;
 use c_conversions::table::conversion;
 use c_conversions::values::value;
-use c_results::{Made, node_at};
+use c_results::{Results, node_at};
 use c_types::table::TypeTable;
 use c_types::term::{Term, TypeId};
 use core_nodes::CheckFault;
@@ -34,7 +34,7 @@ use tree_reads::{Syntax, child_of};
 const P_ASSIGNMENT: u32 = 32;
 
 /// The core node of an initialiser's expression, where there is one.
-pub(crate) fn expression_of(syntax: &Syntax, results: &[Made], init: u32) -> Option<u32>
+pub(crate) fn expression_of(syntax: &Syntax, results: &Results, init: u32) -> Option<u32>
     ensures seen { (u : UnitSpec) (w : World) →
         let sense = sense_in (senses_made u results.now) in
         NodeSeen u result (core_in (spec.expression_of w (source_read syntax.now) sense init)) }

@@ -5,7 +5,7 @@ use Rattle.std.proofs.lemmas.List.Elements.{All-weaker}
 use Rattle.std.proofs.lemmas.List.{length-map}
 use Rattle.pta_base.specs.declared.kind.Kind.TheVariants.{NotBuilt}
 use Rattle.core_tree.specs.declared.node.Unit.{Unit}
-use Rattle.core_nodes.specs.Standing.{Builds}
+use Rattle.core_nodes.specs.Standing.{Builds, Knows}
 use Rattle.core_nodes.specs.declared.fault.CheckFault.{CheckFault}
 use Rattle.core_nodes.specs.declared.fault.CheckFault.TheVariants.{BadOperand, Unsupported, OutOfMemory}
 use Rattle.c_results.specs.declared.made.Made.{Made}
@@ -14,6 +14,7 @@ use Rattle.c_senses.specs.Sense.{Sense}
 use Rattle.c_results.specs.Standing.{sense_made, senses_made}
 use Rattle.c_senses.specs.Tree.{Source}
 use Rattle.c_senses.specs.Names.{numbered}
+use Rattle.c_senses.specs.Rows.{world_at}
 use Rattle.c_senses.specs.Right.{Right}
 use Rattle.name_places.specs.Named.{IsNamedIn, IsNamedSense}
 use Rattle.row_shapes.specs.Kept.{Keeps}
@@ -62,6 +63,16 @@ tags_kept s senses old new b h = record {
   no_other = λ t lt. h.no_other t (subst (λ (n : ℕ). t < n) b.tags lt);
   members = λ d e. b.parts (s.tag_number d) ∙ h.members d e;
 }
+
+-- what is known of members and sizes at the tree's end
+pub knows_kept : (s : Source) (u new : Unit) (rs : List Made) → Builds u new → AreMade s u rs → Knows (world_at s (senses_made u rs) (length (senses_made u rs))) new
+knows_kept s u new rs b h =
+    let k : Knows (world_at s (senses_made u rs) (length (senses_made u rs))) u = subst (λ (n : ℕ). Knows (world_at s (senses_made u rs) n) u) (sym (length-map rs (sense_made u))) h.knows in
+    record {
+      members = λ tag. k.members tag ∙ sym (b.parts tag);
+      extents = λ t. k.extents t ∙ sym (b.extents t);
+      tags = k.tags ∙ sym b.tags;
+    }
 
 pub whole_walked : (s : Source) (u : Unit) (rs : List Made) → IsWalked s u rs → length (senses_made u rs) ≡ length s.nodes
 whole_walked s u rs h = length-map rs (sense_made u) ∙ h.whole

@@ -12,7 +12,7 @@ use Rattle.c_senses.specs.Sense.{Sense}
 use Rattle.unit_parts.specs.declared.declared.Declared.{Declared}
 use Rattle.unit_parts.specs.Renamed.{literals_in}
 use Rattle.unit_finish.specs.declared.keeping.Kept.{Kept}
-use Rattle.unit_finish.specs.Complete.{IsKept, Completes}
+use Rattle.unit_finish.specs.Complete.{IsKept, IsIncomplete}
 use Rattle.unit_finish.specs.Walked.{IsWalked, literal_entry}
 use Rattle.unit_walk.specs.Walked.{AreDense, RefusedIn}
 
@@ -38,10 +38,10 @@ pub record AreParts (s : Source) : Type 0 where
 abbrev pub declared_in : (s : Source) → AreParts s → List Declared
 declared_in s p = p.kept.names.items ++ map (literal_entry s p.senses) (literals_in p.kept.nodes.items)
 
--- such parts, of which no valid unit is made
+-- such parts, whose nodes are made anew, and no valid unit is made of these
 pub record NoneCompletes (s : Source) (name : List ℕ) : Type 0 where
   pub parts : AreParts s
-  pub none : (u : Unit) → Completes name s.unit parts.walked.types parts.keys parts.kept.nodes.items (declared_in s parts) u → ⊥
+  pub none : IsIncomplete name s.unit parts.walked.types parts.keys parts.kept.nodes.items (declared_in s parts)
 
 -- the rows of all nodes fit, and it is refused as not built, at the root
 abbrev pub IsUnfinished : Source → List ℕ → ℕ → CheckFault → Type 0

@@ -24,7 +24,7 @@ ghost use Rattle.c_lower.specs.Lowered.{IsLowered, IsNotLowered, IsUnfinished};
 use c_grammar::Tree;
 use c_lexer::Tokens;
 use c_meanings::Names;
-use c_results::Made;
+use c_results::Results;
 use c_scope::Bound;
 use c_types::table::TypeTable;
 use core_nodes::CheckFault;
@@ -46,20 +46,20 @@ fn finished(
     kept: Kept,
     names: &Names,
     syntax: &Syntax,
-    results: Vec<Made>,
+    results: Results,
 ) -> Result<Unit, CheckFault>
-    requires names { AreNamed syntax.now results.items names.now }
-    requires named { All (IsNamedIn (length syntax.now.tree.now.nodes.items)) results.items }
+    requires names { AreNamed syntax.now results names.now }
+    requires named { All (IsNamedIn (length syntax.now.tree.now.nodes.items)) results }
     requires first { ChildrenFirst (source_read syntax.now) }
     ensures { (u walked : UnitSpec) (uses : List (ℕ × ℕ)) (list : List DeclaredSpec) →
         let s = source_in syntax.now uses in
         IsReady walked → walked.types ≡ types → s.unit ≡ heading.unit →
-        finish.IsWalked s (senses_made u results.items) walked keys.items list →
+        finish.IsWalked s (senses_made u results) walked keys.items list →
         IsKept walked.nodes.items list kept →
         MatchResult result (Right s heading.name) (IsUnfinished s heading.name heading.root) }
 {
     let nodes = kept.nodes.as_slice();
-    let literals = match declared_literals(alloc, names, syntax, results.as_slice(), nodes) {
+    let literals = match declared_literals(alloc, names, syntax, &results, nodes) {
         Ok(literals) => literals,
         Err(fault) => return Err(fault),
     };
@@ -73,8 +73,8 @@ fn finished(
 fn completed(alloc: Global, bound: &Bound, name: Text, walked: Walked) -> Result<Unit, CheckFault>
     requires bound { IsBound walked.ground.numbered.syntax.tokens.now walked.ground.numbered.syntax.tree.now bound.now }
     requires ground { IsGround walked.ground bound.now }
-    requires stand { Stand (nodes_ground walked.ground) walked.unit walked.results.items }
-    requires walked { IsWalked (source_ground walked.ground bound.now) walked.unit walked.results.items }
+    requires stand { Stand (nodes_ground walked.ground) walked.unit walked.results }
+    requires walked { IsWalked (source_ground walked.ground bound.now) walked.unit walked.results }
     ensures { let told = walked.entry.ground in
         let s = source_ground told bound.now in
         MatchResult result (Right s name) (IsUnfinished s name told.numbered.syntax.tree.now.root) }
@@ -85,7 +85,7 @@ fn completed(alloc: Global, bound: &Bound, name: Text, walked: Walked) -> Result
         results,
     } = walked;
     let syntax = &ground.numbered.syntax;
-    let made = results.as_slice();
+    let made = &results;
     let Ok(keys) = keys_of(alloc, &ground.numbered, bound, made) else {
         return Err(CheckFault::OutOfMemory);
     };

@@ -14,12 +14,12 @@ use crate::names::{Names, declares_function, is_linked, symbol_link};
 use crate::statics::{StaticSeen, is_static_at_file, nothing_seen, sees_static};
 use crate::storage::WORD_EXTERN;
 use c_entities::{has_storage, is_without_storage};
-use c_results::Made;
+use c_results::Results;
 use core_tree::node::Linkage;
 use tree_reads::Syntax;
 
 // Whether a declaration takes over the linkage of those that are seen there (C11 6.2.2p4, p5).
-fn takes_over(names: &Names, syntax: &Syntax, results: &[Made], leaf: u32) -> bool
+fn takes_over(names: &Names, syntax: &Syntax, results: &Results, leaf: u32) -> bool
     requires names { AreChained syntax.now names.now }
     requires leaf { leaf < length syntax.now.tree.now.nodes.items }
     ensures { (u : UnitSpec) (uses : List (ℕ × ℕ)) →
@@ -34,7 +34,7 @@ fn takes_over(names: &Names, syntax: &Syntax, results: &[Made], leaf: u32) -> bo
 pub fn is_internal_after(
     names: &Names,
     syntax: &Syntax,
-    results: &[Made],
+    results: &Results,
     seen: &mut StaticSeen,
     leaf: u32,
 ) -> bool
@@ -58,7 +58,7 @@ pub fn is_internal_after(
 }
 
 /// Whether a leaf declares a name with internal linkage (C11 6.2.2p3 to p5).
-pub fn is_internal(names: &Names, syntax: &Syntax, results: &[Made], leaf: u32) -> bool
+pub fn is_internal(names: &Names, syntax: &Syntax, results: &Results, leaf: u32) -> bool
     requires names { AreNamed syntax.now results.now names.now }
     requires leaf { leaf < length syntax.now.tree.now.nodes.items }
     ensures { (u : UnitSpec) (uses : List (ℕ × ℕ)) →
@@ -69,7 +69,7 @@ pub fn is_internal(names: &Names, syntax: &Syntax, results: &[Made], leaf: u32) 
 }
 
 /// The linkage of the name that a leaf declares (C11 6.2.2).
-pub fn linkage_of(names: &Names, syntax: &Syntax, results: &[Made], leaf: u32) -> Linkage
+pub fn linkage_of(names: &Names, syntax: &Syntax, results: &Results, leaf: u32) -> Linkage
     requires names { AreNamed syntax.now results.now names.now }
     requires leaf { leaf < length syntax.now.tree.now.nodes.items }
     ensures { (u : UnitSpec) (uses : List (ℕ × ℕ)) →
@@ -92,7 +92,7 @@ struct Front {
 }
 
 // Whether a leaf declares a name `static` at file scope, with linkage.
-fn is_static(names: &Names, syntax: &Syntax, results: &[Made], leaf: u32) -> bool
+fn is_static(names: &Names, syntax: &Syntax, results: &Results, leaf: u32) -> bool
     requires names { AreNamed syntax.now results.now names.now }
     requires leaf { leaf < length syntax.now.tree.now.nodes.items }
     ensures { (u : UnitSpec) (uses : List (ℕ × ℕ)) →
@@ -103,7 +103,7 @@ fn is_static(names: &Names, syntax: &Syntax, results: &[Made], leaf: u32) -> boo
 
 // The list before the first declaration that is `static` at file scope of the list that ends at a place of its symbol's, and the leaf of
 // that declaration; the whole list and the other leaf where none is.
-fn front_of(names: &Names, syntax: &Syntax, results: &[Made], place: u32, leaf: u32) -> Front
+fn front_of(names: &Names, syntax: &Syntax, results: &Results, place: u32, leaf: u32) -> Front
     requires names { AreNamed syntax.now results.now names.now }
     requires place { place < length names.now.symbols.items }
     ensures last { IsLinkOf names.now.symbols.items result.last }
@@ -135,7 +135,7 @@ fn front_of(names: &Names, syntax: &Syntax, results: &[Made], place: u32, leaf: 
 fn internal_or(
     names: &Names,
     syntax: &Syntax,
-    results: &[Made],
+    results: &Results,
     seen: &mut StaticSeen,
     leaf: u32,
     other: u32,
@@ -155,7 +155,7 @@ fn internal_or(
 }
 
 // The first declaration with internal linkage of a list of a symbol's declarations, or else a leaf.
-fn first_internal(names: &Names, syntax: &Syntax, results: &[Made], front: Front) -> u32
+fn first_internal(names: &Names, syntax: &Syntax, results: &Results, front: Front) -> u32
     requires names { AreNamed syntax.now results.now names.now }
     requires last { IsLinkOf names.now.symbols.items front.last }
     ensures { (u : UnitSpec) (uses : List (ℕ × ℕ)) →
@@ -175,7 +175,7 @@ fn first_internal(names: &Names, syntax: &Syntax, results: &[Made], front: Front
 
 /// The entity of the object or function that a leaf declares, by a leaf: the first declaration of an internal name in the unit, and of
 /// any other name its own (C11 6.2.2p2).
-pub fn entity_of(names: &Names, syntax: &Syntax, results: &[Made], leaf: u32) -> u32
+pub fn entity_of(names: &Names, syntax: &Syntax, results: &Results, leaf: u32) -> u32
     requires names { AreNamed syntax.now results.now names.now }
     requires leaf { leaf < length syntax.now.tree.now.nodes.items }
     ensures { (u : UnitSpec) (uses : List (ℕ × ℕ)) →

@@ -18,7 +18,7 @@ use crate::names::{Names, is_typedef, link_at};
 use crate::storage::has_initialiser;
 use crate::types::{is_open, type_behind};
 use c_entities::own_type;
-use c_results::{Made, value_at};
+use c_results::{Results, value_at};
 use c_types::table::TypeTable;
 use c_types::term::{Term, TypeId};
 use core_nodes::CheckFault;
@@ -45,7 +45,7 @@ fn has_earlier_length(
     unit: &mut Unit,
     syntax: &Syntax,
     names: &Names,
-    results: &[Made],
+    results: &Results,
     leaf: u32,
 ) -> Result<bool, CheckFault>
     requires ready { IsReady unit.old }
@@ -91,7 +91,7 @@ pub fn named_by(
     unit: &mut Unit,
     syntax: &Syntax,
     names: &Names,
-    results: &[Made],
+    results: &Results,
     leaf: u32,
 ) -> Result<u32, CheckFault>
     requires ready { IsReady unit.old }
@@ -131,7 +131,7 @@ fn type_named(
     alloc: Global,
     unit: &mut Unit,
     syntax: &Syntax,
-    results: &[Made],
+    results: &Results,
     leaf: u32,
 ) -> Result<Option<Meaning>, CheckFault>
     requires ready { IsReady unit.old }
@@ -157,7 +157,7 @@ fn entity_named(
     unit: &mut Unit,
     syntax: &Syntax,
     names: &Names,
-    results: &[Made],
+    results: &Results,
     leaf: u32,
 ) -> Result<Option<Meaning>, CheckFault>
     requires ready { IsReady unit.old }
@@ -189,7 +189,7 @@ pub fn declared_meaning(
     unit: &mut Unit,
     syntax: &Syntax,
     names: &Names,
-    results: &[Made],
+    results: &Results,
     leaf: u32,
 ) -> Result<Option<Meaning>, CheckFault>
     requires ready { IsReady unit.old }
@@ -212,7 +212,7 @@ pub fn declared_meaning(
 }
 
 // The value of an enumerator, by its node.
-fn enumerated(results: &[Made], node: u32) -> Option<Meaning>
+fn enumerated(results: &Results, node: u32) -> Option<Meaning>
     ensures gives { (u : UnitSpec) (s : Source) →
         meaning_seen u result ≡ spec.enumerated s (sense_in (senses_made u results.now)) node }
     ensures within { (u : UnitSpec) → IsMeaningWithin u result }
@@ -229,7 +229,7 @@ pub fn meaning_of(
     unit: &mut Unit,
     syntax: &Syntax,
     names: &Names,
-    results: &[Made],
+    results: &Results,
     leaf: u32,
 ) -> Result<Option<Meaning>, CheckFault>
     requires ready { IsReady unit.old }
@@ -260,7 +260,7 @@ pub fn meaning_at(
     unit: &mut Unit,
     syntax: &Syntax,
     names: &Names,
-    results: &[Made],
+    results: &Results,
     leaf: u32,
 ) -> Result<Option<Meaning>, CheckFault>
     requires ready { IsReady unit.old }

@@ -16,7 +16,7 @@ ghost use Rattle.c_meanings.specs.Statics.{some_static, IsStaticSeen, IsFront};
 use crate::names::{Names, link_at};
 use crate::storage::WORD_STATIC;
 use c_entities::{has_storage, is_at_file};
-use c_results::Made;
+use c_results::Results;
 use name_chains::linked_link;
 use tree_reads::Syntax;
 
@@ -48,7 +48,7 @@ fn is_known(seen: StaticSeen, place: u32) -> bool
 }
 
 /// Whether a name is declared `static` at file scope (C11 6.2.2p3).
-pub(crate) fn is_static_at_file(syntax: &Syntax, results: &[Made], leaf: u32) -> bool
+pub(crate) fn is_static_at_file(syntax: &Syntax, results: &Results, leaf: u32) -> bool
     requires { leaf < length syntax.now.tree.now.nodes.items }
     ensures { (u : UnitSpec) (uses : List (ℕ × ℕ)) →
         result ≡ spec.is_static_at_file (source_in syntax.now uses) (sense_in (senses_made u results.now)) leaf }
@@ -60,7 +60,7 @@ pub(crate) fn is_static_at_file(syntax: &Syntax, results: &[Made], leaf: u32) ->
 fn has_static(
     names: &Names,
     syntax: &Syntax,
-    results: &[Made],
+    results: &Results,
     seen: StaticSeen,
     last: Option<u32>,
 ) -> bool
@@ -112,7 +112,7 @@ fn is_front(names: &Names, seen: StaticSeen, last: Option<u32>) -> bool
 fn some_static(
     names: &Names,
     syntax: &Syntax,
-    results: &[Made],
+    results: &Results,
     seen: StaticSeen,
     last: Option<u32>,
 ) -> bool
@@ -133,7 +133,7 @@ fn some_static(
 pub(crate) fn sees_static(
     names: &Names,
     syntax: &Syntax,
-    results: &[Made],
+    results: &Results,
     seen: &mut StaticSeen,
     leaf: u32,
 ) -> bool

@@ -12,7 +12,7 @@ ghost use Rattle.c_meanings.specs.Storages.{function_storage, is_only_declared, 
 
 use crate::names::{Names, declares_function};
 use c_entities::{has_storage, initialiser_for, is_at_file, is_defined, is_parameter};
-use c_results::Made;
+use c_results::Results;
 use core_tree::node::Storage;
 use tree_reads::Syntax;
 
@@ -21,7 +21,7 @@ pub(crate) const WORD_EXTERN: u8 = 11;
 pub(crate) const WORD_STATIC: u8 = 25;
 
 // Whether a name is declared `static` or `extern`.
-fn has_word(syntax: &Syntax, results: &[Made], leaf: u32) -> bool
+fn has_word(syntax: &Syntax, results: &Results, leaf: u32) -> bool
     requires { leaf < length syntax.now.tree.now.nodes.items }
     ensures { (u : UnitSpec) (uses : List (ℕ × ℕ)) →
         let s = source_in syntax.now uses in
@@ -45,7 +45,7 @@ pub(crate) fn has_initialiser(syntax: &Syntax, leaf: u32) -> bool
 }
 
 // Whether an object is only declared, by `extern` without an initialiser.
-fn is_only_declared(syntax: &Syntax, results: &[Made], leaf: u32) -> bool
+fn is_only_declared(syntax: &Syntax, results: &Results, leaf: u32) -> bool
     requires { leaf < length syntax.now.tree.now.nodes.items }
     ensures { (u : UnitSpec) (uses : List (ℕ × ℕ)) →
         result ≡ is_only_declared (source_in syntax.now uses) (sense_in (senses_made u results.now)) leaf }
@@ -54,7 +54,7 @@ fn is_only_declared(syntax: &Syntax, results: &[Made], leaf: u32) -> bool
 }
 
 /// Whether an object has its place for the whole run (C11 6.2.4p3).
-pub fn is_static_object(syntax: &Syntax, results: &[Made], leaf: u32) -> bool
+pub fn is_static_object(syntax: &Syntax, results: &Results, leaf: u32) -> bool
     requires { leaf < length syntax.now.tree.now.nodes.items }
     ensures { (u : UnitSpec) (uses : List (ℕ × ℕ)) →
         result ≡ spec.is_static_object (source_in syntax.now uses) (sense_in (senses_made u results.now)) leaf }
@@ -75,7 +75,7 @@ fn of_function(syntax: &Syntax, leaf: u32) -> Storage
 }
 
 // The storage of an object by its words.
-fn of_object(syntax: &Syntax, results: &[Made], leaf: u32) -> Storage
+fn of_object(syntax: &Syntax, results: &Results, leaf: u32) -> Storage
     requires { leaf < length syntax.now.tree.now.nodes.items }
     ensures { (u : UnitSpec) (uses : List (ℕ × ℕ)) →
         result ≡ object_storage (source_in syntax.now uses) (sense_in (senses_made u results.now)) leaf }
@@ -90,7 +90,7 @@ fn of_object(syntax: &Syntax, results: &[Made], leaf: u32) -> Storage
 }
 
 /// The storage of the object or function that a leaf declares (C11 6.2.4, 6.9.1).
-pub fn storage_of(names: &Names, syntax: &Syntax, results: &[Made], leaf: u32) -> Storage
+pub fn storage_of(names: &Names, syntax: &Syntax, results: &Results, leaf: u32) -> Storage
     requires names { AreChained syntax.now names.now }
     requires leaf { leaf < length syntax.now.tree.now.nodes.items }
     ensures { (u : UnitSpec) (uses : List (ℕ × ℕ)) →

@@ -12,7 +12,7 @@ ghost use Rattle.c_meanings.specs.Joined as joined;
 
 use crate::names::Names;
 use c_entities::{own_type, together};
-use c_results::Made;
+use c_results::Results;
 use c_scope::Declared;
 use c_types::table::TypeTable;
 use c_types::term::{Term, TypeId};
@@ -43,7 +43,7 @@ fn one_more(
     alloc: Global,
     unit: &mut Unit,
     syntax: &Syntax,
-    results: &[Made],
+    results: &Results,
     so_far: Option<TypeId>,
     leaf: u32,
 ) -> Result<Option<TypeId>, CheckFault>
@@ -69,7 +69,7 @@ fn all_of(
     alloc: Global,
     unit: &mut Unit,
     syntax: &Syntax,
-    results: &[Made],
+    results: &Results,
     before: Option<TypeId>,
     list: &[Declared],
 ) -> Result<Option<TypeId>, CheckFault>
@@ -100,7 +100,7 @@ pub fn type_behind(
     unit: &mut Unit,
     syntax: &Syntax,
     names: &Names,
-    results: &[Made],
+    results: &Results,
     leaf: u32,
 ) -> Result<Option<TypeId>, CheckFault>
     requires ready { IsReady unit.old }

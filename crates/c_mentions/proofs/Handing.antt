@@ -24,10 +24,10 @@ choose true false x y = refl
 choose false c x y = refl
 
 -- a child more
-pub hands_more : (children : List ℕ) (k d node : ℕ) (setting : Setting) (old mid new : List Setting) → k < length children → Hands (take k children) node setting old mid
+pub hands_more : {X : Type 0} (children : List ℕ) (k d node : ℕ) (setting : X) (old mid new : List X) → k < length children → Hands (take k children) node setting old mid
     → length new ≡ length mid
-    → ((i : ℕ) (d' : Setting) → i < node → get_or new i d' ≡ cond (eqb (get_or children k d) i) setting (get_or mid i d'))
-    → ((i : ℕ) (d' : Setting) → node ≤ i → get_or new i d' ≡ get_or mid i d')
+    → ((i : ℕ) (d' : X) → i < node → get_or new i d' ≡ cond (eqb (get_or children k d) i) setting (get_or mid i d'))
+    → ((i : ℕ) (d' : X) → node ≤ i → get_or new i d' ≡ get_or mid i d')
     → Hands (take (k + 1) children) node setting old new
 hands_more children k d node setting old mid new l h e f g =
     let child = get_or children k d in

@@ -3,3 +3,4 @@ pub mod Levels
 pub mod Numbering
 pub mod Chains
 pub mod Handing
+pub mod Alike

@@ -4,3 +4,4 @@ pub mod Symbols
 pub mod Roles
 pub mod Settings
 pub mod Mentions
+pub mod Kept

@@ -61,13 +61,13 @@ pub record Stands (scopes : List Scope) (setting : Setting) (s : Standing) : Typ
 abbrev pub Extends : List Scope → List Scope → Type 0
 Extends old new = (more : List Scope) × (new ≡ old ++ more)
 
--- the children of a node, as far as they have smaller numbers, got a setting
-pub record Hands (children : List ℕ) (node : ℕ) (setting : Setting) (old new : List Setting) : Type 0 where
+-- the children of a node, as far as they have smaller numbers, got something
+pub record Hands {X : Type 0} (children : List ℕ) (node : ℕ) (x : X) (old new : List X) : Type 0 where
   pub count : length new ≡ length old
-  pub before : (i : ℕ) (d : Setting) → i < node → slice_index_or new i d ≡ (if contains children i then setting else slice_index_or old i d)
-  pub behind : (i : ℕ) (d : Setting) → node ≤ i → slice_index_or new i d ≡ slice_index_or old i d
+  pub before : (i : ℕ) (d : X) → i < node → slice_index_or new i d ≡ (if contains children i then x else slice_index_or old i d)
+  pub behind : (i : ℕ) (d : X) → node ≤ i → slice_index_or new i d ≡ slice_index_or old i d
 
 -- settings say where all nodes stand
 pub record AreSettings (tokens : List Token) (nodes : List Node) (settings : Settings) : Type 0 where
-  pub count : length settings.list.items ≡ length nodes
-  pub each : (i : ℕ) (d : Setting) → i < length nodes → Stands settings.scopes.items (slice_index_or settings.list.items i d) (slice_index_or (standings tokens nodes 0 nodes) i (outermost (length nodes)))
+  pub count : length settings.list ≡ length nodes
+  pub each : (i : ℕ) (d : Setting) → i < length nodes → Stands settings.scopes.items (slice_index_or settings.list i d) (slice_index_or (standings tokens nodes 0 nodes) i (outermost (length nodes)))

@@ -2,14 +2,16 @@
 ghost use Rattle.c_mentions.specs.Settings.{handed_down, with_scope};
 ghost use Rattle.c_mentions.specs.Settings.{AreSettings, Extends, Hands, IsChain, Standing, Stands};
 ghost use Rattle.c_mentions.specs.declared.settings.Setting.{Setting};
+ghost use Rattle.c_mentions.specs.Kept.{Keeps, kind_at};
 ghost use Rattle.c_mentions.specs.Syntax.{nodes_of};
-ghost use Rattle.std.specs.Prelude.{◌≡◌, ◌==◌, ◌<◌, ◌≤◌, ◌^◌, ℕ, List, length, slice_index_or, if◌then◌else◌, IfOk};
+ghost use Rattle.std.specs.Prelude.{true, ◌≡◌, ◌==◌, ◌<◌, ◌≤◌, ◌^◌, ℕ, List, length, slice_get, slice_index_or, replicate, if◌then◌else◌, IfOk};
 
 use crate::roles::{Role, handed, is_body, opened};
 use c_grammar::SyntaxNode;
 use c_lexer::Token;
 use pta_base::OutOfMemory;
 use std::alloc::Global;
+use std::marker::Model;
 
 /// A scope: the number of the node that opens it, and its place in the list of scopes of what stands around it. The file's
 /// scope comes first, and has the number of nodes as its number.
@@ -28,33 +30,31 @@ pub struct Setting {
     pub role: Role,
 }
 
+/// Where nodes stand, in order. Nodes that stand alike share what is said of them, and take a number each. Clauses see it as the list
+/// of their settings.
+#[derive(Drop)]
+pub struct SettingList {
+    kinds: Vec<Setting>,
+    places: Vec<u32>,
+}
+
+impl Model for SettingList {
+    ghost use Rattle.std.specs.Prelude.{List, map, All, ◌<◌, length};
+    ghost use Rattle.c_mentions.specs.declared.settings.Setting.{Setting};
+    ghost use Rattle.c_mentions.specs.Kept.{kind_at};
+
+    ghost Value = { List Setting };
+
+    ghost view = { λ l. map (kind_at l.kinds.items) l.places.items };
+
+    ghost invariant = { λ l. All (λ place. place < length l.kinds.items) l.places.items };
+}
+
 /// The settings of all nodes.
 #[derive(Drop)]
 pub struct Settings {
     pub scopes: Vec<Scope>,
-    pub list: Vec<Setting>,
-}
-
-/// Gives a setting to a child of a node if it has a smaller number.
-fn hand_one(list: &mut Vec<Setting>, child: usize, node: usize, setting: Setting)
-    requires { node ≤ length list.old.items }
-    ensures count { length list.new.items ≡ length list.old.items }
-    ensures before { (i : ℕ) (d : Setting) → i < node → slice_index_or list.new.items i d ≡ (if child == i then setting else slice_index_or list.old.items i d) }
-    ensures behind { (i : ℕ) (d : Setting) → node ≤ i → slice_index_or list.new.items i d ≡ slice_index_or list.old.items i d }
-{
-    if child < node {
-        list[child] = setting;
-    }
-}
-
-/// Gives a setting to those children of a node that have smaller numbers.
-fn hand(list: &mut Vec<Setting>, children: &[u32], node: usize, setting: Setting)
-    requires { node ≤ length list.old.items }
-    ensures { Hands children.now node setting list.old.items list.new.items }
-{
-    for child in children {
-        hand_one(list, *child as usize, node, setting);
-    }
+    pub list: SettingList,
 }
 
 /// A place as a number. More places than there are numbers count as want of memory.
@@ -64,6 +64,108 @@ pub fn place_of(place: usize) -> Result<u32, OutOfMemory>
     match u32::try_from(place) {
         Ok(number) => Ok(number),
         Err(_) => Err(OutOfMemory),
+    }
+}
+
+/// Gives a number to a child of a node if it has a smaller number.
+fn hand_one(places: &mut Vec<u32>, child: usize, node: usize, place: u32)
+    requires { node ≤ length places.old.items }
+    ensures count { length places.new.items ≡ length places.old.items }
+    ensures before { (i d : ℕ) → i < node → slice_index_or places.new.items i d ≡ (if child == i then place else slice_index_or places.old.items i d) }
+    ensures behind { (i d : ℕ) → node ≤ i → slice_index_or places.new.items i d ≡ slice_index_or places.old.items i d }
+{
+    if child < node {
+        places[child] = place;
+    }
+}
+
+/// Gives a number to those children of a node that have smaller numbers.
+fn hand_all(places: &mut Vec<u32>, children: &[u32], node: usize, place: u32)
+    requires { node ≤ length places.old.items }
+    ensures { Hands children.now node place places.old.items places.new.items }
+{
+    for child in children {
+        hand_one(places, *child as usize, node, place);
+    }
+}
+
+/// Whether two nodes stand alike below their parents, where they stand in expressions or types; of others that isn't asked.
+fn is_same_role(a: Role, b: Role) -> bool
+    ensures { result ≡ true → a ≡ b }
+{
+    match (a, b) {
+        (Role::Elsewhere, Role::Elsewhere) => true,
+        (Role::Name, Role::Name) => true,
+        _ => false,
+    }
+}
+
+/// Whether two settings are one for sure.
+fn is_same(a: Setting, b: Setting) -> bool
+    ensures { result ≡ true → a ≡ b }
+{
+    a.scope == b.scope && a.body == b.body && is_same_role(a.role, b.role)
+}
+
+/// The number of a setting: the one that is given, where it is that setting's, or else a new one.
+fn place_for(kinds: &mut Vec<Setting>, given: u32, setting: Setting) -> Result<u32, OutOfMemory>
+    requires { given < length kinds.old.items }
+    ensures place { IfOk result (λ place. (place < length kinds.new.items) × (kind_at kinds.new.items place ≡ setting)) }
+    ensures keeps { Keeps kinds.old.items kinds.new.items }
+{
+    if is_same(kinds[given as usize], setting) {
+        return Ok(given);
+    }
+    let place = place_of(kinds.len())?;
+    kinds.push(setting)?;
+    Ok(place)
+}
+
+impl SettingList {
+    /// The setting of a node.
+    pub fn at(&self, node: usize) -> Setting
+        requires { node < length self.now }
+        ensures { (d : Setting) → slice_index_or self.now node d ≡ result }
+    {
+        self.kinds[self.places[node] as usize]
+    }
+
+    /// The setting of a node, or none where there is no such node.
+    pub fn get(&self, node: usize) -> Option<Setting>
+        ensures { result ≡ slice_get self.now node }
+    {
+        if node < self.len() {
+            Some(self.at(node))
+        } else {
+            None
+        }
+    }
+
+    /// How many nodes have settings.
+    pub fn len(&self) -> usize
+        ensures { result ≡ length self.now }
+    {
+        self.places.len()
+    }
+
+    // So many nodes of one setting.
+    fn alike(alloc: Global, setting: Setting, count: usize) -> Result<SettingList, OutOfMemory>
+        ensures { IfOk result (λ list. list ≡ replicate count setting) }
+    {
+        let mut kinds = Vec::new(alloc);
+        kinds.push(setting)?;
+        let places = vec![in alloc; 0; count]?;
+        Ok(SettingList { kinds, places })
+    }
+
+    // Gives a setting to those children of a node that have smaller numbers.
+    fn hand(&mut self, children: &[u32], node: usize, setting: Setting) -> Result<(), OutOfMemory>
+        requires { node < length self.old }
+        ensures { IfOk result (λ done. Hands children.now node setting self.old self.new) }
+    {
+        let place = place_for(&mut self.kinds, self.places[node], setting)?;
+        hand_all(&mut self.places, children, node, place);
+        Ok(())
     }
 }
 
@@ -131,12 +233,12 @@ pub fn settings_of(
         body: file,
         role: Role::Elsewhere,
     };
-    let mut list = vec![in alloc; outermost; nodes.len()]?;
+    let mut list = SettingList::alike(alloc, outermost, nodes.len())?;
     let mut node = nodes.len();
     while node > 0 {
         node -= 1;
-        let within = setting_within(tokens, nodes, &mut scopes, node as u32, list[node])?;
-        hand(&mut list, nodes[node].children.as_slice(), node, within);
+        let within = setting_within(tokens, nodes, &mut scopes, node as u32, list.at(node))?;
+        list.hand(nodes[node].children.as_slice(), node, within)?;
     }
     Ok(Settings { scopes, list })
 }

@@ -14,7 +14,7 @@ ghost use Rattle.c_named.specs.Lists as lists;
 
 use crate::said::Said;
 use c_entities::{own_type, together};
-use c_results::Made;
+use c_results::Results;
 use c_types::table::TypeTable;
 use c_types::term::TypeId;
 use core_nodes::CheckFault;
@@ -40,7 +40,7 @@ fn all_of(
     alloc: Global,
     unit: &mut Unit,
     syntax: &Syntax,
-    results: &[Made],
+    results: &Results,
     ty: TypeId,
     leaves: &[u32],
 ) -> Result<bool, CheckFault>
@@ -86,7 +86,7 @@ pub(crate) fn types_together(
     alloc: Global,
     unit: &mut Unit,
     syntax: &Syntax,
-    results: &[Made],
+    results: &Results,
     leaves: &[u32],
 ) -> Result<Option<TypeId>, CheckFault>
     requires ready { IsReady unit.old }
@@ -113,7 +113,7 @@ pub(crate) fn is_same_again(
     alloc: Global,
     unit: &mut Unit,
     syntax: &Syntax,
-    results: &[Made],
+    results: &Results,
     said: &Said,
     ty: TypeId,
 ) -> Result<bool, CheckFault>

@@ -14,7 +14,7 @@ ghost use Rattle.c_named.specs.Completed.{AreCompleted, is_enough};
 
 use crate::said::Said;
 use c_entities::has_storage;
-use c_results::Made;
+use c_results::Results;
 use c_types::table::TypeTable;
 use c_types::term::{Term, TypeId};
 use core_nodes::sorts::has_size;
@@ -123,7 +123,7 @@ fn is_enough(asked: Completion) -> bool
 pub(crate) fn is_name_complete(
     unit: &Unit,
     syntax: &Syntax,
-    results: &[Made],
+    results: &Results,
     said: &Said,
     completed: &[bool],
     initialised: bool,

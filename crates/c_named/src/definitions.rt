@@ -15,7 +15,7 @@ ghost use Rattle.c_named.specs.Passing.{Passes};
 
 use crate::completeness::either;
 use c_entities::{has_function_word, has_storage, is_defined};
-use c_results::Made;
+use c_results::Results;
 use c_types::table::TypeTable;
 use c_types::term::{Form, Term, TypeId};
 use core_nodes::CheckFault;
@@ -78,7 +78,7 @@ fn result_fits(unit: &Unit, ty: TypeId) -> bool
 }
 
 // Whether a name is declared `inline` and not `static`.
-fn is_inline_alone(syntax: &Syntax, results: &[Made], leaf: u32) -> bool
+fn is_inline_alone(syntax: &Syntax, results: &Results, leaf: u32) -> bool
     requires { leaf < length syntax.now.tree.now.nodes.items }
     ensures { (u : UnitSpec) →
         let s = source_read syntax.now in
@@ -96,7 +96,7 @@ fn is_inline_alone(syntax: &Syntax, results: &[Made], leaf: u32) -> bool
 pub(crate) fn definition_row(
     unit: &Unit,
     syntax: &Syntax,
-    results: &[Made],
+    results: &Results,
     leaf: u32,
     ty: TypeId,
 ) -> Result<(), CheckFault>

@@ -17,7 +17,7 @@ use crate::again::types_together;
 use crate::completeness::either;
 use crate::said::Said;
 use c_entities::{agree, initialiser_for, is_defined};
-use c_results::Made;
+use c_results::Results;
 use c_types::table::TypeTable;
 use c_types::term::TypeId;
 use core_nodes::CheckFault;
@@ -85,7 +85,7 @@ pub(crate) fn internal_fits(
     alloc: Global,
     unit: &mut Unit,
     syntax: &Syntax,
-    results: &[Made],
+    results: &Results,
     said: &Said,
     defined: bool,
     ty: TypeId,

@@ -20,7 +20,7 @@ use crate::internal::internal_fits;
 use crate::said::Said;
 use crate::words::words_go;
 use c_entities::{initialiser_of, is_defined};
-use c_results::Made;
+use c_results::Results;
 use c_types::term::TypeId;
 use core_nodes::CheckFault;
 use core_tree::node::Unit;
@@ -41,7 +41,7 @@ fn agrees_before(
     alloc: Global,
     unit: &mut Unit,
     syntax: &Syntax,
-    results: &[Made],
+    results: &Results,
     said: &Said,
     defined: bool,
     ty: TypeId,
@@ -74,7 +74,7 @@ pub(crate) fn named_row(
     alloc: Global,
     unit: &mut Unit,
     syntax: &Syntax,
-    results: &[Made],
+    results: &Results,
     completed: &[bool],
     said: &Said,
     declared: Declared,

@@ -17,7 +17,7 @@ use crate::completeness::is_parameter_complete;
 use crate::named::{Declared, named_row};
 use crate::said::Said;
 use c_declarators::adjusted;
-use c_results::Made;
+use c_results::Results;
 use c_types::term::TypeId;
 use core_nodes::CheckFault;
 use core_tree::node::Unit;
@@ -40,7 +40,7 @@ fn may_stand(listed: bool, complete: bool) -> bool
 fn parameter_named(
     unit: &Unit,
     syntax: &Syntax,
-    results: &[Made],
+    results: &Results,
     completed: &[bool],
     declared: Declared,
 ) -> Result<(), CheckFault>
@@ -67,7 +67,7 @@ pub(crate) fn by_place(
     alloc: Global,
     unit: &mut Unit,
     syntax: &Syntax,
-    results: &[Made],
+    results: &Results,
     completed: &[bool],
     said: &Said,
     declared: Declared,

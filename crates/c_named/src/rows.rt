@@ -21,7 +21,7 @@ use crate::named::Declared;
 use crate::places::by_place;
 use crate::said::Said;
 use c_declarators::{derived, plain_declarator_row, specs_of};
-use c_results::{Derivation, Made, specified_at};
+use c_results::{Derivation, Made, Results, specified_at};
 use c_types::term::TypeId;
 use core_nodes::CheckFault;
 use core_tree::node::Unit;
@@ -39,7 +39,7 @@ pub struct Around<'a> {
 }
 
 // The type of the specifiers before a declarator.
-fn base_of(syntax: &Syntax, results: &[Made], at: u32) -> Option<TypeId>
+fn base_of(syntax: &Syntax, results: &Results, at: u32) -> Option<TypeId>
     requires { at < length syntax.now.tree.now.nodes.items }
     ensures seen { (u : UnitSpec) (w : World) →
         TypeSeen u result (declarators.base_type w (source_read syntax.now) (sense_in (senses_made u results.now)) at) }
@@ -56,7 +56,7 @@ fn at_its_name(
     alloc: Global,
     unit: &mut Unit,
     syntax: &Syntax,
-    results: &[Made],
+    results: &Results,
     around: &Around,
     at: u32,
     leaf: u32,
@@ -117,7 +117,7 @@ fn judged(
     alloc: Global,
     unit: &mut Unit,
     syntax: &Syntax,
-    results: &[Made],
+    results: &Results,
     around: &Around,
     at: u32,
     children: &[u32],
@@ -162,7 +162,7 @@ pub fn declarator_row(
     alloc: Global,
     unit: &mut Unit,
     syntax: &Syntax,
-    results: &[Made],
+    results: &Results,
     around: &Around,
     at: u32,
     children: &[u32],

@@ -12,7 +12,7 @@ ghost use Rattle.c_named.specs.Words.{go_well};
 
 use crate::said::Said;
 use c_entities::{has_function_words, has_storage, is_at_file, is_defined, is_without_storage};
-use c_results::Made;
+use c_results::Results;
 use name_places::is_in_for;
 use tree_reads::Syntax;
 
@@ -60,7 +60,7 @@ fn go_well(asked: Wording) -> bool
 /// Whether the words of a declaration go with what it declares.
 pub(crate) fn words_go(
     syntax: &Syntax,
-    results: &[Made],
+    results: &Results,
     said: &Said,
     initialised: bool,
     leaf: u32,

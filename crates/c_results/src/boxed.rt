@@ -43,6 +43,38 @@ impl<T: Drop> BoxedList<T> {
     }
 }
 
+/// Words of specifiers, behind a pointer. Clauses see them as the list of them.
+#[derive(Drop)]
+pub struct WordList {
+    held: Box<Vec<u8>>,
+}
+
+impl Model for WordList {
+    ghost use Rattle.std.specs.Prelude.{ℕ};
+    ghost use Rattle.c_results.specs.Listed.{Listed};
+
+    ghost Value = { Listed ℕ };
+
+    ghost view = { λ a. record { items = a.held.value.items } };
+}
+
+impl WordList {
+    /// The list of a vector's words.
+    pub fn of(alloc: Global, words: Vec<u8>) -> Result<WordList, AllocError>
+        ensures { IfOk result (λ list. list.items ≡ words.items) }
+    {
+        let held = Box::new(alloc, words)?;
+        Ok(WordList { held })
+    }
+
+    /// The words, borrowed.
+    pub fn as_slice(&self) -> &[u8]
+        ensures value { result.now ≡ self.now.items }
+    {
+        self.held.as_slice()
+    }
+}
+
 /// A step of a declarator, behind a pointer. Clauses see it as the step itself.
 #[derive(Drop)]
 pub struct BoxedDerivation {

@@ -4,9 +4,11 @@ ghost use Rattle.core_tree.specs.declared.node.Unit.{Unit as UnitSpec};
 ghost use Rattle.c_senses.specs.Sense.{sense_in};
 ghost use Rattle.c_results.specs.Standing.{sense_made, senses_made, IsWithin};
 
-use crate::boxed::{BoxedDerivation, BoxedList};
+use crate::boxed::{BoxedDerivation, BoxedList, WordList};
 use crate::derivation::Derivation;
 use crate::made::{Made, made_at};
+use crate::number::Number;
+use crate::results::Results;
 use c_types::term::{MemberTerm, Name};
 use std::alloc::{AllocError, Global};
 
@@ -84,8 +86,8 @@ impl Made {
                 let storage = Vec::from_slice(alloc, storage.as_slice())?;
                 let functions = Vec::from_slice(alloc, functions.as_slice())?;
                 Ok(Made::Specifiers {
-                    storage: BoxedList::of(alloc, storage)?,
-                    functions: BoxedList::of(alloc, functions)?,
+                    storage: WordList::of(alloc, storage)?,
+                    functions: WordList::of(alloc, functions)?,
                     ty: *ty,
                 })
             }
@@ -109,7 +111,7 @@ impl Made {
                 let copy = copied_members(alloc, members.as_slice())?;
                 Ok(Made::Members(copy))
             }
-            Made::Value(value) => Ok(Made::Value(*value)),
+            Made::Value(value) => Ok(Made::Value(Number::of(value.get()))),
             Made::Run(nodes) => {
                 let copy = Vec::from_slice(alloc, nodes.as_slice())?;
                 Ok(Made::Run(copy))
@@ -123,7 +125,7 @@ impl Made {
 }
 
 /// What has been made for a node, once more, for a node that passes it on.
-pub fn copied_at(alloc: Global, results: &[Made], node: u32) -> Result<Made, AllocError>
+pub fn copied_at(alloc: Global, results: &Results, node: u32) -> Result<Made, AllocError>
     ensures sense { (u : UnitSpec) → IfOk result (λ m. sense_made u m ≡ sense_in (senses_made u results.now) node) }
     ensures within { (u : UnitSpec) → All (IsWithin u) results.now → IfOk result (IsWithin u) }
 {

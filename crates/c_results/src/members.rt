@@ -7,6 +7,7 @@ ghost use Rattle.c_results.specs.Parts as spec;
 ghost use Rattle.c_results.specs.Parts.{MembersSeen};
 
 use crate::made::{Made, made_at};
+use crate::results::Results;
 use c_types::term::MemberTerm;
 
 impl Made {
@@ -15,7 +16,7 @@ impl Made {
         ensures { (u : UnitSpec) → result ≡ spec.number_in (sense_made u self.now) }
     {
         match self {
-            Made::Value(value) => Some(*value),
+            Made::Value(value) => Some(value.get()),
             Made::Nothing | Made::Node(_) | Made::Typed(_) | Made::Specifiers { .. } => None,
             Made::Declarator { .. } | Made::Derived(_) | Made::Parameter { .. } => None,
             Made::Members(_) | Made::Run(_) | Made::Initial { .. } => None,
@@ -38,7 +39,7 @@ impl Made {
 }
 
 /// The value of an enumerator that has been made for a node, if one has been.
-pub fn value_at(results: &[Made], node: u32) -> Option<i128>
+pub fn value_at(results: &Results, node: u32) -> Option<i128>
     ensures { (u : UnitSpec) → result ≡ spec.number_in (sense_in (senses_made u results.now) node) }
 {
     match made_at(results, node) {
@@ -48,7 +49,7 @@ pub fn value_at(results: &[Made], node: u32) -> Option<i128>
 }
 
 /// The members that have been made for a node, if some have been.
-pub fn members_at(results: &[Made], node: u32) -> Option<&[MemberTerm]>
+pub fn members_at(results: &Results, node: u32) -> Option<&[MemberTerm]>
     ensures seen { (u : UnitSpec) → MembersSeen u result (spec.parts_in (sense_in (senses_made u results.now) node)) }
     ensures within { (u : UnitSpec) →
         All (IsWithin u) results.now → IfSome result (λ ms. All (λ m. m.ty.0 < length u.types.terms) ms.now) }

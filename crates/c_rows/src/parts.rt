@@ -11,7 +11,7 @@ ghost use Rattle.core_nodes.specs.Standing.{IsReady, Builds, Made as CoreMade, K
 ghost use Rattle.c_results.specs.Standing.{senses_made, IsWithin, Rowed};
 ghost use Rattle.c_rows.specs.Parts.{TypeGiven};
 
-use c_results::{Made, copied_at, node_at, type_at};
+use c_results::{Made, Results, copied_at, node_at, type_at};
 use c_types::term::TypeId;
 use core_nodes::CheckFault;
 use core_nodes::values::value;
@@ -19,7 +19,7 @@ use core_tree::node::Unit;
 use std::alloc::Global;
 
 /// The core node of a part, for the row of a node.
-pub fn core_of(unit: &Unit, results: &[Made], at: u32, part: u32) -> Result<u32, CheckFault>
+pub fn core_of(unit: &Unit, results: &Results, at: u32, part: u32) -> Result<u32, CheckFault>
     requires { All (IsWithin unit.now) results.now }
     ensures made { CoreMade unit.now result (spec.core_of at (sense_in (senses_made unit.now results.now) part)) }
     ensures within { IfOk result (λ i. i < length unit.now.nodes.items) }
@@ -31,7 +31,7 @@ pub fn core_of(unit: &Unit, results: &[Made], at: u32, part: u32) -> Result<u32,
 }
 
 /// The type that a part stands for, for the row of a node.
-pub fn type_of(unit: &Unit, results: &[Made], at: u32, part: u32) -> Result<TypeId, CheckFault>
+pub fn type_of(unit: &Unit, results: &Results, at: u32, part: u32) -> Result<TypeId, CheckFault>
     requires { All (IsWithin unit.now) results.now }
     ensures made { TypeGiven unit.now result (spec.type_of_sense at (sense_in (senses_made unit.now results.now) part)) }
     ensures within { IfOk result (λ t. t.0 < length unit.now.types.terms) }
@@ -46,7 +46,7 @@ pub fn type_of(unit: &Unit, results: &[Made], at: u32, part: u32) -> Result<Type
 pub fn value_of(
     alloc: Global,
     unit: &mut Unit,
-    results: &[Made],
+    results: &Results,
     at: u32,
     part: u32,
 ) -> Result<u32, CheckFault>
@@ -66,7 +66,7 @@ pub fn value_of(
 }
 
 /// What a part stands for, once more.
-pub fn passed_on(alloc: Global, results: &[Made], part: u32) -> Result<Made, CheckFault>
+pub fn passed_on(alloc: Global, results: &Results, part: u32) -> Result<Made, CheckFault>
     ensures row { (u : UnitSpec) → Rowed u result (Fits (sense_in (senses_made u results.now) part)) }
     ensures within { (u : UnitSpec) → All (IsWithin u) results.now → IfOk result (IsWithin u) }
 {

@@ -16,7 +16,7 @@ use c_operators::members::{arrow_row, member_row};
 use c_operators::objects::index_row;
 use c_operators::operators::{int_number, sort_of_node};
 use c_operators::updates::update_row;
-use c_results::Made;
+use c_results::{Made, Results};
 use core_nodes::CheckFault;
 use core_tree::node::{Op, Unit};
 use pta_base::Place;
@@ -37,7 +37,7 @@ const SIGN_DECREMENT: u8 = 9;
 fn indexed(
     alloc: Global,
     unit: &mut Unit,
-    results: &[Made],
+    results: &Results,
     place: Place,
     at: u32,
     left: u32,
@@ -70,7 +70,7 @@ fn indexed(
 fn member_of_left(
     alloc: Global,
     unit: &mut Unit,
-    results: &[Made],
+    results: &Results,
     place: Place,
     at: u32,
     name: &[u8],
@@ -95,7 +95,7 @@ fn member_of_left(
 fn member_behind_left(
     alloc: Global,
     unit: &mut Unit,
-    results: &[Made],
+    results: &Results,
     place: Place,
     at: u32,
     name: &[u8],
@@ -152,7 +152,7 @@ pub fn counted(
 fn counted_left(
     alloc: Global,
     unit: &mut Unit,
-    results: &[Made],
+    results: &Results,
     place: Place,
     at: u32,
     left: u32,
@@ -177,7 +177,7 @@ fn counted_left(
 fn with_index(
     alloc: Global,
     unit: &mut Unit,
-    results: &[Made],
+    results: &Results,
     place: Place,
     at: u32,
     left: u32,
@@ -205,7 +205,7 @@ fn with_dot(
     alloc: Global,
     unit: &mut Unit,
     syntax: &Syntax,
-    results: &[Made],
+    results: &Results,
     place: Place,
     at: u32,
     left: u32,
@@ -235,7 +235,7 @@ fn with_arrow(
     alloc: Global,
     unit: &mut Unit,
     syntax: &Syntax,
-    results: &[Made],
+    results: &Results,
     place: Place,
     at: u32,
     left: u32,
@@ -265,7 +265,7 @@ pub fn other_post(
     alloc: Global,
     unit: &mut Unit,
     syntax: &Syntax,
-    results: &[Made],
+    results: &Results,
     at: u32,
     left: u32,
     sign: u8,

@@ -16,7 +16,7 @@ use crate::literals::{character, integer, string};
 use crate::names::{Named, name_row};
 use crate::parts::{passed_on, sensed};
 use c_lexer::TokenKind;
-use c_results::Made;
+use c_results::{Made, Results};
 use core_nodes::CheckFault;
 use core_tree::node::Unit;
 use std::alloc::Global;
@@ -26,7 +26,7 @@ use tree_reads::{Syntax, kind_of, place_of};
 fn enclosed(
     alloc: Global,
     unit: &Unit,
-    results: &[Made],
+    results: &Results,
     at: u32,
     children: &[u32],
 ) -> Result<Made, CheckFault>
@@ -48,7 +48,7 @@ pub fn primary_row(
     alloc: Global,
     unit: &mut Unit,
     syntax: &Syntax,
-    results: &[Made],
+    results: &Results,
     at: u32,
     children: &[u32],
     named: Named,

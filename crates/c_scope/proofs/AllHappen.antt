@@ -62,7 +62,7 @@ happens_one unit S n setting s e f g h = record {
   chain = subst (λ l. IsChain l setting.scope s.scopes) (sym e) h.chain;
 }
 
-pub all_happen : (unit : Unit) (S : Settings) → unit.scopes.now ≡ S.scopes.items → unit.settings.now ≡ S.list.items → unit.file ≡ length (nodes_of unit.nodes.now)
+pub all_happen : (unit : Unit) (S : Settings) → unit.scopes.now ≡ S.scopes.items → unit.settings.now ≡ S.list → unit.file ≡ length (nodes_of unit.nodes.now)
     → Numbers unit.text.now unit.tokens.now unit.symbols.now → AreSettings unit.tokens.now (nodes_of unit.nodes.now) S → AreHappenings unit (happenings unit.text.now unit.tokens.now (nodes_of unit.nodes.now))
 unfolding happenings
 all_happen unit S e f g h a =

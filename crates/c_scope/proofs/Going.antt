@@ -12,7 +12,7 @@ use Rattle.c_scope.specs.declared.binding.Binder.{Binder}
 use Rattle.c_mentions.specs.Syntax.{nodes_of}
 use Rattle.c_mentions.specs.Settings.{IsChain}
 use Rattle.c_mentions.specs.Mentions.{mention_at, symbol_at}
-use Rattle.c_scope.specs.Happens.{AreHappenings}
+use Rattle.c_scope.specs.Happens.{Happens, AreHappenings}
 
 known-push : (file : ℕ) (labels : ℕ → ℕ → Option ℕ) (n : ℕ) (k : Known) (hs : List Happening) (h : Happening)
     → known file labels n k (hs ++ h ∷ []) ≡ after file labels (n + length hs) h.scopes h.body h.mention (known file labels n k hs)
@@ -69,15 +69,15 @@ label_more old all i e body symbol l f =
     ∙ (ap (λ m. or_first (first_label 0 (take i all) body symbol) (cond (is_label body symbol h h.mention) (Some m) None)) (sym n)
     ∙ sym (ap (λ l. first_label 0 l body symbol) (take_more all i e l) ∙ first_label-push 0 (take i all) h body symbol)))
 
-module _ (unit : Unit) (all : List Happening) (h : AreHappenings unit all) (i : ℕ) (d : Setting) (within : i < length unit.settings.now) where
+module _ (unit : Unit) (all : List Happening) (h : AreHappenings unit all) (i : ℕ) (setting : Setting) (is : get_or unit.settings.now i setting ≡ setting) (within : i < length unit.settings.now) where
   abbrev none : Happening
   none = record { mention = mention.Nothing; scopes = []; body = 0 }
 
   inside : i < length all
   inside = subst (λ n. i < n) (sym h.count) within
 
-  abbrev setting : Setting
-  setting = get_or unit.settings.now i d
+  happens : Happens unit i setting (get_or all i none)
+  happens = subst (λ s. Happens unit i s (get_or all i none)) is (h.each i setting none inside)
 
   -- what the code sees of a node
   abbrev pub Sees : Mention → Type 0
@@ -89,7 +89,7 @@ module _ (unit : Unit) (all : List Happening) (h : AreHappenings unit all) (i : 
       → ((body symbol : ℕ) → label_at old body symbol ≡ first_label 0 (take i all) body symbol)
       → (body symbol : ℕ) → label_at new body symbol ≡ first_label 0 (take (i + 1) all) body symbol
   labels_noted old new m s f g body symbol =
-      let a = h.each i d none inside in
+      let a = happens in
       f body symbol
       ∙ (ap (λ n. label_after old n i m body symbol) a.body
       ∙ (ap (λ x. label_after old (get_or all i none).body i x body symbol) (s ∙ a.mention)
@@ -101,7 +101,7 @@ module _ (unit : Unit) (all : List Happening) (h : AreHappenings unit all) (i : 
       → Holds old (known unit.file labels 0 nothing_known (take i all))
       → Holds new (known unit.file labels 0 nothing_known (take (i + 1) all))
   binder_taken old new labels m s f g =
-      let a = h.each i d none inside in
+      let a = happens in
       let b = get_or all i none in
       let k = known unit.file labels 0 nothing_known (take i all) in
       let t = f b.scopes a.chain k g in

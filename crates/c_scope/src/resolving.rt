@@ -13,7 +13,7 @@ use crate::kinds::{Declared, NameFault};
 use c_grammar::{SyntaxNode, Tree};
 use c_lexer::{Token, Tokens};
 use c_mentions::mentions::{Mention, mention_at};
-use c_mentions::settings::{Scope, Setting, place_of, settings_of};
+use c_mentions::settings::{Scope, Setting, SettingList, Settings, place_of, settings_of};
 use c_mentions::symbols::symbols;
 use pta_base::OutOfMemory;
 use std::alloc::Global;
@@ -40,7 +40,7 @@ pub(crate) struct Unit<'a> {
     pub(crate) symbols: &'a [u32],
     pub(crate) nodes: &'a [SyntaxNode],
     pub(crate) scopes: &'a [Scope],
-    pub(crate) settings: &'a [Setting],
+    pub(crate) settings: &'a SettingList,
     pub(crate) file: u32,
 }
 
@@ -66,8 +66,9 @@ fn find_labels(alloc: Global, unit: Unit) -> Result<Labels, OutOfMemory>
     ensures { IfOk result (λ labels. (all : List Happening) → AreHappenings unit.entry all → (body symbol : ℕ) → label_at labels body symbol ≡ first_label 0 all body symbol) }
 {
     let mut labels = BTreeMap::new(alloc);
-    for (node, setting) in unit.settings.iter().enumerate() {
-        let mention = mention_of(unit, node as u32, *setting);
+    for node in 0..unit.settings.len() {
+        let setting = unit.settings.at(node);
+        let mention = mention_of(unit, node as u32, setting);
         note_label(&mut labels, setting.body, node as u32, mention)?;
     }
     Ok(labels)
@@ -88,8 +89,9 @@ fn bind_all(alloc: Global, unit: Unit, labels: &Labels) -> Result<Binder, OutOfM
         labels: Vec::new(alloc),
         fault: None,
     };
-    for (node, setting) in unit.settings.iter().enumerate() {
-        let mention = mention_of(unit, node as u32, *setting);
+    for node in 0..unit.settings.len() {
+        let setting = unit.settings.at(node);
+        let mention = mention_of(unit, node as u32, setting);
         let around = Around {
             scopes: unit.scopes,
             place: setting.scope,
@@ -105,6 +107,13 @@ fn bind_all(alloc: Global, unit: Unit, labels: &Labels) -> Result<Binder, OutOfM
         )?;
     }
     Ok(binder)
+}
+
+/// Where the nodes stand.
+fn list_of(settings: &Settings) -> &SettingList
+    ensures { result.now ≡ settings.now.list }
+{
+    &settings.list
 }
 
 /// What is known of the names of a unit.
@@ -126,7 +135,7 @@ fn bind(
         symbols: symbols.as_slice(),
         nodes,
         scopes: settings.scopes.as_slice(),
-        settings: settings.list.as_slice(),
+        settings: list_of(&settings),
         file,
     };
     let labels = find_labels(alloc, unit)?;

@@ -12,7 +12,7 @@ ghost use Rattle.tree_reads.specs.Sources.{source_in};
 ghost use Rattle.c_statements.specs.Parts.{gathered, nodes_made};
 
 use crate::parts::void_type;
-use c_results::Made;
+use c_results::{Made, Results};
 use core_nodes::CheckFault;
 use core_nodes::trees::push_node;
 use core_tree::node::{NodeKind, Unit};
@@ -32,7 +32,7 @@ fn add_all(list: &mut Vec<u32>, more: &[u32]) -> Result<(), CheckFault>
 }
 
 // Adds the core nodes that a part of a block brings: its own, or those that a declaration runs.
-fn add_nodes(list: &mut Vec<u32>, results: &[Made], part: u32) -> Result<(), CheckFault>
+fn add_nodes(list: &mut Vec<u32>, results: &Results, part: u32) -> Result<(), CheckFault>
     ensures added { OnOk result (list.new.items ≡ list.old.items ++ nodes_made results.now part) }
     ensures memory { IsOkUnless result CheckFault.OutOfMemory }
 {
@@ -47,7 +47,7 @@ fn add_nodes(list: &mut Vec<u32>, results: &[Made], part: u32) -> Result<(), Che
 }
 
 // The core nodes that the parts of a block bring, in order.
-fn nodes_in(alloc: Global, results: &[Made], children: &[u32]) -> Result<Vec<u32>, CheckFault>
+fn nodes_in(alloc: Global, results: &Results, children: &[u32]) -> Result<Vec<u32>, CheckFault>
     ensures nodes { IfOk result (λ list. list.items ≡ gathered (nodes_made results.now) children.now) }
     ensures memory { IsOkUnless result CheckFault.OutOfMemory }
 {
@@ -64,7 +64,7 @@ pub fn block_row(
     alloc: Global,
     unit: &mut Unit,
     syntax: &Syntax,
-    results: &[Made],
+    results: &Results,
     objects: Vec<u32>,
     at: u32,
     children: &[u32],

@@ -17,7 +17,7 @@ ghost use Rattle.c_statements.specs.Labels.{number_for, AreCases};
 use crate::choices::CaseMap;
 use crate::parts::{body, switched, void_type};
 use c_consts::converted;
-use c_results::Made;
+use c_results::Results;
 use c_types::table::TypeTable;
 use c_types::term::{Term, TypeId};
 use constant_values::constant_in;
@@ -48,7 +48,7 @@ fn number_for(
     alloc: Global,
     unit: &mut Unit,
     syntax: &Syntax,
-    results: &[Made],
+    results: &Results,
     switch: u32,
     number: i128,
 ) -> Result<Option<i128>, CheckFault>
@@ -113,7 +113,7 @@ fn case_in(
     alloc: Global,
     unit: &mut Unit,
     syntax: &Syntax,
-    results: &[Made],
+    results: &Results,
     cases: &CaseMap,
     at: u32,
     choice: (u32, i128),
@@ -152,7 +152,7 @@ pub fn case_row(
     alloc: Global,
     unit: &mut Unit,
     syntax: &Syntax,
-    results: &[Made],
+    results: &Results,
     cases: &CaseMap,
     at: u32,
     children: &[u32],

@@ -12,7 +12,7 @@ ghost use Rattle.leaf_maps.specs.Numbers.{number_at};
 ghost use Rattle.c_statements.specs.Labels as labels;
 ghost use Rattle.c_statements.specs.Labels.{case_at, is_choice, AreDefaults, AreCases};
 
-use c_results::{Made, node_at};
+use c_results::{Results, node_at};
 use core_nodes::reads::kind_of_node;
 use core_tree::node::{NodeKind, Unit};
 use leaf_maps::LeafMap;
@@ -111,7 +111,7 @@ fn is_default_kind(kind: &NodeKind) -> bool
 }
 
 // The number of the case that has been made for a node, if one has been.
-fn case_made(unit: &Unit, results: &[Made], node: u32) -> Option<i128>
+fn case_made(unit: &Unit, results: &Results, node: u32) -> Option<i128>
     requires ready { IsReady unit.now }
     requires results { All (IsWithin unit.now) results.now }
     ensures { (w : World) (s : Source) →
@@ -125,7 +125,7 @@ fn case_made(unit: &Unit, results: &[Made], node: u32) -> Option<i128>
 }
 
 // Whether a default has been made for a node.
-fn default_made(unit: &Unit, results: &[Made], node: u32) -> bool
+fn default_made(unit: &Unit, results: &Results, node: u32) -> bool
     requires ready { IsReady unit.now }
     requires results { All (IsWithin unit.now) results.now }
     ensures { (w : World) (s : Source) →
@@ -139,7 +139,7 @@ fn default_made(unit: &Unit, results: &[Made], node: u32) -> bool
 }
 
 // The switch of a node that is a case, with the case's number.
-fn case_of(unit: &Unit, syntax: &Syntax, results: &[Made], at: u32) -> Option<(u32, i128)>
+fn case_of(unit: &Unit, syntax: &Syntax, results: &Results, at: u32) -> Option<(u32, i128)>
     requires ready { IsReady unit.now }
     requires results { All (IsWithin unit.now) results.now }
     requires at { at < length syntax.now.tree.now.nodes.items }
@@ -157,7 +157,7 @@ fn case_of(unit: &Unit, syntax: &Syntax, results: &[Made], at: u32) -> Option<(u
 }
 
 // The switch of a node that is a default.
-fn default_of(unit: &Unit, syntax: &Syntax, results: &[Made], at: u32) -> Option<u32>
+fn default_of(unit: &Unit, syntax: &Syntax, results: &Results, at: u32) -> Option<u32>
     requires ready { IsReady unit.now }
     requires results { All (IsWithin unit.now) results.now }
     requires at { at < length syntax.now.tree.now.nodes.items }
@@ -192,7 +192,7 @@ impl Choices {
         &mut self,
         unit: &Unit,
         syntax: &Syntax,
-        results: &[Made],
+        results: &Results,
         at: u32,
     ) -> Result<(), AllocError>
         requires ready { IsReady unit.now }
@@ -217,7 +217,7 @@ impl Choices {
         &mut self,
         unit: &Unit,
         syntax: &Syntax,
-        results: &[Made],
+        results: &Results,
         at: u32,
     ) -> Result<(), AllocError>
         requires ready { IsReady unit.now }
@@ -243,7 +243,7 @@ impl Choices {
         &mut self,
         unit: &Unit,
         syntax: &Syntax,
-        results: &[Made],
+        results: &Results,
         at: u32,
     ) -> Result<(), AllocError>
         requires ready { IsReady unit.now }

@@ -14,7 +14,7 @@ ghost use Rattle.c_senses.specs.Tree.{Source};
 use crate::parts::{body, value_of, void_type};
 use crate::places::own_place;
 use crate::simple::expression_row;
-use c_results::Made;
+use c_results::{Made, Results};
 use core_nodes::CheckFault;
 use core_nodes::reads::type_of_node;
 use core_nodes::sorts::{is_scalar, operand_of};
@@ -97,7 +97,7 @@ pub fn for_parts(syntax: &Syntax, list: &[u32]) -> ForParts
 }
 
 // What a declaration runs: nothing, where what has been made for it is no such list.
-fn run_of(alloc: Global, results: &[Made], part: u32) -> Result<Listing<u32>, CheckFault>
+fn run_of(alloc: Global, results: &Results, part: u32) -> Result<Listing<u32>, CheckFault>
     ensures run { IfOk result (λ list. list ≡ run_made results.now part) }
     ensures memory { IsOkUnless result CheckFault.OutOfMemory }
 {
@@ -125,7 +125,7 @@ fn for_first(
     alloc: Global,
     unit: &mut Unit,
     syntax: &Syntax,
-    results: &[Made],
+    results: &Results,
     at: u32,
     first: Option<u32>,
 ) -> Result<Listing<u32>, CheckFault>
@@ -156,7 +156,7 @@ fn for_first(
 fn tested(
     alloc: Global,
     unit: &mut Unit,
-    results: &[Made],
+    results: &Results,
     at: u32,
     part: u32,
 ) -> Result<u32, CheckFault>
@@ -186,7 +186,7 @@ fn tested(
 fn for_condition(
     alloc: Global,
     unit: &mut Unit,
-    results: &[Made],
+    results: &Results,
     at: u32,
     part: Option<u32>,
 ) -> Result<Option<u32>, CheckFault>
@@ -213,7 +213,7 @@ fn for_condition(
 fn for_after(
     alloc: Global,
     unit: &mut Unit,
-    results: &[Made],
+    results: &Results,
     at: u32,
     part: Option<u32>,
 ) -> Result<Option<u32>, CheckFault>
@@ -273,7 +273,7 @@ pub fn for_row(
     alloc: Global,
     unit: &mut Unit,
     syntax: &Syntax,
-    results: &[Made],
+    results: &Results,
     objects: Vec<u32>,
     at: u32,
     list: &[u32],

@@ -11,7 +11,7 @@ ghost use Rattle.tree_reads.specs.Sources.{source_in};
 ghost use Rattle.c_statements.specs.Labels.{IsAscii, AreDefaults};
 
 use crate::parts::{body, void_type};
-use c_results::Made;
+use c_results::Results;
 use core_nodes::CheckFault;
 use core_nodes::trees::{push_leaf, push_over};
 use core_tree::node::{NodeKind, Unit};
@@ -66,7 +66,7 @@ pub fn labelled_row(
     alloc: Global,
     unit: &mut Unit,
     syntax: &Syntax,
-    results: &[Made],
+    results: &Results,
     at: u32,
     name: u32,
     children: &[u32],
@@ -106,7 +106,7 @@ pub fn default_row(
     alloc: Global,
     unit: &mut Unit,
     syntax: &Syntax,
-    results: &[Made],
+    results: &Results,
     defaults: &LeafMap,
     at: u32,
     children: &[u32],

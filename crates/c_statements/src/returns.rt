@@ -13,7 +13,7 @@ ghost use Rattle.c_statements.specs.Others.{returned};
 use crate::parts::void_type;
 use c_conversions::table::conversion;
 use c_conversions::values::value;
-use c_results::{Made, node_at};
+use c_results::{Results, node_at};
 use c_types::term::TypeId;
 use core_nodes::CheckFault;
 use core_nodes::trees::{push_leaf, push_over};
@@ -27,7 +27,7 @@ const P_EXPRESSION: u32 = 31;
 fn returned_value(
     alloc: Global,
     unit: &mut Unit,
-    results: &[Made],
+    results: &Results,
     at: u32,
     part: u32,
     ty: TypeId,
@@ -61,7 +61,7 @@ pub fn return_row(
     alloc: Global,
     unit: &mut Unit,
     syntax: &Syntax,
-    results: &[Made],
+    results: &Results,
     returned: Option<TypeId>,
     at: u32,
     children: &[u32],

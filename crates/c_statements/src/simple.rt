@@ -13,7 +13,7 @@ ghost use Rattle.c_results.specs.Standing.{senses_made, IsWithin};
 ghost use Rattle.tree_reads.specs.Sources.{source_in};
 
 use crate::parts::{value_of, void_type};
-use c_results::Made;
+use c_results::Results;
 use core_nodes::CheckFault;
 use core_nodes::trees::{push_leaf, push_over};
 use core_tree::node::{NodeKind, Unit};
@@ -42,7 +42,7 @@ pub fn skip_row(alloc: Global, unit: &mut Unit, syntax: &Syntax, at: u32) -> Res
 pub fn expression_row(
     alloc: Global,
     unit: &mut Unit,
-    results: &[Made],
+    results: &Results,
     at: u32,
     part: u32,
     place: Place,

@@ -6,7 +6,7 @@ ghost use Rattle.c_structures.specs.Named.{is_among};
 ghost use Rattle.c_structures.specs.Before.{Covers, ascends};
 
 use crate::names::MemberNames;
-use c_results::{Made, members_at};
+use c_results::{Results, members_at};
 use core_nodes::CheckFault;
 use std::alloc::Global;
 
@@ -53,7 +53,7 @@ pub(crate) fn is_ascending(nodes: &[u32]) -> bool
 fn with_node(
     alloc: Global,
     cursor: Cursor,
-    results: &[Made],
+    results: &Results,
     nodes: &[u32],
 ) -> Result<Cursor, CheckFault>
     requires { cursor.done < length nodes.now }
@@ -92,7 +92,7 @@ fn is_past(cursor: &Cursor, nodes: &[u32], below: u32) -> bool
 pub(crate) fn advanced(
     alloc: Global,
     cursor: Cursor,
-    results: &[Made],
+    results: &Results,
     nodes: &[u32],
     below: u32,
 ) -> Result<Cursor, CheckFault>

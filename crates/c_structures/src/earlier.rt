@@ -13,7 +13,7 @@ ghost use Rattle.c_structures.specs.Before.{SaysEarlier, parts_below, parts_befo
 
 use crate::before::{Cursor, MembersBefore};
 use crate::names::MemberNames;
-use c_results::{Made, members_at};
+use c_results::{Results, members_at};
 use core_nodes::CheckFault;
 use std::alloc::Global;
 use tree_reads::{Syntax, children_of};
@@ -22,7 +22,7 @@ use tree_reads::{Syntax, children_of};
 fn add_names(
     alloc: Global,
     names: &mut MemberNames,
-    results: &[Made],
+    results: &Results,
     node: u32,
 ) -> Result<(), CheckFault>
     ensures { OnOk result ((u : UnitSpec) (w : World) (s : Source) (parts : List Part) →
@@ -38,7 +38,7 @@ fn add_names(
 // The names of the members of those nodes of a list that are below a number.
 fn names_below(
     alloc: Global,
-    results: &[Made],
+    results: &Results,
     nodes: &[u32],
     below: u32,
 ) -> Result<MemberNames, CheckFault>
@@ -58,7 +58,7 @@ fn names_below(
 fn names_before(
     alloc: Global,
     syntax: &Syntax,
-    results: &[Made],
+    results: &Results,
     list: Option<u32>,
     below: u32,
 ) -> Result<MemberNames, CheckFault>
@@ -93,7 +93,7 @@ fn both(whole: MemberNames, member: u32, part: MemberNames) -> MembersBefore
 pub fn members_before(
     alloc: Global,
     syntax: &Syntax,
-    results: &[Made],
+    results: &Results,
     at: u32,
 ) -> Result<MembersBefore, CheckFault>
     requires { at < length syntax.now.tree.now.nodes.items }

@@ -17,7 +17,7 @@ use crate::earlier::members_before;
 use crate::lists::{MemberLists, moved};
 use crate::members::{member_declaration, members_row};
 use crate::rows::field_row;
-use c_results::Made;
+use c_results::{Made, Results};
 use core_nodes::CheckFault;
 use core_tree::node::Unit;
 use std::alloc::Global;
@@ -32,7 +32,7 @@ fn gathered_field(
     alloc: Global,
     unit: &mut Unit,
     syntax: &Syntax,
-    results: &[Made],
+    results: &Results,
     unions: &[bool],
     at: u32,
 ) -> Result<Made, CheckFault>
@@ -75,7 +75,7 @@ fn listed_field(
     alloc: Global,
     unit: &mut Unit,
     syntax: &Syntax,
-    results: &[Made],
+    results: &Results,
     unions: &[bool],
     lists: &mut MemberLists,
     at: u32,
@@ -121,7 +121,7 @@ pub fn listed_member(
     alloc: Global,
     unit: &mut Unit,
     syntax: &Syntax,
-    results: &[Made],
+    results: &Results,
     unions: &[bool],
     lists: &mut MemberLists,
     at: u32,

@@ -12,7 +12,7 @@ ghost use Rattle.c_structures.specs.Before.{Covers, SaysEarlier, ascends, parts_
 ghost use Rattle.c_structures.specs.Listed.{IsOpen, AreLists};
 
 use crate::before::{Cursor, MembersBefore, advanced, is_ascending, start};
-use c_results::Made;
+use c_results::Results;
 use core_nodes::CheckFault;
 use std::alloc::Global;
 use tree_reads::{Syntax, children_of};
@@ -114,7 +114,7 @@ fn at_member(
 pub(crate) fn moved(
     alloc: Global,
     syntax: &Syntax,
-    results: &[Made],
+    results: &Results,
     before: MembersBefore,
     list: u32,
     at: u32,

@@ -19,7 +19,7 @@ ghost use Rattle.c_structures.specs.Members.{parts_or};
 
 use crate::places::{is_in_union, untagged_in};
 use c_declarators::ends_flexible;
-use c_results::{Made, copied_member, members_at, type_at};
+use c_results::{Made, Results, copied_member, members_at, type_at};
 use c_types::term::{MemberTerm, TypeId};
 use core_nodes::CheckFault;
 use core_tree::node::Unit;
@@ -50,7 +50,7 @@ fn add_copies(
 fn add_members(
     alloc: Global,
     list: &mut Vec<MemberTerm>,
-    results: &[Made],
+    results: &Results,
     node: u32,
 ) -> Result<(), CheckFault>
     ensures seen { (u : UnitSpec) →
@@ -72,7 +72,7 @@ fn add_members(
 /// The members that have been made for some nodes, one after another.
 pub fn members_among(
     alloc: Global,
-    results: &[Made],
+    results: &Results,
     nodes: &[u32],
 ) -> Result<Vec<MemberTerm>, CheckFault>
     ensures seen { (u : UnitSpec) (w : World) (s : Source) →
@@ -90,7 +90,7 @@ pub fn members_among(
 }
 
 /// The row of a list of members (C11 6.7.2.1): those of its declarations, one after another. Only memory may want.
-pub fn members_row(alloc: Global, results: &[Made], children: &[u32]) -> Result<Made, CheckFault>
+pub fn members_row(alloc: Global, results: &Results, children: &[u32]) -> Result<Made, CheckFault>
     ensures within { (u : UnitSpec) → All (IsWithin u) results.now → IfOk result (IsWithin u) }
     ensures row { (u : UnitSpec) (w : World) (s : Source) →
         Rowed u result (spec.members_row w s (sense_in (senses_made u results.now)) children.now) }
@@ -102,7 +102,7 @@ pub fn members_row(alloc: Global, results: &[Made], children: &[u32]) -> Result<
 }
 
 // The type of the untagged structure or union among specifiers.
-fn untagged_type(syntax: &Syntax, results: &[Made], specs: u32) -> Option<TypeId>
+fn untagged_type(syntax: &Syntax, results: &Results, specs: u32) -> Option<TypeId>
     ensures seen { (u : UnitSpec) (w : World) →
         let s = source_read syntax.now in
         let sense = sense_in (senses_made u results.now) in
@@ -179,7 +179,7 @@ pub fn member_declaration(
     alloc: Global,
     unit: &Unit,
     syntax: &Syntax,
-    results: &[Made],
+    results: &Results,
     unions: &[bool],
     at: u32,
     children: &[u32],

@@ -19,7 +19,7 @@ use crate::before::MembersBefore;
 use crate::bits::width_field;
 use crate::fields::plain_field;
 use c_declarators::{declarator_child, derived, specified_child};
-use c_results::Made;
+use c_results::{Made, Results};
 use c_types::term::TypeId;
 use constant_values::constant_in;
 use core_nodes::CheckFault;
@@ -43,7 +43,7 @@ struct Field {
 fn width_of(
     unit: &Unit,
     syntax: &Syntax,
-    results: &[Made],
+    results: &Results,
     at: u32,
 ) -> Option<Result<i128, CheckFault>>
     requires ready { IsReady unit.now }
@@ -100,7 +100,7 @@ pub fn field_row(
     alloc: Global,
     unit: &mut Unit,
     syntax: &Syntax,
-    results: &[Made],
+    results: &Results,
     unions: &[bool],
     earlier: &MembersBefore,
     at: u32,

@@ -13,7 +13,7 @@ ghost use Rattle.c_senses.specs.Tree.{last_where, is_leaf};
 ghost use Rattle.tree_reads.specs.Sources.{source_read};
 ghost use Rattle.std.specs.Prelude.{not};
 
-use c_results::{Made, type_at};
+use c_results::{Made, Results, type_at};
 use constant_values::constant_in;
 use core_nodes::CheckFault;
 use core_nodes::sorts::has_size;
@@ -33,7 +33,7 @@ fn is_zero(value: i128) -> bool
 pub fn assert_row(
     unit: &Unit,
     syntax: &Syntax,
-    results: &[Made],
+    results: &Results,
     at: u32,
 ) -> Result<Made, CheckFault>
     requires ready { IsReady unit.now }
@@ -78,7 +78,7 @@ fn last_inner(syntax: &Syntax, list: &[u32]) -> Option<u32>
 pub fn align_specifier(
     unit: &Unit,
     syntax: &Syntax,
-    results: &[Made],
+    results: &Results,
     at: u32,
     children: &[u32],
 ) -> Result<Made, CheckFault>

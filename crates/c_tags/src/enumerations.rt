@@ -1,5 +1,5 @@
 // Enumerators.
-ghost use Rattle.std.specs.Prelude.{◌≡◌, ◌<◌, ◌&&◌, ◌+ℤ◌, nat_lt, length, All, ℕ, List, pos, IfOk};
+ghost use Rattle.std.specs.Prelude.{◌≡◌, true, ◌<◌, ◌&&◌, ◌+ℤ◌, nat_lt, length, All, ℕ, List, pos, IfOk};
 ghost use Rattle.core_tree.specs.declared.node.Unit.{Unit as UnitSpec};
 ghost use Rattle.c_grammar.specs.Productions.{p_enumerator};
 ghost use Rattle.c_senses.specs.Sense.{Sense, sense_in};
@@ -9,14 +9,15 @@ ghost use Rattle.c_senses.specs.Tree.{Source};
 ghost use Rattle.c_senses.specs.Tags as spec;
 ghost use Rattle.core_nodes.specs.Standing.{IsReady, Knows};
 ghost use Rattle.c_results.specs.Standing.{senses_made, IsWithin, Rowed};
+ghost use Rattle.tree_reads.specs.Order.{ascends};
 ghost use Rattle.tree_reads.specs.Sources.{source_read, source_in};
 ghost use Rattle.constant_values.specs.Constants.{HasConstants};
 
-use c_results::{Made, value_at};
+use c_results::{Made, Number, Results, value_at};
 use constant_values::constant_in;
 use core_nodes::CheckFault;
 use core_tree::node::Unit;
-use tree_reads::{Syntax, child_of, children_of, is_a};
+use tree_reads::{Syntax, child_of, children_of, first_from, is_a};
 
 const P_ENUMERATOR: u32 = 18;
 
@@ -47,19 +48,41 @@ fn last_before(syntax: &Syntax, at: u32, list: &[u32]) -> Option<u32>
     None
 }
 
+// The same for an ascending list: none of it stands before the node from the node's own place on.
+fn last_in_order(syntax: &Syntax, at: u32, list: &[u32]) -> Option<u32>
+    requires { ascends list.now ≡ true }
+    ensures { let s = source_read syntax.now in
+        result ≡ tree.last_where (λ c. tree.is_a s p_enumerator c && nat_lt c at) list.now }
+{
+    last_before(syntax, at, &list[..first_from(list, at)])
+}
+
+// The last enumerator among the children of a node that stands before another node.
+fn last_among(syntax: &Syntax, at: u32, parent: u32) -> Option<u32>
+    ensures { let s = source_read syntax.now in
+        result ≡ tree.last_where (λ c. tree.is_a s p_enumerator c && nat_lt c at) (tree.children_at s parent) }
+{
+    let list = children_of(syntax, parent);
+    if syntax.is_ordered() {
+        last_in_order(syntax, at, list)
+    } else {
+        last_before(syntax, at, list)
+    }
+}
+
 // The enumerator before one in its list.
 fn before_enumerator(syntax: &Syntax, at: u32) -> Option<u32>
     requires { at < length syntax.now.tree.now.nodes.items }
     ensures { (w : World) (sense : ℕ → Sense) → result ≡ spec.before_enumerator w (source_read syntax.now) sense at }
 {
     match syntax.parent_of(at) {
-        Some(list) => last_before(syntax, at, children_of(syntax, list)),
+        Some(list) => last_among(syntax, at, list),
         None => None,
     }
 }
 
 // The value from which an enumerator counts on: that of the one before, or -1.
-fn value_before(results: &[Made], before: Option<u32>) -> i128
+fn value_before(results: &Results, before: Option<u32>) -> i128
     ensures { (u : UnitSpec) (w : World) (s : Source) →
         result ≡ spec.value_before w s (sense_in (senses_made u results.now)) before }
 {
@@ -86,7 +109,7 @@ fn enumerator_of(leaf: u32, value: i128) -> Result<Made, CheckFault>
     ensures within { (u : UnitSpec) → IfOk result (IsWithin u) }
 {
     if is_int(value) {
-        Ok(Made::Value(value))
+        Ok(Made::Value(Number::of(value)))
     } else {
         Err(CheckFault::BadOperand(leaf))
     }
@@ -108,7 +131,7 @@ fn counted_on(leaf: u32, before: i128) -> Result<Made, CheckFault>
 fn enumerator_named(
     unit: &Unit,
     syntax: &Syntax,
-    results: &[Made],
+    results: &Results,
     at: u32,
     leaf: u32,
     expression: Option<u32>,
@@ -138,7 +161,7 @@ fn enumerator_named(
 pub fn enumerator_row(
     unit: &Unit,
     syntax: &Syntax,
-    results: &[Made],
+    results: &Results,
     at: u32,
     children: &[u32],
 ) -> Result<Made, CheckFault>

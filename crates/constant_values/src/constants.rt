@@ -14,7 +14,7 @@ ghost use Rattle.constant_values.specs.Constants.{ConstantMade, HasConstants, ha
 
 use crate::places::leaf_of_place;
 use c_consts::{ConstFault, constant};
-use c_results::{Made, node_at};
+use c_results::{Results, node_at};
 use core_nodes::CheckFault;
 use core_nodes::reads::{is_place, is_value, place_of_node, type_of_node};
 use core_nodes::sorts::{decayed, is_fetched, operand_of};
@@ -121,7 +121,7 @@ pub fn constant_at(unit: &Unit, syntax: &Syntax, at: u32, node: u32) -> Result<i
 pub fn constant_in(
     unit: &Unit,
     syntax: &Syntax,
-    results: &[Made],
+    results: &Results,
     at: u32,
     child: u32,
 ) -> Result<i128, CheckFault>

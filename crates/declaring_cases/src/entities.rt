@@ -7,7 +7,7 @@ use c_entities::{
 };
 use c_grammar::productions::{DECLARATOR, EXTERNAL, INIT, PRIMARY, REST, SPECS, STORAGE, TYPE};
 use c_lexer::lexer::tokens;
-use c_results::{BoxedList, Made};
+use c_results::{Made, Results, WordList};
 use c_types::term::{Term, TypeId};
 use core_nodes::trees::{add_type, int_type};
 use std::alloc::Global;
@@ -20,14 +20,14 @@ const WORD_EXTERN: u8 = 11;
 const WORD_STATIC: u8 = 25;
 
 // What is made for the specifiers at a node, and nothing before it.
-fn specified(alloc: Global, word: u8) -> Result<Vec<Made>, Fail> {
-    let mut results = Vec::new(alloc);
+fn specified(alloc: Global, word: u8) -> Result<Results, Fail> {
+    let mut results = Results::new(alloc);
     for _node in 0..4 {
         results.push(Made::Nothing)?;
     }
     results.push(Made::Specifiers {
-        storage: BoxedList::of(alloc, Vec::from_slice(alloc, &[word])?)?,
-        functions: BoxedList::of(alloc, Vec::new(alloc))?,
+        storage: WordList::of(alloc, Vec::from_slice(alloc, &[word])?)?,
+        functions: WordList::of(alloc, Vec::new(alloc))?,
         ty: TypeId(0),
     })?;
     Ok(results)
@@ -64,14 +64,8 @@ fn static_at_file(rt: HostRuntime) -> Result<(), Fail> {
     assert_eq!(rt; is_parameter(&syntax, 5), false);
     assert_eq!(rt; is_defined(&syntax, 5), false);
     assert_eq!(rt; initialiser_for(&syntax, 5), Some(10));
-    assert_eq!(rt;
-        has_storage(&syntax, results.as_slice(), WORD_STATIC, 5),
-        true
-    );
-    assert_eq!(rt;
-        has_storage(&syntax, results.as_slice(), WORD_EXTERN, 5),
-        false
-    );
+    assert_eq!(rt; has_storage(&syntax, &results, WORD_STATIC, 5), true);
+    assert_eq!(rt; has_storage(&syntax, &results, WORD_EXTERN, 5), false);
     Ok(())
 }
 

@@ -31,10 +31,12 @@ fn value_of(alloc: Global, at: u32, leaf: u32) -> Result<Option<i128>, Fail> {
     if at as usize >= syntax.tree.nodes.len() {
         return Err(Fail::new("no node"));
     }
-    match enumerator_row(&unit, &syntax, results.as_slice(), at, &[leaf]) {
-        Ok(Made::Value(value)) => Ok(Some(value)),
-        Ok(_) => Ok(None),
-        Err(_) => Ok(None),
+    let Ok(made) = enumerator_row(&unit, &syntax, &results, at, &[leaf]) else {
+        return Ok(None);
+    };
+    match &made {
+        Made::Value(value) => Ok(Some(value.get())),
+        _ => Ok(None),
     }
 }
 

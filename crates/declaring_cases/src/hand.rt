@@ -7,7 +7,7 @@ ghost use Rattle.c_results.specs.Standing.{IsWithin};
 ghost use Rattle.constant_values.specs.Constants.{HasConstants};
 
 use c_grammar::{Children, SyntaxNode, Tree};
-use c_results::Made;
+use c_results::Results;
 use c_types::table::TypeTable;
 use core_tree::node::Unit;
 use pta_base::Text;
@@ -52,9 +52,9 @@ pub(crate) fn empty_unit(alloc: Global) -> Result<Unit, Fail>
 }
 
 // Nothing has been made.
-pub(crate) fn no_results(alloc: Global) -> Vec<Made>
-    ensures within { (u : UnitSpec) → All (IsWithin u) result.items }
-    ensures rows { (u : UnitSpec) → All (HasConstants u) result.items }
+pub(crate) fn no_results(alloc: Global) -> Results
+    ensures within { (u : UnitSpec) → All (IsWithin u) result }
+    ensures rows { (u : UnitSpec) → All (HasConstants u) result }
 {
-    Vec::new(alloc)
+    Results::new(alloc)
 }

@@ -1,13 +1,13 @@
 // Results that are read by number and kind.
 use c_results::{
-    BoxedList, Derivation, Made, copied_at, declarator_at, node_at, parameter_at, type_at,
+    BoxedList, Derivation, Made, Results, copied_at, declarator_at, node_at, parameter_at, type_at,
 };
 use c_types::term::{Form, TypeId, TypeList};
 use std::alloc::Global;
 use std::test::Fail;
 
 // The results of three nodes: a type, a declarator of a function over one parameter, and that parameter.
-fn three(alloc: Global) -> Result<Vec<Made>, Fail> {
+fn three(alloc: Global) -> Result<Results, Fail> {
     let mut types = Vec::new(alloc);
     types.push(TypeId(7))?;
     let mut derivations = Vec::new(alloc);
@@ -15,7 +15,7 @@ fn three(alloc: Global) -> Result<Vec<Made>, Fail> {
         parameters: TypeList::from_items(types),
         form: Form::Fixed,
     })?;
-    let mut results = Vec::new(alloc);
+    let mut results = Results::new(alloc);
     results.push(Made::Typed(TypeId(3)))?;
     results.push(Made::Declarator {
         name: Some(5),
@@ -32,7 +32,7 @@ fn three(alloc: Global) -> Result<Vec<Made>, Fail> {
 #[test]
 fn read_by_kind(rt: HostRuntime) -> Result<(), Fail> {
     let results = three(rt.alloc())?;
-    let list = results.as_slice();
+    let list = &results;
     assert_eq!(rt; type_at(list, 0), Some(TypeId(3)));
     assert_eq!(rt; type_at(list, 1), None);
     assert_eq!(rt; type_at(list, 3), None);
@@ -45,10 +45,10 @@ fn read_by_kind(rt: HostRuntime) -> Result<(), Fail> {
 #[test]
 fn copied_declarator(rt: HostRuntime) -> Result<(), Fail> {
     let results = three(rt.alloc())?;
-    let copy = copied_at(rt.alloc(), results.as_slice(), 1)?;
-    let mut list = Vec::new(rt.alloc());
+    let copy = copied_at(rt.alloc(), &results, 1)?;
+    let mut list = Results::new(rt.alloc());
     list.push(copy)?;
-    match declarator_at(list.as_slice(), 0) {
+    match declarator_at(&list, 0) {
         Some((name, derivations)) => {
             assert_eq!(rt; name, Some(5));
             assert_eq!(rt; derivations.len(), 1);

@@ -42,7 +42,7 @@ fn specified(
     if at as usize >= syntax.tree.nodes.len() {
         return Err(Fail::new("no node"));
     }
-    match specs_row(alloc, &mut unit, &syntax, results.as_slice(), at, children) {
+    match specs_row(alloc, &mut unit, &syntax, &results, at, children) {
         Ok(made) => Ok(integer_of(&unit, &made)),
         Err(_) => Ok(None),
     }

@@ -16,7 +16,7 @@ ghost use Rattle.expression_rows.specs.Readable.{IsReadable};
 ghost use Rattle.expression_rows.specs.Built.{built_row};
 
 use crate::around::Around;
-use c_results::Made;
+use c_results::{Made, Results};
 use c_rows::primary_row;
 use core_nodes::CheckFault;
 use core_tree::node::Unit;
@@ -54,7 +54,7 @@ fn by_production(
     alloc: Global,
     unit: &mut Unit,
     syntax: &Syntax,
-    results: &[Made],
+    results: &Results,
     around: &Around,
     production: u32,
     at: u32,
@@ -116,7 +116,7 @@ pub fn row(
     alloc: Global,
     unit: &mut Unit,
     syntax: &Syntax,
-    results: &[Made],
+    results: &Results,
     around: &Around,
     at: u32,
 ) -> Result<Made, CheckFault>

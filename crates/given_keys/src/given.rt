@@ -22,7 +22,7 @@ use crate::declaring::meanings;
 use crate::flags::tag_flags;
 use crate::kept::KeptKeys;
 use crate::placed::{Known, keys_of_specifiers};
-use c_results::Made;
+use c_results::Results;
 use c_scope::Bound;
 use pta_base::{OutOfMemory, Text};
 use std::alloc::Global;
@@ -151,7 +151,7 @@ fn given_keys(
 }
 
 // The key of each specifier. It is known of each node whether it stands in a block; if it weren't, that would count as want of memory.
-fn all_keys(alloc: Global, syntax: &Syntax, results: &[Made]) -> Result<KeptKeys, OutOfMemory>
+fn all_keys(alloc: Global, syntax: &Syntax, results: &Results) -> Result<KeptKeys, OutOfMemory>
     requires count { length syntax.now.tree.now.nodes.items < 2 ^ 32 }
     requires first { ChildrenFirst (source_read syntax.now) }
     ensures { IfOk result (λ list. (u : UnitSpec) (uses : List (ℕ × ℕ)) →
@@ -179,7 +179,7 @@ pub fn keys_of(
     alloc: Global,
     numbered: &Numbered,
     bound: &Bound,
-    results: &[Made],
+    results: &Results,
 ) -> Result<Vec<Option<Text>>, OutOfMemory>
     requires bound { IsBound numbered.now.syntax.tokens.now numbered.now.syntax.tree.now bound.now }
     requires tags { AreTags (source_in numbered.now.syntax bound.now.uses.items) numbered.now.tags }

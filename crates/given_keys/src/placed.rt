@@ -14,7 +14,7 @@ ghost use Rattle.given_keys.specs.Kept.{AreKeys};
 ghost use Rattle.given_keys.specs.Keyed.{IsKnown, inherited, key_around};
 
 use crate::kept::KeptKeys;
-use c_results::Made;
+use c_results::Results;
 use leaf_maps::LeafMap;
 use pta_base::{OutOfMemory, Text};
 use std::alloc::Global;
@@ -36,7 +36,7 @@ pub(crate) struct Known<'a> {
 fn inherited_key(
     alloc: Global,
     syntax: &Syntax,
-    results: &[Made],
+    results: &Results,
     positions: &LeafMap,
     behind: &KeptKeys,
     node: u32,
@@ -72,7 +72,7 @@ fn inherited_key(
 fn key_of(
     alloc: Global,
     syntax: &Syntax,
-    results: &[Made],
+    results: &Results,
     known: Known<'_>,
     behind: &KeptKeys,
     node: u32,
@@ -105,7 +105,7 @@ fn key_of(
 fn keep_key(
     alloc: Global,
     syntax: &Syntax,
-    results: &[Made],
+    results: &Results,
     known: Known<'_>,
     keys: &mut KeptKeys,
     node: u32,
@@ -135,7 +135,7 @@ fn keep_key(
 pub(crate) fn keys_of_specifiers(
     alloc: Global,
     syntax: &Syntax,
-    results: &[Made],
+    results: &Results,
     known: Known<'_>,
 ) -> Result<KeptKeys, OutOfMemory>
     requires count { length syntax.now.tree.now.nodes.items < 2 ^ 32 }

@@ -18,7 +18,7 @@ ghost use Rattle.c_named.specs.Lists as lists;
 use crate::types::{Declared, both, is_small};
 use c_entities::{agree, own_type, together, with_length};
 use c_named::Said;
-use c_results::Made;
+use c_results::Results;
 use c_types::table::TypeTable;
 use c_types::term::TypeId;
 use core_nodes::CheckFault;
@@ -49,7 +49,7 @@ fn types_together(
     alloc: Global,
     unit: &mut Unit,
     syntax: &Syntax,
-    results: &[Made],
+    results: &Results,
     leaves: &[u32],
 ) -> Result<Option<TypeId>, CheckFault>
     requires ready { IsReady unit.old }
@@ -89,7 +89,7 @@ fn internal_agrees(
     alloc: Global,
     unit: &mut Unit,
     syntax: &Syntax,
-    results: &[Made],
+    results: &Results,
     said: &Said,
     ty: TypeId,
 ) -> Result<bool, CheckFault>
@@ -125,7 +125,7 @@ pub(crate) fn initialised_fits(
     alloc: Global,
     unit: &mut Unit,
     syntax: &Syntax,
-    results: &[Made],
+    results: &Results,
     said: &Said,
     count: Option<u64>,
     declared: Declared,

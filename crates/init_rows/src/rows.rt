@@ -27,7 +27,7 @@ use crate::types::{Declared, declared_type};
 use c_initials::storage::{Scope, is_static_object};
 use c_meanings::{Names, entity_of};
 use c_named::Said;
-use c_results::Made;
+use c_results::{Made, Results};
 use c_statements::own_place;
 use core_nodes::CheckFault;
 use core_tree::node::Unit;
@@ -39,7 +39,7 @@ const P_REST: u32 = 2;
 
 /// The name of the object whose whole initialiser a node is (C11 6.7.9p1), by its leaf: None for an initialiser within braces, and where
 /// the declarator before it has no name.
-pub fn initialised_name(syntax: &Syntax, results: &[Made], at: u32) -> Option<u32>
+pub fn initialised_name(syntax: &Syntax, results: &Results, at: u32) -> Option<u32>
     requires at { at < length syntax.now.tree.now.nodes.items }
     ensures name { (u : UnitSpec) (uses : List (ℕ × ℕ)) →
         result ≡ object_at (source_in syntax.now uses) (sense_in (senses_made u results.now)) at }

@@ -14,7 +14,7 @@ ghost use Rattle.tree_reads.specs.Sources.{source_read};
 ghost use Rattle.init_rows.specs.Types.{IsDeclaredIn, IsJudged};
 
 use c_declarators::{derived_once, specs_of};
-use c_results::{Derivation, Made, declarator_at, specified_at};
+use c_results::{Derivation, Results, declarator_at, specified_at};
 use c_types::term::TypeId;
 use core_nodes::CheckFault;
 use core_tree::node::Unit;
@@ -102,7 +102,7 @@ pub(crate) fn declared_type(
     alloc: Global,
     unit: &mut Unit,
     syntax: &Syntax,
-    results: &[Made],
+    results: &Results,
     declarator: u32,
     leaf: u32,
 ) -> Result<Option<Declared>, CheckFault>

@@ -43,16 +43,16 @@ length-standings : (tokens : List Token) (nodes : List Node) (i : ℕ) (ns : Lis
 length-standings tokens nodes i [] = refl
 length-standings tokens nodes i (n ∷ ns) = let e = length-standings tokens nodes (i + 1) ns in omega arith
 
-pub scopes_there : (tokens : List Token) (nodes : List Node) (settings : Settings) (leaf : ℕ) (x : Setting) → AreSettings tokens nodes settings → slice_get settings.list.items leaf ≡ Some x
+pub scopes_there : (tokens : List Token) (nodes : List Node) (settings : Settings) (leaf : ℕ) (x : Setting) → AreSettings tokens nodes settings → slice_get settings.list leaf ≡ Some x
     → IsChain settings.scopes.items x.scope (scopes_of tokens nodes leaf)
 scopes_there tokens nodes settings leaf x h e =
     let all = standings tokens nodes 0 nodes in
-    let lt : leaf < length settings.list.items = slice_get_within settings.list.items leaf x e in
-    let count : length settings.list.items ≡ length nodes = h.count in
+    let lt : leaf < length settings.list = slice_get_within settings.list leaf x e in
+    let count : length settings.list ≡ length nodes = h.count in
     let long = length-standings tokens nodes 0 nodes in
     let within : leaf < length all = omega arith in
     let node : leaf < length nodes = omega arith in
-    let there = subst (λ (y : Setting). IsChain settings.scopes.items y.scope (get_or all leaf (outermost (length nodes))).scopes) (get_or_from_slice_get settings.list.items leaf x x e) (h.each leaf x node).chain in
+    let there = subst (λ (y : Setting). IsChain settings.scopes.items y.scope (get_or all leaf (outermost (length nodes))).scopes) (get_or_from_slice_get settings.list leaf x x e) (h.each leaf x node).chain in
     subst (λ (l : List ℕ). IsChain settings.scopes.items x.scope l) (sym (get_or-map (λ (s : Standing). s.scopes) all leaf (outermost (length nodes)) [] within)) there
 
 pub past : {X : Type 0} (xs : List X) (i : ℕ) → slice_get xs i ≡ None → length xs ≤ i
@@ -60,11 +60,11 @@ past [] i e = omega arith
 past (x ∷ xs) zero e = absurd (cc)
 past (x ∷ xs) (suc i) e = let le = past xs i e in omega arith
 
-pub no_scopes : (tokens : List Token) (nodes : List Node) (settings : Settings) (leaf : ℕ) → AreSettings tokens nodes settings → slice_get settings.list.items leaf ≡ None → scopes_of tokens nodes leaf ≡ []
+pub no_scopes : (tokens : List Token) (nodes : List Node) (settings : Settings) (leaf : ℕ) → AreSettings tokens nodes settings → slice_get settings.list leaf ≡ None → scopes_of tokens nodes leaf ≡ []
 no_scopes tokens nodes settings leaf h e =
     let all = standings tokens nodes 0 nodes in
-    let le = past settings.list.items leaf e in
-    let count : length settings.list.items ≡ length nodes = h.count in
+    let le = past settings.list leaf e in
+    let count : length settings.list ≡ length nodes = h.count in
     let long = length-standings tokens nodes 0 nodes in
     let same = length-map all (λ (s : Standing). s.scopes) in
     get_or_past (map (λ (s : Standing). s.scopes) all) leaf [] (omega arith)

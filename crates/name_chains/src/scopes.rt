@@ -34,9 +34,9 @@ fn scopes_from(alloc: Global, scopes: &[Scope], place: u32) -> Result<Vec<u32>, 
 
 /// The setting of a node.
 fn setting_at(settings: &Settings, leaf: u32) -> Option<Setting>
-    ensures { result ≡ slice_get settings.now.list.items leaf }
+    ensures { result ≡ slice_get settings.now.list leaf }
 {
-    settings.list.get(leaf as usize).copied()
+    settings.list.get(leaf as usize)
 }
 
 /// The numbers of the scopes around a leaf, the innermost first; none around what is no node.

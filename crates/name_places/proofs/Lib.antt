@@ -1,3 +1,4 @@
 pub mod Standing
 pub mod Naming
 pub mod Backwards
+pub mod Ordered

@@ -17,7 +17,7 @@ ghost use Rattle.name_places.specs.Named.{IsNamedIn};
 use crate::levels::{Level, nearest};
 use crate::names::declared_name;
 use c_entities::own_type;
-use c_results::Made;
+use c_results::Results;
 use c_types::table::TypeTable;
 use c_types::term::{Term, TypeId};
 use core_nodes::CheckFault;
@@ -28,7 +28,7 @@ use tree_reads::{Syntax, child_of, spelling_of};
 const P_DECLARATOR: u32 = 19;
 
 // The name of what an external declaration defines.
-fn defined_name(syntax: &Syntax, results: &[Made], definition: u32) -> Option<u32>
+fn defined_name(syntax: &Syntax, results: &Results, definition: u32) -> Option<u32>
     ensures name { (u : UnitSpec) →
         result ≡ spec.defined_name (source_read syntax.now) (sense_in (senses_made u results.now)) definition }
     ensures within { (count : ℕ) → All (IsNamedIn count) results.now → IfSome result (λ leaf. leaf < count) }
@@ -41,7 +41,7 @@ fn defined_name(syntax: &Syntax, results: &[Made], definition: u32) -> Option<u3
 
 /// The function in whose definition a node stands, by the leaf of its name (C11 6.9.1); None outside of functions. It takes as
 /// long as the nesting around the node is deep.
-pub fn function_around(syntax: &Syntax, results: &[Made], node: u32) -> Option<u32>
+pub fn function_around(syntax: &Syntax, results: &Results, node: u32) -> Option<u32>
     requires { node < length syntax.now.tree.now.nodes.items }
     ensures name { (u : UnitSpec) →
         result ≡ spec.function_around (source_read syntax.now) (sense_in (senses_made u results.now)) node }
@@ -54,7 +54,7 @@ pub fn function_around(syntax: &Syntax, results: &[Made], node: u32) -> Option<u
 }
 
 /// How the function around a node is named (C11 6.4.2.2): what `__func__` stands for there.
-pub fn own_name<'a>(syntax: &Syntax<'a>, results: &[Made], node: u32) -> Option<&'a [u8]>
+pub fn own_name<'a>(syntax: &Syntax<'a>, results: &Results, node: u32) -> Option<&'a [u8]>
     requires { node < length syntax.now.tree.now.nodes.items }
     ensures { (u : UnitSpec) →
         let s = source_read syntax.now in
@@ -85,7 +85,7 @@ pub fn returned_type(
     alloc: Global,
     unit: &mut Unit,
     syntax: &Syntax,
-    results: &[Made],
+    results: &Results,
     node: u32,
 ) -> Result<Option<TypeId>, CheckFault>
     requires ready { IsReady unit.old }

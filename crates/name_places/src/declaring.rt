@@ -12,7 +12,7 @@ ghost use Rattle.std.specs.Prelude.{Some};
 use crate::lists::is_defined_list;
 use crate::names::declared_name;
 use c_entities::declaration_of;
-use c_results::Made;
+use c_results::Results;
 use tree_reads::{Above, Syntax, is_a, is_name, nearest_above};
 
 const P_EXTERNAL: u32 = 1;
@@ -48,7 +48,7 @@ fn is_that(name: Option<u32>, leaf: u32) -> bool
 }
 
 /// Whether a leaf is the name that a declarator declares.
-pub fn is_declaring(syntax: &Syntax, results: &[Made], leaf: u32) -> bool
+pub fn is_declaring(syntax: &Syntax, results: &Results, leaf: u32) -> bool
     requires { leaf < length syntax.now.tree.now.nodes.items }
     ensures { (u : UnitSpec) (uses : List (ℕ × ℕ)) →
         result ≡ right.is_declaring (source_in syntax.now uses) (senses_made u results.now) leaf }
@@ -63,7 +63,7 @@ pub fn is_declaring(syntax: &Syntax, results: &[Made], leaf: u32) -> bool
 }
 
 /// Whether the declaration of a name is that of a parameter of a function that is defined (C11 6.9.1p6).
-pub fn is_defined_parameter(syntax: &Syntax, results: &[Made], leaf: u32) -> bool
+pub fn is_defined_parameter(syntax: &Syntax, results: &Results, leaf: u32) -> bool
     requires { leaf < length syntax.now.tree.now.nodes.items }
     ensures { (u : UnitSpec) (uses : List (ℕ × ℕ)) →
         result ≡ right.is_defined_parameter (source_in syntax.now uses) (senses_made u results.now) leaf }
@@ -87,7 +87,7 @@ fn is_kept(external: bool, plain: bool, parameter: bool, defined: bool) -> bool
 
 /// Whether a name stands in a declaration of objects, functions or types, or as a parameter of a function that is defined: not
 /// as a member, in a type name, or as a parameter of a function that is only declared.
-pub fn stands_in_declaration(syntax: &Syntax, results: &[Made], leaf: u32) -> bool
+pub fn stands_in_declaration(syntax: &Syntax, results: &Results, leaf: u32) -> bool
     requires { leaf < length syntax.now.tree.now.nodes.items }
     ensures { (u : UnitSpec) (uses : List (ℕ × ℕ)) →
         result ≡ right.stands_in_declaration (source_in syntax.now uses) (senses_made u results.now) leaf }

@@ -12,7 +12,7 @@ ghost use Rattle.c_declarators.specs.Parameters.{is_definition_of, no_steps};
 
 use crate::levels::is_definition;
 use crate::names::inner;
-use c_results::{Derivation, Made};
+use c_results::{Derivation, Results};
 use tree_reads::{Above, Syntax, Test, children_of, first_where, nearest_above};
 
 const P_SUFFIX: u32 = 22;
@@ -25,7 +25,7 @@ fn has_none(steps: &[Derivation]) -> bool
 }
 
 // Whether the declarator within another one derives nothing, if there is one among some nodes.
-fn derives_nothing(results: &[Made], list: &[u32]) -> bool
+fn derives_nothing(results: &Results, list: &[u32]) -> bool
     ensures { (u : UnitSpec) (w : World) (s : Source) →
         let sense = sense_in (senses_made u results.now) in
         result ≡ spec.derives_nothing w s sense (spec.inner_derivations w s sense list.now) }
@@ -48,7 +48,7 @@ fn is_first_suffix(syntax: &Syntax, declarator: u32, node: u32) -> bool
 }
 
 // Whether a suffix stands next to the name of its declarator.
-fn is_next_to_name(syntax: &Syntax, results: &[Made], node: u32) -> bool
+fn is_next_to_name(syntax: &Syntax, results: &Results, node: u32) -> bool
     requires { node < length syntax.now.tree.now.nodes.items }
     ensures { (u : UnitSpec) (w : World) →
         result ≡ spec.is_next_to_name w (source_read syntax.now) (sense_in (senses_made u results.now)) node }
@@ -85,7 +85,7 @@ fn stands_in_definition(syntax: &Syntax, node: u32) -> bool
 }
 
 /// Whether a suffix is the list of parameters of the function that is defined.
-pub fn is_defined_list(syntax: &Syntax, results: &[Made], node: u32) -> bool
+pub fn is_defined_list(syntax: &Syntax, results: &Results, node: u32) -> bool
     requires { node < length syntax.now.tree.now.nodes.items }
     ensures { (u : UnitSpec) (w : World) →
         result ≡ spec.is_defined_list w (source_read syntax.now) (sense_in (senses_made u results.now)) node }
@@ -94,7 +94,7 @@ pub fn is_defined_list(syntax: &Syntax, results: &[Made], node: u32) -> bool
 }
 
 /// Whether a declarator is that of a parameter in the list of the function that is defined.
-pub fn is_listed_parameter(syntax: &Syntax, results: &[Made], at: u32) -> bool
+pub fn is_listed_parameter(syntax: &Syntax, results: &Results, at: u32) -> bool
     requires { at < length syntax.now.tree.now.nodes.items }
     ensures { (u : UnitSpec) (w : World) →
         result ≡ defined_parameter w (source_read syntax.now) (sense_in (senses_made u results.now)) at }

@@ -11,7 +11,7 @@ ghost use Rattle.c_results.specs.Parts.{DeclaratorSeen, declarator_in};
 ghost use Rattle.c_declarators.specs.Parts.{first_declarator};
 ghost use Rattle.name_places.specs.Named.{name_within, IsNamedIn};
 
-use c_results::{Derivation, Made};
+use c_results::{Derivation, Made, Results};
 use tree_reads::{Syntax, Test, first_where};
 
 // The name of a declarator, if that is what has been made.
@@ -28,7 +28,7 @@ fn name_made(made: &Made) -> Option<u32>
 }
 
 // What has been made for the node of that number.
-fn made_of(results: &[Made], node: u32) -> Option<&Made>
+fn made_of(results: &Results, node: u32) -> Option<&Made>
     ensures sense { (u : UnitSpec) → sense_read u (option_copied result) ≡ sense_in (senses_made u results.now) node }
     ensures within { (count : ℕ) → All (IsNamedIn count) results.now → IfSome result (λ m. IsNamedIn count m.now) }
 {
@@ -37,7 +37,7 @@ fn made_of(results: &[Made], node: u32) -> Option<&Made>
 
 /// The name of the declarator that has been made for a node, by its leaf (C11 6.7.6); None where it has none, or where none has
 /// been made.
-pub fn declared_name(results: &[Made], node: u32) -> Option<u32>
+pub fn declared_name(results: &Results, node: u32) -> Option<u32>
     ensures name { (u : UnitSpec) → result ≡ name_within (sense_in (senses_made u results.now) node) }
     ensures within { (count : ℕ) → All (IsNamedIn count) results.now → IfSome result (λ leaf. leaf < count) }
 {
@@ -61,7 +61,7 @@ fn declarator_made(made: &Made) -> Option<(Option<u32>, &[Derivation])>
 }
 
 // The name and the derivations of the declarator that has been made for a node, if one has been.
-fn declarator_of(results: &[Made], node: u32) -> Option<(Option<u32>, &[Derivation])>
+fn declarator_of(results: &Results, node: u32) -> Option<(Option<u32>, &[Derivation])>
     ensures seen { (u : UnitSpec) → DeclaratorSeen u result (declarator_in (sense_in (senses_made u results.now) node)) }
     ensures named { (count : ℕ) →
         All (IsNamedIn count) results.now → IfSome result (λ d. IfSome d.0 (λ leaf. leaf < count)) }
@@ -74,7 +74,7 @@ fn declarator_of(results: &[Made], node: u32) -> Option<(Option<u32>, &[Derivati
 
 /// The first declarator among some nodes, by its name and its derivations.
 pub(crate) fn inner<'a>(
-    results: &'a [Made],
+    results: &'a Results,
     list: &[u32],
 ) -> Option<(Option<u32>, &'a [Derivation])>
     ensures seen { (u : UnitSpec) →
@@ -91,7 +91,7 @@ pub(crate) fn inner<'a>(
 }
 
 /// The name that a declarator with those children declares, by its leaf: its own, or that of the declarator in it (C11 6.7.6).
-pub fn name_in(syntax: &Syntax, results: &[Made], children: &[u32]) -> Option<u32>
+pub fn name_in(syntax: &Syntax, results: &Results, children: &[u32]) -> Option<u32>
     ensures name { (u : UnitSpec) (w : World) →
         result ≡ spec.name_in w (source_read syntax.now) (sense_in (senses_made u results.now)) children.now }
     ensures within { All (IsNamedIn (length syntax.now.tree.now.nodes.items)) results.now →

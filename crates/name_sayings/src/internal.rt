@@ -11,7 +11,7 @@ ghost use Rattle.c_named.specs.Lists.{leaves_of};
 ghost use Rattle.name_sayings.specs.Listed.{AreListed, leaf_if, internal_of};
 
 use c_meanings::{Names, declared_at, is_internal_after, nothing_seen};
-use c_results::Made;
+use c_results::Results;
 use core_nodes::CheckFault;
 use std::alloc::Global;
 use symbol_lists::SymbolLists;
@@ -35,7 +35,7 @@ fn internal_of(
     names: &Names,
     lists: &SymbolLists,
     syntax: &Syntax,
-    results: &[Made],
+    results: &Results,
     symbol: u32,
     leaf: u32,
 ) -> Result<Vec<u32>, CheckFault>
@@ -68,7 +68,7 @@ pub(crate) fn internal_before(
     names: &Names,
     lists: &SymbolLists,
     syntax: &Syntax,
-    results: &[Made],
+    results: &Results,
     internal: bool,
     leaf: u32,
 ) -> Result<Vec<u32>, CheckFault>

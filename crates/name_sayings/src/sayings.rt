@@ -18,7 +18,7 @@ use c_meanings::{
     is_typedef, nothing_seen,
 };
 use c_named::Said;
-use c_results::Made;
+use c_results::Results;
 use c_scope::Declared;
 use core_nodes::CheckFault;
 use std::alloc::Global;
@@ -41,7 +41,7 @@ fn leaves_of(alloc: Global, declarations: &[Declared]) -> Result<Vec<u32>, Check
 fn same_internal(
     names: &Names,
     syntax: &Syntax,
-    results: &[Made],
+    results: &Results,
     internal: bool,
     declarations: &[Declared],
 ) -> bool
@@ -64,7 +64,7 @@ fn in_scope(
     alloc: Global,
     names: &Names,
     syntax: &Syntax,
-    results: &[Made],
+    results: &Results,
     leaf: u32,
 ) -> Result<Vec<Declared>, CheckFault>
     requires names { AreNamed syntax.now results.now names.now }
@@ -83,7 +83,7 @@ fn in_scope(
 fn has_one_linkage(
     names: &Names,
     syntax: &Syntax,
-    results: &[Made],
+    results: &Results,
     leaf: u32,
     before: &[Declared],
 ) -> bool
@@ -109,7 +109,7 @@ pub fn said_of(
     names: &Names,
     lists: &SymbolLists,
     syntax: &Syntax,
-    results: &[Made],
+    results: &Results,
     leaf: u32,
 ) -> Result<Said, CheckFault>
     requires names { AreNamed syntax.now results.now names.now }

@@ -22,7 +22,7 @@ use crate::named::named_of;
 use crate::uses::may_call;
 use c_lexer::TokenKind;
 use c_meanings::{Meaning, Names, meaning_at};
-use c_results::Made;
+use c_results::Results;
 use core_nodes::CheckFault;
 use core_tree::node::Unit;
 use expression_rows::{Around, Named};
@@ -50,7 +50,7 @@ fn nothing<'a>(may_call: bool) -> Around<'a>
 // How the function around a node is named, where what is named there means nothing that is declared.
 fn own_name_unless<'a>(
     syntax: &Syntax<'a>,
-    results: &[Made],
+    results: &Results,
     at: u32,
     meaning: Option<Meaning>,
 ) -> Option<&'a [u8]>
@@ -73,7 +73,7 @@ fn around_name<'a>(
     unit: &mut Unit,
     syntax: &Syntax<'a>,
     names: &Names,
-    results: &[Made],
+    results: &Results,
     at: u32,
     leaf: u32,
 ) -> Result<Around<'a>, CheckFault>
@@ -112,7 +112,7 @@ fn around_primary<'a>(
     unit: &mut Unit,
     syntax: &Syntax<'a>,
     names: &Names,
-    results: &[Made],
+    results: &Results,
     at: u32,
     children: &[u32],
 ) -> Result<Around<'a>, CheckFault>
@@ -155,7 +155,7 @@ pub fn around_of<'a>(
     unit: &mut Unit,
     syntax: &Syntax<'a>,
     names: &Names,
-    results: &[Made],
+    results: &Results,
     at: u32,
 ) -> Result<Around<'a>, CheckFault>
     requires ready { IsReady unit.old }

@@ -16,7 +16,7 @@ ghost use Rattle.name_uses.specs.Built.{named_row};
 
 use crate::around::around_of;
 use c_meanings::Names;
-use c_results::Made;
+use c_results::{Made, Results};
 use core_nodes::CheckFault;
 use core_tree::node::Unit;
 use expression_rows::row;
@@ -33,7 +33,7 @@ pub fn expression(
     unit: &mut Unit,
     syntax: &Syntax,
     names: &Names,
-    results: &[Made],
+    results: &Results,
     at: u32,
 ) -> Result<Made, CheckFault>
     requires ready { IsReady unit.old }

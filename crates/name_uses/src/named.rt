@@ -16,7 +16,7 @@ ghost use Rattle.name_uses.specs.Looked.{NamedUnless};
 
 use crate::uses::may_name;
 use c_meanings::{Meaning, Names};
-use c_results::Made;
+use c_results::Results;
 use c_types::term::TypeId;
 use expression_rows::Named;
 use tree_reads::Syntax;
@@ -45,7 +45,7 @@ fn number_named(value: i128) -> Option<Named>
 fn object_named(
     names: &Names,
     syntax: &Syntax,
-    results: &[Made],
+    results: &Results,
     node: u32,
     entity: u32,
     ty: TypeId,
@@ -74,7 +74,7 @@ fn object_named(
 fn named_as(
     names: &Names,
     syntax: &Syntax,
-    results: &[Made],
+    results: &Results,
     node: u32,
     meaning: Meaning,
 ) -> Option<Named>
@@ -100,7 +100,7 @@ fn named_as(
 pub fn named_of(
     names: &Names,
     syntax: &Syntax,
-    results: &[Made],
+    results: &Results,
     node: u32,
     meaning: Option<Meaning>,
 ) -> Option<Named>

@@ -10,13 +10,13 @@ ghost use Rattle.name_places.specs.Named.{IsNamedIn};
 ghost use Rattle.name_uses.specs.Around.{may_name_at};
 
 use c_meanings::{Names, is_automatic, storage_of};
-use c_results::Made;
+use c_results::Results;
 use name_places::is_in_static;
 use tree_reads::Syntax;
 
 /// Whether a function may be called at a node: not in the initialiser of an object that lasts for the whole run, but for operands there
 /// that aren't evaluated (C11 6.6p3, 6.7.9p4). It takes as long as the nesting around the node is deep.
-pub fn may_call(syntax: &Syntax, results: &[Made], node: u32) -> bool
+pub fn may_call(syntax: &Syntax, results: &Results, node: u32) -> bool
     requires results { All (IsNamedIn (length syntax.now.tree.now.nodes.items)) results.now }
     requires node { node < length syntax.now.tree.now.nodes.items }
     ensures { (u : UnitSpec) (uses : List (ℕ × ℕ)) →
@@ -28,7 +28,7 @@ pub fn may_call(syntax: &Syntax, results: &[Made], node: u32) -> bool
 /// Whether the object or function that a leaf declares may be named at a node: an automatic object may not in the initialiser of an object
 /// that lasts for the whole run, but for operands there that aren't evaluated (C11 6.6p9, 6.7.9p4). It takes as long as the nesting around
 /// the node is deep.
-pub fn may_name(names: &Names, syntax: &Syntax, results: &[Made], node: u32, entity: u32) -> bool
+pub fn may_name(names: &Names, syntax: &Syntax, results: &Results, node: u32, entity: u32) -> bool
     requires names { AreChained syntax.now names.now }
     requires results { All (IsNamedIn (length syntax.now.tree.now.nodes.items)) results.now }
     requires node { node < length syntax.now.tree.now.nodes.items }

@@ -2,7 +2,7 @@
 ghost use Rattle.named_rest.specs.Rest.{NamedWithRest};
 
 /// The parts of what is right for a unit that is cut into tokens and read are told apart by their names and places, where its locals stand in
-/// functions that it defines and its string literals and calls have different places.
+/// functions that it defines.
 pub fn named_with_rest()
     ensures { NamedWithRest }
 {}

@@ -1,10 +1,16 @@
 -- All senses of a tree are sound, one after another.
 use Rattle.std.proofs.Common.{arith, ◌≡◌, ◌==◌, ◌⊎◌, inl, inr, ◌∙◌, ◌||◌, Bool, true, false, ℕ, zero, suc, ◌<◌, ◌≤◌, List, [], ◌∷◌, ◌++◌, take, length, Option, Some, None, slice_get, refl, sym, ap, subst}
 use Rattle.std.proofs.lemmas.Option.{slice_get-get_or}
-use Rattle.c_types.specs.Trees.{Ctype}
+use Rattle.c_types.specs.declared.term.PathStep.{PathStep}
+use Rattle.c_types.specs.declared.term.PathStep.TheVariants.{Index, Member as MemberStep}
+use Rattle.c_types.specs.Paths.{with_length as sized_type}
+use Rattle.c_types.specs.Trees.{Ctype, VoidType, ArrayOf, StructureOf, UnionOf}
+use Rattle.c_inits.specs.Made.{Part, shape_for}
+use Rattle.c_inits.specs.Initial.{Placed, Outcome, Places, NoPlace, lasting}
+use Rattle.c_inits.specs.View as view
 use Rattle.c_grammar.specs.declared.trees.SyntaxNode.{SyntaxNode}
 use Rattle.c_consts.specs.Core.{Core}
-use Rattle.std.specs.Prelude.{⊤}
+use Rattle.std.specs.Prelude.{⊤, nat_lt, option_and_then}
 use Rattle.std.proofs.lemmas.Bool.Decides.{eqb_tells}
 use Rattle.pta_base.specs.declared.kind.Kind.TheVariants.{Operand}
 use Rattle.c_grammar.specs.Reads.{leaf}
@@ -13,18 +19,22 @@ use Rattle.c_senses.specs.Tree.{Source, production_of, children_of, production_a
 use Rattle.c_senses.specs.Constants.{constant_in}
 use Rattle.c_senses.specs.Tags.{enumerator_row}
 use Rattle.c_senses.specs.Statements.{assert_row, declaration_row, statement_row, block_row}
-use Rattle.c_senses.specs.Given.{Given, Fits}
-use Rattle.c_senses.specs.World.{World}
+use Rattle.c_senses.specs.Given.{Given, Fits, Refuses}
+use Rattle.c_senses.specs.World.{World, Meaning}
+use Rattle.c_senses.specs.Declarators.{outermost_of, specs_of}
+use Rattle.c_senses.specs.Entities.{with_length, entity_of, specified_of}
+use Rattle.c_senses.specs.Initialised.{new_length, most_elements, seen, outcome_of, opening, brace, braced}
 use Rattle.c_senses.specs.Sense.{Sense, Nothing, IsCore, IsRun, IsInitial, sense_in}
 use Rattle.c_senses.specs.Rows.{AreSenses, world_at, row_of}
-use Rattle.sense_laws.specs.Sound.{SoundWorld, AreSound, Gives}
-use Rattle.sense_laws.specs.Senses.{SoundSense, ChildrenFirst, ConstantsFit, StatementParts, StatementGrammar, IsStatementSense, IsIntSense, is_block_part}
+use Rattle.sense_laws.specs.Sound.{ProperWorld, AreSound, IsProper, MeaningFits, type_of_part, step_type, type_down, Gives}
+use Rattle.sense_laws.specs.Senses.{SoundSense, ChildrenFirst, ConstantsFit, StatementParts, StatementGrammar, IsStatementSense, IsIntSense, is_block_part, AllFit, OutcomeFits}
+use Rattle.sense_laws.specs.Asked.{FirstFits, InitialFits, AllStand, OutcomeStands, AskedFit}
 use Rattle.sense_laws.specs.Laws.{Grows, SensesFit}
 use Rattle.sense_laws.proofs.Growing.{sound_grown}
 use Rattle.sense_laws.proofs.Completing.{grown_by_one, parts_proper}
 use Rattle.sense_laws.proofs.Rows.{row_sound}
-use Rattle.sense_laws.proofs.Names.{meaning_sound, returned_proper, enumerator_int}
-use Rattle.sense_laws.proofs.Giving.{then_gives, gives_weaker, if_given, some_given}
+use Rattle.sense_laws.proofs.Names.{SomeProper, meaning_proper, returned_proper, enumerator_int, derived_is_proper, specified_proper, length_proper}
+use Rattle.sense_laws.proofs.Giving.{then_gives, gives_weaker, if_given, if_holds, some_given}
 use Rattle.sense_laws.proofs.Types.{anything}
 use Rattle.sense_laws.proofs.Statements.{statement_sound, block_sound}
 
@@ -83,7 +93,46 @@ assert_gives w s sense at =
     some_given IsStatementSense (child_of s p_conditional at) Operand at _
     (λ c e. then_gives (λ n. ⊤) IsStatementSense (constant_in w s at (sense c)) _ (anything (constant_in w s at (sense c))) (λ n k. if_given IsStatementSense _ Operand at (Fits Nothing) (λ e. tt)))
 
-module _ (entities : ℕ → Option Ctype) (s : Source) (senses : List Sense) (are : AreSenses s senses) (first : ChildrenFirst s) (ints : ConstantsFit s) (grammar : StatementGrammar s) (fit : SensesFit entities s senses) where
+-- the types along a path are proper
+some_proper : (w : World) → ProperWorld w → (o : Option (List Part)) (tag k : ℕ) → w.members tag ≡ o → SomeProper (type_of_part w o k)
+some_proper w world None tag k e = tt
+some_proper w world (Some parts) tag k e = by (slice_get parts k) refl
+  where
+    sized : (t : Ctype) → IsProper t → SomeProper (sized_type t)
+    sized (ArrayOf of None) h = tt
+    sized VoidType h = h
+    sized t h = h
+
+    by : (o : Option Part) → slice_get parts k ≡ o → SomeProper (option_and_then (λ m. sized_type m.type) o)
+    by None at = tt
+    by (Some m) at = sized m.type (world.parts tag parts k m e at)
+
+step_proper : (w : World) → ProperWorld w → (t : Ctype) (step : PathStep) → IsProper t → SomeProper (step_type w t step)
+step_proper w world (ArrayOf of (Some n)) (Index i) h = if_holds SomeProper (nat_lt i n) (Some of) None (λ e. h) (λ e. tt)
+step_proper w world (StructureOf tag) (MemberStep k) h = some_proper w world (w.members tag) tag k refl
+step_proper w world (UnionOf tag) (MemberStep k) h = some_proper w world (w.members tag) tag k refl
+step_proper w world t step h = tt
+
+down_proper : (w : World) → ProperWorld w → (path : List PathStep) (o : Option Ctype) → SomeProper o → SomeProper (type_down w o path)
+down_proper w world [] o h = h
+down_proper w world (step ∷ path) None h = down_proper w world path None tt
+down_proper w world (step ∷ path) (Some t) h = down_proper w world path (step_type w t step) (step_proper w world t step h)
+
+placed_proper : (w : World) → ProperWorld w → (t : Ctype) → IsProper t → (list : List Placed) → AllStand w t list → AllFit w t list
+placed_proper w world t proper [] h = tt
+placed_proper w world t proper (p ∷ rest) h = (
+  λ type e. let one = h.0 type e in (one.0, subst SomeProper one.0 (down_proper w world p.path (Some t) proper), one.1),
+  placed_proper w world t proper rest h.1,
+)
+
+outcome_proper : (w : World) (entities : ℕ → Option Ctype) → ProperWorld w → (s : Source) (sense : ℕ → Sense) (entity : ℕ) (t : Ctype) → IsProper t → (g : Given Outcome)
+    → Gives (OutcomeStands w entities s sense entity t) g → Gives (OutcomeFits w entities s sense entity t) g
+outcome_proper w entities world s sense entity t proper (Fits (NoPlace node)) h = tt
+outcome_proper w entities world s sense entity t proper (Fits (Places actions)) h =
+    let whole : Ctype = with_length (new_length w s sense t actions) t in (h.0, placed_proper w world whole (length_proper (new_length w s sense t actions) t proper) (lasting [] actions) h.1)
+outcome_proper w entities world s sense entity t proper (Refuses kind node) h = tt
+
+module _ (entities : ℕ → Option Ctype) (s : Source) (senses : List Sense) (are : AreSenses s senses) (first : ChildrenFirst s) (ints : ConstantsFit s) (grammar : StatementGrammar s) (fit : AskedFit entities s senses) where
   SoundBefore : ℕ → Type 0
   SoundBefore n = (i : ℕ) → SoundSense (world_at s (take n senses) n) entities (sense_in (take n senses) i)
 
@@ -93,13 +142,31 @@ module _ (entities : ℕ → Option Ctype) (s : Source) (senses : List Sense) (a
   IntsBefore : ℕ → Type 0
   IntsBefore n = (i : ℕ) → is_a s p_enumerator i ≡ true → IsIntSense (sense_in (take n senses) i)
 
-  world_sound : (n : ℕ) → n < length senses → SoundBefore n → IntsBefore n → SoundWorld (world_at s (take n senses) n) entities
+  world_sound : (n : ℕ) → n < length senses → SoundBefore n → IntsBefore n → ProperWorld (world_at s (take n senses) n)
   unfolding SoundBefore IntsBefore
   world_sound n lt before numbers = record {
     parts = parts_proper s (world_at s (take n senses) n) entities (sense_in (take n senses)) before (take n senses);
-    names = λ leaf m e. meaning_sound (world_at s (take n senses) n) entities s (sense_in (take n senses)) before numbers leaf m e (fit.names n lt leaf m e);
+    names = λ leaf m e. meaning_proper (world_at s (take n senses) n) entities s (sense_in (take n senses)) before numbers leaf m e;
     aligns = fit.aligns n lt;
   }
+
+  -- what is asked of initialisers, with proper types
+  initial_fits : (n : ℕ) → n < length senses → SoundBefore n → IntsBefore n → InitialFits (world_at s (take n senses) n) entities s (sense_in (take n senses)) n
+  unfolding SoundBefore
+  initial_fits n lt before numbers =
+      let w : World = world_at s (take n senses) n in
+      let f : ℕ → Sense = sense_in (take n senses) in
+      let world : ProperWorld w = world_sound n lt before numbers in
+      let asked = fit.initials n lt in
+      record {
+        objects = λ p declarator leaf t is parent rest by name type.
+            outcome_proper w entities world s f (entity_of s f leaf) t
+            (subst SomeProper type (derived_is_proper w entities s f before (specified_of s f leaf) (Some declarator) (specified_proper w entities s f before (option_and_then (specs_of s) (outermost_of s leaf)))))
+            (outcome_of w s f n (shape_for w.fillable most_elements t) (view.init_at (seen w s f) s.nodes n)) (asked.objects p declarator leaf t is parent rest by name type);
+        literals = λ p name t is parent over named type.
+            outcome_proper w entities world s f (opening w s f p) t (subst (SoundSense w entities) type (before name))
+            (outcome_of w s f (brace w s f p) (shape_for w.fillable most_elements t) (braced w s f (brace w s f p) (view.items_at (seen w s f) s.nodes n))) (asked.literals p name t is parent over named type);
+      }
 
   item_of_block : (i : ℕ) → is_a s p_block i ≡ true → is_item s i ≡ true
   item_of_block i e = by (is_block_part s i) (is_a s p_block i) e
@@ -139,7 +206,8 @@ module _ (entities : ℕ → Option Ctype) (s : Source) (senses : List Sense) (a
   unfolding SoundBefore
   row_here n node x lt at is before items numbers =
       subst (λ (g : Given Sense). Gives (SoundSense (world_at s (take n senses) n) entities) g) (are.each n node x at is)
-      (row_sound (world_at s (take n senses) n) entities (world_sound n lt before numbers) s (sense_in (take n senses)) before (fit.initials n lt) ints (parts_fit n lt before items) n node.production node.children.items (ap production_of at) (ap children_of at))
+      (row_sound (world_at s (take n senses) n) entities (world_sound n lt before numbers) s (sense_in (take n senses)) before n (initial_fits n lt before numbers) ints (parts_fit n lt before items) node.production node.children.items (ap production_of at) (ap children_of at)
+      (λ primary. subst (FirstFits (world_at s (take n senses) n) entities) (ap children_of at) (fit.names n lt primary)))
 
   -- the sense of a statement, a block or what may stand in a block is no value
   item_here : (n : ℕ) (node : SyntaxNode) (x : Sense) → n < length senses → slice_get s.nodes n ≡ Some node → slice_get senses n ≡ Some x
@@ -211,10 +279,43 @@ module _ (entities : ℕ → Option Ctype) (s : Source) (senses : List Sense) (a
   item_of : (i : ℕ) → (is_a s p_statement i || is_a s p_block i) ≡ true → is_item s i ≡ true
   item_of i e = elim (either (is_a s p_statement i) (is_a s p_block i) e) [ inl h ↦ item_of_part i (part_of_statement i h) | inr h ↦ item_of_block i h ]
 
-  pub senses_sound : (i : ℕ) → SoundSense (world_at s senses (length senses)) entities (sense_in senses i) × ((is_a s p_statement i || is_a s p_block i) ≡ true → IsStatementSense (sense_in senses i))
+  pub asked_sound : (i : ℕ) → SoundSense (world_at s senses (length senses)) entities (sense_in senses i) × ((is_a s p_statement i || is_a s p_block i) ≡ true → IsStatementSense (sense_in senses i))
   unfolding SoundBefore ItemsBefore IntsBefore
-  senses_sound i =
+  asked_sound i =
       let whole = up_to (length senses) (omega arith) in (
         subst (λ (xs : List Sense). SoundSense (world_at s xs (length senses)) entities (sense_in xs i)) (take_whole senses) (whole.0 i),
         λ e. subst (λ (xs : List Sense). IsStatementSense (sense_in xs i)) (take_whole senses) (whole.1 i (item_of i e)),
       )
+
+-- what fits everywhere fits where it is asked
+weaker_placed : (w : World) (t : Ctype) (list : List Placed) → AllFit w t list → AllStand w t list
+weaker_placed w t [] h = tt
+weaker_placed w t (p ∷ rest) h = (λ type e. let one = h.0 type e in (one.0, one.2), weaker_placed w t rest h.1)
+
+pub weaker_outcome : (w : World) (entities : ℕ → Option Ctype) (s : Source) (sense : ℕ → Sense) (entity : ℕ) (t : Ctype) (g : Given Outcome)
+    → Gives (OutcomeFits w entities s sense entity t) g → Gives (OutcomeStands w entities s sense entity t) g
+weaker_outcome w entities s sense entity t (Fits (NoPlace node)) h = tt
+weaker_outcome w entities s sense entity t (Fits (Places actions)) h = (h.0, weaker_placed w (with_length (new_length w s sense t actions) t) (lasting [] actions) h.1)
+weaker_outcome w entities s sense entity t (Refuses kind node) h = tt
+
+pub first_fits : (w : World) (entities : ℕ → Option Ctype) → ((leaf : ℕ) (m : Meaning) → w.meaning leaf ≡ Some m → MeaningFits entities m) → (children : List ℕ) → FirstFits w entities children
+first_fits w entities names [] = tt
+first_fits w entities names (first ∷ rest) = names first
+
+asked_of : (entities : ℕ → Option Ctype) (s : Source) (senses : List Sense) → SensesFit entities s senses → AskedFit entities s senses
+asked_of entities s senses fit = record {
+  names = λ i lt primary. first_fits (world_at s (take i senses) i) entities (fit.names i lt) (children_at s i);
+  aligns = fit.aligns;
+  runs = fit.runs;
+  initials = λ i lt.
+      let w : World = world_at s (take i senses) i in
+      let f : ℕ → Sense = sense_in (take i senses) in
+      record {
+        objects = λ p declarator leaf t is parent rest by name type. weaker_outcome w entities s f (entity_of s f leaf) t _ ((fit.initials i lt).objects i declarator leaf t type);
+        literals = λ p name t is parent over named type. weaker_outcome w entities s f (opening w s f p) t _ ((fit.initials i lt).literals i p t);
+      };
+}
+
+pub senses_sound : (entities : ℕ → Option Ctype) (s : Source) (senses : List Sense) → AreSenses s senses → ChildrenFirst s → ConstantsFit s → StatementGrammar s → SensesFit entities s senses → (i : ℕ)
+    → SoundSense (world_at s senses (length senses)) entities (sense_in senses i) × ((is_a s p_statement i || is_a s p_block i) ≡ true → IsStatementSense (sense_in senses i))
+senses_sound entities s senses are first ints grammar fit i = asked_sound entities s senses are first ints grammar (asked_of entities s senses fit) i

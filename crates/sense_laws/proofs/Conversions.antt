@@ -17,7 +17,7 @@ use Rattle.c_senses.specs.Nulls.{is_null}
 use Rattle.c_senses.specs.Objects.{part_at}
 use Rattle.c_senses.specs.Conversions.{OperandSort, Whole, Address, Aggregate, Other, operand_of, is_fetched, fetched_or_decayed, value_of_sort, value_of, converted, made, is_narrow, read_width, promoted, promotion, higher, common, first_member_type, upcast_within, upcast, upcast_or, from_structure, character_kind, pointers, target_of, to_pointer, to_whole, to_other, conversion, null_value, typed}
 use Rattle.core_nodes.proofs.SameTypes.{type_sound}
-use Rattle.sense_laws.specs.Sound.{Sound, SoundValue, SoundOf, IsProper, IsPartOf, IsFirstPart, Gives, SoundWorld}
+use Rattle.sense_laws.specs.Sound.{Sound, SoundValue, SoundOf, IsProper, IsPartOf, IsFirstPart, Gives, ProperWorld}
 use Rattle.sense_laws.proofs.Giving.{if_given, if_holds, differs}
 
 -- which types the sorts of operands are of
@@ -121,7 +121,7 @@ module _ (w : World) (entities : ℕ → Option Ctype) where
       let here : part_at (w.members tag) 0 ≡ slice_get members 0 = ap (λ (o : Option (List Part)). part_at o 0) e in
       record { part = part; stands = here ∙ f; type = g }
 
-  first_part : SoundWorld w entities → (from t : Ctype) → first_member_type w from ≡ Some t → IsProper t × IsFirstPart w (PointerTo from) (PointerTo t)
+  first_part : ProperWorld w → (from t : Ctype) → first_member_type w from ≡ Some t → IsProper t × IsFirstPart w (PointerTo from) (PointerTo t)
   first_part world (StructureOf tag) t h =
       let found = first_found (w.members tag) t h in
       (subst IsProper found.4 (world.parts tag found.0 0 found.1 found.2 found.3), first_stands tag t found.0 found.1 found.2 found.3 found.4)
@@ -131,7 +131,7 @@ module _ (w : World) (entities : ℕ → Option Ctype) where
   GivesSome P None = ⊤
   GivesSome P (Some x) = P x
 
-  upcast_within_sound : SoundWorld w entities → (depth : ℕ) (sought from : Ctype) (o : Option Ctype) (v : Core) → first_member_type w from ≡ o → ctype_of v ≡ PointerTo from → SoundValue w entities v → GivesSome (SoundOf w entities (PointerTo sought)) (upcast_within w depth sought o v)
+  upcast_within_sound : ProperWorld w → (depth : ℕ) (sought from : Ctype) (o : Option Ctype) (v : Core) → first_member_type w from ≡ o → ctype_of v ≡ PointerTo from → SoundValue w entities v → GivesSome (SoundOf w entities (PointerTo sought)) (upcast_within w depth sought o v)
   unfolding GivesSome
   upcast_within_sound world zero sought from o v e f h = tt
   upcast_within_sound world (suc depth) sought from None v e f h = tt
@@ -148,7 +148,7 @@ module _ (w : World) (entities : ℕ → Option Ctype) where
   upcast_or_sound P at kind None h = tt
   upcast_or_sound P at kind (Some x) h = h
 
-  from_structure_sound : SoundWorld w entities → (cast : Bool) (at : ℕ) (v : Core) (from to : Ctype) (kind : Kind) → ctype_of v ≡ PointerTo from → SoundValue w entities v → Gives (SoundOf w entities (PointerTo to)) (from_structure w cast at v from to kind)
+  from_structure_sound : ProperWorld w → (cast : Bool) (at : ℕ) (v : Core) (from to : Ctype) (kind : Kind) → ctype_of v ≡ PointerTo from → SoundValue w entities v → Gives (SoundOf w entities (PointerTo to)) (from_structure w cast at v from to kind)
   from_structure_sound world false at v from to kind e h = tt
   from_structure_sound world true at v from to kind e h =
       upcast_or_sound (SoundOf w entities (PointerTo to)) at kind (upcast w from to v) (upcast_within_sound world (suc w.tags) to from (first_member_type w from) v refl e h)
@@ -158,7 +158,7 @@ module _ (w : World) (entities : ℕ → Option Ctype) where
     pointed : (from to : Ctype) → ctype_of v ≡ PointerTo from → ctype_of v ≢ PointerTo to → IsProper (PointerTo to) → Converts (PointerTo from) (PointerTo to) → SoundOf w entities (PointerTo to) (converted (PointerTo to) v)
     pointed from to e ne proper converts = converted_sound (PointerTo to) v h ne (subst (λ (q : Ctype). Converts q (PointerTo to)) (sym e) converts) proper
 
-    pointers_sound : SoundWorld w entities → (cast : Bool) (at : ℕ) (from to : Ctype) → ctype_of v ≡ PointerTo from → ctype_of v ≢ PointerTo to → IsProper (PointerTo to) → Gives (SoundOf w entities (PointerTo to)) (pointers w cast at v from to (target_of from) (target_of to))
+    pointers_sound : ProperWorld w → (cast : Bool) (at : ℕ) (from to : Ctype) → ctype_of v ≡ PointerTo from → ctype_of v ≢ PointerTo to → IsProper (PointerTo to) → Gives (SoundOf w entities (PointerTo to)) (pointers w cast at v from to (target_of from) (target_of to))
     pointers_sound world cast at (FunctionFrom r ps f) (FunctionFrom q qs g) e ne proper = pointed (FunctionFrom r ps f) (FunctionFrom q qs g) e ne proper tt
     pointers_sound world cast at VoidType (FunctionFrom q qs g) e ne proper = tt
     pointers_sound world cast at from (FunctionFrom q qs g) e ne proper = tt
@@ -187,7 +187,7 @@ module _ (w : World) (entities : ℕ → Option Ctype) where
     pointers_sound world cast at (StructureOf a) (ArrayOf of n) e ne proper = from_structure_sound world cast at v (StructureOf a) (ArrayOf of n) Operand e h
     pointers_sound world cast at from to e ne proper = tt
 
-    to_pointer_sound : SoundWorld w entities → (cast : Bool) (at : ℕ) (to : Ctype) → ctype_of v ≢ PointerTo to → IsProper (PointerTo to) → (sort : OperandSort) → operand_of (ctype_of v) ≡ sort → Gives (SoundOf w entities (PointerTo to)) (to_pointer w cast at v to sort)
+    to_pointer_sound : ProperWorld w → (cast : Bool) (at : ℕ) (to : Ctype) → ctype_of v ≢ PointerTo to → IsProper (PointerTo to) → (sort : OperandSort) → operand_of (ctype_of v) ≡ sort → Gives (SoundOf w entities (PointerTo to)) (to_pointer w cast at v to sort)
     to_pointer_sound world cast at to ne proper Whole e = tt
     to_pointer_sound world cast at to ne proper (Address from) e = pointers_sound world cast at from to (address_pointer (ctype_of v) from e) ne proper
     to_pointer_sound world cast at to ne proper (Aggregate tag) e = tt
@@ -201,7 +201,7 @@ module _ (w : World) (entities : ℕ → Option Ctype) where
     to_whole_sound pointer at t ne proper whole from (Aggregate tag) e = tt
     to_whole_sound pointer at t ne proper whole from Other e = tt
 
-    to_other_sound : SoundWorld w entities → (cast : Bool) (at : ℕ) (t : Ctype) → ctype_of v ≢ t → IsProper t → Gives (SoundOf w entities t) (to_other w cast at v t)
+    to_other_sound : ProperWorld w → (cast : Bool) (at : ℕ) (t : Ctype) → ctype_of v ≢ t → IsProper t → Gives (SoundOf w entities t) (to_other w cast at v t)
     to_other_sound world cast at VoidType ne proper =
         if_given (SoundOf w entities VoidType) cast Operand at (Fits (converted VoidType v)) (λ allowed. converted_sound VoidType v h ne (to_void (ctype_of v)) proper)
     to_other_sound world cast at BoolType ne proper = to_whole_sound true at BoolType ne proper tt pointer_to_bool (operand_of (ctype_of v)) refl
@@ -213,7 +213,7 @@ module _ (w : World) (entities : ℕ → Option Ctype) where
         (λ other. to_pointer_sound world cast at to ne proper (operand_of (ctype_of v)) refl)
     to_other_sound world cast at t ne proper = tt
 
-    pub conversion_sound : SoundWorld w entities → (cast : Bool) (at : ℕ) (t : Ctype) → IsProper t → Gives (SoundOf w entities t) (conversion w cast at v t)
+    pub conversion_sound : ProperWorld w → (cast : Bool) (at : ℕ) (t : Ctype) → IsProper t → Gives (SoundOf w entities t) (conversion w cast at v t)
     conversion_sound world cast at t proper =
         if_holds (Gives (SoundOf w entities t)) (same_type (ctype_of v) t) (Fits v) (to_other w cast at v t) (same_sound t v h)
         (λ other. to_other_sound world cast at t (differs (ctype_of v) t other) proper)

@@ -14,13 +14,14 @@ use Rattle.c_grammar.specs.Words.{word_sizeof, word_alignof, sign_left_bracket, 
 use Rattle.c_consts.specs.Core.{Core, ctype_of, core_sort}
 use Rattle.c_senses.specs.Tree.{Source, is_a, is_leaf, place_at, spelling_at, kind_at, sign_at, last_where, all_where, left_of}
 use Rattle.c_senses.specs.Given.{Given, Fits, Refuses, ◌>>=◌}
-use Rattle.c_senses.specs.World.{World}
+use Rattle.c_senses.specs.World.{World, Meaning}
 use Rattle.c_senses.specs.Conversions.{operand_of, value_of}
 use Rattle.c_senses.specs.Operators.{between, operator, number_core, choice_row}
 use Rattle.c_senses.specs.Objects.{name_row, index_row, member_row, arrow_row, assign_row, assigned_op, update_row, call_row, cast_row, size_row, align_row, sized_expression}
 use Rattle.c_senses.specs.Sense.{Sense, IsCore, IsType, core_of, value_in, type_of_sense, last_of}
 use Rattle.c_senses.specs.Expressions.{as_sense, indexed_core, is_operator, value_core, operator_core, passed, named_of, step, chained, is_single, binary_row, string_bytes, primary_of, primary_row, indexed, dotted, pointed, all_cores, called, counted_after, post_of, post_signed, post_row, prefixed_core, prefixed, sized, aligned, worded, unary_of, unary_row, cast_over, cast_last, cast_of, cast_row_of, conditional_row, assigned, assigned_by, assignment_row, is_binary, expression_row}
-use Rattle.sense_laws.specs.Sound.{Sound, SoundValue, SoundOf, SoundWorld, AreSound, IsProper, Gives}
+use Rattle.sense_laws.specs.Asked.{FirstFits}
+use Rattle.sense_laws.specs.Sound.{MeaningFits, Sound, SoundValue, SoundOf, ProperWorld, AreSound, IsProper, Gives}
 use Rattle.sense_laws.specs.Senses.{SoundSense, ConstantsFit}
 use Rattle.sense_laws.proofs.Giving.{then_gives, gives_weaker, some_given, if_holds}
 use Rattle.sense_laws.proofs.Conversions.{value_sound}
@@ -54,7 +55,7 @@ unfolding op_updates
 some_updates None op e h = cc
 some_updates (Some x) op e h = subst IsUpdate (let same : x ≡ op = cc in same) h
 
-module _ (w : World) (entities : ℕ → Option Ctype) (world : SoundWorld w entities) where
+module _ (w : World) (entities : ℕ → Option Ctype) (world : ProperWorld w) where
   pub as_sense_sound : (g : Given Core) → Gives (Sound w entities) g → Gives (SoundSense w entities) (as_sense g)
   as_sense_sound (Fits c) h = h
   as_sense_sound (Refuses kind node) h = tt
@@ -126,17 +127,18 @@ module _ (w : World) (entities : ℕ → Option Ctype) (world : SoundWorld w ent
     passed_sound at (c ∷ rest) = sound c
 
     module _ (fit : ConstantsFit s) where
-      primary_of_sound : (at first : ℕ) (rest : List ℕ) (kind : TokenKind) → kind_at s first ≡ kind → Gives (SoundSense w entities) (primary_of w s sense at first rest kind)
-      primary_of_sound at first rest Identifier e = as_sense_sound (name_row w (place_at s first) at (w.meaning first)) (name_sound w entities world (place_at s first) at first (w.meaning first) refl)
-      primary_of_sound at first rest Integer e = let holds = integer_holds (spelling_at s first) (fit first e) in (holds.0, holds.1, tt, tt)
-      primary_of_sound at first rest Character e = (character_holds (spelling_at s first), tt, tt, tt)
-      primary_of_sound at first rest Text e = text_sound w entities world (place_at s first) (string_bytes w s sense (first ∷ rest))
-      primary_of_sound at first rest (Punctuator p) e = passed_sound at rest
-      primary_of_sound at first rest kind e = tt
+      primary_of_sound : (at first : ℕ) (rest : List ℕ) (kind : TokenKind) → kind_at s first ≡ kind → ((m : Meaning) → w.meaning first ≡ Some m → MeaningFits entities m)
+          → Gives (SoundSense w entities) (primary_of w s sense at first rest kind)
+      primary_of_sound at first rest Identifier e names = as_sense_sound (name_row w (place_at s first) at (w.meaning first)) (name_sound w entities world (place_at s first) at first (w.meaning first) refl names)
+      primary_of_sound at first rest Integer e names = let holds = integer_holds (spelling_at s first) (fit first e) in (holds.0, holds.1, tt, tt)
+      primary_of_sound at first rest Character e names = (character_holds (spelling_at s first), tt, tt, tt)
+      primary_of_sound at first rest Text e names = text_sound w entities world (place_at s first) (string_bytes w s sense (first ∷ rest))
+      primary_of_sound at first rest (Punctuator p) e names = passed_sound at rest
+      primary_of_sound at first rest kind e names = tt
 
-      primary_sound : (at : ℕ) (children : List ℕ) → Gives (SoundSense w entities) (primary_row w s sense at children)
-      primary_sound at [] = tt
-      primary_sound at (first ∷ rest) = primary_of_sound at first rest (kind_at s first) refl
+      primary_sound : (at : ℕ) (children : List ℕ) → FirstFits w entities children → Gives (SoundSense w entities) (primary_row w s sense at children)
+      primary_sound at [] names = tt
+      primary_sound at (first ∷ rest) names = primary_of_sound at first rest (kind_at s first) refl names
 
       -- what follows a primary
       indexed_sound : (place : Place) (at : ℕ) (left : Sense) (list : List ℕ) → SoundSense w entities left → Gives (SoundSense w entities) (indexed w s sense place at left list)
@@ -309,9 +311,10 @@ module _ (w : World) (entities : ℕ → Option Ctype) (world : SoundWorld w ent
           then_gives (Sound w entities) (Sound w entities) (core_of at (sense v)) (λ b. assigned_by w s sense at o a b (sign_at s o)) (core_sound at (sense v) (sound v)) (λ b k. assigned_by_sound at o a b (sign_at s o) h k)))
       assignment_sound at children = tt
 
-      pub expression_sound : (production at : ℕ) (children : List ℕ) → Gives (SoundSense w entities) (expression_row w s sense production at children)
-      expression_sound production at children =
-          if_holds (Gives (SoundSense w entities)) (production == p_primary) _ _ (λ e. primary_sound at children)
+      pub expression_sound : (production at : ℕ) (children : List ℕ) → ((production == p_primary) ≡ true → FirstFits w entities children)
+          → Gives (SoundSense w entities) (expression_row w s sense production at children)
+      expression_sound production at children names =
+          if_holds (Gives (SoundSense w entities)) (production == p_primary) _ _ (λ e. primary_sound at children (names e))
           (λ e. if_holds (Gives (SoundSense w entities)) (production == p_post) _ _ (λ e. post_sound at children)
           (λ e. if_holds (Gives (SoundSense w entities)) (production == p_unary) _ _ (λ e. unary_sound at children)
           (λ e. if_holds (Gives (SoundSense w entities)) (production == p_cast) _ _ (λ e. cast_row_sound at children)

@@ -3,7 +3,7 @@ use Rattle.std.proofs.Common.{arith, T, ◌≡◌, ◌≤◌, ℕ, Bool, true, f
 use Rattle.std.specs.Prelude.{⊤, ℤ, pos, negsuc, neg_ℤ, ◌+ℤ◌, nat_le, nat_lt, int_le, ◌&&◌, option_map, option_and_then, if◌then◌else◌}
 use Rattle.c_types.specs.declared.term.Form.TheVariants.{Fixed, Variadic, Unspecified}
 use Rattle.c_types.specs.Trees.{Ctype, ArrayOf, FunctionFrom}
-use Rattle.core_tree.specs.Rows.{IsFunction, int}
+use Rattle.core_tree.specs.Rows.{int}
 use Rattle.core_tree.specs.Typed.{Holds}
 use Rattle.c_grammar.specs.Productions.{p_enumerator, p_conditional}
 use Rattle.c_scope.specs.declared.kinds.Declared.{Declared as Declaration}
@@ -14,7 +14,8 @@ use Rattle.c_senses.specs.Declarators.{derived, outermost_of, specs_of}
 use Rattle.c_senses.specs.Entities.{agree, fuller, together, all_together, with_length, specified, specified_of, parameter_type, derived_type, own_type, is_parameter, declaration_of, length_given_by, initialiser_for, types_of, type_behind, object_or_function, declared_meaning, enumerated, meaning_of, meaning_at, is_typedef, entity_of, named_by, function_around, result_of}
 use Rattle.c_senses.specs.Statements.{returned_type}
 use Rattle.c_senses.specs.Sense.{Sense, IsSpecified, IsDeclarator, IsParameter, IsValue, Specified}
-use Rattle.sense_laws.specs.Sound.{IsProper, SoundMeaning, MeaningFits, Gives}
+use Rattle.sense_laws.specs.Sound.{IsProper, ProperMeaning, SoundMeaning, MeaningFits, SoundWorld, ProperWorld, Gives}
+use Rattle.sense_laws.specs.Asked.{FirstFits}
 use Rattle.sense_laws.specs.Senses.{SoundSense, IsIntSense}
 use Rattle.std.proofs.lemmas.Bool.{lt-ltb, leb-true}
 use Rattle.pta_base.specs.declared.kind.Kind.TheVariants.{Operand}
@@ -28,7 +29,7 @@ abbrev pub SomeProper : Option Ctype → Type 0
 SomeProper None = ⊤
 SomeProper (Some t) = IsProper t
 
-abbrev SomeSpecified : Option Specified → Type 0
+abbrev pub SomeSpecified : Option Specified → Type 0
 SomeSpecified None = ⊤
 SomeSpecified (Some x) = IsProper x.type
 
@@ -36,19 +37,11 @@ abbrev AllProper : List Ctype → Type 0
 AllProper [] = ⊤
 AllProper (t ∷ rest) = IsProper t × AllProper rest
 
--- what is proper of a meaning, whatever its entity is
-abbrev MeaningProper : Meaning → Type 0
-MeaningProper (Object e t) = IsProper t × (IsFunction t → ⊥)
-MeaningProper (Function e t) = IsProper t × IsFunction t
-MeaningProper (TypeName t) = IsProper t
-MeaningProper (Tag tag) = ⊤
-MeaningProper (Value n) = Holds int n
-
 abbrev SomeMeaning : Option Meaning → Type 0
 SomeMeaning None = ⊤
-SomeMeaning (Some m) = MeaningProper m
+SomeMeaning (Some m) = ProperMeaning m
 
-length_proper : (n : Option ℕ) (t : Ctype) → IsProper t → IsProper (with_length n t)
+pub length_proper : (n : Option ℕ) (t : Ctype) → IsProper t → IsProper (with_length n t)
 length_proper (Some n) (ArrayOf of None) h = h
 length_proper n t h = h
 
@@ -70,7 +63,7 @@ all_together_proper o [] h k = h
 all_together_proper None (t ∷ rest) h k = all_together_proper (Some t) rest k.0 k.1
 all_together_proper (Some a) (t ∷ rest) h k = all_together_proper (Some (together a t)) rest (together_proper a t h k.0) k.1
 
-function_proper : (s : Source) (sense : ℕ → Sense) (e : ℕ) (t : Ctype) → IsProper t → MeaningProper (object_or_function s sense e t)
+function_proper : (s : Source) (sense : ℕ → Sense) (e : ℕ) (t : Ctype) → IsProper t → ProperMeaning (object_or_function s sense e t)
 function_proper s sense e (FunctionFrom r ps f) h = (h, tt)
 function_proper s sense e t h = (h, λ k. k)
 
@@ -83,7 +76,7 @@ module _ (w : World) (entities : ℕ → Option Ctype) (s : Source) (sense : ℕ
       by_sense (IsParameter y) h = h
       by_sense x h = tt
 
-  specified_proper : (o : Option ℕ) → SomeSpecified (specified s sense o)
+  pub specified_proper : (o : Option ℕ) → SomeSpecified (specified s sense o)
   specified_proper None = tt
   specified_proper (Some i) = by_sense (sense i) (sound i)
     where
@@ -91,7 +84,7 @@ module _ (w : World) (entities : ℕ → Option Ctype) (s : Source) (sense : ℕ
       by_sense (IsSpecified y) h = h
       by_sense x h = tt
 
-  derived_is_proper : (x : Option Specified) (d : Option ℕ) → SomeSpecified x → SomeProper (derived_type s sense x d)
+  pub derived_is_proper : (x : Option Specified) (d : Option ℕ) → SomeSpecified x → SomeProper (derived_type s sense x d)
   derived_is_proper None d h = tt
   derived_is_proper (Some x) None h = tt
   derived_is_proper (Some x) (Some d) h = by_sense (sense d) (sound d)
@@ -155,16 +148,9 @@ module _ (w : World) (entities : ℕ → Option Ctype) (s : Source) (sense : ℕ
       by_use None = tt
       by_use (Some leaf) = of_proper ints leaf
 
-  meets : (m : Meaning) → MeaningProper m → MeaningFits entities m → SoundMeaning entities m
-  meets (Object e t) h k = (h.0, k, h.1)
-  meets (Function e t) h k = (h.0, k, h.1)
-  meets (TypeName t) h k = h
-  meets (Tag tag) h k = tt
-  meets (Value n) h k = h
-
-  -- a name means something sound where its entity's type agrees
-  pub meaning_sound : AreInts → (i : ℕ) (m : Meaning) → meaning_at s sense i ≡ Some m → MeaningFits entities m → SoundMeaning entities m
-  meaning_sound ints i m e k = meets m (subst SomeMeaning e (at_proper ints i)) k
+  -- a name means something proper
+  pub meaning_proper : AreInts → (i : ℕ) (m : Meaning) → meaning_at s sense i ≡ Some m → ProperMeaning m
+  meaning_proper ints i m e = subst SomeMeaning e (at_proper ints i)
 
   result_proper : (t : Ctype) → IsProper t → IsProper (result_of w s sense t)
   result_proper (FunctionFrom r ps f) h = h.0
@@ -204,3 +190,25 @@ enumerator_int w s sense at (leaf ∷ rest) = by_expression (child_of s p_condit
     by_expression : (o : Option ℕ) → Gives IsIntSense (enumerator_named w s sense at leaf o)
     by_expression None = by_value (value_before w s sense (before_enumerator w s sense at) +ℤ pos 1)
     by_expression (Some e) = then_gives (λ n. ⊤) IsIntSense (constant_in w s at (sense e)) (enumerator_of w s sense at leaf) (anything (constant_in w s at (sense e))) (λ n k. by_value n)
+
+-- a sound world is proper
+pub proper_world : (w : World) (entities : ℕ → Option Ctype) → SoundWorld w entities → ProperWorld w
+proper_world w entities world = record { parts = world.parts; names = λ leaf m e. proper m (world.names leaf m e); aligns = world.aligns }
+  where
+    proper : (m : Meaning) → SoundMeaning entities m → ProperMeaning m
+    proper (Object e t) h = (h.0, h.2)
+    proper (Function e t) h = (h.0, h.2)
+    proper (TypeName t) h = h
+    proper (Tag tag) h = tt
+    proper (Value n) h = h
+
+pub meanings_fit : (w : World) (entities : ℕ → Option Ctype) → SoundWorld w entities → (children : List ℕ) → FirstFits w entities children
+meanings_fit w entities world [] = tt
+meanings_fit w entities world (first ∷ rest) = λ m e. fits m (world.names first m e)
+  where
+    fits : (m : Meaning) → SoundMeaning entities m → MeaningFits entities m
+    fits (Object e t) h = h.1
+    fits (Function e t) h = h.1
+    fits (TypeName t) h = tt
+    fits (Tag tag) h = tt
+    fits (Value n) h = tt

@@ -26,7 +26,7 @@ use Rattle.c_senses.specs.World.{World, Meaning, Object, Function, TypeName, Tag
 use Rattle.c_senses.specs.Conversions.{OperandSort, Whole, Address, Aggregate, Other, operand_of, value_of, promotion, conversion, place_width}
 use Rattle.c_senses.specs.Operators.{moved}
 use Rattle.c_senses.specs.Objects.{text_core, name_row, address_row, target_row, indirection_row, element_row, index_row, lacks_length, is_array, is_place_sort, member_node, member_step, part_at, along, member_row, arrow_row, is_assigned, assign_row, moves_pointer, updated, update_sorts, update_row, count_of, takes_so_many, further, one_more, arguments, is_returned, call_of, callee_row, call_row, cast_row, size_number, size_row, align_in, align_row, named_width, sized_expression}
-use Rattle.sense_laws.specs.Sound.{Sound, AllSound, AreSound, SoundValue, SoundOf, SoundMeaning, SoundWorld, IsProper, AreProper, IsListOf, IsValueCore, IsFurtherCore, AreArguments, CallsWith, list_of, Gives}
+use Rattle.sense_laws.specs.Sound.{Sound, AllSound, AreSound, SoundValue, SoundOf, ProperMeaning, MeaningFits, ProperWorld, IsProper, AreProper, IsListOf, IsValueCore, IsFurtherCore, AreArguments, CallsWith, list_of, Gives}
 use Rattle.sense_laws.proofs.Giving.{then_gives, if_given, some_given, if_holds, and_left, and_right}
 use Rattle.sense_laws.proofs.Conversions.{proper_of, whole_integer, address_pointer, value_sound, conversion_sound, typed_sound, promotion_value, promotion_promoted, promoted_integer}
 use Rattle.sense_laws.proofs.Operators.{moved_sound}
@@ -50,7 +50,7 @@ part_found : (o : Option (List Part)) (k : ℕ) (m : Part) → part_at o k ≡ S
 part_found None k m h = cc
 part_found (Some members) k m h = (members, refl, h)
 
-module _ (w : World) (entities : ℕ → Option Ctype) (world : SoundWorld w entities) where
+module _ (w : World) (entities : ℕ → Option Ctype) (world : ProperWorld w) where
   part_proper : (t : Ctype) (k : ℕ) (m : Part) → part_at (members_of w t) k ≡ Some m → IsProper m.type
   part_proper (StructureOf tag) k m h = let found = part_found (w.members tag) k m h in world.parts tag found.0 k m found.1 found.2
   part_proper (UnionOf tag) k m h = let found = part_found (w.members tag) k m h in world.parts tag found.0 k m found.1 found.2
@@ -64,16 +64,17 @@ module _ (w : World) (entities : ℕ → Option Ctype) (world : SoundWorld w ent
   own_name_sound place at None = tt
   own_name_sound place at (Some name) = text_sound place name
 
-  pub name_sound : (place : Place) (at leaf : ℕ) (o : Option Meaning) → w.meaning leaf ≡ o → Gives (Sound w entities) (name_row w place at o)
-  name_sound place at i None e = own_name_sound place at w.own_name
-  name_sound place at i (Some (Object entity t)) e =
-      let named : SoundMeaning entities (Object entity t) = world.names i (Object entity t) e in
+  pub name_sound : (place : Place) (at leaf : ℕ) (o : Option Meaning) → w.meaning leaf ≡ o → ((m : Meaning) → w.meaning leaf ≡ Some m → MeaningFits entities m) → Gives (Sound w entities) (name_row w place at o)
+  name_sound place at i None e fits = own_name_sound place at w.own_name
+  name_sound place at i (Some (Object entity t)) e fits =
+      let named : ProperMeaning (Object entity t) = world.names i (Object entity t) e in
       typed_sound w entities (Sound w entities) at t (given_if (w.may_name entity) Operand at (Fits (leaf (Named entity) place t)))
-      (if_given (Sound w entities) (w.may_name entity) Operand at (Fits (leaf (Named entity) place t)) (λ may. ((named.1, named.2), named.0, tt, tt)))
-  name_sound place at i (Some (Function entity t)) e = let named : SoundMeaning entities (Function entity t) = world.names i (Function entity t) e in ((named.1, named.2), named.0, tt, tt)
-  name_sound place at i (Some (TypeName t)) e = tt
-  name_sound place at i (Some (Tag tag)) e = tt
-  name_sound place at i (Some (Value n)) e = (world.names i (Value n) e, tt, tt, tt)
+      (if_given (Sound w entities) (w.may_name entity) Operand at (Fits (leaf (Named entity) place t)) (λ may. ((fits (Object entity t) e, named.1), named.0, tt, tt)))
+  name_sound place at i (Some (Function entity t)) e fits =
+      let named : ProperMeaning (Function entity t) = world.names i (Function entity t) e in ((fits (Function entity t) e, named.1), named.0, tt, tt)
+  name_sound place at i (Some (TypeName t)) e fits = tt
+  name_sound place at i (Some (Tag tag)) e fits = tt
+  name_sound place at i (Some (Value n)) e fits = (world.names i (Value n) e, tt, tt, tt)
 
   -- addresses and what pointers point to
   pub address_sound : (place : Place) (at : ℕ) (c : Core) → Sound w entities c → (s : Sort) → core_sort c ≡ s → Gives (SoundValue w entities) (address_row w place at c s)

@@ -296,3 +296,16 @@ pub record SoundWorld (w : World) (entities : ℕ → Option Ctype) : Type 0 whe
   pub parts : (tag : ℕ) (members : List Part) (k : ℕ) (m : Part) → w.members tag ≡ Some members → slice_get members k ≡ Some m → IsProper m.type
   pub names : (leaf : ℕ) (m : Meaning) → w.meaning leaf ≡ Some m → SoundMeaning entities m
   pub aligns : (t : Ctype) (e : Extent) → IsProper t → extent w t ≡ Some e → Holds unsigned_long (pos e.align)
+
+-- what the declarations around an expression give by themselves, with no word on entities
+abbrev pub ProperMeaning : Meaning → Type 0
+ProperMeaning (Object e t) = IsProper t × (IsFunction t → ⊥)
+ProperMeaning (Function e t) = IsProper t × IsFunction t
+ProperMeaning (TypeName t) = IsProper t
+ProperMeaning (Tag tag) = ⊤
+ProperMeaning (Value n) = Holds int n
+
+pub record ProperWorld (w : World) : Type 0 where
+  pub parts : (tag : ℕ) (members : List Part) (k : ℕ) (m : Part) → w.members tag ≡ Some members → slice_get members k ≡ Some m → IsProper m.type
+  pub names : (leaf : ℕ) (m : Meaning) → w.meaning leaf ≡ Some m → ProperMeaning m
+  pub aligns : (t : Ctype) (e : Extent) → IsProper t → extent w t ≡ Some e → Holds unsigned_long (pos e.align)

@@ -15,14 +15,14 @@ ghost use Rattle.statement_rows.specs.Parts.{initial_at, initial_in, run_in_sens
 
 use crate::kinds::NameKinds;
 use crate::objects::{is_automatic_object, name_at};
-use c_results::{Made, made_at};
+use c_results::{Made, Results, made_at};
 use core_nodes::CheckFault;
 use name_places::initialised_by;
 use std::alloc::Global;
 use tree_reads::{Syntax, children_of};
 
 // Whether an initialiser runs where it stands: it is one of an automatic object.
-fn runs_initialiser(syntax: &Syntax, results: &[Made], kinds: &NameKinds, init: u32) -> bool
+fn runs_initialiser(syntax: &Syntax, results: &Results, kinds: &NameKinds, init: u32) -> bool
     requires kinds { AreKinds (source_read syntax.now) kinds.now }
     requires ordered { ChildrenFirst (source_read syntax.now) }
     requires init { init < length syntax.now.tree.now.nodes.items }
@@ -52,7 +52,7 @@ fn initial_of(made: &Made) -> Option<u32>
 }
 
 // The core node of an initialiser that has been made for a node, if one has been.
-fn initial_made(results: &[Made], node: u32) -> Option<u32>
+fn initial_made(results: &Results, node: u32) -> Option<u32>
     ensures seen { (u : UnitSpec) → NodeSeen u result (initial_in (sense_in (senses_made u results.now) node)) }
     ensures within { (u : UnitSpec) → All (IsWithin u) results.now → IfSome result (λ i. i < length u.nodes.items) }
 {
@@ -66,7 +66,7 @@ fn initial_made(results: &[Made], node: u32) -> Option<u32>
 fn add_initial(
     list: &mut Vec<u32>,
     syntax: &Syntax,
-    results: &[Made],
+    results: &Results,
     kinds: &NameKinds,
     node: u32,
 ) -> Result<(), CheckFault>
@@ -96,7 +96,7 @@ fn add_initial(
 pub fn rest_row(
     alloc: Global,
     syntax: &Syntax,
-    results: &[Made],
+    results: &Results,
     kinds: &NameKinds,
     at: u32,
 ) -> Result<Made, CheckFault>
@@ -130,7 +130,7 @@ fn run_of(made: &Made) -> Option<&[u32]>
 }
 
 // What has been made for a node, if it is a list of what runs.
-fn run_at(results: &[Made], node: u32) -> Option<&[u32]>
+fn run_at(results: &Results, node: u32) -> Option<&[u32]>
     ensures seen { (u : UnitSpec) → RunSeen u result (run_in_sense (sense_in (senses_made u results.now) node)) }
     ensures within { (u : UnitSpec) →
         All (IsWithin u) results.now → IfSome result (λ run. All (λ i. i < length u.nodes.items) run.now) }
@@ -144,7 +144,7 @@ fn run_at(results: &[Made], node: u32) -> Option<&[u32]>
 /// The row of a declaration (C11 6.7): what the rest of it runs. Only memory may want.
 pub fn declaration_row(
     alloc: Global,
-    results: &[Made],
+    results: &Results,
     children: &[u32],
 ) -> Result<Made, CheckFault>
     ensures row { (u : UnitSpec) (w : World) (s : Source) →

@@ -12,7 +12,7 @@ ghost use Rattle.statement_rows.specs.Parts.{name_in, is_placed, object_at, obje
 
 use crate::kinds::NameKinds;
 use c_entities::{has_storage, is_at_file, is_parameter};
-use c_results::{Made, made_at};
+use c_results::{Made, Results, made_at};
 use core_nodes::CheckFault;
 use std::alloc::Global;
 use tree_reads::{Syntax, Test, children_of, first_where, is_a};
@@ -40,7 +40,7 @@ fn name_of(made: &Made) -> Option<u32>
 }
 
 /// The name of a declarator that has been made for a node, if one has been.
-pub fn name_at(results: &[Made], node: u32) -> Option<u32>
+pub fn name_at(results: &Results, node: u32) -> Option<u32>
     ensures { (u : Unit) → result ≡ name_in (sense_in (senses_made u results.now) node) }
 {
     match made_at(results, node) {
@@ -50,7 +50,7 @@ pub fn name_at(results: &[Made], node: u32) -> Option<u32>
 }
 
 // Whether the object that a leaf declares has its place for the whole run, or elsewhere.
-fn is_placed(syntax: &Syntax, results: &[Made], leaf: u32) -> bool
+fn is_placed(syntax: &Syntax, results: &Results, leaf: u32) -> bool
     requires { leaf < length syntax.now.tree.now.nodes.items }
     ensures { (u : Unit) (uses : List (ℕ × ℕ)) →
         result ≡ is_placed (source_in syntax.now uses) (sense_in (senses_made u results.now)) leaf }
@@ -69,7 +69,7 @@ fn is_placed(syntax: &Syntax, results: &[Made], leaf: u32) -> bool
 
 /// Whether a leaf declares an automatic object (C11 6.2.4p5), by the specifiers that have been made for it: no typedef name, no
 /// function, no parameter, nothing at file scope, and nothing that is declared `static` or `extern`.
-pub fn is_automatic_object(syntax: &Syntax, results: &[Made], kinds: &NameKinds, leaf: u32) -> bool
+pub fn is_automatic_object(syntax: &Syntax, results: &Results, kinds: &NameKinds, leaf: u32) -> bool
     requires kinds { AreKinds (source_read syntax.now) kinds.now }
     requires ordered { ChildrenFirst (source_read syntax.now) }
     ensures { (u : Unit) (w : World) (uses : List (ℕ × ℕ)) →
@@ -91,7 +91,7 @@ pub fn is_automatic_object(syntax: &Syntax, results: &[Made], kinds: &NameKinds,
 fn add_name(
     list: &mut Vec<u32>,
     syntax: &Syntax,
-    results: &[Made],
+    results: &Results,
     kinds: &NameKinds,
     node: u32,
 ) -> Result<(), CheckFault>
@@ -115,7 +115,7 @@ fn add_name(
 fn add_object(
     list: &mut Vec<u32>,
     syntax: &Syntax,
-    results: &[Made],
+    results: &Results,
     kinds: &NameKinds,
     node: u32,
 ) -> Result<(), CheckFault>
@@ -138,7 +138,7 @@ fn add_object(
 fn add_among(
     list: &mut Vec<u32>,
     syntax: &Syntax,
-    results: &[Made],
+    results: &Results,
     kinds: &NameKinds,
     nodes: &[u32],
 ) -> Result<(), CheckFault>
@@ -160,7 +160,7 @@ fn add_among(
 fn add_declared(
     list: &mut Vec<u32>,
     syntax: &Syntax,
-    results: &[Made],
+    results: &Results,
     kinds: &NameKinds,
     declaration: u32,
 ) -> Result<(), CheckFault>
@@ -184,7 +184,7 @@ fn add_declared(
 fn add_part(
     list: &mut Vec<u32>,
     syntax: &Syntax,
-    results: &[Made],
+    results: &Results,
     kinds: &NameKinds,
     part: u32,
 ) -> Result<(), CheckFault>
@@ -208,7 +208,7 @@ fn add_part(
 pub fn objects_in(
     alloc: Global,
     syntax: &Syntax,
-    results: &[Made],
+    results: &Results,
     kinds: &NameKinds,
     children: &[u32],
 ) -> Result<Vec<u32>, CheckFault>
@@ -231,7 +231,7 @@ pub fn objects_in(
 pub fn for_objects(
     alloc: Global,
     syntax: &Syntax,
-    results: &[Made],
+    results: &Results,
     kinds: &NameKinds,
     first: Option<u32>,
 ) -> Result<Vec<u32>, CheckFault>

@@ -16,7 +16,7 @@ ghost use Rattle.statement_rows.specs.Parts.{is_definition};
 
 use crate::objects::name_at;
 use c_entities::own_type;
-use c_results::Made;
+use c_results::Results;
 use c_types::table::TypeTable;
 use c_types::term::{Term, TypeId};
 use core_nodes::CheckFault;
@@ -57,7 +57,7 @@ fn definition_around(syntax: &Syntax, node: u32) -> Option<u32>
 }
 
 // The function in whose definition a node stands, by the leaf of its name.
-fn function_around(syntax: &Syntax, results: &[Made], node: u32) -> Option<u32>
+fn function_around(syntax: &Syntax, results: &Results, node: u32) -> Option<u32>
     requires { node < length syntax.now.tree.now.nodes.items }
     ensures { (u : UnitSpec) →
         result ≡ entities.function_around (source_read syntax.now) (sense_in (senses_made u results.now)) node }
@@ -86,7 +86,7 @@ pub fn returned_type(
     alloc: Global,
     unit: &mut Unit,
     syntax: &Syntax,
-    results: &[Made],
+    results: &Results,
     at: u32,
 ) -> Result<Option<TypeId>, CheckFault>
     requires ready { IsReady unit.old }

@@ -17,7 +17,7 @@ use crate::declarations::{declaration_row, rest_row};
 use crate::kinds::NameKinds;
 use crate::objects::objects_in;
 use crate::statements::{Told, made_of, statement_row};
-use c_results::Made;
+use c_results::{Made, Results};
 use core_nodes::CheckFault;
 use core_tree::node::Unit;
 use std::alloc::Global;
@@ -35,7 +35,7 @@ pub fn block_row(
     alloc: Global,
     unit: &mut Unit,
     syntax: &Syntax,
-    results: &[Made],
+    results: &Results,
     kinds: &NameKinds,
     at: u32,
     children: &[u32],
@@ -62,7 +62,7 @@ pub fn row(
     alloc: Global,
     unit: &mut Unit,
     syntax: &Syntax,
-    results: &[Made],
+    results: &Results,
     told: &Told,
     at: u32,
 ) -> Result<Made, CheckFault>

@@ -18,7 +18,7 @@ ghost use Rattle.statement_rows.specs.Words as words;
 use crate::kinds::NameKinds;
 use crate::objects::for_objects;
 use crate::returned::returned_type;
-use c_results::{Made, copied_at};
+use c_results::{Made, Results, copied_at};
 use c_statements::{
     Choices, break_row, case_row, continue_row, default_row, do_row, expression_row, for_parts,
     for_row, goto_row, if_row, labelled_row, own_place, return_row, skip_row, switch_row,
@@ -68,7 +68,7 @@ fn for_statement(
     alloc: Global,
     unit: &mut Unit,
     syntax: &Syntax,
-    results: &[Made],
+    results: &Results,
     kinds: &NameKinds,
     at: u32,
     children: &[u32],
@@ -100,7 +100,7 @@ fn return_statement(
     alloc: Global,
     unit: &mut Unit,
     syntax: &Syntax,
-    results: &[Made],
+    results: &Results,
     at: u32,
     children: &[u32],
 ) -> Result<u32, CheckFault>
@@ -129,7 +129,7 @@ fn of_jump(
     alloc: Global,
     unit: &mut Unit,
     syntax: &Syntax,
-    results: &[Made],
+    results: &Results,
     at: u32,
     children: &[u32],
     word: u8,
@@ -168,7 +168,7 @@ fn of_condition(
     alloc: Global,
     unit: &mut Unit,
     syntax: &Syntax,
-    results: &[Made],
+    results: &Results,
     kinds: &NameKinds,
     at: u32,
     children: &[u32],
@@ -212,7 +212,7 @@ fn of_word(
     alloc: Global,
     unit: &mut Unit,
     syntax: &Syntax,
-    results: &[Made],
+    results: &Results,
     told: &Told,
     at: u32,
     children: &[u32],
@@ -257,7 +257,7 @@ fn leaf_statement(
     alloc: Global,
     unit: &mut Unit,
     syntax: &Syntax,
-    results: &[Made],
+    results: &Results,
     told: &Told,
     at: u32,
     first: u32,
@@ -308,7 +308,7 @@ pub fn statement_row(
     alloc: Global,
     unit: &mut Unit,
     syntax: &Syntax,
-    results: &[Made],
+    results: &Results,
     told: &Told,
     at: u32,
     children: &[u32],

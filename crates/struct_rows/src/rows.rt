@@ -26,7 +26,7 @@ ghost use Rattle.struct_rows.specs.Built.{HasTagTypes, completed_row, built_stru
 
 use crate::completion::{complete, is_small_type};
 use crate::taking::takes;
-use c_results::{Made, members_at};
+use c_results::{Made, Results, members_at};
 use c_structures::members_among;
 use c_tags::{SeenTag, named_tag};
 use c_types::table::TypeTable;
@@ -119,7 +119,7 @@ fn completed(
 fn listed(
     alloc: Global,
     unit: &mut Unit,
-    results: &[Made],
+    results: &Results,
     number: u32,
     is_union: bool,
     at: u32,
@@ -159,7 +159,7 @@ pub fn struct_row(
     alloc: Global,
     unit: &mut Unit,
     syntax: &Syntax,
-    results: &[Made],
+    results: &Results,
     tag: SeenTag,
     at: u32,
 ) -> Result<Made, CheckFault>

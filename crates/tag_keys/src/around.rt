@@ -10,7 +10,7 @@ ghost use Rattle.c_results.specs.Standing.{senses_made};
 ghost use Rattle.tree_reads.specs.Sources.{source_in};
 ghost use Rattle.unit_keys.specs.Placed.{ArePositions};
 
-use c_results::Made;
+use c_results::Results;
 use leaf_maps::LeafMap;
 use tree_reads::{Syntax, is_a};
 use unit_keys::{declaration_with, parts_of};
@@ -60,7 +60,7 @@ pub fn structure_around(syntax: &Syntax, node: u32) -> Option<u32>
 }
 
 /// Whether a node is a word of the specifiers of a declaration that declares members.
-pub fn has_members(syntax: &Syntax, results: &[Made], node: u32) -> bool
+pub fn has_members(syntax: &Syntax, results: &Results, node: u32) -> bool
     requires { node < length syntax.now.tree.now.nodes.items }
     ensures { (u : UnitSpec) (uses : List (ℕ × ℕ)) →
         result ≡ keys.has_members (source_in syntax.now uses) (sense_in (senses_made u results.now)) node }

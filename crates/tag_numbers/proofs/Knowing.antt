@@ -1,5 +1,5 @@
 -- What is known of the tags, put together.
-use Rattle.std.proofs.Common.{arith, ◌≡◌, ℕ, zero, suc, ◌<◌, ◌≤◌, Bool, true, false, ◌&&◌, ◌||◌, List, [], ◌∷◌, Option, Some, None, length, slice_get, refl, ap, ◌∙◌, inl, inr}
+use Rattle.std.proofs.Common.{arith, ◌≡◌, ℕ, zero, suc, ◌<◌, ◌≤◌, Bool, true, false, ◌&&◌, ◌||◌, List, [], ◌∷◌, Option, None, length, slice_get, refl, ap, ◌∙◌, inl, inr}
 use Rattle.std.specs.Prelude.{◌==◌, is_some}
 use Rattle.std.proofs.lemmas.Bool.Decides.{leb_tells}
 use Rattle.c_grammar.specs.Productions.{p_struct, p_enum, p_members}
@@ -15,11 +15,6 @@ slice_get_past [] zero h = refl
 slice_get_past [] (suc i) h = refl
 slice_get_past (x ∷ xs) zero h = absurd (omega arith)
 slice_get_past (x ∷ xs) (suc i) h = slice_get_past xs i (omega arith)
-
-slice_get_some : {X : Type 0} (xs : List X) (i : ℕ) → i < length xs → (x : X) × (slice_get xs i ≡ Some x)
-slice_get_some [] i h = absurd (omega arith)
-slice_get_some (x ∷ xs) zero h = (x, refl)
-slice_get_some (x ∷ xs) (suc i) h = slice_get_some xs i (omega arith)
 
 -- a specifier is a node of the tree
 specifier_inside : (s : Source) (i : ℕ) → is_tag_specifier s i ≡ true → i < length s.nodes
@@ -42,16 +37,13 @@ and_assoc : (a b c : Bool) → ((a && b) && c) ≡ (a && (b && c))
 and_assoc true b c = refl
 and_assoc false b c = refl
 
-pub tags_known : (s : Source) (t : Tags) → t.count ≡ length t.firsts.items → AreTagNumbers s t.firsts.items → AreSeen s t.seen.items (length s.nodes) → MarkedBefore s (length s.nodes) t.completed.items → AreTags s t
+pub tags_known : (s : Source) (t : Tags) → t.count ≡ length t.firsts.items → AreTagNumbers s t.firsts.items → AreSeen s t.seen (length s.nodes) → MarkedBefore s (length s.nodes) t.completed.items → AreTags s t
 tags_known s t count numbers seen marked = record {
   count = count ∙ numbers.count;
   differ = numbers.differ;
   below = λ d tag. omega (arith, count, numbers.below d tag);
   onto = λ n h. numbers.onto n (omega (arith, count));
-  seen = λ i specifier.
-      let inside = specifier_inside s i specifier in
-      let (tag, at) = slice_get_some t.seen.items i (omega (arith, inside, seen.long)) in
-      (tag, at, seen.each i tag at specifier);
+  seen = λ i specifier. seen.each i (specifier_inside s i specifier) specifier;
   firsts_are = λ n h. numbers.firsts_are n (omega (arith, count));
   least = numbers.least;
   completed = λ w sense n.

@@ -1,8 +1,8 @@
 -- Numbers of tags, one specifier more at a time.
-use Rattle.std.proofs.Common.{arith, ◌≡◌, ℕ, zero, suc, ◌+◌, ◌<◌, ◌≤◌, Bool, true, false, ◌&&◌, List, [], ◌∷◌, ◌++◌, Option, Some, None, cond, refl, sym, ap, ◌∙◌, ◌⊎◌, inl, inr, subst, length, get_or, slice_get, length-append}
-use Rattle.std.specs.Prelude.{◌==◌, slice_index, max, position, unwrap_or}
+use Rattle.std.proofs.Common.{arith, ◌≡◌, ℕ, zero, suc, ◌+◌, ◌<◌, ◌≤◌, Bool, true, false, ◌&&◌, List, [], ◌∷◌, ◌++◌, Option, Some, None, cond, refl, sym, ap, ◌∙◌, ◌⊎◌, inl, inr, subst, length, length-append}
+use Rattle.std.specs.Prelude.{◌==◌, slice_index, max, position, unwrap_or, nat_lt, is_none}
 use Rattle.std.proofs.lemmas.Bool.Decides.{nat_tests, leb_tells}
-use Rattle.std.proofs.lemmas.Bool.{eq-eqb, ne_eqb}
+use Rattle.std.proofs.lemmas.Bool.{eq-eqb, ne_eqb, lt-ltb}
 use Rattle.std.proofs.lemmas.List.{get_or_append_left}
 use Rattle.c_grammar.specs.Productions.{p_struct}
 use Rattle.c_senses.specs.Tree.{Source, is_a, numbers_from}
@@ -11,11 +11,13 @@ use Rattle.c_senses.specs.Tags.{is_tag_specifier, tag_declared, tag_of, tags_amo
 use Rattle.c_tags.specs.declared.specifiers.SeenTag.{SeenTag}
 use Rattle.c_tags.specs.Seen.{IsSeen}
 use Rattle.c_senses.specs.Right.{is_tag, TagsDiffer}
-use Rattle.tag_numbers.specs.Numbers.{AreNumbered, AreSeen}
+use Rattle.leaf_maps.specs.Numbers.{number_at}
+use Rattle.tag_numbers.specs.declared.seen.SeenTags.{SeenTags}
+use Rattle.tag_numbers.specs.Numbers.{AreNumbered, AreSeen, seen_in}
 use Rattle.tag_numbers.specs.Known.{AreTagNumbers}
-use Rattle.tag_numbers.specs.Ordered.{AreInOrder, place_of_tag}
+use Rattle.tag_numbers.specs.Ordered.{AreInOrder}
 use Rattle.tag_numbers.proofs.Listing.{any_here, any_found}
-use Rattle.tag_numbers.proofs.Ordering.{first_not, first_here, not_structure, not_again, is_new, place_is, no_place, listed_is}
+use Rattle.tag_numbers.proofs.Ordering.{first_not, first_here, not_structure, not_again, is_new, place_is, no_place}
 
 below_or_here : (j i : ℕ) → j < i + 1 → (j < i) ⊎ (j ≡ i)
 below_or_here j i h = elim (leb_tells (suc j) i) [ inl less ↦ let lt = less.1 in inl (omega arith) | inr more ↦ let ge = more.1 in inr (omega arith) ]
@@ -161,16 +163,17 @@ among_from_below s k (suc n) i low high t =
     ]
 
 -- what follows for the source with these numbers
-module _ (s : Source) (numbers : ℕ → Option ℕ) (firsts list : List ℕ) (are : AreNumbered s numbers firsts (length s.nodes)) (long : length list ≡ length s.nodes) (listed : (d : ℕ) → d < length s.nodes → get_or list d d ≡ unwrap_or (numbers d) 0) where
+module _ (s : Source) (numbers : ℕ → Option ℕ) (firsts : List ℕ) (number : ℕ → ℕ) (are : AreNumbered s numbers firsts (length s.nodes)) (number_of : (d : ℕ) → number d ≡ cond (nat_lt d (length s.nodes)) (unwrap_or (numbers d) 0) d) where
   abbrev with_numbers : Source
-  with_numbers = numbered (λ node. get_or list node node) s
+  with_numbers = numbered number s
 
   -- the number of a tag
   pub number_is : (d k : ℕ) → numbers d ≡ Some k → with_numbers.tag_number d ≡ k
   number_is d k e =
       let b = are.back d k e in
       let inside : d < length s.nodes = omega (arith, b.1, are.within k b.0) in
-      listed d inside ∙ ap (λ (o : Option ℕ). unwrap_or o 0) e
+      number_of d
+      ∙ (ap (λ (b : Bool). cond b (unwrap_or (numbers d) 0) d) (lt-ltb d (length s.nodes) inside) ∙ ap (λ (o : Option ℕ). unwrap_or o 0) e)
 
   -- a tag is known by a number
   tag_known : (d : ℕ) → is_tag with_numbers d ≡ true → (k : ℕ) × (numbers d ≡ Some k)
@@ -237,8 +240,8 @@ module _ (s : Source) (numbers : ℕ → Option ℕ) (firsts list : List ℕ) (a
   unfolding is_of
   in_order = record {
     each = λ d.
-        listed_is list (length s.nodes) d (unwrap_or (place_of_tag s d) 0) long
-        (λ lt. listed d lt ∙ ap (λ (o : Option ℕ). unwrap_or o 0) (sym (place_by d (numbers d) refl) ∙ ap (λ (xs : List ℕ). position (λ i. tag_declared s i == d) xs) are.all));
+        number_of d
+        ∙ ap (λ (o : Option ℕ). cond (nat_lt d (length s.nodes)) (unwrap_or o 0) d) (sym (place_by d (numbers d) refl) ∙ ap (λ (xs : List ℕ). position (λ i. tag_declared s i == d) xs) are.all);
   }
 
   -- all that is known of the numbers
@@ -257,21 +260,37 @@ module _ (s : Source) (numbers : ℕ → Option ℕ) (firsts list : List ℕ) (a
     ordered = in_order;
   }
 
-slice_get_last : {X : Type 0} (xs : List X) (y : X) (i : ℕ) (e : X) → slice_get (xs ++ y ∷ []) i ≡ Some e → (slice_get xs i ≡ Some e) ⊎ ((i ≡ length xs) × (y ≡ e))
-slice_get_last [] y zero e h = inr (refl, cc)
-slice_get_last [] y (suc i) e h = cc
-slice_get_last (x ∷ xs) y zero e h = inl h
-slice_get_last (x ∷ xs) y (suc i) e h = elim (slice_get_last xs y i e h) [ inl p ↦ inl p | inr p ↦ inr (omega (arith, p.0), p.1) ]
+abbrev seen_by : Option ℕ → Option ℕ → SeenTag
+seen_by number unfit = record { number = unwrap_or number 0; fits = is_none unfit }
+
+pub seen_none : (s : Source) (seen : SeenTags) → ((q : ℕ) → number_at seen.numbers q ≡ None) → ((q : ℕ) → number_at seen.unfit q ≡ None) → AreSeen s seen 0
+seen_none s seen numbers unfit = record { each = λ j h t. absurd (omega arith); later = λ j h. (numbers j, unfit j) }
 
 -- what is known of one node's tag more
-pub seen_next : (s : Source) (seen : List SeenTag) (tag : SeenTag) (i : ℕ) → AreSeen s seen i → (is_tag_specifier s i ≡ true → IsSeen s i tag) → AreSeen s (seen ++ tag ∷ []) (i + 1)
-seen_next s seen tag i are here = record {
-  long = omega (arith, are.long, length-append seen (tag ∷ []));
-  each = λ j t at specifier. elim (slice_get_last seen tag j t at) [
-    | inl before ↦ are.each j t before specifier
-    | inr last ↦
-        let place : j ≡ i = last.0 ∙ are.long in
-        let passes : is_tag_specifier s i ≡ true = ap (is_tag_specifier s) (sym place) ∙ specifier in
-        subst (λ (x : SeenTag). IsSeen s j x) last.1 (subst (λ (k : ℕ). IsSeen s k tag) (sym place) (here passes))
+pub seen_skip : (s : Source) (seen : SeenTags) (i : ℕ) → AreSeen s seen i → is_tag_specifier s i ≡ false → AreSeen s seen (i + 1)
+seen_skip s seen i are not_one = record {
+  each = λ j h t. elim (below_or_here j i h) [
+    | inl less ↦ are.each j less t
+    | inr same ↦ absurd (let u : is_tag_specifier s i ≡ true = ap (is_tag_specifier s) (sym same) ∙ t in cc)
   ];
+  later = λ j h. are.later j (omega arith);
+}
+
+pub seen_next : (s : Source) (old new : SeenTags) (tag : SeenTag) (i : ℕ) → AreSeen s old i → (number_at old.numbers i ≡ None → number_at old.unfit i ≡ None → seen_in new i ≡ tag) → ((q : ℕ) → (i ≡ q → ⊥) → number_at new.numbers q ≡ number_at old.numbers q) → ((q : ℕ) → (i ≡ q → ⊥) → number_at new.unfit q ≡ number_at old.unfit q) → IsSeen s i tag → AreSeen s new (i + 1)
+seen_next s old new tag i are here others fitting is = record {
+  each = λ j h t. elim (below_or_here j i h) [
+    | inl less ↦
+        let apart : i ≡ j → ⊥ = λ e. omega arith in
+        let same : seen_in new j ≡ seen_in old j =
+        ap (λ (o : Option ℕ). seen_by o (number_at new.unfit j)) (others j apart) ∙ ap (λ (o : Option ℕ). seen_by (number_at old.numbers j) o) (fitting j apart) in
+        subst (λ (x : SeenTag). IsSeen s j x) (sym same) (are.each j less t)
+    | inr same ↦
+        let free = are.later i (omega arith) in
+        let known : seen_in new i ≡ tag = here free.0 free.1 in
+        subst (λ (k : ℕ). IsSeen s k (seen_in new k)) (sym same) (subst (λ (x : SeenTag). IsSeen s i x) (sym known) is)
+  ];
+  later = λ j h.
+      let apart : i ≡ j → ⊥ = λ e. omega arith in
+      let free = are.later j (omega arith) in
+      (others j apart ∙ free.0, fitting j apart ∙ free.1);
 }

@@ -1,9 +1,8 @@
 -- First specifiers, one node more at a time, and the places of tags among them.
-use Rattle.std.proofs.Common.{arith, ◌≡◌, ℕ, ◌+◌, ◌<◌, Bool, true, false, ◌&&◌, List, [], ◌∷◌, ◌++◌, append-nil, Some, None, cond, refl, sym, ap, ◌∙◌, length, get_or, inl, inr}
+use Rattle.std.proofs.Common.{arith, ◌≡◌, ℕ, ◌+◌, ◌<◌, Bool, true, false, ◌&&◌, List, [], ◌∷◌, ◌++◌, append-nil, Some, None, cond, refl, ap, ◌∙◌, length}
 use Rattle.std.specs.Prelude.{◌==◌, not, nat_lt, slice_index, position}
 use Rattle.std.specs.List.{position_or_len}
-use Rattle.std.proofs.lemmas.Bool.{lt-ltb, le-ltb, eqb-true, eq-eqb, and_parts, cases_lt}
-use Rattle.std.proofs.lemmas.List.{get_or_past}
+use Rattle.std.proofs.lemmas.Bool.{lt-ltb, le-ltb, eqb-true, eq-eqb, and_parts}
 use Rattle.std.proofs.lemmas.List.Sums.{position_or_len_is}
 use Rattle.c_grammar.specs.Productions.{p_struct}
 use Rattle.c_senses.specs.Tree.{Source, is_a, any_where, numbers_from}
@@ -55,10 +54,3 @@ pub no_place : (p : ℕ → Bool) (xs : List ℕ) → ((j : ℕ) → j < length 
 no_place p xs none =
     let e : position_or_len p xs ≡ length xs = position_or_len_is p xs (length xs) 0 (omega arith) none (λ h. absurd (omega arith)) in
     ap (λ (n : ℕ). cond (nat_lt n (length xs)) (Some n) None) e ∙ ap (λ (b : Bool). cond b (Some (length xs)) None) (le-ltb (length xs) (length xs) (omega arith))
-
--- a list by nodes, with a number for each, and what it gives past its end
-pub listed_is : (list : List ℕ) (n d : ℕ) (number : ℕ) → length list ≡ n → (d < n → get_or list d d ≡ number) → get_or list d d ≡ cond (nat_lt d n) number d
-listed_is list n d number long here = elim (cases_lt d n) [
-  | inl lt ↦ here lt ∙ sym (ap (λ (b : Bool). cond b number d) (lt-ltb d n lt))
-  | inr ge ↦ get_or_past list d d (omega (arith, long, ge)) ∙ sym (ap (λ (b : Bool). cond b number d) (le-ltb d n ge))
-]

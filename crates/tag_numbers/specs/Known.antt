@@ -1,5 +1,5 @@
 -- What is known of the tags of a unit before its rows.
-use Rattle.std.specs.Prelude.{ℕ, ◌≡◌, ◌<◌, true, false, ◌≤◌, List, length, slice_get, slice_index, get_or, Some}
+use Rattle.std.specs.Prelude.{ℕ, ◌≡◌, ◌<◌, true, false, ◌≤◌, List, length, slice_index, get_or}
 use Rattle.c_grammar.specs.Productions.{p_struct}
 use Rattle.c_senses.specs.Tree.{Source, is_a}
 use Rattle.c_senses.specs.World.{World}
@@ -7,9 +7,9 @@ use Rattle.c_senses.specs.Sense.{Sense}
 use Rattle.c_senses.specs.Tags.{is_tag_specifier, tag_of, tags_below}
 use Rattle.c_senses.specs.Right.{is_tag, TagsDiffer}
 use Rattle.c_senses.specs.Entities.{is_completed_somewhere}
-use Rattle.c_tags.specs.declared.specifiers.SeenTag.{SeenTag}
 use Rattle.c_tags.specs.Seen.{IsSeen}
 use Rattle.tag_numbers.specs.Ordered.{AreInOrder}
+use Rattle.tag_numbers.specs.Numbers.{seen_in}
 use Rattle.tag_numbers.specs.declared.tags.Tags.{Tags}
 
 -- the numbers of a source's structures and unions are those below the number of their first specifiers, each of one tag
@@ -32,7 +32,7 @@ pub record AreTags (s : Source) (t : Tags) : Type 0 where
   pub below : (d : ℕ) → is_tag s d ≡ true → s.tag_number d < t.count
   pub onto : (n : ℕ) → n < t.count → (d : ℕ) × (is_tag s d ≡ true) × (s.tag_number d ≡ n)
   -- what is known of each specifier
-  pub seen : (i : ℕ) → is_tag_specifier s i ≡ true → (tag : SeenTag) × (slice_get t.seen.items i ≡ Some tag) × IsSeen s i tag
+  pub seen : (i : ℕ) → is_tag_specifier s i ≡ true → IsSeen s i (seen_in t.seen i)
   -- the first specifier of each tag
   pub firsts_are : (n : ℕ) → n < t.count → (is_a s p_struct (slice_index t.firsts.items n) ≡ true) × (tag_of s (slice_index t.firsts.items n) ≡ n)
   pub least : (i : ℕ) → i < length s.nodes → is_a s p_struct i ≡ true → slice_index t.firsts.items (tag_of s i) ≤ i

@@ -1,5 +1,5 @@
 -- Numbers of structures and unions, in the order of their first specifiers.
-use Rattle.std.specs.Prelude.{ℕ, ◌≡◌, ◌<◌, ◌≤◌, ◌==◌, Bool, true, false, ◌&&◌, Option, Some, is_some, List, length, slice_get, slice_index, get_or}
+use Rattle.std.specs.Prelude.{ℕ, ◌≡◌, ◌<◌, ◌≤◌, ◌==◌, Bool, true, false, ◌&&◌, Option, Some, None, is_some, is_none, unwrap_or, List, length, slice_index, get_or}
 use Rattle.leaf_maps.specs.Numbers.{number_at}
 use Rattle.c_grammar.specs.Productions.{p_struct, p_members}
 use Rattle.c_senses.specs.Tree.{Source, is_a, any_where, child_of, numbers_from}
@@ -8,6 +8,7 @@ use Rattle.c_tags.specs.declared.specifiers.SeenTag.{SeenTag}
 use Rattle.c_tags.specs.Seen.{IsSeen}
 use Rattle.tag_numbers.specs.Ordered.{first_specifiers}
 use Rattle.tag_numbers.specs.declared.numbers.Numbering.{Numbering}
+use Rattle.tag_numbers.specs.declared.seen.SeenTags.{SeenTags}
 
 -- the specifiers before node `i` have given their tags the numbers, by the nodes by which tags are known; the first specifier of each
 -- number is kept
@@ -28,9 +29,13 @@ abbrev pub ListedBefore : Source → ℕ → List Bool → Type 0
 ListedBefore s i listed = (d : ℕ) → get_or listed d false ≡ any_where (λ j. has_list s j && (tag_declared s j == d)) (specifiers_before s i)
 
 -- what is known of the tags of the specifiers before a node
-pub record AreSeen (s : Source) (seen : List SeenTag) (i : ℕ) : Type 0 where
-  pub long : length seen ≡ i
-  pub each : (j : ℕ) (tag : SeenTag) → slice_get seen j ≡ Some tag → is_tag_specifier s j ≡ true → IsSeen s j tag
+abbrev pub seen_in : SeenTags → ℕ → SeenTag
+seen_in seen j = record { number = unwrap_or (number_at seen.numbers j) 0; fits = is_none (number_at seen.unfit j) }
+
+pub record AreSeen (s : Source) (seen : SeenTags) (i : ℕ) : Type 0 where
+  pub each : (j : ℕ) → j < i → is_tag_specifier s j ≡ true → IsSeen s j (seen_in seen j)
+  -- of no node from there on is anything known yet
+  pub later : (j : ℕ) → i ≤ j → (number_at seen.numbers j ≡ None) × (number_at seen.unfit j ≡ None)
 
 -- a specifier with a list of members
 abbrev pub completes : Source → ℕ → Bool

@@ -1,10 +1,9 @@
 // Numbers in the order of the first specifiers.
-ghost use Rattle.std.specs.Prelude.{◌≡◌, ◌<◌, ◌+◌, ℕ, List, true, length, get_or, unwrap_or, IfOk, OnOk};
+ghost use Rattle.std.specs.Prelude.{◌≡◌, ◌<◌, ◌+◌, ℕ, List, true, length, IfOk, OnOk};
 ghost use Rattle.c_grammar.specs.Productions.{p_struct};
 ghost use Rattle.c_senses.specs.Tree as tree;
 ghost use Rattle.c_senses.specs.Tree.{Source};
 ghost use Rattle.c_senses.specs.Tags as spec;
-ghost use Rattle.leaf_maps.specs.Numbers.{number_at};
 ghost use Rattle.tree_reads.specs.Sources.{source_in};
 ghost use Rattle.tag_numbers.specs.Firsts.{Declares};
 ghost use Rattle.tag_numbers.specs.Numbers.{AreNumbers};
@@ -85,17 +84,4 @@ pub(crate) fn number_all(
         number_node(&mut numbering, syntax, declaring, node as u32)?;
     }
     Ok(numbering)
-}
-
-/// The numbers of a map as a list by node, with 0 for each node that has none.
-pub(crate) fn by_node(alloc: Global, numbers: &LeafMap, count: u32) -> Result<Vec<u32>, OutOfMemory>
-    ensures long { IfOk result (λ list. length list.items ≡ count) }
-    ensures each { IfOk result (λ list.
-        (d : ℕ) → d < count → get_or list.items d d ≡ unwrap_or (number_at numbers.now d) 0) }
-{
-    let mut list = Vec::new(alloc);
-    for node in 0..count {
-        list.push(numbers.get(node).unwrap_or(0))?;
-    }
-    Ok(list)
 }

@@ -1,5 +1,5 @@
 // What is known of each specifier's tag.
-ghost use Rattle.std.specs.Prelude.{◌≡◌, ◌<◌, ◌+◌, ◌==◌, ◌&&◌, ◌||◌, not, ℕ, List, Some, true, false, length, get_or, slice_get, IfOk, OnOk};
+ghost use Rattle.std.specs.Prelude.{◌≡◌, ◌<◌, ◌+◌, ◌==◌, ◌&&◌, ◌||◌, not, ℕ, List, Some, None, true, false, length, get_or, slice_get, IfOk, OnOk};
 ghost use Rattle.c_grammar.specs.Productions.{p_struct, p_members};
 ghost use Rattle.c_senses.specs.Tree as tree;
 ghost use Rattle.c_senses.specs.Tree.{Source};
@@ -9,11 +9,13 @@ ghost use Rattle.c_tags.specs.Seen.{IsSeen};
 ghost use Rattle.tree_reads.specs.Sources.{source_in};
 ghost use Rattle.tag_numbers.specs.Firsts.{Declares};
 ghost use Rattle.tag_numbers.specs.Numbers.{ListedBefore};
-ghost use Rattle.tag_numbers.specs.Numbers.{AreSeen, MarkedBefore, completes};
+ghost use Rattle.tag_numbers.specs.Numbers.{AreSeen, MarkedBefore, completes, seen_in};
+ghost use Rattle.leaf_maps.specs.Numbers.{number_at};
 
 use crate::declaring::{Declaring, tag_declared};
 use crate::numbers::P_STRUCT;
 use c_tags::SeenTag;
+use leaf_maps::LeafMap;
 use pta_base::OutOfMemory;
 use std::alloc::Global;
 use tree_reads::{Syntax, child_of, is_a, is_leaf, word_of};
@@ -23,6 +25,25 @@ const P_MEMBERS: u32 = 13;
 const P_ENUM: u32 = 16;
 
 const P_ENUMERATORS: u32 = 17;
+
+/// What is known of the tags of specifiers: the number of each by its node, and those that may not stand. All other nodes take no memory.
+#[derive(Drop)]
+pub(crate) struct SeenTags {
+    pub(crate) numbers: LeafMap,
+    pub(crate) unfit: LeafMap,
+}
+
+impl SeenTags {
+    /// What is known of the tag of a specifier.
+    pub(crate) fn get(&self, node: u32) -> SeenTag
+        ensures { result ≡ seen_in self.now node }
+    {
+        SeenTag {
+            number: self.numbers.get(node).unwrap_or(0),
+            fits: self.unfit.get(node).is_none(),
+        }
+    }
+}
 
 // Whether a node is the specifier of a structure, union or enumeration.
 fn is_tag_specifier(syntax: &Syntax, node: u32) -> bool
@@ -171,25 +192,63 @@ fn see_node(
     Ok(tag)
 }
 
-/// What is known of each specifier's tag, by node. A tag that is known by a node past the tree, which no bound unit has, counts as
+// Adds what is known of the tag of one node more.
+fn add_seen(seen: &mut SeenTags, node: u32, tag: SeenTag) -> Result<(), OutOfMemory>
+    ensures here { OnOk result (
+        number_at seen.old.numbers node ≡ None → number_at seen.old.unfit node ≡ None → seen_in seen.new node ≡ tag) }
+    ensures others { OnOk result ((q : ℕ) →
+        (node ≡ q → ⊥) → number_at seen.new.numbers q ≡ number_at seen.old.numbers q) }
+    ensures fitting { OnOk result ((q : ℕ) →
+        (node ≡ q → ⊥) → number_at seen.new.unfit q ≡ number_at seen.old.unfit q) }
+{
+    seen.numbers.add(node, tag.number)?;
+    if !tag.fits {
+        seen.unfit.add(node, 0)?;
+    }
+    Ok(())
+}
+
+// Keeps what is known of the tag of one node more, if it is a specifier.
+fn keep_seen(
+    syntax: &Syntax,
+    seen: &mut SeenTags,
+    node: u32,
+    tag: SeenTag,
+) -> Result<(), OutOfMemory>
+    ensures { OnOk result ((uses : List (ℕ × ℕ)) →
+        let s = source_in syntax.now uses in
+        AreSeen s seen.old node →
+        (spec.is_tag_specifier s node ≡ true → IsSeen s node tag) → AreSeen s seen.new (node + 1)) }
+{
+    if !is_tag_specifier(syntax, node) {
+        return Ok(());
+    }
+    add_seen(seen, node, tag)?;
+    Ok(())
+}
+
+/// What is known of each specifier's tag. A tag that is known by a node past the tree, which no bound unit has, counts as
 /// want of memory.
 pub(crate) fn seen_tags(
     alloc: Global,
     syntax: &Syntax,
     declaring: &Declaring,
-) -> Result<Vec<SeenTag>, OutOfMemory>
-    ensures { IfOk result (λ list. (uses : List (ℕ × ℕ)) →
-        let s = source_in syntax.now uses in Declares s declaring.now → AreSeen s list.items (length s.nodes)) }
+) -> Result<SeenTags, OutOfMemory>
+    ensures { IfOk result (λ seen. (uses : List (ℕ × ℕ)) →
+        let s = source_in syntax.now uses in Declares s declaring.now → AreSeen s seen (length s.nodes)) }
 {
     let count = syntax.tree.nodes.len();
     if count > u32::MAX as usize {
         return Err(OutOfMemory);
     }
     let mut listed: Vec<bool> = vec![in alloc; false; count]?;
-    let mut seen = Vec::new(alloc);
+    let mut seen = SeenTags {
+        numbers: LeafMap::new(alloc),
+        unfit: LeafMap::new(alloc),
+    };
     for node in 0..count {
         let tag = see_node(syntax, declaring, &mut listed, node as u32)?;
-        seen.push(tag)?;
+        keep_seen(syntax, &mut seen, node as u32, tag)?;
     }
     Ok(seen)
 }

@@ -13,21 +13,21 @@ ghost use Rattle.tag_numbers.specs.Firsts.{Declares};
 ghost use Rattle.tag_numbers.specs.Ordered.{AreInOrder};
 
 use crate::declaring::{Declaring, meanings};
-use crate::numbers::{by_node, number_all};
-use crate::seen::{completed_tags, flag_at, seen_tags};
+use crate::numbers::number_all;
+use crate::seen::{SeenTags, completed_tags, flag_at, seen_tags};
 use c_scope::Bound;
 use c_tags::SeenTag;
 use pta_base::OutOfMemory;
 use std::alloc::Global;
-use tree_reads::Syntax;
+use tree_reads::{Syntax, TagNumbers};
 
 /// What is known of the tags of a unit before its rows: how many structures and unions there are, whose numbers are those below that
-/// count; what is known of each specifier's tag, by node; which tags have a list of members somewhere in the unit, by number; and the
+/// count; what is known of each specifier's tag; which tags have a list of members somewhere in the unit, by number; and the
 /// first specifier of each tag, by number.
 #[derive(Drop)]
 pub struct Tags {
     pub count: u32,
-    pub seen: Vec<SeenTag>,
+    pub(crate) seen: SeenTags,
     pub completed: Vec<bool>,
     pub firsts: Vec<u32>,
 }
@@ -44,13 +44,7 @@ impl Tags {
     pub fn seen_at(&self, node: u32) -> SeenTag
         ensures { (s : Source) → AreTags s self.now → spec.is_tag_specifier s node ≡ true → IsSeen s node result }
     {
-        match self.seen.get(node as usize) {
-            Some(tag) => *tag,
-            None => SeenTag {
-                number: 0,
-                fits: false,
-            },
-        }
+        self.seen.get(node)
     }
 
     /// Whether a tag has a list of members somewhere in the unit (C11 6.9.2p3).
@@ -78,8 +72,11 @@ fn with_numbers<'a>(
         return Err(OutOfMemory);
     }
     let numbering = number_all(alloc, &syntax, declaring)?;
-    let numbers = by_node(alloc, &numbering.numbers, nodes as u32)?;
-    Ok((syntax.with_tag_numbers(numbers), numbering.firsts))
+    let tag_numbers = TagNumbers {
+        numbers: numbering.numbers,
+        count: nodes as u32,
+    };
+    Ok((syntax.with_tag_numbers(tag_numbers), numbering.firsts))
 }
 
 // What is known of the tags, by the first specifier of each number.

@@ -8,7 +8,7 @@ ghost use Rattle.c_results.specs.Standing.{senses_made, IsWithin};
 ghost use Rattle.tree_reads.specs.Sources.{source_in};
 ghost use Rattle.statement_rows.specs.Told.{AreSpelled, IsTold};
 
-use c_results::Made;
+use c_results::Results;
 use c_statements::Choices;
 use core_nodes::CheckFault;
 use core_tree::node::Unit;
@@ -28,7 +28,7 @@ pub fn note(
     choices: &mut Choices,
     unit: &Unit,
     syntax: &Syntax,
-    results: &[Made],
+    results: &Results,
     at: u32,
 ) -> Result<(), CheckFault>
     requires ready { IsReady unit.now }

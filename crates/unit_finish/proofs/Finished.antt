@@ -12,7 +12,7 @@ use Rattle.c_senses.specs.Right.{InitialisesOnce}
 use Rattle.unit_parts.specs.declared.declared.Declared.{Declared}
 use Rattle.unit_parts.specs.Renamed.{renamed_node}
 use Rattle.unit_parts.specs.Entities.{numbering_of, entities_from}
-use Rattle.unit_finish.specs.Complete.{Completes}
+use Rattle.unit_finish.specs.Complete.{IsMadeOf, IsUnitOf}
 
 -- functions that give the same are the same
 pub same_numbers : (f g : ℕ → Option ℕ) → ((d : ℕ) → f d ≡ g d) → f ≡ g
@@ -27,24 +27,17 @@ same_trees u v t n e =
     ap (λ (x : Table). trees_with x u.nodes.items u.entities.items) t
     ∙ (ap (λ (x : List Node). trees_with v.types x u.entities.items) n ∙ ap (λ (x : List Entity). trees_with v.types v.nodes.items x) e)
 
--- what is made of those lists
-pub record IsMadeOf (number : ℕ) (types : Table) (keys : List (Option (List ℕ))) (nodes : List Node) (list : List Declared) (v : Unit) : Type 0 where
-  pub types_are : v.types ≡ types
-  pub tags_are : v.tags.items ≡ keys
-  pub nodes_are : v.nodes.items ≡ map (renamed_node (numbering_of list)) nodes
-  pub entities_are : v.entities.items ≡ entities_from number (numbering_of list) v.nodes.items 0 list
-
-module _ (name : List ℕ) (number : ℕ) (types : Table) (keys : List (Option (List ℕ))) (nodes : List Node) (list : List Declared) (u v : Unit) (c : Completes name number types keys nodes list u) (m : IsMadeOf number types keys nodes list v) where
+module _ (name : List ℕ) (number : ℕ) (types : Table) (keys : List (Option (List ℕ))) (nodes : List Node) (list : List Declared) (u v : Unit) (c : IsUnitOf name number types keys nodes list u) (m : IsMadeOf name number types keys nodes list v) where
   same : trees_of u ≡ trees_of v
   same =
-      let ns : u.nodes.items ≡ v.nodes.items = c.nodes_are ∙ sym m.nodes_are in
-      same_trees u v (c.types_are ∙ sym m.types_are) ns (c.entities_are ∙ (ap (λ (l : List Node). entities_from number (numbering_of list) l 0 list) ns ∙ sym m.entities_are))
+      let ns : u.nodes.items ≡ v.nodes.items = c.made.nodes_are ∙ sym m.nodes_are in
+      same_trees u v (c.made.types_are ∙ sym m.types_are) ns (c.made.entities_are ∙ (ap (λ (l : List Node). entities_from number (numbering_of list) l 0 list) ns ∙ sym m.entities_are))
 
   -- all units that are made of them are valid, where one is
   pub valid_too : ValidUnit v
   valid_too = record {
     trees = subst Valid same c.valid.trees;
-    keys = subst (λ (t : Table). Keyed t.tags v.tags.items) (c.types_are ∙ sym m.types_are) (subst (λ (l : List (Option (List ℕ))). Keyed u.types.tags l) (c.tags_are ∙ sym m.tags_are) c.valid.keys);
+    keys = subst (λ (t : Table). Keyed t.tags v.tags.items) (c.made.types_are ∙ sym m.types_are) (subst (λ (l : List (Option (List ℕ))). Keyed u.types.tags l) (c.made.tags_are ∙ sym m.tags_are) c.valid.keys);
     linkages = subst Linkages same c.valid.linkages;
   }
 
@@ -52,10 +45,11 @@ module _ (name : List ℕ) (number : ℕ) (types : Table) (keys : List (Option (
   once_too = subst (λ (t : CoreTrees). (i e : ℕ) → Initialises t i e → (entity : Entity) × (entity_at t e ≡ Some entity) × (entity.body ≡ Some i)) same c.initialises_once
 
 -- what is made by a map of the numbers
-pub made_of : (number : ℕ) (types : Table) (keys : List (Option (List ℕ))) (nodes : List Node) (list seen : List Declared) (v : Unit) (f : ℕ → Option ℕ) (ns : List Node) → seen ≡ list → ((d : ℕ) → f d ≡ numbering_of seen d) → v.types ≡ types → v.tags.items ≡ keys → v.nodes.items ≡ map (renamed_node f) nodes → ns ≡ v.nodes.items → v.entities.items ≡ entities_from number f ns 0 list → IsMadeOf number types keys nodes list v
-made_of number types keys nodes list seen v f ns es numbers t k n en e =
+pub made_of : (name : List ℕ) (number : ℕ) (types : Table) (keys : List (Option (List ℕ))) (nodes : List Node) (list seen : List Declared) (v : Unit) (f : ℕ → Option ℕ) (ns : List Node) → seen ≡ list → ((d : ℕ) → f d ≡ numbering_of seen d) → v.name ≡ name → v.types ≡ types → v.tags.items ≡ keys → v.nodes.items ≡ map (renamed_node f) nodes → ns ≡ v.nodes.items → v.entities.items ≡ entities_from number f ns 0 list → IsMadeOf name number types keys nodes list v
+made_of name number types keys nodes list seen v f ns es numbers named t k n en e =
     let same : f ≡ numbering_of list = same_numbers f (numbering_of seen) numbers ∙ ap numbering_of es in
     record {
+      named = named;
       types_are = t;
       tags_are = k;
       nodes_are = n ∙ ap (λ (g : ℕ → Option ℕ). map (renamed_node g) nodes) same;

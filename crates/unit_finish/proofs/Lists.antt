@@ -5,12 +5,13 @@ use Rattle.std.proofs.lemmas.Bool.Decides.{eqb_tells}
 use Rattle.core_tree.specs.declared.node.Node.{Node}
 use Rattle.core_tree.specs.declared.node.NodeKind.{NodeKind}
 use Rattle.core_tree.specs.declared.node.NodeKind.TheVariants.{Literal}
+use Rattle.core_tree.specs.Range.{child_in}
 use Rattle.kept_nodes.specs.Marked.{marked}
 use Rattle.c_senses.specs.Tree.{paired}
 use Rattle.unit_parts.specs.declared.declared.Declared.{Declared}
 use Rattle.unit_parts.specs.declared.literals.LiteralAt.{LiteralAt}
 use Rattle.unit_parts.specs.Numbered.{numbered_from, staying}
-use Rattle.unit_parts.specs.Renamed.{with_literal, literals_in}
+use Rattle.unit_parts.specs.Renamed.{renamed_node, with_literal, literals_in}
 use Rattle.unit_parts.specs.Entities.{leaves_from, numbering_of, with_body, bodies_of, entity_from, entities_from}
 
 -- a marked node stays, under its new number
@@ -159,3 +160,9 @@ pub map_back : {A B : Type 0} (f : A → B) (xs : List A) (k : ℕ) (y : B) → 
 map_back f [] k y at = cc
 map_back f (x ∷ xs) zero y at = let same : y ≡ f x = cc in (x, refl, same)
 map_back f (x ∷ xs) (suc k) y at = map_back f xs k y at
+
+-- new numbers of entities change no children
+pub same_child : (n : ℕ → Option ℕ) (nodes : List Node) (p k : ℕ) → child_in (slice_get (map (renamed_node n) nodes) p) k ≡ child_in (slice_get nodes p) k
+same_child n [] p k = refl
+same_child n (x ∷ nodes) zero k = refl
+same_child n (x ∷ nodes) (suc p) k = same_child n nodes p k

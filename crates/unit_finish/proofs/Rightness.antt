@@ -1,6 +1,7 @@
 -- That a completed unit is right.
-use Rattle.std.proofs.Common.{arith, ◌≡◌, ◌∙◌, ℕ, ◌+◌, ◌<◌, ◌⊎◌, inl, inr, true, List, [], ◌∷◌, ◌++◌, length, get_or, map, slice_get, Option, Some, None, refl, sym, ap, subst, IsTrue, All}
+use Rattle.std.proofs.Common.{arith, ◌≡◌, ◌∙◌, ℕ, ◌+◌, ◌<◌, ◌⊎◌, inl, inr, true, List, [], ◌∷◌, ◌++◌, length, get_or, map, slice_get, Option, Some, None, refl, sym, ap, subst}
 use Rattle.std.specs.Prelude.{option_map, option_and_then}
+use Rattle.std.proofs.lemmas.List.{length-map}
 use Rattle.std.proofs.lemmas.Option.{slice_get-get_or, slice_get_within, get_or_from_slice_get}
 use Rattle.c_types.specs.Table.{Table, type_of, members_in}
 use Rattle.c_inits.specs.Tables.{parts_in}
@@ -9,7 +10,7 @@ use Rattle.core_tree.specs.declared.node.Entity.{Entity}
 use Rattle.core_tree.specs.declared.node.Unit.{Unit}
 use Rattle.core_tree.specs.declared.node.NodeKind.TheVariants.{Literal}
 use Rattle.core_tree.specs.Typed.{trees_of}
-use Rattle.core_tree.specs.Valid.{IsChild, entity_at}
+use Rattle.core_tree.specs.Valid.{IsChild, child_in, entity_at}
 use Rattle.c_consts.specs.Core.{Core, Cores, kind_of, ctype_of, cores_under, core_in}
 use Rattle.core_nodes.specs.Standing.{core_at, cores_at, IsReady}
 use Rattle.core_nodes.proofs.Reading.{type_is, kind_is, under_is}
@@ -21,14 +22,15 @@ use Rattle.c_senses.specs.Right.{Numbering, SameOwner, SameBody, IsEntityOf, IsB
 use Rattle.c_senses.specs.Right as right
 use Rattle.unit_parts.specs.declared.declared.Declared.{Declared}
 use Rattle.unit_parts.specs.declared.literals.LiteralAt.{LiteralAt}
-use Rattle.unit_parts.specs.Numbered.{numbered_from, new_number, moved, kept_of}
-use Rattle.unit_parts.specs.Renamed.{is_known, renamed_node, literals_in}
+use Rattle.unit_parts.specs.Numbered.{numbered_from, new_number, moved}
+use Rattle.unit_parts.specs.Renamed.{renamed_node, literals_in}
 use Rattle.unit_parts.specs.Entities.{numbering_of, is_owner_known, bodies_of, with_moved_body, entity_from}
+use Rattle.planted_nodes.specs.Planted.{IsBodyCopy, IsMoved, IsPlanted}
 use Rattle.unit_finish.specs.declared.keeping.Kept.{Kept}
-use Rattle.unit_finish.specs.Complete.{IsKept, Completes}
+use Rattle.unit_finish.specs.Complete.{IsKept, IsUnitOf, Completes}
 use Rattle.unit_finish.specs.Walked.{declared_seen, literal_entry, IsWalked}
-use Rattle.unit_finish.proofs.Lists.{kept_from, found, entity_there, entity_back, literal_there, literal_back, body_there, body_back, get_left, get_right, get_either, get_map, map_back}
-use Rattle.unit_finish.proofs.Standing.{number_same, marked_node, within_there, within_top, kept_there, stands, child_there, node_from}
+use Rattle.unit_finish.proofs.Lists.{same_child, kept_from, found, entity_there, entity_back, literal_there, literal_back, body_there, body_back, get_left, get_right, get_either, get_map, map_back}
+use Rattle.unit_finish.proofs.Standing.{at_within, number_same, marked_node, within_there, within_top, kept_there, stands}
 
 same_owner : (n : Numbering) (o : Option ℕ) → is_owner_known n o ≡ true → SameOwner n o (option_and_then n o)
 same_owner n None h = tt
@@ -39,17 +41,23 @@ option_some f None y e = cc
 option_some f (Some j) y e = let same : f j ≡ y = cc in (j, refl, same)
 
 module _ (s : Source) (senses : List Sense) (old new : Unit) (name : List ℕ) (keys : List (Option (List ℕ))) (names : List Declared) (kept : Kept) (list : List Declared) (walked : IsWalked s senses old keys names) (ready : IsReady old) (k : IsKept old.nodes.items names kept) (es : list ≡ kept.names.items ++ map (literal_entry s senses) (literals_in kept.nodes.items)) (c : Completes name s.unit old.types keys kept.nodes.items list new) where
+  abbrev planted : List Declared
+  planted = c.planted.list.items
+
+  abbrev ps : List Node
+  ps = c.planted.nodes.items
+
   abbrev n : Numbering
-  n = numbering_of list
+  n = numbering_of planted
 
   abbrev numbers : List (Option ℕ)
   numbers = numbered_from 0 k.marks
 
-  nodes_are : new.nodes.items ≡ map (renamed_node n) (kept_of old.nodes.items numbers)
-  nodes_are = c.nodes_are ∙ ap (map (renamed_node n)) k.nodes_are
+  abbrev unit : IsUnitOf name s.unit old.types keys ps planted new
+  unit = c.is_unit
 
-  known : All (λ node. IsTrue (is_known n node.kind)) (kept_of old.nodes.items numbers)
-  known = subst (λ (ns : List Node). All (λ node. IsTrue (is_known n node.kind)) ns) k.nodes_are c.names_whole.known
+  abbrev made : IsPlanted kept.nodes.items list c.planted
+  made = c.are_planted
 
   -- the entries of the list
   entry_name : (i : ℕ) (x : Declared) → slice_get names i ≡ Some x → slice_get list i ≡ Some (with_moved_body numbers x)
@@ -75,24 +83,37 @@ module _ (s : Source) (senses : List Sense) (old new : Unit) (name : List ℕ) (
         | inr h ↦ let r = map_back (literal_entry s senses) (literals_in kept.nodes.items) h.0 y h.1 in inr (h.0, r.0, r.1, r.2)
       ]
 
-  entity_for : (e : ℕ) (y : Declared) → slice_get list e ≡ Some y → entity_at (trees_of new) e ≡ Some (entity_from s.unit n new.nodes.items e y)
-  entity_for e y at = ap (λ (l : List Entity). slice_get l e) c.entities_are ∙ entity_there s.unit (numbering_of list) new.nodes.items list e y at
+  -- the same with new bodies
+  planted_entry : (e : ℕ) (y : Declared) → slice_get list e ≡ Some y → (z : Declared) × (slice_get planted e ≡ Some z) × IsMoved made.origin (length ps) y z
+  planted_entry e y at =
+      let lt : e < length planted = omega (arith, slice_get_within list e y at, made.long) in
+      let there = at_within planted e lt in (there.0, there.1, made.each e y there.0 at there.1)
 
-  number_for : (e : ℕ) (y : Declared) → slice_get list e ≡ Some y → n y.leaf ≡ Some e
-  number_for e y at = c.names_whole.apart e y at
+  entry_back : (e : ℕ) (z : Declared) → slice_get planted e ≡ Some z → (y : Declared) × (slice_get list e ≡ Some y) × IsMoved made.origin (length ps) y z
+  entry_back e z at =
+      let lt : e < length list = omega (arith, slice_get_within planted e z at, made.long) in
+      let there = at_within list e lt in (there.0, there.1, made.each e there.0 z there.1 at)
 
-  owner_known : (e : ℕ) (y : Declared) → slice_get list e ≡ Some y → is_owner_known n y.owner ≡ true
-  owner_known e y at = subst (λ (x : Declared). is_owner_known (numbering_of list) x.owner ≡ true) (get_or_from_slice_get list e y y at) (c.names_whole.owners e y (slice_get_within list e y at))
+  entity_for : (e : ℕ) (z : Declared) → slice_get planted e ≡ Some z → entity_at (trees_of new) e ≡ Some (entity_from s.unit n new.nodes.items e z)
+  entity_for e z at = ap (λ (l : List Entity). slice_get l e) unit.made.entities_are ∙ entity_there s.unit (numbering_of planted) new.nodes.items planted e z at
+
+  leaf_is : (y z : Declared) → IsMoved made.origin (length ps) y z → z.leaf ≡ y.leaf
+  leaf_is y z m = ap (λ (d : Declared). d.leaf) m.same
+
+  number_for : (e : ℕ) (y z : Declared) → slice_get planted e ≡ Some z → IsMoved made.origin (length ps) y z → n y.leaf ≡ Some e
+  number_for e y z at m = subst (λ (l : ℕ). n l ≡ Some e) (leaf_is y z m) (unit.names_whole.apart e z at)
+
+  owner_known : (e : ℕ) (y z : Declared) → slice_get planted e ≡ Some z → IsMoved made.origin (length ps) y z → is_owner_known n y.owner ≡ true
+  owner_known e y z at m =
+      let known = subst (λ (x : Declared). is_owner_known (numbering_of planted) x.owner ≡ true) (get_or_from_slice_get planted e z z at) (unit.names_whole.owners e z (slice_get_within planted e z at)) in
+      subst (λ (o : Option ℕ). is_owner_known n o ≡ true) (ap (λ (d : Declared). d.owner) m.same) known
+
+  owner_is : (e : ℕ) (y z : Declared) → slice_get planted e ≡ Some z → IsMoved made.origin (length ps) y z → SameOwner n y.owner (option_and_then n z.owner)
+  owner_is e y z at m = subst (λ (o : Option ℕ). SameOwner n y.owner (option_and_then n o)) (sym (ap (λ (d : Declared). d.owner) m.same)) (same_owner n y.owner (owner_known e y z at m))
 
   -- the nodes that are kept
   stays_at : (j : ℕ) (x : Node) → marked k.marks j → slice_get old.nodes.items j ≡ Some x → slice_get kept.nodes.items (new_number numbers j) ≡ Some (moved numbers x)
-  stays_at j x on at = ap (λ (ns : List Node). slice_get ns (new_number (numbered_from 0 k.marks) j)) k.nodes_are ∙ kept_there s senses old k.marks (bodies_of names) ready k.are_marked new n c.types_are nodes_are known j x on at
-
-  child_at : (p j : ℕ) → marked k.marks p → ChildIn old.nodes.items p j → IsChild (trees_of new) (new_number numbers p) (new_number numbers j)
-  child_at p j on h = child_there s senses old k.marks (bodies_of names) ready k.are_marked new n c.types_are nodes_are known p j on h
-
-  node_at : (i : ℕ) → i < length new.nodes.items → (j : ℕ) × marked k.marks j × (new_number numbers j ≡ i)
-  node_at i lt = node_from s senses old k.marks (bodies_of names) ready k.are_marked new n c.types_are nodes_are known i lt
+  stays_at j x on at = ap (λ (ns : List Node). slice_get ns (new_number (numbered_from 0 k.marks) j)) k.nodes_are ∙ kept_there s senses old k.marks (bodies_of names) ready k.are_marked j x on at
 
   -- bodies stand in the unit
   marked_body : (i : ℕ) (x : Declared) (j : ℕ) → slice_get names i ≡ Some x → x.body ≡ Some j → marked k.marks j
@@ -100,34 +121,42 @@ module _ (s : Source) (senses : List Sense) (old new : Unit) (name : List ℕ) (
       let q = body_there names i x j at e in
       subst (λ (b : ℕ). marked k.marks b) (get_or_from_slice_get (bodies_of names) q.0 j 0 q.1) (k.are_marked.tops q.0 (slice_get_within (bodies_of names) q.0 j q.1))
 
-  stands_at : (j : ℕ) → marked k.marks j → right.StandsBy n new (new_number numbers j) (core_at old j)
-  stands_at j on = stands s senses old k.marks (bodies_of names) ready k.are_marked new n c.types_are nodes_are known j on
+  stands_at : (i j : ℕ) → marked k.marks j → i < length ps → made.origin i ≡ new_number numbers j → right.StandsBy n new i (core_at old j)
+  stands_at i j on within from =
+      stands s senses old k.marks (bodies_of names) ready k.are_marked kept.nodes.items k.nodes_are ps made.origin made.copies new n unit.made.types_are unit.made.nodes_are unit.names_whole.known i j on within from
 
-  same_body : (b : Option ℕ) → ((j : ℕ) → b ≡ Some j → marked k.marks j) → SameBody n new (option_map (core_at old) b) (option_map (new_number numbers) b)
-  same_body None on = tt
-  same_body (Some j) on = stands_at j (on j refl)
+  same_body : (b i : Option ℕ) → ((j : ℕ) → b ≡ Some j → marked k.marks j) → IsBodyCopy made.origin (length ps) (option_map (new_number numbers) b) i → SameBody n new (option_map (core_at old) b) i
+  same_body None None on h = tt
+  same_body None (Some i) on h = absurd h
+  same_body (Some j) None on h = absurd h
+  same_body (Some j) (Some i) on h = stands_at i j (on j refl) h.0 h.1
 
-  first_body : (cs : List ℕ) → ((q : ℕ) → q < length cs → marked k.marks (get_or cs q 0)) → SameBody n new (core_in (cores_at old cs) 0) (slice_get (map (new_number numbers) cs) 0)
-  first_body [] on = tt
-  first_body (d ∷ cs) on = stands_at d (on 0 (omega arith))
+  first_body : (cs : List ℕ) (i : Option ℕ) → ((q : ℕ) → q < length cs → marked k.marks (get_or cs q 0)) → IsBodyCopy made.origin (length ps) (slice_get (map (new_number numbers) cs) 0) i → SameBody n new (core_in (cores_at old cs) 0) i
+  first_body [] None on h = tt
+  first_body [] (Some i) on h = absurd h
+  first_body (d ∷ cs) None on h = absurd h
+  first_body (d ∷ cs) (Some i) on h = stands_at i d (on 0 (omega arith)) h.0 h.1
 
   -- each thing that is declared has its entity
   abbrev HasEntity : ℕ → right.Declared → Type 0
   HasEntity d what = (e : ℕ) × (entity : Entity) × (n d ≡ Some e) × (entity_at (trees_of new) e ≡ Some entity) × IsEntityOf n new s.unit what entity
 
-  name_entity : (i : ℕ) (x : Declared) → slice_get names i ≡ Some x → IsEntityOf n new s.unit (declared_seen old x) (entity_from s.unit n new.nodes.items i (with_moved_body numbers x))
-  name_entity i x at =
-      let entry = entry_name i x at in
-      record {
-        name = refl;
-        unit_is = refl;
-        place = refl;
-        type = ap (λ (t : Table). type_of t x.ty.0) c.types_are;
-        linkage = refl;
-        storage = refl;
-        owner = same_owner n x.owner (owner_known i (with_moved_body numbers x) entry);
-        body = same_body x.body (λ j e. marked_body i x j at e);
-      }
+  -- what is declared is the entity of its number, by what it is made of
+  made_entity : (e : ℕ) (y z : Declared) (what : right.Declared) → slice_get planted e ≡ Some z → IsMoved made.origin (length ps) y z → y.name ≡ what.name → y.place ≡ what.place → type_of old.types y.ty.0 ≡ what.type → y.linkage ≡ what.linkage → y.storage ≡ what.storage → y.owner ≡ what.owner → SameBody n new what.body z.body
+      → IsEntityOf n new s.unit what (entity_from s.unit n new.nodes.items e z)
+  made_entity e y z what there m name_is place_is typed_as linkage_is storage_is owned_by body = record {
+    name = ap (λ (d : Declared). d.name) m.same ∙ name_is;
+    unit_is = refl;
+    place = ap (λ (d : Declared). d.place) m.same ∙ place_is;
+    type = ap (λ (t : Table). type_of t z.ty.0) unit.made.types_are ∙ (ap (λ (d : Declared). type_of old.types d.ty.0) m.same ∙ typed_as);
+    linkage = ap (λ (d : Declared). d.linkage) m.same ∙ linkage_is;
+    storage = ap (λ (d : Declared). d.storage) m.same ∙ storage_is;
+    owner = subst (λ (o : Option ℕ). SameOwner n o (option_and_then n z.owner)) owned_by (owner_is e y z there m);
+    body = body;
+  }
+
+  name_entity : (i : ℕ) (x z : Declared) → slice_get names i ≡ Some x → slice_get planted i ≡ Some z → IsMoved made.origin (length ps) (with_moved_body numbers x) z → IsEntityOf n new s.unit (declared_seen old x) (entity_from s.unit n new.nodes.items i z)
+  name_entity i x z at there m = made_entity i (with_moved_body numbers x) z (declared_seen old x) there m refl refl refl refl refl refl (same_body x.body z.body (λ j e. marked_body i x j at e) m.body)
 
   seen_is : (i : ℕ) (x : Declared) (what : right.Declared) → slice_get names i ≡ Some x → declared_name s senses x.leaf ≡ Some what → declared_seen old x ≡ what
   seen_is i x what at e = let both : Some (declared_seen old x) ≡ Some what = sym (walked.are_names.each i x at) ∙ e in cc
@@ -136,14 +165,14 @@ module _ (s : Source) (senses : List Sense) (old new : Unit) (name : List ℕ) (
   named_entity d what h =
       let r = walked.are_names.all d what h in
       let x : Declared = r.1 in
-      let entry = entry_name r.0 x r.2 in
       let y = with_moved_body numbers x in
+      let p = planted_entry r.0 y (entry_name r.0 x r.2) in
       let seen = seen_is r.0 x what r.2 (subst (λ (l : ℕ). declared_name s senses l ≡ Some what) (sym r.3) h) in (
         r.0,
-        entity_from s.unit n new.nodes.items r.0 y,
-        subst (λ (l : ℕ). n l ≡ Some r.0) r.3 (number_for r.0 y entry),
-        entity_for r.0 y entry,
-        subst (λ (w : right.Declared). IsEntityOf n new s.unit w (entity_from s.unit n new.nodes.items r.0 y)) seen (name_entity r.0 x r.2),
+        entity_from s.unit n new.nodes.items r.0 p.0,
+        subst (λ (l : ℕ). n l ≡ Some r.0) r.3 (number_for r.0 y p.0 p.1 p.2),
+        entity_for r.0 p.0 p.1,
+        subst (λ (w : right.Declared). IsEntityOf n new s.unit w (entity_from s.unit n new.nodes.items r.0 p.0)) seen (name_entity r.0 x p.0 r.2 p.1 p.2),
       )
 
   literal_node : (d : ℕ) (t : Core) → kind_of t ≡ Literal d → (m : ℕ) → marked k.marks m → core_at old m ≡ t → HasEntity d (literal_as s senses d t)
@@ -156,22 +185,15 @@ module _ (s : Source) (senses : List Sense) (old new : Unit) (name : List ℕ) (
       let l : LiteralAt = record { leaf = d; ty = x.ty; body = slice_get (map (new_number numbers) x.children) 0 } in
       let e = length kept.names.items + lit.0 in
       let y = literal_entry s senses l in
-      let entry = entry_literal lit.0 l lit.1 in
-      let under : cores_under t ≡ cores_at old x.children = sym (ap cores_under em) ∙ under_is old ready m x there.1 in (
+      let p = planted_entry e y (entry_literal lit.0 l lit.1) in
+      let under : cores_under t ≡ cores_at old x.children = sym (ap cores_under em) ∙ under_is old ready m x there.1 in
+      let body : SameBody n new (core_in (cores_under t) 0) p.0.body = subst (λ (cs : Cores). SameBody n new (core_in cs 0) p.0.body) (sym under) (first_body x.children p.0.body (λ q lt. k.are_marked.closed m x there.1 on q lt) p.2.body) in
+      let typed = type_is old ready m x there.1 ∙ ap ctype_of em in (
         e,
-        entity_from s.unit n new.nodes.items e y,
-        number_for e y entry,
-        entity_for e y entry,
-        record {
-          name = refl;
-          unit_is = refl;
-          place = refl;
-          type = ap (λ (t : Table). type_of t x.ty.0) c.types_are ∙ (type_is old ready m x there.1 ∙ ap ctype_of em);
-          linkage = refl;
-          storage = refl;
-          owner = same_owner n y.owner (owner_known e y entry);
-          body = subst (λ (cs : Cores). SameBody n new (core_in cs 0) l.body) (sym under) (first_body x.children (λ q lt. k.are_marked.closed m x there.1 on q lt));
-        },
+        entity_from s.unit n new.nodes.items e p.0,
+        number_for e y p.0 p.1 p.2,
+        entity_for e p.0 p.1,
+        made_entity e y p.0 (literal_as s senses d t) p.1 p.2 refl refl typed refl refl refl body,
       )
 
   literal_entity : (d : ℕ) (t : Core) → IsLiteralOf s senses d t → HasEntity d (literal_as s senses d t)
@@ -194,10 +216,10 @@ module _ (s : Source) (senses : List Sense) (old new : Unit) (name : List ℕ) (
   abbrev IsDeclaredAs : ℕ → Type 0
   IsDeclaredAs e = (d : ℕ) × (what : right.Declared) × IsDeclaredAt s senses d what × (n d ≡ Some e)
 
-  name_declared : (e : ℕ) (y : Declared) → slice_get list e ≡ Some y → IsNameEntry y → IsDeclaredAs e
-  name_declared e y at h =
+  name_declared : (e : ℕ) (y z : Declared) → slice_get planted e ≡ Some z → IsMoved made.origin (length ps) y z → IsNameEntry y → IsDeclaredAs e
+  name_declared e y z at m h =
       let leaf : y.leaf ≡ h.1.leaf = ap (λ (z : Declared). z.leaf) h.3 in
-      (h.1.leaf, declared_seen old h.1, inl (walked.are_names.each h.0 h.1 h.2), subst (λ (l : ℕ). n l ≡ Some e) leaf (number_for e y at))
+      (h.1.leaf, declared_seen old h.1, inl (walked.are_names.each h.0 h.1 h.2), subst (λ (l : ℕ). n l ≡ Some e) leaf (number_for e y z at m))
 
   literal_of : (l : LiteralAt) (i : ℕ) → slice_get (literals_in kept.nodes.items) i ≡ Some l → (t : Core) × IsLiteralOf s senses l.leaf t
   literal_of l i at =
@@ -213,48 +235,45 @@ module _ (s : Source) (senses : List Sense) (old new : Unit) (name : List ℕ) (
       let z : Declared = owner.1 in
       (core_at old j, (kind, (z.leaf, declared_seen old z, core_at old b, walked.are_names.each owner.0 z owner.2, ap (option_map (core_at old)) owner.3, top.2)))
 
-  literal_declared : (e : ℕ) (y : Declared) → slice_get list e ≡ Some y → IsLiteralEntry y → IsDeclaredAs e
-  literal_declared e y at h =
+  literal_declared : (e : ℕ) (y z : Declared) → slice_get planted e ≡ Some z → IsMoved made.origin (length ps) y z → IsLiteralEntry y → IsDeclaredAs e
+  literal_declared e y z at m h =
       let leaf : y.leaf ≡ h.1.leaf = ap (λ (z : Declared). z.leaf) h.3 in
       let lit = literal_of h.1 h.0 h.2 in
-      (h.1.leaf, literal_as s senses h.1.leaf lit.0, inr (lit.0, lit.1, refl), subst (λ (l : ℕ). n l ≡ Some e) leaf (number_for e y at))
+      (h.1.leaf, literal_as s senses h.1.leaf lit.0, inr (lit.0, lit.1, refl), subst (λ (l : ℕ). n l ≡ Some e) leaf (number_for e y z at m))
 
   no_other_entity : (e : ℕ) → e < length new.entities.items → IsDeclaredAs e
   no_other_entity e lt =
-      let there = entity_back s.unit (numbering_of list) new.nodes.items 0 list e (subst (λ (l : List Entity). e < length l) c.entities_are lt) in
-      elim (entry_cases e there.0 there.1) [
-        | inl name ↦ name_declared e there.0 there.1 name
-        | inr literal ↦ literal_declared e there.0 there.1 literal
+      let there = entity_back s.unit (numbering_of planted) new.nodes.items 0 planted e (subst (λ (l : List Entity). e < length l) unit.made.entities_are lt) in
+      let back = entry_back e there.0 there.1 in
+      elim (entry_cases e back.0 back.1) [
+        | inl name ↦ name_declared e back.0 there.0 there.1 back.2 name
+        | inr literal ↦ literal_declared e back.0 there.0 there.1 back.2 literal
       ]
 
   entity_once : (a b e : ℕ) → n a ≡ Some e → n b ≡ Some e → a ≡ b
   entity_once a b e ha hb =
-      let ra = found list a e ha in
-      let rb = found list b e hb in
+      let ra = found planted a e ha in
+      let rb = found planted b e hb in
       let both : Some ra.0 ≡ Some rb.0 = sym ra.1 ∙ rb.1 in
       let same : ra.0 ≡ rb.0 = cc in
       sym ra.2 ∙ (ap (λ (x : Declared). x.leaf) same ∙ rb.2)
 
   -- each node is a body or a child
-  body_node : (j : ℕ) (i : ℕ) → new_number numbers j ≡ i → (q : ℕ) → slice_get (bodies_of names) q ≡ Some j → IsBody new i
-  body_node j i e q at =
-      let owner = body_back names q j at in
-      let x : Declared = owner.1 in
-      let y = with_moved_body numbers x in
-      (owner.0, entity_from s.unit n new.nodes.items owner.0 y, entity_for owner.0 y (entry_name owner.0 x owner.2), ap (option_map (new_number numbers)) owner.3 ∙ ap Some e)
+  child_is : (p i : ℕ) → ChildIn ps p i → IsChild (trees_of new) p i
+  child_is p i h = (h.0, ap (λ (ns : List Node). child_in (slice_get ns p) h.0) unit.made.nodes_are ∙ (same_child n ps p h.0 ∙ h.1))
 
   no_other_node : (i : ℕ) → i < length new.nodes.items → IsBody new i ⊎ ((p : ℕ) × IsChild (trees_of new) p i)
   no_other_node i lt =
-      let from = node_at i lt in
-      elim (k.are_marked.reached from.0 from.1) [
-        | inl q ↦ inl (body_node from.0 i from.2 q.0 (slice_get-get_or (bodies_of names) q.0 0 q.1 ∙ ap Some q.2))
-        | inr p ↦ inr (new_number numbers p.0, subst (λ (x : ℕ). IsChild (trees_of new) (new_number numbers p.0) x) from.2 (child_at p.0 from.0 p.1 p.2))
+      let few : i < length ps = omega (arith, subst (λ (ns : List Node). i < length ns) unit.made.nodes_are lt, length-map ps (renamed_node n)) in
+      elim (made.only i few) [
+        | inl h ↦ inl (h.0, entity_from s.unit n new.nodes.items h.0 h.1, entity_for h.0 h.1 h.2, h.3)
+        | inr h ↦ inr (h.0, child_is h.0 i h.1)
       ]
 
   pub is_right : Right s name new
   is_right = record {
-    valid = c.valid;
-    named = c.named;
+    valid = unit.valid;
+    named = unit.made.named;
     senses = senses;
     are_senses = walked.are_senses;
     whole = walked.whole;
@@ -263,10 +282,10 @@ module _ (s : Source) (senses : List Sense) (old new : Unit) (name : List ℕ) (
     each_declared = each_declared;
     no_other_entity = no_other_entity;
     tag_once = walked.tags.once;
-    each_tag = subst (λ (t : Table). (d : ℕ) → is_tag s d ≡ true → s.tag_number d < t.tags) (sym c.types_are) walked.tags.each;
-    no_other_tag = subst (λ (t : Table). (i : ℕ) → i < t.tags → (d : ℕ) × (is_tag s d ≡ true) × (s.tag_number d ≡ i)) (sym c.types_are) walked.tags.no_other;
-    members = subst (λ (t : Table). (d : ℕ) → is_tag s d ≡ true → parts_in t (members_in t (s.tag_number d)) ≡ members_under (completed_from s senses (sense_in senses) 0) (s.tag_number d)) (sym c.types_are) walked.tags.members;
-    keys = subst (KeysRight s (sense_in senses)) (sym c.tags_are) walked.keys_right;
-    initialises_once = c.initialises_once;
+    each_tag = subst (λ (t : Table). (d : ℕ) → is_tag s d ≡ true → s.tag_number d < t.tags) (sym unit.made.types_are) walked.tags.each;
+    no_other_tag = subst (λ (t : Table). (i : ℕ) → i < t.tags → (d : ℕ) × (is_tag s d ≡ true) × (s.tag_number d ≡ i)) (sym unit.made.types_are) walked.tags.no_other;
+    members = subst (λ (t : Table). (d : ℕ) → is_tag s d ≡ true → parts_in t (members_in t (s.tag_number d)) ≡ members_under (completed_from s senses (sense_in senses) 0) (s.tag_number d)) (sym unit.made.types_are) walked.tags.members;
+    keys = subst (KeysRight s (sense_in senses)) (sym unit.made.tags_are) walked.keys_right;
+    initialises_once = unit.initialises_once;
     no_other_node = no_other_node;
   }

@@ -3,13 +3,13 @@ use Rattle.std.proofs.Common.{arith, ◌≡◌, ◌∙◌, ℕ, zero, suc, ◌+�
 use Rattle.std.specs.Prelude.{◌&&◌, unwrap_or, is_some}
 use Rattle.std.proofs.lemmas.Bool.{false≢true}
 use Rattle.std.proofs.lemmas.Option.{slice_get_within, get_or_from_slice_get}
+use Rattle.c_types.specs.declared.term.TypeId.{TypeId}
 use Rattle.c_types.specs.Table.{type_of}
 use Rattle.core_tree.specs.declared.node.Node.{Node}
 use Rattle.core_tree.specs.declared.node.Unit.{Unit}
 use Rattle.core_tree.specs.declared.node.NodeKind.{NodeKind}
 use Rattle.core_tree.specs.declared.node.NodeKind.TheVariants.{Named, Literal, FunctionName, Block, For, Initialise}
-use Rattle.core_tree.specs.Typed.{trees_of}
-use Rattle.core_tree.specs.Range.{child_in, IsChild}
+use Rattle.core_tree.specs.Range.{child_in}
 use Rattle.c_consts.specs.Core.{Core, Cores, core_in}
 use Rattle.core_nodes.specs.Standing.{core_at, cores_at, IsReady}
 use Rattle.core_nodes.proofs.Reading.{core_is, under_is}
@@ -21,7 +21,9 @@ use Rattle.unit_parts.specs.Marked.{AreMarked}
 use Rattle.unit_parts.specs.Numbered.{numbered_from, new_number, moved, kept_of}
 use Rattle.unit_parts.specs.Renamed.{entity_number, renamed, renamed_node, all_known, is_known}
 use Rattle.kept_nodes.proofs.Copying.{child_before}
-use Rattle.unit_finish.proofs.Lists.{kept_at, kept_from, get_map, map_back}
+use Rattle.planted_nodes.specs.Copied.{no_node, node_of}
+use Rattle.planted_nodes.specs.Planted.{IsCopy}
+use Rattle.unit_finish.proofs.Lists.{kept_at, get_map}
 
 pub number_same : (o : Option ℕ) → is_some o ≡ true → o ≡ Some (unwrap_or o 0)
 number_same None h = absurd (false≢true h)
@@ -46,7 +48,7 @@ same_kind n (Block ds) h = same_entities n ds h
 same_kind n (For ds c a) h = (same_entities n ds h, refl, refl)
 same_kind n kind h = refl
 
-at_within : {A : Type 0} (xs : List A) (i : ℕ) → i < length xs → (x : A) × (slice_get xs i ≡ Some x)
+pub at_within : {A : Type 0} (xs : List A) (i : ℕ) → i < length xs → (x : A) × (slice_get xs i ≡ Some x)
 at_within [] i lt = absurd (omega arith)
 at_within (x ∷ xs) zero lt = (x, refl)
 at_within (x ∷ xs) (suc i) lt = at_within xs i (omega arith)
@@ -113,56 +115,69 @@ module _ (s : Source) (senses : List Sense) (old : Unit) (marks : List Bool) (to
   pub within_top : (j : ℕ) → marked marks j → (q : ℕ) × (q < length tops) × Within s senses (core_at old j) (core_at old (get_or tops q 0))
   within_top j on = top_within (length old.nodes.items) j (omega arith) on
 
-  -- the nodes that are kept, with numbers of entities
-  module _ (new : Unit) (n : Numbering) (types : new.types ≡ old.types) (nodes_are : new.nodes.items ≡ map (renamed_node n) (kept_of old.nodes.items numbers)) (known : All (λ node. IsTrue (is_known n node.kind)) (kept_of old.nodes.items numbers)) where
-    pub kept_there : (j : ℕ) (x : Node) → marked marks j → slice_get old.nodes.items j ≡ Some x → slice_get (kept_of old.nodes.items numbers) (new_number numbers j) ≡ Some (moved numbers x)
-    kept_there j x on at =
-        let r = kept_at (moved numbers) 0 marks old.nodes.items j x on at in
-        let same : new_number numbers j ≡ r.0 = ap (λ (o : Option ℕ). unwrap_or o 0) r.1 ∙ omega arith in
-        ap (λ (i : ℕ). slice_get (kept_of old.nodes.items numbers) i) same ∙ r.2
+  pub kept_there : (j : ℕ) (x : Node) → marked marks j → slice_get old.nodes.items j ≡ Some x → slice_get (kept_of old.nodes.items numbers) (new_number numbers j) ≡ Some (moved numbers x)
+  kept_there j x on at =
+      let r = kept_at (moved numbers) 0 marks old.nodes.items j x on at in
+      let same : new_number numbers j ≡ r.0 = ap (λ (o : Option ℕ). unwrap_or o 0) r.1 ∙ omega arith in
+      ap (λ (i : ℕ). slice_get (kept_of old.nodes.items numbers) i) same ∙ r.2
 
-    pub node_there : (j : ℕ) (x : Node) → marked marks j → slice_get old.nodes.items j ≡ Some x → slice_get new.nodes.items (new_number numbers j) ≡ Some (renamed_node n (moved numbers x))
-    node_there j x on at =
-        ap (λ (ns : List Node). slice_get ns (new_number numbers j)) nodes_are
-        ∙ get_map (renamed_node n) (kept_of old.nodes.items numbers) (new_number numbers j) (moved numbers x) (kept_there j x on at)
+  -- the copies of the nodes that are kept
+  module _ (kept : List Node) (kept_are : kept ≡ kept_of old.nodes.items numbers) (ps : List Node) (origin : ℕ → ℕ) (copies : (i : ℕ) (y : Node) → slice_get ps i ≡ Some y → IsCopy kept origin i y) where
+    -- a copy of a marked node
+    pub record IsCopyOf (i : ℕ) (x y : Node) : Type 0 where
+      pub kind : y.kind ≡ x.kind
+      pub place : y.place ≡ x.place
+      pub type : y.ty ≡ x.ty
+      pub children : map origin y.children ≡ map (new_number numbers) x.children
+      pub first : All (λ c. c < i) y.children
 
-    known_there : (j : ℕ) (x : Node) → marked marks j → slice_get old.nodes.items j ≡ Some x → is_known n x.kind ≡ true
-    known_there j x on at =
-        let there = kept_there j x on at in
-        let kept = kept_of old.nodes.items numbers in
-        let m = moved numbers x in
-        let is = known (new_number numbers j) m (slice_get_within kept (new_number numbers j) m there) in
-        subst (λ (y : Node). is_known n y.kind ≡ true) (get_or_from_slice_get kept (new_number numbers j) m m there) is
+    pub copy_of : (i j : ℕ) (x y : Node) → marked marks j → slice_get old.nodes.items j ≡ Some x → slice_get ps i ≡ Some y → origin i ≡ new_number numbers j → IsCopyOf i x y
+    copy_of i j x y on at there from =
+        let c = copies i y there in
+        let stays : slice_get kept (origin i) ≡ Some (moved numbers x) = ap (λ (ns : List Node). slice_get ns (origin i)) kept_are ∙ (ap (slice_get (kept_of old.nodes.items numbers)) from ∙ kept_there j x on at) in
+        let node : node_of kept (origin i) ≡ moved numbers x = get_or_from_slice_get kept (origin i) (moved numbers x) no_node stays in
+        let same : y ≡ record (moved numbers x) { children = y.children } = c.same ∙ ap (λ (z : Node). record z { children = y.children }) node in
+        record {
+          kind = ap (λ (z : Node). z.kind) same;
+          place = ap (λ (z : Node). z.place) same;
+          type = ap (λ (z : Node). z.ty) same;
+          children = c.children ∙ ap (λ (z : Node). z.children) node;
+          first = c.first;
+        }
 
-    all_stand : (cs : List ℕ) → ((q : ℕ) → q < length cs → StandsBy n new (new_number numbers (get_or cs q 0)) (core_at old (get_or cs q 0))) → AllStandBy n new (map (new_number numbers) cs) (cores_at old cs)
-    all_stand [] h = refl
-    all_stand (c ∷ cs) h = (new_number numbers c, map (new_number numbers) cs, refl, h 0 (omega arith), all_stand cs (λ q lt. h (suc q) (omega (arith, lt))))
+    -- the same with numbers of entities
+    module _ (new : Unit) (n : Numbering) (types : new.types ≡ old.types) (nodes_are : new.nodes.items ≡ map (renamed_node n) ps) (known : All (λ node. IsTrue (is_known n node.kind)) ps) where
+      pub node_there : (i : ℕ) (y : Node) → slice_get ps i ≡ Some y → slice_get new.nodes.items i ≡ Some (renamed_node n y)
+      node_there i y at = ap (λ (ns : List Node). slice_get ns i) nodes_are ∙ get_map (renamed_node n) ps i y at
 
-    stand_below : (k j : ℕ) → j < k → marked marks j → StandsBy n new (new_number numbers j) (core_at old j)
-    stand_below zero j lt on = absurd (omega (arith, lt))
-    stand_below (suc k) j lt on =
-        let there = marked_node j on in
-        let x : Node = there.0 in
-        let first : (q : ℕ) → q < length x.children → get_or x.children q 0 < k = λ q few. (let less : get_or x.children q 0 < j = ready.children j x there.1 q 0 few in omega (arith, less, lt)) in
-        let children = all_stand x.children (λ q few. stand_below k (get_or x.children q 0) (first q few) (are.closed j x there.1 on q few)) in
-        subst (StandsBy n new (new_number numbers j)) (sym (core_is old ready j x there.1))
-        (renamed_node n (moved numbers x), node_there j x on there.1, same_kind n x.kind (known_there j x on there.1), refl, ap (λ t. type_of t x.ty.0) types, children)
+      known_there : (i : ℕ) (y : Node) → slice_get ps i ≡ Some y → is_known n y.kind ≡ true
+      known_there i y at = subst (λ (z : Node). is_known n z.kind ≡ true) (get_or_from_slice_get ps i y y at) (known i y (slice_get_within ps i y at))
 
-    -- a marked node's tree stands at its new number
-    pub stands : (j : ℕ) → marked marks j → StandsBy n new (new_number numbers j) (core_at old j)
-    stands j on = stand_below (suc j) j (omega arith) on
+      all_stand : (ys cs : List ℕ) → map origin ys ≡ map (new_number numbers) cs → ((q : ℕ) → q < length ys → get_or ys q 0 < length ps)
+          → ((q i : ℕ) → q < length cs → i < length ps → origin i ≡ new_number numbers (get_or cs q 0) → StandsBy n new i (core_at old (get_or cs q 0))) → AllStandBy n new ys (cores_at old cs)
+      all_stand [] [] e within h = refl
+      all_stand [] (c ∷ cs) e within h = cc
+      all_stand (y ∷ ys) [] e within h = cc
+      all_stand (y ∷ ys) (c ∷ cs) e within h =
+          let first : origin y ≡ new_number numbers c = cc in
+          let rest : map origin ys ≡ map (new_number numbers) cs = cc in
+          (y, ys, refl, h 0 y (omega arith) (within 0 (omega arith)) first, all_stand ys cs rest (λ q lt. within (suc q) (omega (arith, lt))) (λ q i lt. h (suc q) i (omega (arith, lt))))
 
-    pub child_there : (p j : ℕ) → marked marks p → ChildIn old.nodes.items p j → IsChild (trees_of new) (new_number numbers p) (new_number numbers j)
-    child_there p j on h =
-        let there = marked_node p on in
-        let x : Node = there.0 in
-        let at : slice_get x.children h.0 ≡ Some j = sym (ap (λ (o : Option Node). child_in o h.0) there.1) ∙ h.1 in
-        (h.0, ap (λ (o : Option Node). child_in o h.0) (node_there p x on there.1) ∙ get_map (new_number numbers) x.children h.0 j at)
+      stand_below : (k i j : ℕ) → j < k → marked marks j → i < length ps → origin i ≡ new_number numbers j → StandsBy n new i (core_at old j)
+      stand_below zero i j lt on within from = absurd (omega (arith, lt))
+      stand_below (suc k) i j lt on within from =
+          let there = marked_node j on in
+          let x : Node = there.0 in
+          let copy = at_within ps i within in
+          let y : Node = copy.0 in
+          let c = copy_of i j x y on there.1 copy.1 from in
+          let below : (q : ℕ) → q < length y.children → get_or y.children q 0 < length ps = λ q few. (let less : get_or y.children q 0 < i = c.first q 0 few in omega (arith, less, within)) in
+          let less : (q : ℕ) → q < length x.children → get_or x.children q 0 < k = λ q few. (let first : get_or x.children q 0 < j = ready.children j x there.1 q 0 few in omega (arith, first, lt)) in
+          let children = all_stand y.children x.children c.children below (λ q m few inside is. stand_below k m (get_or x.children q 0) (less q few) (are.closed j x there.1 on q few) inside is) in
+          let kind : SameKind n x.kind (renamed n y.kind) = subst (λ (z : NodeKind). SameKind n z (renamed n y.kind)) c.kind (same_kind n y.kind (known_there i y copy.1)) in
+          let type : type_of new.types y.ty.0 ≡ type_of old.types x.ty.0 = ap (λ t. type_of t y.ty.0) types ∙ ap (λ (t : TypeId). type_of old.types t.0) c.type in
+          subst (StandsBy n new i) (sym (core_is old ready j x there.1)) (renamed_node n y, node_there i y copy.1, kind, c.place, type, children)
 
-    -- each node is that of a marked one
-    pub node_from : (i : ℕ) → i < length new.nodes.items → (j : ℕ) × marked marks j × (new_number numbers j ≡ i)
-    node_from i lt =
-        let there = at_within new.nodes.items i lt in
-        let kept = map_back (renamed_node n) (kept_of old.nodes.items numbers) i there.0 (sym (ap (λ (ns : List Node). slice_get ns i) nodes_are) ∙ there.1) in
-        let r = kept_from (moved numbers) 0 marks old.nodes.items i kept.0 kept.1 in
-        (r.0, r.2, ap (λ (o : Option ℕ). unwrap_or o 0) r.4 ∙ omega arith)
+      -- a marked node's tree stands at each of its copies
+      pub stands : (i j : ℕ) → marked marks j → i < length ps → origin i ≡ new_number numbers j → StandsBy n new i (core_at old j)
+      stands i j on within from = stand_below (suc j) i j (omega arith) on within from

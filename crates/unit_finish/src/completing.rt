@@ -7,7 +7,7 @@ ghost use Rattle.core_nodes.specs.declared.fault.CheckFault.TheVariants.{OutOfMe
 ghost use Rattle.c_senses.specs.Right.{InitialisesOnce};
 ghost use Rattle.leaf_maps.specs.Numbers.{number_at};
 ghost use Rattle.unit_parts.specs.Entities.{numbering_of};
-ghost use Rattle.unit_finish.specs.Complete.{IsNamedWhole, Completes, NoneCompletes};
+ghost use Rattle.unit_finish.specs.Complete.{IsNamedWhole, IsUnitOf, NoUnitOf};
 
 use c_types::table::TypeTable;
 use core_nodes::CheckFault;
@@ -53,7 +53,7 @@ fn is_right(alloc: Global, unit: &Unit) -> Result<bool, CheckFault>
 }
 
 /// The unit of some nodes, which name entities by their leaves, and of what is declared there: each entity has its position in the list as
-/// its number, and the least place of its uses. Refused as not built, at the root, exactly where no unit completes them: where two are
+/// its number, and the least place of its uses. Refused as not built, at the root, exactly where there is none: where two are
 /// declared at one leaf, an entity that is named isn't declared, an Initialise isn't its entity's body, or the unit isn't valid.
 pub fn complete(
     alloc: Global,
@@ -64,8 +64,8 @@ pub fn complete(
     list: Vec<Declared>,
 ) -> Result<Unit, CheckFault>
     ensures { MatchResult result
-        (λ u. Completes heading.name heading.unit types keys.items nodes.items list.items u)
-        (λ fault. NoneCompletes heading.name heading.unit types keys.items nodes.items list.items heading.root fault) }
+        (λ u. IsUnitOf heading.name heading.unit types keys.items nodes.items list.items u)
+        (λ fault. NoUnitOf heading.name heading.unit types keys.items nodes.items list.items heading.root fault) }
 {
     if list.len() > u32::MAX as usize {
         return Err(CheckFault::OutOfMemory);

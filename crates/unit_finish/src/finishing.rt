@@ -17,12 +17,14 @@ use crate::keeping::Kept;
 use c_types::table::TypeTable;
 use core_nodes::CheckFault;
 use core_tree::node::Unit;
+use planted_nodes::plant;
 use pta_base::Text;
 use std::alloc::Global;
 use unit_parts::Declared;
 
-/// The unit of what was kept of the walk's nodes and names, and of what is declared at the compound literals among these nodes: as
-/// `complete` says. Where these are what the senses of a whole tree say, it is what the tree says (`Right`).
+/// The unit of what was kept of the walk's nodes and names, and of what is declared at the compound literals among these nodes: its nodes
+/// are made anew, as `plant` says, and the unit of those is as `complete` says. Where these are what the senses of a whole tree say, it is
+/// what the tree says (`Right`).
 pub fn finish(
     alloc: Global,
     heading: Heading,
@@ -46,5 +48,6 @@ pub fn finish(
     let mut list = names;
     let mut more = literals;
     list.append(&mut more)?;
-    complete(alloc, heading, types, keys, nodes, list)
+    let planted = plant(alloc, nodes, list)?;
+    complete(alloc, heading, types, keys, planted.nodes, planted.list)
 }

@@ -14,7 +14,7 @@ ghost use Rattle.unit_keys.specs.Free.{first_untaken, AreFree, TakenBelow};
 use crate::names::leaves_with;
 use crate::specifiers::is_specifier;
 use crate::words::{Words, add_word, has_word};
-use c_results::Made;
+use c_results::Results;
 use leaf_maps::LeafMap;
 use std::alloc::{AllocError, Global};
 use std::collections::BTreeMap;
@@ -86,7 +86,7 @@ fn take_untagged(
 fn free_more(
     alloc: Global,
     syntax: &Syntax,
-    results: &[Made],
+    results: &Results,
     taken: &mut Words,
     free: &mut LeafMap,
     node: u32,
@@ -116,7 +116,7 @@ fn free_more(
 }
 
 /// For each specifier the leaf of the first name that is declared with it at file scope and with no specifier before that has no tag.
-pub fn free_names(alloc: Global, syntax: &Syntax, results: &[Made]) -> Result<LeafMap, AllocError>
+pub fn free_names(alloc: Global, syntax: &Syntax, results: &Results) -> Result<LeafMap, AllocError>
     requires { length syntax.now.tree.now.nodes.items < 2 ^ 32 }
     ensures { IfOk result (λ free. (u : UnitSpec) (uses : List (ℕ × ℕ)) →
         AreFree (source_in syntax.now uses) (sense_in (senses_made u results.now)) free (length syntax.now.tree.now.nodes.items)) }

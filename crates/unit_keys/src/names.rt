@@ -10,7 +10,7 @@ ghost use Rattle.c_results.specs.Standing.{sense_made, senses_made};
 ghost use Rattle.tree_reads.specs.Sources.{source_in};
 ghost use Rattle.unit_keys.specs.Free.{name_in, leaf_in};
 
-use c_results::{Made, made_at};
+use c_results::{Made, Results, made_at};
 use std::alloc::{AllocError, Global};
 use tree_reads::{Syntax, child_of, children_of, is_a};
 
@@ -35,7 +35,7 @@ fn name_of(made: &Made) -> Option<u32>
 }
 
 // The name of a declarator that has been made for a node.
-fn name_at(results: &[Made], node: u32) -> Option<u32>
+fn name_at(results: &Results, node: u32) -> Option<u32>
     ensures { (u : UnitSpec) → result ≡ name_in (sense_in (senses_made u results.now) node) }
 {
     match made_at(results, node) {
@@ -45,7 +45,7 @@ fn name_at(results: &[Made], node: u32) -> Option<u32>
 }
 
 // The leaf that a declarator declares.
-fn leaf_at(syntax: &Syntax, results: &[Made], node: u32) -> Option<u32>
+fn leaf_at(syntax: &Syntax, results: &Results, node: u32) -> Option<u32>
     ensures { (u : UnitSpec) (uses : List (ℕ × ℕ)) →
         result ≡ leaf_in (source_in syntax.now uses) (sense_in (senses_made u results.now)) node }
 {
@@ -75,7 +75,7 @@ pub fn declaration_with(syntax: &Syntax, node: u32) -> Option<u32>
 fn add_leaves(
     leaves: &mut Vec<u32>,
     syntax: &Syntax,
-    results: &[Made],
+    results: &Results,
     nodes: &[u32],
 ) -> Result<(), AllocError>
     ensures { OnOk result ((u : UnitSpec) (uses : List (ℕ × ℕ)) →
@@ -95,7 +95,7 @@ fn add_leaves(
 fn leaves_in(
     alloc: Global,
     syntax: &Syntax,
-    results: &[Made],
+    results: &Results,
     declaration: u32,
 ) -> Result<Vec<u32>, AllocError>
     ensures { IfOk result (λ leaves. (u : UnitSpec) (uses : List (ℕ × ℕ)) →
@@ -119,7 +119,7 @@ fn leaves_in(
 pub fn leaves_with(
     alloc: Global,
     syntax: &Syntax,
-    results: &[Made],
+    results: &Results,
     node: u32,
 ) -> Result<Vec<u32>, AllocError>
     requires { node < length syntax.now.tree.now.nodes.items }

@@ -15,7 +15,7 @@ ghost use Rattle.leaf_maps.specs.Numbers.{number_at};
 ghost use Rattle.tree_reads.specs.Sources.{source_in};
 ghost use Rattle.unit_keys.specs.Placed.{ArePositions};
 
-use c_results::{Made, members_at};
+use c_results::{Results, members_at};
 use leaf_maps::LeafMap;
 use pta_base::OutOfMemory;
 use std::alloc::{AllocError, Global};
@@ -24,7 +24,7 @@ use tree_reads::{Syntax, children_of, is_a};
 const P_MEMBER: u32 = 14;
 
 /// How many members have been made for a node.
-pub fn parts_of(results: &[Made], node: u32) -> usize
+pub fn parts_of(results: &Results, node: u32) -> usize
     ensures { (u : UnitSpec) (s : Source) (sense : ℕ → Sense) →
         result ≡ keys.parts_of s sense (sense_in (senses_made u results.now) node) }
 {
@@ -66,7 +66,7 @@ fn note_one(
 fn note_positions(
     syntax: &Syntax,
     positions: &mut LeafMap,
-    results: &[Made],
+    results: &Results,
     children: &[u32],
 ) -> Result<(), OutOfMemory>
     ensures { OnOk result ((u : UnitSpec) (uses : List (ℕ × ℕ)) (c : ℕ) →
@@ -90,7 +90,7 @@ fn note_positions(
 pub fn positions_of(
     alloc: Global,
     syntax: &Syntax,
-    results: &[Made],
+    results: &Results,
 ) -> Result<LeafMap, OutOfMemory>
     requires { length syntax.now.tree.now.nodes.items < 2 ^ 32 }
     ensures { IfOk result (λ positions. (u : UnitSpec) (uses : List (ℕ × ℕ)) →

@@ -16,7 +16,7 @@ use Rattle.c_senses.specs.Right as right
 use Rattle.name_places.proofs.Standing.{name_below}
 use Rattle.unit_parts.specs.declared.declared.Declared.{Declared}
 use Rattle.unit_parts.specs.Entities.{bodies_of, with_body}
-use Rattle.unit_finish.specs.Walked.{declared_seen, AreNames, AreTags}
+use Rattle.unit_finish.specs.Walked.{declared_seen, AreNames}
 use Rattle.unit_names.specs.Entries.{IsDeclaredIn}
 
 -- what is declared, in a unit that has grown
@@ -40,6 +40,8 @@ declared_more old new b x h = record { ty = omega (arith, h.ty, b.terms); body =
 pub record ListsTo (s : Source) (senses : List Sense) (u : Unit) (n : ℕ) (list : List Declared) : Type 0 where
   pub each : (k : ℕ) (x : Declared) → slice_get list k ≡ Some x → declared_name s senses x.leaf ≡ Some (declared_seen u x)
   pub all : (d : ℕ) (what : right.Declared) → d < n → declared_name s senses d ≡ Some what → (k : ℕ) × (x : Declared) × (slice_get list k ≡ Some x) × (x.leaf ≡ d)
+  pub below : (k : ℕ) (x : Declared) → slice_get list k ≡ Some x → x.leaf < n
+  pub once : (j k : ℕ) (x y : Declared) → slice_get list j ≡ Some x → slice_get list k ≡ Some y → x.leaf ≡ y.leaf → j ≡ k
 
 get_front : (xs : List Declared) (ys : List Declared) (k : ℕ) (x : Declared) → slice_get xs k ≡ Some x → slice_get (xs ++ ys) k ≡ Some x
 get_front [] ys k x e = absurd (cc)
@@ -56,10 +58,22 @@ get_push [] y (suc k) x e = absurd (cc)
 get_push (z ∷ xs) y zero x e = inl e
 get_push (z ∷ xs) y (suc k) x e = get_push xs y k x e
 
+-- with the place of the last one
+get_pushed : (xs : List Declared) (y : Declared) (k : ℕ) (x : Declared) → slice_get (xs ++ y ∷ []) k ≡ Some x → (slice_get xs k ≡ Some x) ⊎ ((k ≡ length xs) × (y ≡ x))
+get_pushed [] y zero x e = let same : y ≡ x = cc in inr (refl, same)
+get_pushed [] y (suc k) x e = absurd (cc)
+get_pushed (z ∷ xs) y zero x e = inl e
+get_pushed (z ∷ xs) y (suc k) x e = elim (get_pushed xs y k x e) [
+  | inl front ↦ inl front
+  | inr last ↦ inr (ap suc last.0, last.1)
+]
+
 pub lists_none : (s : Source) (senses : List Sense) (u : Unit) → ListsTo s senses u 0 []
 lists_none s senses u = record {
   each = λ k x e. absurd (cc);
   all = λ d what lt e. absurd (omega arith);
+  below = λ k x e. absurd (cc);
+  once = λ j k x y e f same. absurd (cc);
 }
 
 module _ (s : Source) (senses : List Sense) (old new : Unit) (b : Builds old new) (n : ℕ) (list : List Declared) (inside : All (IsDeclaredIn old) list) (h : ListsTo s senses old n list) where
@@ -67,6 +81,22 @@ module _ (s : Source) (senses : List Sense) (old new : Unit) (b : Builds old new
   each_kept k x e =
       let at : IsDeclaredIn old x = subst (IsDeclaredIn old) (get_or_from_slice_get list k x x e) (All-get_or (IsDeclaredIn old) list k x (slice_get_within list k x e) inside) in
       h.each k x e ∙ ap (λ (w : right.Declared). Some w) (sym (seen_kept old new b x at))
+
+  -- the new one has a leaf of its own
+  once_more : (x : Declared) → x.leaf ≡ n → (j k : ℕ) (y z : Declared) → slice_get (list ++ x ∷ []) j ≡ Some y → slice_get (list ++ x ∷ []) k ≡ Some z → y.leaf ≡ z.leaf → j ≡ k
+  once_more x leaf j k y z e f same =
+      elim (get_pushed list x j y e) [
+        | inl early ↦ elim (get_pushed list x k z f) [
+          | inl too ↦ h.once j k y z early too same
+          | inr late ↦ (let lt = h.below j y early in
+              let at : z.leaf ≡ n = ap (λ (w : Declared). w.leaf) (sym late.1) ∙ leaf in absurd (omega (arith, lt, at, same)))
+        ]
+        | inr last ↦ elim (get_pushed list x k z f) [
+          | inl early ↦ (let lt = h.below k z early in
+              let at : y.leaf ≡ n = ap (λ (w : Declared). w.leaf) (sym last.1) ∙ leaf in absurd (omega (arith, lt, at, same)))
+          | inr late ↦ last.0 ∙ sym late.0
+        ]
+      ]
 
   pub lists_more : (found : Option Declared) → option_map (declared_seen new) found ≡ declared_name s senses n → IfSome found (λ x. x.leaf ≡ n) → ListsTo s senses new (n + 1) (list ++ option_to_list found)
   lists_more None is leaf = record {
@@ -76,6 +106,8 @@ module _ (s : Source) (senses : List Sense) (old new : Unit) (b : Builds old new
           | inl below ↦ let there = h.all d what below e in (there.0, there.1, ap (λ (l : List Declared). slice_get l there.0) (append-nil list) ∙ there.2, there.3)
           | inr past ↦ let here : n ≡ d = omega arith in let none : None ≡ Some what = is ∙ (ap (declared_name s senses) here ∙ e) in absurd (cc)
         ];
+    below = λ k x e. (let lt = h.below k x (sym (ap (λ (l : List Declared). slice_get l k) (append-nil list)) ∙ e) in omega (arith, lt));
+    once = λ j k x y e f same. h.once j k x y (sym (ap (λ (l : List Declared). slice_get l j) (append-nil list)) ∙ e) (sym (ap (λ (l : List Declared). slice_get l k) (append-nil list)) ∙ f) same;
   }
   lists_more (Some x) is leaf = record {
     each = λ k y e.
@@ -88,6 +120,12 @@ module _ (s : Source) (senses : List Sense) (old new : Unit) (b : Builds old new
           | inl below ↦ let there = h.all d what below e in (there.0, there.1, get_front list (x ∷ []) there.0 there.1 there.2, there.3)
           | inr past ↦ let here : n ≡ d = omega arith in (length list, x, get_last list x, leaf ∙ here)
         ];
+    below = λ k y e.
+        elim (get_push list x k y e) [
+          | inl front ↦ (let lt = h.below k y front in omega (arith, lt))
+          | inr same ↦ (let at : y.leaf ≡ n = ap (λ (z : Declared). z.leaf) (sym same) ∙ leaf in omega (arith, at))
+        ];
+    once = λ j k y z e f same. once_more x leaf j k y z e f same;
   }
 
 pub inside_more : (old new : Unit) → Builds old new → (list : List Declared) (found : Option Declared) → All (IsDeclaredIn old) list → IfSome found (IsDeclaredIn new) → All (IsDeclaredIn new) (list ++ option_to_list found)
@@ -108,10 +146,12 @@ name_declares s senses d what e = first (is_name s d) _ _ (declares (declares_en
     first true more others h = refl
     first false more others h = absurd (cc)
 
-pub lists_all : (s : Source) (senses : List Sense) (u : Unit) (n : ℕ) (list : List Declared) → length s.nodes ≤ n → ListsTo s senses u n list → AreNames s senses u list
-lists_all s senses u n list whole h = record {
+pub lists_all : (s : Source) (senses : List Sense) (u : Unit) (n : ℕ) (list : List Declared) → length s.nodes ≤ n → All (IsDeclaredIn u) list → ListsTo s senses u n list → AreNames s senses u list
+lists_all s senses u n list whole inside h = record {
   each = h.each;
   all = λ d what e. let below : d < length s.nodes = name_below s d (name_declares s senses d what e) in h.all d what (omega arith) e;
+  once = h.once;
+  typed = λ k x e. (let at : IsDeclaredIn u x = subst (IsDeclaredIn u) (get_or_from_slice_get list k x x e) (All-get_or (IsDeclaredIn u) list k x (slice_get_within list k x e) inside) in at.ty);
 }
 
 -- their bodies are the unit's
@@ -125,12 +165,3 @@ bodies_within u (x ∷ rest) all = with_more x.body (All-head (IsDeclaredIn u) x
     with_more : (o : Option ℕ) → IfSome o (λ b. b < length u.nodes.items) → All (λ b. b < length u.nodes.items) (bodies_of rest) → All (λ b. b < length u.nodes.items) (with_body o (bodies_of rest))
     with_more None h those = those
     with_more (Some b) h those = All-cons (λ c. c < length u.nodes.items) b (bodies_of rest) h those
-
--- the tags, in a unit that has grown
-pub tags_kept : (s : Source) (senses : List Sense) (old new : Unit) → Builds old new → AreTags s senses old → AreTags s senses new
-tags_kept s senses old new b h = record {
-  once = h.once;
-  each = λ d e. subst (λ (n : ℕ). s.tag_number d < n) (sym b.tags) (h.each d e);
-  no_other = λ t lt. h.no_other t (subst (λ (n : ℕ). t < n) b.tags lt);
-  members = λ d e. b.parts (s.tag_number d) ∙ h.members d e;
-}

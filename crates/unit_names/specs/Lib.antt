@@ -4,4 +4,3 @@ pub mod Typing
 pub mod Storages
 pub mod Bodies
 pub mod Entries
-pub mod Literals

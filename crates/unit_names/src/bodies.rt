@@ -11,7 +11,7 @@ ghost use Rattle.tree_reads.specs.Sources.{source_in};
 ghost use Rattle.unit_names.specs.Bodies.{core_of, place_of_body};
 
 use c_entities::{declaration_of, initialiser_for, is_defined};
-use c_results::{Made, made_at};
+use c_results::{Made, Results, made_at};
 use tree_reads::{Syntax, child_of};
 
 const P_BLOCK: u32 = 29;
@@ -31,7 +31,7 @@ fn core_node(made: &Made) -> Option<u32>
 }
 
 // The core node that has been made for a block or an initialiser.
-fn core_node_at(results: &[Made], node: u32) -> Option<u32>
+fn core_node_at(results: &Results, node: u32) -> Option<u32>
     ensures seen { (u : UnitSpec) → option_map (core_at u) result ≡ core_of (sense_in (senses_made u results.now) node) }
     ensures within { (u : UnitSpec) → All (IsWithin u) results.now → IfSome result (λ i. i < length u.nodes.items) }
 {
@@ -68,7 +68,7 @@ fn place_of_body(syntax: &Syntax, leaf: u32) -> Option<u32>
 
 /// The body of what the declaration of a leaf declares, by its core node: of a function its block (C11 6.9.1), of an object its
 /// initialiser (6.7.9); None where it has none, or where none is made.
-pub fn body_at(syntax: &Syntax, results: &[Made], leaf: u32) -> Option<u32>
+pub fn body_at(syntax: &Syntax, results: &Results, leaf: u32) -> Option<u32>
     requires { leaf < length syntax.now.tree.now.nodes.items }
     ensures seen { (u : UnitSpec) (uses : List (ℕ × ℕ)) →
         option_map (core_at u) result ≡ right.body_at (source_in syntax.now uses) (senses_made u results.now) leaf }

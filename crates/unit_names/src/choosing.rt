@@ -13,7 +13,7 @@ ghost use Rattle.unit_names.specs.Choosing as choice;
 use crate::internal::of_internal;
 use c_entities::{has_storage, initialiser_for, is_defined};
 use c_meanings::{Names, declares_function, is_internal};
-use c_results::Made;
+use c_results::Results;
 use core_nodes::CheckFault;
 use std::alloc::Global;
 use symbol_lists::SymbolLists;
@@ -43,7 +43,7 @@ fn is_definition(syntax: &Syntax, leaf: u32) -> bool
 }
 
 // Whether a declaration is one of a function, or says `extern`.
-fn only_declares(names: &Names, syntax: &Syntax, results: &[Made], leaf: u32) -> bool
+fn only_declares(names: &Names, syntax: &Syntax, results: &Results, leaf: u32) -> bool
     requires names { AreNamed syntax.now results.now names.now }
     requires leaf { leaf < length syntax.now.tree.now.nodes.items }
     ensures { (u : UnitSpec) (uses : List (ℕ × ℕ)) →
@@ -72,7 +72,7 @@ fn first_definition(syntax: &Syntax, list: &[u32], other: u32) -> u32
 fn first_tentative(
     names: &Names,
     syntax: &Syntax,
-    results: &[Made],
+    results: &Results,
     list: &[u32],
     other: u32,
 ) -> u32
@@ -96,7 +96,7 @@ fn first_tentative(
 pub(crate) fn chosen(
     names: &Names,
     syntax: &Syntax,
-    results: &[Made],
+    results: &Results,
     list: &[u32],
     leaf: u32,
 ) -> u32
@@ -118,7 +118,7 @@ pub fn representative(
     names: &Names,
     lists: &SymbolLists,
     syntax: &Syntax,
-    results: &[Made],
+    results: &Results,
     leaf: u32,
 ) -> Result<u32, CheckFault>
     requires names { AreNamed syntax.now results.now names.now }

@@ -21,7 +21,7 @@ use crate::owners::owner_at;
 use crate::storages::storage_at;
 use crate::types::entity_type;
 use c_meanings::{Names, entity_of, is_typedef, linkage_of};
-use c_results::Made;
+use c_results::Results;
 use c_types::term::TypeId;
 use core_nodes::CheckFault;
 use core_tree::node::Unit;
@@ -34,7 +34,7 @@ use tree_reads::{Syntax, place_of, spelling_of};
 use unit_parts::Declared;
 
 // Whether a leaf declares no typedef name, and is the one by which its entity is known.
-fn is_known_here(names: &Names, syntax: &Syntax, results: &[Made], leaf: u32) -> bool
+fn is_known_here(names: &Names, syntax: &Syntax, results: &Results, leaf: u32) -> bool
     requires names { AreNamed syntax.now results.now names.now }
     requires leaf { leaf < length syntax.now.tree.now.nodes.items }
     ensures { (u : UnitSpec) (uses : List (ℕ × ℕ)) →
@@ -44,7 +44,7 @@ fn is_known_here(names: &Names, syntax: &Syntax, results: &[Made], leaf: u32) ->
 }
 
 // Whether a leaf stands in a declaration, and is the one by which its entity is known.
-fn is_entity_there(names: &Names, syntax: &Syntax, results: &[Made], leaf: u32) -> bool
+fn is_entity_there(names: &Names, syntax: &Syntax, results: &Results, leaf: u32) -> bool
     requires names { AreNamed syntax.now results.now names.now }
     requires leaf { leaf < length syntax.now.tree.now.nodes.items }
     ensures { (u : UnitSpec) (uses : List (ℕ × ℕ)) →
@@ -56,7 +56,7 @@ fn is_entity_there(names: &Names, syntax: &Syntax, results: &[Made], leaf: u32) 
 /// Whether a leaf declares an object or a function, and is the one by which it is known: it is the name of a declarator, in a
 /// declaration or as a parameter of a definition, no typedef name, and of the declarations of an internal name the first (C11
 /// 6.2.2p2, 6.7, 6.9). For an internal name it goes through the declarations of its symbol before it.
-pub fn declares_entity(names: &Names, syntax: &Syntax, results: &[Made], leaf: u32) -> bool
+pub fn declares_entity(names: &Names, syntax: &Syntax, results: &Results, leaf: u32) -> bool
     requires names { AreNamed syntax.now results.now names.now }
     requires leaf { leaf < length syntax.now.tree.now.nodes.items }
     ensures { (u : UnitSpec) (uses : List (ℕ × ℕ)) →
@@ -82,7 +82,7 @@ fn declared_as(
     names: &Names,
     lists: &SymbolLists,
     syntax: &Syntax,
-    results: &[Made],
+    results: &Results,
     leaf: u32,
     ty: TypeId,
 ) -> Result<Declared, CheckFault>
@@ -121,7 +121,7 @@ pub fn declared_at(
     names: &Names,
     lists: &SymbolLists,
     syntax: &Syntax,
-    results: &[Made],
+    results: &Results,
     leaf: u32,
 ) -> Result<Option<Declared>, CheckFault>
     requires ready { IsReady unit.old }

@@ -11,7 +11,7 @@ ghost use Rattle.c_named.specs.Lists.{leaves_of};
 ghost use Rattle.unit_names.specs.Internal.{leaf_if, internal_of};
 
 use c_meanings::{Names, declared_at, is_internal_after, nothing_seen};
-use c_results::Made;
+use c_results::Results;
 use core_nodes::CheckFault;
 use std::alloc::Global;
 use symbol_lists::SymbolLists;
@@ -35,7 +35,7 @@ fn of_symbol(
     names: &Names,
     lists: &SymbolLists,
     syntax: &Syntax,
-    results: &[Made],
+    results: &Results,
     symbol: u32,
 ) -> Result<Vec<u32>, CheckFault>
     requires names { AreNamed syntax.now results.now names.now }
@@ -64,7 +64,7 @@ pub(crate) fn of_internal(
     names: &Names,
     lists: &SymbolLists,
     syntax: &Syntax,
-    results: &[Made],
+    results: &Results,
     leaf: u32,
 ) -> Result<Vec<u32>, CheckFault>
     requires names { AreNamed syntax.now results.now names.now }

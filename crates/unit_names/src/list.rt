@@ -14,7 +14,7 @@ ghost use Rattle.unit_finish.specs.Walked.{AreNames};
 use crate::declared::declared_at;
 use c_meanings::Names;
 use c_mentions::settings::place_of;
-use c_results::Made;
+use c_results::Results;
 use core_nodes::CheckFault;
 use core_tree::node::Unit;
 use std::alloc::Global;
@@ -43,7 +43,7 @@ pub fn declared_names(
     names: &Names,
     lists: &SymbolLists,
     syntax: &Syntax,
-    results: &[Made],
+    results: &Results,
 ) -> Result<Vec<Declared>, CheckFault>
     requires ready { IsReady unit.old }
     requires results { All (IsWithin unit.old) results.now }

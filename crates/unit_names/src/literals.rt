@@ -9,20 +9,21 @@ ghost use Rattle.c_results.specs.Standing.{senses_made};
 ghost use Rattle.tree_reads.specs.Sources.{source_read, source_in};
 ghost use Rattle.name_places.specs.Named.{IsNamedIn};
 ghost use Rattle.c_meanings.specs.Known.{AreNamed};
+ghost use Rattle.unit_parts.specs.Renamed as renamed;
 ghost use Rattle.unit_finish.specs.Walked.{literal_entry};
 
 use c_meanings::{Names, entity_of};
-use c_results::Made;
+use c_results::Results;
 use core_nodes::CheckFault;
-use core_tree::node::{Linkage, Storage};
+use core_tree::node::{Linkage, Node, Storage};
 use name_places::function_around;
 use pta_base::Text;
 use std::alloc::Global;
 use tree_reads::{Syntax, place_of};
-use unit_parts::{Declared, LiteralAt};
+use unit_parts::{Declared, LiteralAt, literals_in};
 
 // The function in whose definition a leaf stands, by the leaf of its name; none where it isn't a node of the tree.
-fn function_over(syntax: &Syntax, results: &[Made], leaf: u32) -> Option<u32>
+fn function_over(syntax: &Syntax, results: &Results, leaf: u32) -> Option<u32>
     requires first { ChildrenFirst (source_read syntax.now) }
     ensures name { (u : UnitSpec) →
         result ≡ spec.function_around (source_read syntax.now) (sense_in (senses_made u results.now)) leaf }
@@ -35,7 +36,7 @@ fn function_over(syntax: &Syntax, results: &[Made], leaf: u32) -> Option<u32>
 }
 
 // The storage of a compound literal (C11 6.5.2.5p5): within a function that of its block.
-fn literal_storage(syntax: &Syntax, results: &[Made], leaf: u32) -> Storage
+fn literal_storage(syntax: &Syntax, results: &Results, leaf: u32) -> Storage
     requires { ChildrenFirst (source_read syntax.now) }
     ensures { (u : UnitSpec) (uses : List (ℕ × ℕ)) →
         result ≡ right.literal_storage (source_in syntax.now uses) (senses_made u results.now) leaf }
@@ -47,7 +48,7 @@ fn literal_storage(syntax: &Syntax, results: &[Made], leaf: u32) -> Storage
 }
 
 // The function that owns a compound literal, by the leaf of its entity; None outside of functions.
-fn literal_owner(names: &Names, syntax: &Syntax, results: &[Made], leaf: u32) -> Option<u32>
+fn literal_owner(names: &Names, syntax: &Syntax, results: &Results, leaf: u32) -> Option<u32>
     requires names { AreNamed syntax.now results.now names.now }
     requires named { All (IsNamedIn (length syntax.now.tree.now.nodes.items)) results.now }
     requires first { ChildrenFirst (source_read syntax.now) }
@@ -67,7 +68,7 @@ fn literal_entry(
     alloc: Global,
     names: &Names,
     syntax: &Syntax,
-    results: &[Made],
+    results: &Results,
     literal: LiteralAt,
 ) -> Result<Declared, CheckFault>
     requires names { AreNamed syntax.now results.now names.now }
@@ -96,7 +97,7 @@ pub fn literal_entries(
     alloc: Global,
     names: &Names,
     syntax: &Syntax,
-    results: &[Made],
+    results: &Results,
     literals: &[LiteralAt],
 ) -> Result<Vec<Declared>, CheckFault>
     requires names { AreNamed syntax.now results.now names.now }
@@ -112,4 +113,24 @@ pub fn literal_entries(
         list.push(entry)?;
     }
     Ok(list)
+}
+
+/// What is declared at the compound literals among some nodes, in order. Only memory may want.
+pub fn declared_literals(
+    alloc: Global,
+    names: &Names,
+    syntax: &Syntax,
+    results: &Results,
+    nodes: &[Node],
+) -> Result<Vec<Declared>, CheckFault>
+    requires names { AreNamed syntax.now results.now names.now }
+    requires named { All (IsNamedIn (length syntax.now.tree.now.nodes.items)) results.now }
+    requires first { ChildrenFirst (source_read syntax.now) }
+    ensures entries { (u : UnitSpec) (uses : List (ℕ × ℕ)) →
+        IfOk result (λ list.
+        list.items ≡ map (literal_entry (source_in syntax.now uses) (senses_made u results.now)) (renamed.literals_in nodes.now)) }
+    ensures memory { IsOkUnless result CheckFault.OutOfMemory }
+{
+    let literals = literals_in(alloc, nodes)?;
+    literal_entries(alloc, names, syntax, results, literals.as_slice())
 }

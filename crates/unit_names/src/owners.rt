@@ -11,7 +11,7 @@ ghost use Rattle.name_places.specs.Named.{IsNamedIn};
 ghost use Rattle.c_meanings.specs.Known.{AreNamed};
 
 use c_meanings::{Names, entity_of, linkage_of};
-use c_results::Made;
+use c_results::Results;
 use core_tree::node::Linkage;
 use name_places::function_around;
 use tree_reads::Syntax;
@@ -20,7 +20,7 @@ use tree_reads::Syntax;
 pub(crate) fn function_entity(
     names: &Names,
     syntax: &Syntax,
-    results: &[Made],
+    results: &Results,
     node: u32,
 ) -> Option<u32>
     requires names { AreNamed syntax.now results.now names.now }
@@ -39,7 +39,7 @@ pub(crate) fn function_entity(
 
 /// The function that owns what a leaf declares, by the leaf of its entity: of a name without linkage the function around it (C11
 /// 6.2.2p6); None for any other, and outside of functions.
-pub fn owner_at(names: &Names, syntax: &Syntax, results: &[Made], leaf: u32) -> Option<u32>
+pub fn owner_at(names: &Names, syntax: &Syntax, results: &Results, leaf: u32) -> Option<u32>
     requires names { AreNamed syntax.now results.now names.now }
     requires named { All (IsNamedIn (length syntax.now.tree.now.nodes.items)) results.now }
     requires leaf { leaf < length syntax.now.tree.now.nodes.items }

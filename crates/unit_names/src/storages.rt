@@ -8,7 +8,7 @@ ghost use Rattle.c_meanings.specs.Known.{AreNamed};
 ghost use Rattle.unit_names.specs.Storages.{internal_storage};
 
 use c_meanings::{Names, declares_function, is_internal, storage_of};
-use c_results::Made;
+use c_results::Results;
 use core_tree::node::Storage;
 use tree_reads::Syntax;
 
@@ -35,7 +35,7 @@ fn internal_storage(storage: Storage, is_function: bool) -> Storage
 /// The storage of the object or function that a leaf declares (C11 6.2.4, 6.9.2), where `at` is the declaration at which it has its
 /// place: of an internal name that of this one, and an object has its place for the whole run; of any other name its own
 /// declaration's.
-pub fn storage_at(names: &Names, syntax: &Syntax, results: &[Made], leaf: u32, at: u32) -> Storage
+pub fn storage_at(names: &Names, syntax: &Syntax, results: &Results, leaf: u32, at: u32) -> Storage
     requires names { AreNamed syntax.now results.now names.now }
     requires leaf { leaf < length syntax.now.tree.now.nodes.items }
     requires at { at < length syntax.now.tree.now.nodes.items }

@@ -17,7 +17,7 @@ use crate::choosing::chosen;
 use crate::internal::of_internal;
 use c_entities::{is_defined, own_type, together, with_length};
 use c_meanings::{Names, is_internal};
-use c_results::Made;
+use c_results::Results;
 use c_types::table::TypeTable;
 use c_types::term::TypeId;
 use core_nodes::CheckFault;
@@ -49,7 +49,7 @@ fn types_together(
     alloc: Global,
     unit: &mut Unit,
     syntax: &Syntax,
-    results: &[Made],
+    results: &Results,
     leaves: &[u32],
 ) -> Result<Option<TypeId>, CheckFault>
     requires ready { IsReady unit.old }
@@ -96,7 +96,7 @@ fn internal_type(
     alloc: Global,
     unit: &mut Unit,
     syntax: &Syntax,
-    results: &[Made],
+    results: &Results,
     list: &[u32],
     at: u32,
 ) -> Result<Option<TypeId>, CheckFault>
@@ -127,7 +127,7 @@ pub fn entity_type(
     names: &Names,
     lists: &SymbolLists,
     syntax: &Syntax,
-    results: &[Made],
+    results: &Results,
     leaf: u32,
 ) -> Result<Option<TypeId>, CheckFault>
     requires ready { IsReady unit.old }

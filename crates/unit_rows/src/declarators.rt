@@ -20,7 +20,7 @@ use crate::initials::nothing_said;
 use crate::known::Known;
 use c_meanings::Names;
 use c_named::{Around, Said, declarator_row};
-use c_results::Made;
+use c_results::{Made, Results};
 use core_nodes::CheckFault;
 use core_tree::node::Unit;
 use name_places::name_in;
@@ -35,7 +35,7 @@ fn said_in(
     syntax: &Syntax,
     names: &Names,
     lists: &SymbolLists,
-    results: &[Made],
+    results: &Results,
     children: &[u32],
 ) -> Result<Said, CheckFault>
     requires named { All (IsNamedIn (length syntax.now.tree.now.nodes.items)) results.now }
@@ -58,7 +58,7 @@ pub(crate) fn declared_name(
     alloc: Global,
     unit: &mut Unit,
     known: &Known,
-    results: &[Made],
+    results: &Results,
     unions: &[bool],
     at: u32,
 ) -> Result<Made, CheckFault>

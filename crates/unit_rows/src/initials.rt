@@ -19,7 +19,7 @@ ghost use Rattle.unit_rows.specs.Standing.{IsKnown, AreKept, source_known, nodes
 use crate::known::Known;
 use c_initials::storage::Scope;
 use c_named::Said;
-use c_results::Made;
+use c_results::{Made, Results};
 use core_nodes::CheckFault;
 use core_tree::node::Unit;
 use init_rows::{initial, initialised_name};
@@ -42,7 +42,7 @@ pub(crate) fn nothing_said(alloc: Global) -> Said
 }
 
 // What is said of the name of the object whose whole initialiser a node is, if it is one.
-fn said_at(alloc: Global, known: &Known, results: &[Made], at: u32) -> Result<Said, CheckFault>
+fn said_at(alloc: Global, known: &Known, results: &Results, at: u32) -> Result<Said, CheckFault>
     requires known { IsKnown known.now }
     requires named { All (IsNamedIn (nodes_known known.now)) results.now }
     requires at { at < nodes_known known.now }
@@ -66,7 +66,7 @@ pub(crate) fn initial_row(
     alloc: Global,
     unit: &mut Unit,
     known: &Known,
-    results: &[Made],
+    results: &Results,
     at: u32,
 ) -> Result<Made, CheckFault>
     requires known { IsKnown known.now }

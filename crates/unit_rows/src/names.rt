@@ -14,7 +14,7 @@ ghost use Rattle.c_meanings.specs.Meanings.{meaning_seen, IsMeaningWithin};
 
 use c_declarators::{NamedType, type_row};
 use c_meanings::{Meaning, Names, meaning_at};
-use c_results::Made;
+use c_results::{Made, Results};
 use core_nodes::CheckFault;
 use core_tree::node::Unit;
 use std::alloc::Global;
@@ -40,7 +40,7 @@ pub(crate) fn type_specifier(
     unit: &mut Unit,
     syntax: &Syntax,
     names: &Names,
-    results: &[Made],
+    results: &Results,
     at: u32,
     children: &[u32],
 ) -> Result<Made, CheckFault>

@@ -15,7 +15,7 @@ ghost use Rattle.unit_rows.specs.Built.{is_part, is_derivation};
 use crate::known::Known;
 use crate::names::type_specifier;
 use c_declarators::{parameter_row, specs_row, suffix_row, type_name_row};
-use c_results::Made;
+use c_results::{Made, Results};
 use c_tags::{align_specifier, assert_row, enum_row, enumerator_row};
 use core_nodes::CheckFault;
 use core_tree::node::Unit;
@@ -41,7 +41,7 @@ pub(crate) fn specifier(
     alloc: Global,
     unit: &mut Unit,
     known: &Known,
-    results: &[Made],
+    results: &Results,
     production: u32,
     at: u32,
     children: &[u32],
@@ -87,7 +87,7 @@ pub(crate) fn derivation(
     alloc: Global,
     unit: &mut Unit,
     syntax: &Syntax,
-    results: &[Made],
+    results: &Results,
     production: u32,
     at: u32,
     children: &[u32],

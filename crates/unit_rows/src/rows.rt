@@ -24,7 +24,7 @@ use crate::initials::initial_row;
 use crate::known::Known;
 use crate::parts::{derivation, specifier};
 use crate::structures::structure;
-use c_results::Made;
+use c_results::{Made, Results};
 use c_statements::Choices;
 use c_structures::{MemberLists, listed_member};
 use core_nodes::CheckFault;
@@ -176,7 +176,7 @@ fn limited(
     alloc: Global,
     unit: &mut Unit,
     known: &Known,
-    results: &[Made],
+    results: &Results,
     lists: &mut MemberLists,
     unions: &mut Vec<bool>,
     at: u32,
@@ -224,7 +224,7 @@ fn declared(
     alloc: Global,
     unit: &mut Unit,
     known: &Known,
-    results: &[Made],
+    results: &Results,
     choices: &Choices,
     at: u32,
 ) -> Result<Made, CheckFault>
@@ -259,7 +259,7 @@ pub fn row(
     alloc: Global,
     unit: &mut Unit,
     known: &Known,
-    results: &[Made],
+    results: &Results,
     choices: &Choices,
     along: &mut Along,
     at: u32,

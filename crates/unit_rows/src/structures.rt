@@ -14,7 +14,7 @@ ghost use Rattle.unit_worlds.specs.Growing.{Grows, completed_at};
 ghost use Rattle.unit_rows.specs.Standing.{IsKnown, source_known, nodes_known, world_there};
 
 use crate::known::Known;
-use c_results::Made;
+use c_results::{Made, Results};
 use core_nodes::CheckFault;
 use core_tree::node::Unit;
 use std::alloc::Global;
@@ -26,7 +26,7 @@ pub(crate) fn structure(
     alloc: Global,
     unit: &mut Unit,
     known: &Known,
-    results: &[Made],
+    results: &Results,
     unions: &mut Vec<bool>,
     at: u32,
 ) -> Result<Made, CheckFault>

@@ -29,12 +29,12 @@ use Rattle.tag_numbers.specs.Ordered.{AreInOrder}
 use Rattle.unit_walk.specs.Walked.{AreDense, RefusedBy, RefusedIn}
 
 module _ (syntax : Syntax) (tokens : Tokens) (tree : Tree) (bound : Bound) (same_tokens : syntax.tokens.now ≡ tokens) (same_tree : syntax.tree.now ≡ tree) (bind : IsBound tokens tree bound) where
-  pub source_same : source_in syntax bound.uses.items ≡ numbered (number_in syntax.tag_numbers.items) (source_of tokens tree)
+  pub source_same : source_in syntax bound.uses.items ≡ numbered (number_in syntax.tag_numbers) (source_of tokens tree)
   unfolding source_of
   source_same =
-      ap (λ (t : Tokens). numbered (number_in syntax.tag_numbers.items) (source_with t syntax.tree.now bound.uses.items)) same_tokens
-      ∙ (ap (λ (t : Tree). numbered (number_in syntax.tag_numbers.items) (source_with tokens t bound.uses.items)) same_tree
-      ∙ ap (λ (uses : List (ℕ × ℕ)). numbered (number_in syntax.tag_numbers.items) (source_with tokens tree uses)) bind.uses)
+      ap (λ (t : Tokens). numbered (number_in syntax.tag_numbers) (source_with t syntax.tree.now bound.uses.items)) same_tokens
+      ∙ (ap (λ (t : Tree). numbered (number_in syntax.tag_numbers) (source_with tokens t bound.uses.items)) same_tree
+      ∙ ap (λ (uses : List (ℕ × ℕ)). numbered (number_in syntax.tag_numbers) (source_with tokens tree uses)) bind.uses)
 
   pub bound_there : IsBound syntax.tokens.now syntax.tree.now bound
   bound_there = subst (λ (t : Tokens). IsBound t syntax.tree.now bound) (sym same_tokens) (subst (λ (t : Tree). IsBound tokens t bound) (sym same_tree) bind)
@@ -63,9 +63,9 @@ module _ (syntax : Syntax) (tokens : Tokens) (tree : Tree) (bound : Bound) (same
 
   pub refused_in : (tags : Tags) (fault : CheckFault) → AreTags (source_in syntax bound.uses.items) tags → AreInOrder (source_in syntax bound.uses.items) → RefusedBy (source_in syntax bound.uses.items) fault → RefusedIn (source_of tokens tree) fault
   refused_in tags (BadOperand named) t o h =
-      (number_in syntax.tag_numbers.items, subst AreDense source_same (dense_of (source_in syntax bound.uses.items) tags t o), subst (λ (s : Source). RefusedBy s (BadOperand named)) source_same h)
+      (number_in syntax.tag_numbers, subst AreDense source_same (dense_of (source_in syntax bound.uses.items) tags t o), subst (λ (s : Source). RefusedBy s (BadOperand named)) source_same h)
   refused_in tags (Unsupported kind named) t o h =
-      (number_in syntax.tag_numbers.items, subst AreDense source_same (dense_of (source_in syntax bound.uses.items) tags t o), subst (λ (s : Source). RefusedBy s (Unsupported kind named)) source_same h)
+      (number_in syntax.tag_numbers, subst AreDense source_same (dense_of (source_in syntax bound.uses.items) tags t o), subst (λ (s : Source). RefusedBy s (Unsupported kind named)) source_same h)
   refused_in tags OutOfMemory t o h = tt
 
 -- each name is declared at a node

@@ -8,7 +8,7 @@ ghost use Rattle.struct_rows.specs.Built.{HasTagTypes};
 ghost use Rattle.unit_rows.specs.Standing.{IsKnown, Stand, source_known, nodes_known};
 ghost use Rattle.unit_walk.specs.Walked.{IsWalked, RefusedBy};
 
-use c_results::Made;
+use c_results::Results;
 use core_nodes::CheckFault;
 use core_tree::node::Unit;
 use std::alloc::Global;
@@ -18,7 +18,7 @@ use unit_rows::{Along, Known, row};
 /// What each node of a unit stands for, over what was made for those before it (C11 6.5 to 6.9). The unit's table of types has all tags of
 /// structures and unions before the first row, none of them complete. A refusal is that of the first node whose row doesn't fit. Beside
 /// that only memory may want: what the rows make is within the limits as long as they fit (`AlwaysLimited`).
-pub fn walk_nodes(alloc: Global, unit: &mut Unit, known: &Known) -> Result<Vec<Made>, CheckFault>
+pub fn walk_nodes(alloc: Global, unit: &mut Unit, known: &Known) -> Result<Results, CheckFault>
     requires known { IsKnown known.now }
     requires ready { IsReady unit.old }
     requires open { unit.old.types.completed ≡ [] }
@@ -27,30 +27,29 @@ pub fn walk_nodes(alloc: Global, unit: &mut Unit, known: &Known) -> Result<Vec<M
     requires families { Families (source_known known.now) }
     requires limits { AlwaysLimited (source_known known.now) }
     requires count { unit.old.types.tags ≡ known.now.numbered.now.tags.count }
-    ensures stand { IfOk result (λ results. Stand (nodes_known known.now) unit.new results.items) }
+    ensures stand { IfOk result (λ results. Stand (nodes_known known.now) unit.new results) }
     ensures entities { IfOk result (λ results. unit.new.entities.items ≡ unit.old.entities.items) }
     ensures walked { let s = source_known known.now in
-        MatchResult result (λ results. IsWalked s unit.new results.items) (λ fault. RefusedBy s fault) }
+        MatchResult result (λ results. IsWalked s unit.new results) (λ fault. RefusedBy s fault) }
 {
     // (What every table keeps is told by its count.)
     let _count = unit.types.type_count();
     let syntax = &known.numbered.syntax;
-    let mut results = Vec::with_capacity(alloc, syntax.tree.nodes.len())?;
+    let mut results = Results::with_capacity(alloc, syntax.tree.nodes.len())?;
     let mut choices = no_choices(alloc);
     let Ok(mut along) = Along::new(alloc, unit) else {
         return Err(CheckFault::OutOfMemory);
     };
     for at in 0..syntax.tree.nodes.len() {
         let node = at as u32;
-        let before = results.as_slice();
-        match row(alloc, unit, known, before, &choices, &mut along, node) {
+        match row(alloc, unit, known, &results, &choices, &mut along, node) {
             Ok(made) => results.push(made)?,
             Err(fault) => return Err(fault),
         }
 
         // The count is of no use, but that the table has one says that its types were made by its own functions, as the next row asks.
         let _types = unit.types.type_count();
-        note(&mut choices, unit, syntax, results.as_slice(), node)?;
+        note(&mut choices, unit, syntax, &results, node)?;
     }
     Ok(results)
 }

@@ -22,7 +22,7 @@ use crate::nodes::walk_nodes;
 use c_grammar::Tree;
 use c_lexer::Tokens;
 use c_meanings::Names;
-use c_results::Made;
+use c_results::Results;
 use c_scope::Bound;
 use core_nodes::CheckFault;
 use core_tree::node::Unit;
@@ -52,7 +52,7 @@ pub struct Ground<'a> {
 pub struct Walked<'a> {
     pub ground: Ground<'a>,
     pub unit: Unit,
-    pub results: Vec<Made>,
+    pub results: Results,
 }
 
 // What is known of a unit before its rows. Only memory may want: names of a text are spelled in ASCII, and declared at nodes.
@@ -140,11 +140,11 @@ pub fn walk<'a>(
     ensures tree { IfOk result (λ w. w.ground.numbered.syntax.tree.now ≡ tree.now) }
     ensures source { IfOk result (λ w.
         source_ground w.ground bound.now
-        ≡ numbered (number_in w.ground.numbered.syntax.tag_numbers.items) (source_of tokens.now tree.now)) }
+        ≡ numbered (number_in w.ground.numbered.syntax.tag_numbers) (source_of tokens.now tree.now)) }
     ensures ordered { IfOk result (λ w. AreInOrder (source_ground w.ground bound.now)) }
-    ensures stand { IfOk result (λ w. Stand (nodes_ground w.ground) w.unit w.results.items) }
+    ensures stand { IfOk result (λ w. Stand (nodes_ground w.ground) w.unit w.results) }
     ensures walked { MatchResult result
-        (λ w. IsWalked (source_ground w.ground bound.now) w.unit w.results.items)
+        (λ w. IsWalked (source_ground w.ground bound.now) w.unit w.results)
         (RefusedIn (source_of tokens.now tree.now)) }
 {
     let ground = match ground_of(alloc, tokens, tree, bound) {

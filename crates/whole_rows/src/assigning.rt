@@ -10,7 +10,7 @@ ghost use Rattle.whole_rows.specs.Constants.{HaveRowsMade};
 ghost use Rattle.whole_rows.specs.Whole as spec;
 
 use crate::operands::operand_of;
-use c_results::Made;
+use c_results::{Made, Results};
 use c_rows::parts::{passed_on, sensed};
 use core_nodes::CheckFault;
 use core_tree::node::Unit;
@@ -23,7 +23,7 @@ fn assigned_parts(
     alloc: Global,
     unit: &mut Unit,
     syntax: &Syntax,
-    results: &[Made],
+    results: &Results,
     at: u32,
     left: u32,
     operator: u32,
@@ -60,7 +60,7 @@ pub fn assignment_row(
     alloc: Global,
     unit: &mut Unit,
     syntax: &Syntax,
-    results: &[Made],
+    results: &Results,
     at: u32,
     children: &[u32],
 ) -> Result<Made, CheckFault>

@@ -12,7 +12,7 @@ ghost use Rattle.whole_rows.specs.Calls.{CoresGiven};
 ghost use Rattle.whole_rows.specs.Constants.{HaveRowsMade};
 
 use crate::operands::operand_of;
-use c_results::Made;
+use c_results::{Made, Results};
 use c_rows::other_post;
 use c_rows::parts::{behind_first, sensed};
 use core_nodes::CheckFault;
@@ -29,7 +29,7 @@ fn arguments_of(
     alloc: Global,
     unit: &Unit,
     syntax: &Syntax,
-    results: &[Made],
+    results: &Results,
     at: u32,
     parts: &[u32],
 ) -> Result<Listing<u32>, CheckFault>
@@ -59,7 +59,7 @@ fn call_parts(
     alloc: Global,
     unit: &mut Unit,
     syntax: &Syntax,
-    results: &[Made],
+    results: &Results,
     at: u32,
     first: u32,
     parts: &[u32],
@@ -95,7 +95,7 @@ pub fn post_row(
     alloc: Global,
     unit: &mut Unit,
     syntax: &Syntax,
-    results: &[Made],
+    results: &Results,
     at: u32,
     children: &[u32],
     may_call: bool,

@@ -11,7 +11,7 @@ ghost use Rattle.whole_rows.specs.Constants.{HaveRowsMade};
 ghost use Rattle.whole_rows.specs.Whole as spec;
 
 use crate::operands::operand_of;
-use c_results::Made;
+use c_results::{Made, Results};
 use c_rows::parts::{behind_first, passed_on, sensed, type_of};
 use core_nodes::CheckFault;
 use core_tree::node::Unit;
@@ -25,7 +25,7 @@ const P_CAST: u32 = 44;
 fn cast_parts(
     alloc: Global,
     unit: &mut Unit,
-    results: &[Made],
+    results: &Results,
     at: u32,
     named: u32,
     operand: u32,
@@ -56,7 +56,7 @@ pub fn cast_row(
     alloc: Global,
     unit: &mut Unit,
     syntax: &Syntax,
-    results: &[Made],
+    results: &Results,
     at: u32,
     children: &[u32],
 ) -> Result<Made, CheckFault>

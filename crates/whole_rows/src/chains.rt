@@ -15,7 +15,7 @@ ghost use Rattle.whole_rows.specs.Whole.{joined_values as joined_spec, linked as
 use crate::operands::operand_of;
 use c_conversions::values::value;
 use c_operators::operators::{Operator, operator_of};
-use c_results::Made;
+use c_results::{Made, Results};
 use c_rows::parts::{behind_first, passed_on, sensed};
 use core_nodes::CheckFault;
 use core_tree::node::Unit;
@@ -63,7 +63,7 @@ fn linked(
     alloc: Global,
     unit: &mut Unit,
     syntax: &Syntax,
-    results: &[Made],
+    results: &Results,
     named: u32,
     operator: u32,
     left: u32,
@@ -107,7 +107,7 @@ fn chained(
     alloc: Global,
     unit: &mut Unit,
     syntax: &Syntax,
-    results: &[Made],
+    results: &Results,
     at: u32,
     single: bool,
     first: u32,
@@ -152,7 +152,7 @@ pub fn binary_row(
     alloc: Global,
     unit: &mut Unit,
     syntax: &Syntax,
-    results: &[Made],
+    results: &Results,
     at: u32,
     children: &[u32],
 ) -> Result<Made, CheckFault>

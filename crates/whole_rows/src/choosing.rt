@@ -11,7 +11,7 @@ ghost use Rattle.whole_rows.specs.Constants.{HaveRowsMade};
 ghost use Rattle.whole_rows.specs.Whole as spec;
 
 use crate::operands::value_of;
-use c_results::Made;
+use c_results::{Made, Results};
 use c_rows::parts::{passed_on, sensed};
 use core_nodes::CheckFault;
 use core_tree::node::Unit;
@@ -24,7 +24,7 @@ use value_rows::choices::choice_row;
 fn chosen_parts(
     alloc: Global,
     unit: &mut Unit,
-    results: &[Made],
+    results: &Results,
     place: Place,
     at: u32,
     condition: u32,
@@ -62,7 +62,7 @@ pub fn conditional_row(
     alloc: Global,
     unit: &mut Unit,
     syntax: &Syntax,
-    results: &[Made],
+    results: &Results,
     at: u32,
     children: &[u32],
 ) -> Result<Made, CheckFault>

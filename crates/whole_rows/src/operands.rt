@@ -9,14 +9,14 @@ ghost use Rattle.c_results.specs.Standing.{senses_made, IsWithin};
 ghost use Rattle.whole_rows.specs.Constants.{HaveRowsMade};
 
 use c_conversions::values::value;
-use c_results::Made;
+use c_results::Results;
 use c_rows::parts::core_of;
 use core_nodes::CheckFault;
 use core_tree::node::Unit;
 use std::alloc::Global;
 
 /// The core node of a part.
-pub fn operand_of(unit: &Unit, results: &[Made], at: u32, part: u32) -> Result<u32, CheckFault>
+pub fn operand_of(unit: &Unit, results: &Results, at: u32, part: u32) -> Result<u32, CheckFault>
     requires within { All (IsWithin unit.now) results.now }
     requires rows { HaveRowsMade unit.now results.now }
     ensures made { CoreMade unit.now result (spec.core_of at (sense_in (senses_made unit.now results.now) part)) }
@@ -30,7 +30,7 @@ pub fn operand_of(unit: &Unit, results: &[Made], at: u32, part: u32) -> Result<u
 pub fn value_of(
     alloc: Global,
     unit: &mut Unit,
-    results: &[Made],
+    results: &Results,
     at: u32,
     part: u32,
 ) -> Result<u32, CheckFault>

@@ -18,7 +18,7 @@ use crate::operands::operand_of;
 use c_lexer::TokenKind;
 use c_operators::objects::{address_row, indirection_row, not_row, promoted_row};
 use c_operators::operators::sort_of_node;
-use c_results::Made;
+use c_results::{Made, Results};
 use c_rows::counted;
 use c_rows::parts::{behind_first, passed_on, sensed, type_of};
 use c_types::term::{Term, TypeId};
@@ -161,7 +161,7 @@ fn prefixed_node(
 fn prefixed(
     alloc: Global,
     unit: &mut Unit,
-    results: &[Made],
+    results: &Results,
     place: Place,
     at: u32,
     sign: u8,
@@ -287,7 +287,7 @@ fn sized_part(
     alloc: Global,
     unit: &mut Unit,
     syntax: &Syntax,
-    results: &[Made],
+    results: &Results,
     place: Place,
     at: u32,
     part: u32,
@@ -320,7 +320,7 @@ fn sized_part(
 fn aligned_part(
     alloc: Global,
     unit: &mut Unit,
-    results: &[Made],
+    results: &Results,
     place: Place,
     at: u32,
     part: u32,
@@ -347,7 +347,7 @@ fn worded(
     alloc: Global,
     unit: &mut Unit,
     syntax: &Syntax,
-    results: &[Made],
+    results: &Results,
     place: Place,
     at: u32,
     word: u8,
@@ -385,7 +385,7 @@ fn begun(
     alloc: Global,
     unit: &mut Unit,
     syntax: &Syntax,
-    results: &[Made],
+    results: &Results,
     at: u32,
     children: &[u32],
 ) -> Result<Made, CheckFault>
@@ -430,7 +430,7 @@ pub fn unary_row(
     alloc: Global,
     unit: &mut Unit,
     syntax: &Syntax,
-    results: &[Made],
+    results: &Results,
     at: u32,
     children: &[u32],
 ) -> Result<Made, CheckFault>

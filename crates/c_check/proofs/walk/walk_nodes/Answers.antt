@@ -21,7 +21,7 @@ use Rattle.c_check.proofs.walk.walk_nodes.Goals as goal
 pub loop-at-init : goal.loop-at-init
 loop-at-init c =
     let u = c.args.unit.now in
-    let rs = c.in_ok-results.results.items in
+    let rs = c.in_ok-results.results in
     record {
       ready = c.requires.ready;
       builds = builds_same u;
@@ -42,7 +42,7 @@ loop-at-preserved c =
     let s = source_in c.args.syntax.now in
     let start = c.args.start in
     let at = c.loop-at.at in
-    let rs = c.loop-at.results.items in
+    let rs = c.loop-at.results in
     let senses = senses_made u rs in
     let inv = c.loop-at.invariant in
     let ok = c.in-Ok.ensures in
@@ -51,16 +51,16 @@ loop-at-preserved c =
     record {
       ready = ok.ready;
       builds = builds_on u0 u u1 inv.builds ok.builds;
-      long = longer u u1 ok.builds rs c.push.new.self.items c.in-Ok.made items inv.within ∙ ap (λ (n : ℕ). n + 1) inv.long;
-      within = within_on u u1 ok.builds rs c.push.new.self.items c.in-Ok.made items inv.within ok.within;
-      rows = rows_pushed u u1 ok.builds rs c.push.new.self.items c.in-Ok.made items inv.within inv.rows ok.rows;
+      long = longer u u1 ok.builds rs c.push.new.self c.in-Ok.made items inv.within ∙ ap (λ (n : ℕ). n + 1) inv.long;
+      within = within_on u u1 ok.builds rs c.push.new.self c.in-Ok.made items inv.within ok.within;
+      rows = rows_pushed u u1 ok.builds rs c.push.new.self c.in-Ok.made items inv.within inv.rows ok.rows;
       tested = ok.tested;
       checked = λ scene uses found own flexible fit readable.
           let fit1 = fitting_on u0 u inv.builds scene owner list uses c.requires.known fit in
           let own1 = own_on u0 u inv.builds owner c.args.around.now.own_name own in
-          let row = subst (λ (l : List Made). checked_row scene (s uses) (sense_in (senses_made u l)) (production_at (s uses) at) at (children_at (s uses) at) ≡ Fits (sense_made u1 c.in-Ok.made)) c.as_slice-before.ensures.value (ok.row scene uses found own1 flexible fit1 (readable at)) in
+          let row = (ok.row scene uses found own1 flexible fit1 (readable at)) in
           let row1 = subst (λ (i : ℕ). checked_row scene (s uses) (sense_in senses) (production_at (s uses) i) i (children_at (s uses) i) ≡ Fits (sense_made u1 c.in-Ok.made)) (sym many) row in
-          subst (AreChecked scene (s uses) start) (sym (pushed u u1 ok.builds rs c.push.new.self.items c.in-Ok.made items inv.within))
+          subst (AreChecked scene (s uses) start) (sym (pushed u u1 ok.builds rs c.push.new.self c.in-Ok.made items inv.within))
           (one_more scene (s uses) start senses (sense_made u1 c.in-Ok.made) (inv.checked scene uses found own flexible fit readable) (omega (arith, many, c.loop-at.auto.at)) row1);
     }
 
@@ -73,17 +73,17 @@ returns-in-Err-clause-answer c scene uses found own flexible fit readable =
     let owner = c.args.known.now.owner in
     let s = source_in c.args.syntax.now in
     let at = c.loop-at.at in
-    let rs = c.loop-at.results.items in
+    let rs = c.loop-at.results in
     let inv = c.loop-at.invariant in
     let fit1 = fitting_on u0 u inv.builds scene owner list uses c.requires.known fit in
     let own1 = own_on u0 u inv.builds owner c.args.around.now.own_name own in
-    let row = subst (λ (l : List Made). RowedOr u1 (Err c.in-Err.fault) (checked_row scene (s uses) (sense_in (senses_made u l)) (production_at (s uses) at) at (children_at (s uses) at)) ((is_declarator (production_at (s uses) at) ≡ true) × (IsSmallTable u1.types → ⊥)) at) c.as_slice-before.ensures.value (c.in-Err.ensures.row scene uses found own1 flexible fit1 (readable at)) in
+    let row = (c.in-Err.ensures.row scene uses found own1 flexible fit1 (readable at)) in
     refused scene (s uses) c.args.start c.args.end at u u1 rs inv.long c.loop-at.auto.at (omega (arith, c.loop-at-test.true, c.requires.parsed)) (inv.checked scene uses found own flexible fit readable) c.in-Err.fault row
 
 pub returns-clause-answer : goal.returns-clause-answer
 returns-clause-answer c scene uses found own flexible fit readable =
     let u = c.loop-at.unit in
-    let rs = c.loop-at.results.items in
+    let rs = c.loop-at.results in
     let inv = c.loop-at.invariant in
     let ends : c.loop-at.at ≡ c.args.end = omega (arith, c.loop-at.auto.at-end, c.loop-at-test.false, c.requires.some) in
     let S = senses_made u rs in
@@ -91,7 +91,7 @@ returns-clause-answer c scene uses found own flexible fit readable =
     record {
       sense = sense_in S (c.args.end - 1);
       fits = record { senses = S; checked = inv.checked scene uses found own flexible fit readable; long = length-map rs (sense_made u) ∙ (inv.long ∙ ends); last = refl };
-      seen = subst (λ (l : List Made). NodeSeen u c.node_at.result (core_in (sense_in (senses_made u l) (c.args.end - 1)))) c.as_slice.ensures.value seen;
+      seen = seen;
     }
 
 pub returns-in_err-push-in-Ok-clause-builds : goal.returns-in_err-push-in-Ok-clause-builds
@@ -101,4 +101,4 @@ pub returns-in-Err-clause-builds : goal.returns-in-Err-clause-builds
 returns-in-Err-clause-builds c = builds_on c.args.unit.now c.loop-at.unit c.row.new.unit c.loop-at.invariant.builds c.in-Err.ensures.builds
 
 pub returns-clause-within : goal.returns-clause-within
-returns-clause-within c = c.node_at.ensures.within c.loop-at.unit (subst (λ (l : List Made). All (IsWithin c.loop-at.unit) l) (sym c.as_slice.ensures.value) c.loop-at.invariant.within)
+returns-clause-within c = c.node_at.ensures.within c.loop-at.unit c.loop-at.invariant.within

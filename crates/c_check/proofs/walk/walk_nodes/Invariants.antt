@@ -16,9 +16,9 @@ abbrev pub invariant-loop-at : goal.invariant-loop-at
 invariant-loop-at l = record {
   ready : IsReady l.unit;
   builds : Builds l.fn.unit l.unit;
-  long : length l.results.items ≡ l.at;
-  within : All (IsWithin l.unit) l.results.items;
-  rows : HaveRowsMade l.unit l.results.items;
+  long : length l.results ≡ l.at;
+  within : All (IsWithin l.unit) l.results;
+  rows : HaveRowsMade l.unit l.results;
   tested : IsTested l.unit l.tested;
-  checked : (scene : Scene) (uses : List (ℕ × ℕ)) → AreLookups l.around.found l.known.list.items uses → l.around.own_name ≡ own_name_in l.fn.unit l.known.owner → AreFlexible scene.world l.around.flags.items → Fitting scene l.fn.unit l.known.owner l.known.list.items uses → ((at : ℕ) → IsReadable (source_in l.syntax uses) at) → AreChecked scene (source_in l.syntax uses) l.start (senses_made l.unit l.results.items);
+  checked : (scene : Scene) (uses : List (ℕ × ℕ)) → AreLookups l.around.found l.known.list.items uses → l.around.own_name ≡ own_name_in l.fn.unit l.known.owner → AreFlexible scene.world l.around.flags.items → Fitting scene l.fn.unit l.known.owner l.known.list.items uses → ((at : ℕ) → IsReadable (source_in l.syntax uses) at) → AreChecked scene (source_in l.syntax uses) l.start (senses_made l.unit l.results);
 }

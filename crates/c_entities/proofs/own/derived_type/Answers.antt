@@ -4,7 +4,7 @@ use Rattle.c_senses.specs.Sense.{Sense, Specified, sense_in}
 use Rattle.c_senses.specs.Tree.{Source}
 use Rattle.c_senses.specs.Declarators.{specs_of, outermost_of}
 use Rattle.c_senses.specs.Entities.{specified, specified_of, derived_type}
-use Rattle.c_results.specs.Standing.{senses_made, derivations_seen}
+use Rattle.c_results.specs.Standing.{senses_made}
 use Rattle.tree_reads.specs.Sources.{source_read}
 use Rattle.c_entities.proofs.Reading.{specs_missing, type_seen, type_missing}
 use Rattle.c_entities.proofs.own.derived_type.Goals as goal

@@ -1,8 +1,7 @@
-use Rattle.std.proofs.Common.{◌≡◌, ℕ, Option, Some, None, sym, ap, ◌∙◌, option_map}
+use Rattle.std.proofs.Common.{ℕ, Option, Some, sym, ap, ◌∙◌, option_map}
 use Rattle.c_types.specs.Trees.{Ctype}
 use Rattle.c_types.specs.Table.{type_of}
 use Rattle.c_senses.specs.Sense.{sense_in}
-use Rattle.c_senses.specs.Declarators.{outermost_of}
 use Rattle.c_senses.specs.Entities as spec
 use Rattle.core_nodes.proofs.Growing.{builds_on}
 use Rattle.c_results.specs.Standing.{senses_made}

@@ -15,7 +15,7 @@ returns-in-Ok-clause-row c = λ w uses k.
     let sense = sense_in (senses_made u c.args.results.now) in
     let fits : FitsSigned w128 c.in-Ok.index = search rules in
     indexed w s sense c.args.at c.args.children.now _ c.in-Some.child (sym c.is_empty.ensures ∙ c.if-is_empty.false) c.if-not-has_sign.ensures (sym c.child_of.ensures ∙ c.in-Some.is)
-    ∙ ap (λ (g : Given ℤ). g >>= (λ n. Fits (IsValue n))) (c.in-Ok.ensures.value w uses k) ∙ ap (λ (n : ℤ). Fits (IsValue n)) (sym (to_z-of_z fits))
+    ∙ ap (λ (g : Given ℤ). g >>= (λ n. Fits (IsValue n))) (c.in-Ok.ensures.value w uses k) ∙ ap (λ (n : ℤ). Fits (IsValue n)) (sym (to_z-of_z fits) ∙ sym c.of.ensures)
 
 pub returns-in-Err-clause-row : goal.returns-in-Err-clause-row
 returns-in-Err-clause-row c = λ w uses k.

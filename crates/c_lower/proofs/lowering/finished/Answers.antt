@@ -18,11 +18,10 @@ use Rattle.c_lower.proofs.lowering.finished.Goals as goal
 pub returns : goal.returns
 returns c = λ u walked uses list ready types number is_walked is_kept.
     let s = source_in c.args.syntax.now uses in
-    let senses = senses_made u c.args.results.items in
+    let senses = senses_made u c.args.results in
     let h = c.args.heading in
     let nodes = c.args.kept.nodes.items in
-    let read = ap (λ (l : List Made). map (literal_entry s (senses_made u l)) (literals_in c.as_slice-nodes.result.now)) c.as_slice.ensures.value in
-    let entries = c.in-Ok.ensures.entries u uses ∙ (read ∙ ap (λ (nodes : List Node). map (literal_entry s senses) (literals_in nodes)) c.as_slice-nodes.ensures.value) in
+    let entries = c.in-Ok.ensures.entries u uses ∙ ap (λ (nodes : List Node). map (literal_entry s senses) (literals_in nodes)) c.as_slice-nodes.ensures.value in
     let parts : AreParts s = record { senses = senses; walked = walked; keys = c.args.keys.items; names = list; kept = c.args.kept; ready = ready; made = is_walked; stay = is_kept } in
     let right = c.finish.ensures.right s senses walked list ready types number is_walked is_kept entries in
     finished_so s h.name parts h.root c.finish.result right
@@ -37,7 +36,7 @@ returns-in-Err c = λ u walked uses list ready types number is_walked is_kept.
     memory_unfinished (source_in c.args.syntax.now uses) h.name h.root c.in-Err.fault c.in-Err.ensures.memory
 
 pub declared_literals-requires-clause-names : goal.declared_literals-requires-clause-names
-declared_literals-requires-clause-names c = subst (λ (l : List Made). AreNamed c.args.syntax.now l c.args.names.now) (sym c.as_slice.ensures.value) c.requires.names
+declared_literals-requires-clause-names c = c.requires.names
 
 pub declared_literals-requires-clause-named : goal.declared_literals-requires-clause-named
-declared_literals-requires-clause-named c = subst (All (IsNamedIn (length c.args.syntax.now.tree.now.nodes.items))) (sym c.as_slice.ensures.value) c.requires.named
+declared_literals-requires-clause-named c = c.requires.named

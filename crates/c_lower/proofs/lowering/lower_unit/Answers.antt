@@ -14,7 +14,7 @@ pub returns-in-Ok : goal.returns-in-Ok
 returns-in-Ok c =
     let g = c.in-Ok.walked.ground in
     let tree = g.numbered.syntax.tree.now in
-    lowered (source_ground g c.args.bound.now) (source_of c.args.tokens.now c.args.tree.now) (number_in g.numbered.syntax.tag_numbers.items) g.numbered.tags c.args.name tree.root c.args.tree.now.root
+    lowered (source_ground g c.args.bound.now) (source_of c.args.tokens.now c.args.tree.now) (number_in g.numbered.syntax.tag_numbers) g.numbered.tags c.args.name tree.root c.args.tree.now.root
     c.in-Ok.ensures.source (ap (λ (t : Tree). t.root) c.in-Ok.ensures.tree) c.in-Ok.ensures.ground.tags c.in-Ok.ensures.ordered c.completed.result c.completed.ensures
 
 pub returns-in-Err : goal.returns-in-Err

@@ -15,20 +15,20 @@ loop-node-preserved c =
     let above : 0 < c.loop-node.node = c.loop-node-test.true in
     let within_nodes : c.loop-node.node ≤ length c.args.nodes.now = c.loop-node.invariant.0 in
     let next : c.loop-node.node ≡ m + 1 = omega arith in
-    let here = c.index.result.now in
+    let here = c.at.result in
     let node : Node = node_of c.index-nodes-node.result in
     let scopes = c.loop-node.scopes.items in
     let newer = c.setting_within.new.scopes.items in
     let at : node ≡ get_or nodes m node = ap node_of c.index-nodes-node.is ∙ sym (get_or-nodes_of c.args.nodes.now m c.index-nodes-node.result) in
     let children = c.as_slice.ensures.value ∙ ap (λ n. n.children.items) (sym c.index-nodes-node.is) in
-    let given : Hands node.children m c.in_ok-within.within c.loop-node.list.items c.hand.new.list.items = subst (λ l. Hands l m c.in_ok-within.within c.loop-node.list.items c.hand.new.list.items) children c.hand.ensures in
-    let stands : (s : Standing) → Stands scopes (get_or c.loop-node.list.items m here) s → Stands newer c.in_ok-within.within (handed_down tokens nodes m s)
-    = λ s h. c.in_ok-within.ensures.stands s (subst (λ x. Stands scopes x s) (sym c.index.ensures) h) in
-    let behind : Behind tokens nodes scopes c.loop-node.list.items (m + 1) = subst (λ n. Behind tokens nodes scopes c.loop-node.list.items n) next c.loop-node.invariant.2 in
+    let given : Hands node.children m c.in_ok-within.within c.loop-node.list c.hand.new.self = subst (λ l. Hands l m c.in_ok-within.within c.loop-node.list c.hand.new.self) children c.in_ok-hand.ensures in
+    let stands : (s : Standing) → Stands scopes (get_or c.loop-node.list m here) s → Stands newer c.in_ok-within.within (handed_down tokens nodes m s)
+    = λ s h. c.in_ok-within.ensures.stands s (subst (λ x. Stands scopes x s) (c.at.ensures c.at.result) h) in
+    let behind : Behind tokens nodes scopes c.loop-node.list (m + 1) = subst (λ n. Behind tokens nodes scopes c.loop-node.list n) next c.loop-node.invariant.2 in
     let within : m < length nodes = omega arith in (
       omega arith,
-      c.hand.ensures.count ∙ c.loop-node.invariant.1,
-      behind_more tokens nodes m scopes newer c.loop-node.list.items c.hand.new.list.items c.in_ok-within.within here node within at c.in_ok-within.ensures.extends stands given behind,
+      c.in_ok-hand.ensures.count ∙ c.loop-node.invariant.1,
+      behind_more tokens nodes m scopes newer c.loop-node.list c.hand.new.self c.in_ok-within.within here node within at c.in_ok-within.ensures.extends stands given behind,
     )
 
 pub returns : goal.returns
@@ -36,10 +36,10 @@ returns c =
     let tokens = c.args.tokens.now in
     let nodes : List Node = nodes_of c.args.nodes.now in
     let end : c.loop-node.node ≡ 0 = omega arith in
-    let behind : Behind tokens nodes c.loop-node.scopes.items c.loop-node.list.items 0 = subst (λ n. Behind tokens nodes c.loop-node.scopes.items c.loop-node.list.items n) end c.loop-node.invariant.2 in
+    let behind : Behind tokens nodes c.loop-node.scopes.items c.loop-node.list 0 = subst (λ n. Behind tokens nodes c.loop-node.scopes.items c.loop-node.list n) end c.loop-node.invariant.2 in
     record {
       count = c.loop-node.invariant.1 ∙ sym (length-nodes_of c.args.nodes.now);
       each = λ i d l.
           let e : i + 0 ≡ i = omega arith in
-          subst (λ k. Stands c.loop-node.scopes.items (get_or c.loop-node.list.items k d) (get_or (standings tokens nodes 0 nodes) i (outermost (length nodes)))) e (behind.1 i d (omega arith));
+          subst (λ k. Stands c.loop-node.scopes.items (get_or c.loop-node.list k d) (get_or (standings tokens nodes 0 nodes) i (outermost (length nodes)))) e (behind.1 i d (omega arith));
     }

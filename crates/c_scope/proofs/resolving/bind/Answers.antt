@@ -23,10 +23,10 @@ returns c =
     let tokens = c.args.tokens.now in
     let nodes : List Node = nodes_of c.args.nodes.now in
     let file : c.in_ok-file.file ≡ length nodes = c.in_ok-file.ensures ∙ sym (length-nodes_of c.args.nodes.now) in
-    let unit : Unit = record { text = c.args.text; tokens = c.args.tokens; symbols = c.as_slice.result; nodes = c.args.nodes; scopes = c.as_slice-2.result; settings = c.as_slice-3.result; file = c.in_ok-file.file } in
+    let unit : Unit = record { text = c.args.text; tokens = c.args.tokens; symbols = c.as_slice.result; nodes = c.args.nodes; scopes = c.as_slice-2.result; settings = c.list_of.result; file = c.in_ok-file.file } in
     let all : List Happening = happenings text tokens nodes in
     let numbers : Numbers text tokens c.as_slice.result.now = subst (λ l. Numbers text tokens l) (sym c.as_slice.ensures.value) c.in_ok-symbols.ensures in
-    let happen : AreHappenings unit all = all_happen unit c.in_ok-settings.settings c.as_slice-2.ensures.value c.as_slice-3.ensures.value file numbers c.in_ok-settings.ensures in
+    let happen : AreHappenings unit all = all_happen unit c.in_ok-settings.settings c.as_slice-2.ensures.value c.list_of.ensures file numbers c.in_ok-settings.ensures in
     let labels : (body symbol : ℕ) → label_at c.in_ok-labels.labels body symbol ≡ first_label 0 all body symbol = c.in_ok-labels.ensures all happen in
     if_ok c.bind_all.result _ _ c.bind_all.ensures (λ binder h.
     subst (λ n. Holds binder (known n (first_label 0 all) 0 nothing_known all)) file

@@ -9,4 +9,4 @@ pub returns-in-Some : goal.returns-in-Some
 returns-in-Some c = λ w sense.
     let s = source_read c.args.syntax.now in
     let before = λ (list : ℕ). last_where (λ c'. is_a s p_enumerator c' && nat_lt c' c.args.at) (children_at s list) in
-    c.last_before.ensures ∙ (ap (last_where (λ c'. is_a s p_enumerator c' && nat_lt c' c.args.at)) c.children_of.ensures ∙ ap (option_and_then before) c.in-Some.ensures.parent)
+    c.last_among.ensures ∙ ap (option_and_then before) c.in-Some.ensures.parent

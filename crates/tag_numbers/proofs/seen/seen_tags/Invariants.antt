@@ -8,5 +8,5 @@ abbrev pub invariant-loop-node : goal.invariant-loop-node
 invariant-loop-node l = record {
   long : length l.listed.items ≡ length l.syntax.tree.now.nodes.items;
   listed_are : (uses : List (ℕ × ℕ)) → Declares (source_in l.syntax uses) l.declaring → ListedBefore (source_in l.syntax uses) l.node l.listed.items;
-  seen_are : (uses : List (ℕ × ℕ)) → Declares (source_in l.syntax uses) l.declaring → AreSeen (source_in l.syntax uses) l.seen.items l.node;
+  seen_are : (uses : List (ℕ × ℕ)) → Declares (source_in l.syntax uses) l.declaring → AreSeen (source_in l.syntax uses) l.seen l.node;
 }

@@ -42,7 +42,7 @@ pub returns-clause-names : goal.returns-clause-names
 returns-clause-names c = λ uses.
     let s = source_in c.args.syntax.now uses in
     let whole : length s.nodes ≤ c.loop-leaf.leaf = omega (arith, c.in-Ok.ensures, c.len.ensures) in
-    lists_all s (senses_made c.args.unit.now c.args.results.now) c.loop-leaf.unit c.loop-leaf.leaf c.loop-leaf.list.items whole (c.loop-leaf.invariant.lists uses)
+    lists_all s (senses_made c.args.unit.now c.args.results.now) c.loop-leaf.unit c.loop-leaf.leaf c.loop-leaf.list.items whole c.loop-leaf.invariant.inside (c.loop-leaf.invariant.lists uses)
 
 pub returns-clause-bodies : goal.returns-clause-bodies
 returns-clause-bodies c = bodies_within c.loop-leaf.unit c.loop-leaf.list.items c.loop-leaf.invariant.inside

@@ -45,7 +45,7 @@ returns-then-production-eq-P_ENUM-clause-row c w knows means =
     let s = source_known c.args.known.now in
     let S = sense_in (senses_made c.args.unit.now c.args.results.now) in
     subst (λ (p : ℕ). Rowed c.enum_row.new.unit c.enum_row.result (declaring_row w s S p c.args.at c.args.children.now)) (sym c.if-production-eq-P_ENUM.true)
-    (c.enum_row.ensures.row w uses (number_in c.args.known.now.numbered.now.syntax.tag_numbers.items) S (c.seen_at.ensures s c.requires.known.tags (specified_enum s c.args.at (sym c.requires.production ∙ c.if-production-eq-P_ENUM.true))))
+    (c.enum_row.ensures.row w uses (number_in c.args.known.now.numbered.now.syntax.tag_numbers) S (c.seen_at.ensures s c.requires.known.tags (specified_enum s c.args.at (sym c.requires.production ∙ c.if-production-eq-P_ENUM.true))))
 
 pub returns-clause-row : goal.returns-clause-row
 returns-clause-row c w knows means =

@@ -21,7 +21,7 @@ loop-at-init c =
     let u = c.args.unit.now in
     let k = c.args.known.now in
     let s = source_known k in
-    let none = c.in_ok-results.ensures.items in
+    let none = c.in_ok-results.ensures in
     record {
       stand = subst (Stand (nodes_known k) u) (sym none) (stand_empty (nodes_known k) u c.requires.ready);
       long = ap length none;
@@ -43,15 +43,14 @@ loop-at-preserved c =
     let k = c.args.known.now in
     let s = source_known k in
     let at = c.loop-at.at in
-    let rs = c.loop-at.results.items in
-    let more = c.push.new.self.items in
+    let rs = c.loop-at.results in
+    let more = c.push.new.self in
     let m = c.in-Ok-row.made in
     let senses = senses_made u rs in
     let inv = c.loop-at.invariant in
     let ok = c.in-Ok-row.ensures in
     let items = c.in_ok-push-in-Ok-row.ensures.items in
-    let given = c.as_slice-before.ensures.value in
-    let grows = subst (λ (l : List Made). Grows u v (completed_at s (sense_in (senses_made u l)) at)) given ok.grows in
+    let grows = ok.grows in
     let es = completed_at s (sense_in senses) at in
     let table = c.type_count-types.ensures.made in
     let pushed = senses_with s u v rs more m at items inv.stand.within grows in
@@ -59,14 +58,14 @@ loop-at-preserved c =
       stand = stand_more (nodes_known k) u v es grows ok.ready rs more m items inv.stand ok.within ok.keeps;
       long = ap length items ∙ (length-append rs (m ∷ []) ∙ ap (λ (n : ℕ). n + 1) inv.long);
       entities = entities_grown u v es grows ∙ inv.entities;
-      made = made_there s u v rs more m at inv.made c.requires.known.ordered items inv.long inv.stand.within (omega (arith, c.loop-at-test.true)) (subst (λ (l : List Made). Whole s u l at ≡ Fits (sense_made v m)) given ok.row) grows;
+      made = made_there s u v rs more m at inv.made c.requires.known.ordered items inv.long inv.stand.within (omega (arith, c.loop-at-test.true)) ok.row grows;
       fills = fills_more s u v rs more m at c.requires.known.ordered items inv.long inv.stand.within inv.table table grows inv.fills;
       types = tag_types_grow s u v es grows inv.types;
       told =
           subst (λ (t : List Sense). IsTold (world_at s t (at + 1)) s (sense_in t) (at + 1) c.note.new.choices) (sym pushed)
           (c.in_ok-note.ensures.told (world_at s senses at) (world_at s (senses ++ sense_made v m ∷ []) (at + 1)) k.bound.now.uses.items senses (sense_made v m)
-          (ap (senses_made v) c.as_slice.ensures.value ∙ pushed) (length_made u rs ∙ inv.long) inv.told);
-      along = along_more k.numbered.now.syntax v rs more m c.row.new.along items (subst (λ (l : List Made). AreAlong k.numbered.now.syntax v l c.row.new.along) given ok.along);
+          pushed (length_made u rs ∙ inv.long) inv.told);
+      along = along_more k.numbered.now.syntax v rs more m c.row.new.along items ok.along;
       table = table;
     }
 
@@ -77,15 +76,15 @@ note-requires-clause-results c =
     let k = c.args.known.now in
     let s = source_known k in
     let at = c.loop-at.at in
-    let rs = c.loop-at.results.items in
-    let more = c.push.new.self.items in
+    let rs = c.loop-at.results in
+    let more = c.push.new.self in
     let m = c.in-Ok-row.made in
     let inv = c.loop-at.invariant in
     let ok = c.in-Ok-row.ensures in
     let items = c.in_ok-push-in-Ok-row.ensures.items in
-    let grows = subst (λ (l : List Made). Grows u v (completed_at s (sense_in (senses_made u l)) at)) c.as_slice-before.ensures.value ok.grows in
+    let grows = ok.grows in
     let stand = stand_more (nodes_known k) u v (completed_at s (sense_in (senses_made u rs)) at) grows ok.ready rs more m items inv.stand ok.within ok.keeps in
-    subst (λ (l : List Made). All (IsWithin v) l) (sym c.as_slice.ensures.value) stand.within
+    stand.within
 
 pub returns-in-Err-clause-walked : goal.returns-in-Err-clause-walked
 returns-in-Err-clause-walked c =
@@ -93,11 +92,9 @@ returns-in-Err-clause-walked c =
     let v = c.row.new.unit in
     let s = source_known c.args.known.now in
     let at = c.loop-at.at in
-    let rs = c.loop-at.results.items in
+    let rs = c.loop-at.results in
     let inv = c.loop-at.invariant in
-    let row =
-    subst (λ (l : List Made). Rowed v (Err c.in-Err.fault) (Whole s u l at)) c.as_slice-before.ensures.value c.in-Err.ensures.row in
-    refused s u rs inv.made at inv.long (omega (arith, c.loop-at-test.true)) v c.in-Err.fault row
+    refused s u rs inv.made at inv.long (omega (arith, c.loop-at-test.true)) v c.in-Err.fault c.in-Err.ensures.row
 
 pub returns-clause-walked : goal.returns-clause-walked
 returns-clause-walked c =
@@ -108,8 +105,7 @@ returns-clause-walked c =
 
 pub row-requires-clause-senses : goal.row-requires-clause-senses
 row-requires-clause-senses c =
-    let inv = c.loop-at.invariant in
-    subst (λ (l : List Made). AreSenses (source_known c.args.known.now) (senses_made c.loop-at.unit l)) (sym c.as_slice-before.ensures.value) inv.made.senses
+    c.loop-at.invariant.made.senses
 
 pub row-requires-clause-readable : goal.row-requires-clause-readable
 row-requires-clause-readable c = c.requires.readable c.loop-at.at
@@ -118,12 +114,12 @@ pub row-requires-clause-limits : goal.row-requires-clause-limits
 row-requires-clause-limits c =
     let u = c.loop-at.unit in
     let s = source_known c.args.known.now in
-    let rs = c.loop-at.results.items in
+    let rs = c.loop-at.results in
     let inv = c.loop-at.invariant in
     let long : length (senses_made u rs) ≡ c.loop-at.at = length_made u rs ∙ inv.long in
     let here : AreLimited (world_at s (senses_made u rs) c.loop-at.at) (senses_made u rs) =
     subst (λ (i : ℕ). AreLimited (world_at s (senses_made u rs) i) (senses_made u rs)) long (c.requires.limits c.requires.known.tags.differ (senses_made u rs) inv.made.senses) in
-    subst (λ (l : List Made). AreLimited (world_at s (senses_made u l) c.loop-at.at) (senses_made u l)) (sym c.as_slice-before.ensures.value) here
+    here
 
 pub row-requires-clause-long : goal.row-requires-clause-long
-row-requires-clause-long c = ap length c.as_slice-before.ensures.value ∙ c.loop-at.invariant.long
+row-requires-clause-long c = c.loop-at.invariant.long

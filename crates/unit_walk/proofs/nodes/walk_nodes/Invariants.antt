@@ -11,13 +11,13 @@ use Rattle.unit_walk.proofs.nodes.walk_nodes.Given as goal
 -- the rows fit up to where it stands
 abbrev pub invariant-loop-at : goal.invariant-loop-at
 invariant-loop-at l = record {
-  stand : Stand (nodes_known l.known) l.unit l.results.items;
-  long : length l.results.items ≡ l.at;
+  stand : Stand (nodes_known l.known) l.unit l.results;
+  long : length l.results ≡ l.at;
   entities : l.unit.entities.items ≡ l.fn.unit.entities.items;
-  made : AreMade (source_known l.known) l.unit l.results.items;
-  fills : Fills (world_at (source_known l.known) (senses_made l.unit l.results.items) l.at) l.unit;
+  made : AreMade (source_known l.known) l.unit l.results;
+  fills : Fills (world_at (source_known l.known) (senses_made l.unit l.results) l.at) l.unit;
   types : HasTagTypes (source_known l.known) l.unit.types;
-  told : ChoicesFit l.known l.unit l.results.items l.at l.choices;
-  along : AreAlong l.known.numbered.now.syntax l.unit l.results.items l.along;
+  told : ChoicesFit l.known l.unit l.results l.at l.choices;
+  along : AreAlong l.known.numbered.now.syntax l.unit l.results l.along;
   table : IsMade l.unit.types;
 }

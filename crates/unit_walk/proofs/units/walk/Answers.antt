@@ -38,7 +38,7 @@ walk_nodes-requires-clause-readable c =
 pub walk_nodes-requires-clause-families : goal.walk_nodes-requires-clause-families
 walk_nodes-requires-clause-families c =
     let f = c.requires.families in
-    let plain : Families (numbered (number_in c.in-Ok.ground.numbered.syntax.tag_numbers.items) (source_of c.args.tokens.now c.args.tree.now)) = record { single = f.single; ascend = f.ascend; lists = f.lists; members = f.members; words = f.words; untagged = f.untagged } in
+    let plain : Families (numbered (number_in c.in-Ok.ground.numbered.syntax.tag_numbers) (source_of c.args.tokens.now c.args.tree.now)) = record { single = f.single; ascend = f.ascend; lists = f.lists; members = f.members; words = f.words; untagged = f.untagged } in
     subst Families
     (sym (source_same c.in-Ok.ground.numbered.syntax c.args.tokens.now c.args.tree.now c.args.bound.now c.in-Ok.ensures.tokens c.in-Ok.ensures.tree c.requires.bound)) plain
 
@@ -46,4 +46,4 @@ pub walk_nodes-requires-clause-limits : goal.walk_nodes-requires-clause-limits
 walk_nodes-requires-clause-limits c =
     subst AlwaysLimited
     (sym (source_same c.in-Ok.ground.numbered.syntax c.args.tokens.now c.args.tree.now c.args.bound.now c.in-Ok.ensures.tokens c.in-Ok.ensures.tree c.requires.bound))
-    (c.requires.limits (number_in c.in-Ok.ground.numbered.syntax.tag_numbers.items))
+    (c.requires.limits (number_in c.in-Ok.ground.numbered.syntax.tag_numbers))

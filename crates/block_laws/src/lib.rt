@@ -1,0 +1,4 @@
+//! The blocks of functions of a parsed unit.
+#![tactic(auto)]
+
+pub mod laws;

@@ -1,0 +1,4 @@
+//! The law of bodies in units that are built: a function that does nothing, whose contract it is.
+#![tactic(auto)]
+
+pub mod laws;

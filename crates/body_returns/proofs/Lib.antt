@@ -1,0 +1,5 @@
+pub mod Naming
+pub mod Body
+pub mod Earlier
+pub mod Returning
+pub mod Built

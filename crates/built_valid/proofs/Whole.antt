@@ -1,0 +1,223 @@
+-- The fields of a valid unit, one by one.
+use Rattle.std.proofs.Common.{◌≡◌, ◌<◌, ap, ℕ, ◌⊎◌, inl, inr, List, Option, Some, None, length, refl, subst}
+use Rattle.std.specs.Prelude.{IfSome}
+use Rattle.std.proofs.lemmas.Option.{slice_get_within}
+use Rattle.c_lexer.specs.declared.Tokens.{Tokens}
+use Rattle.c_lexer.specs.Cut.{IsTokens}
+use Rattle.c_types.specs.Trees.{Ctype}
+use Rattle.c_grammar.specs.declared.trees.Tree.{Tree}
+use Rattle.c_units.specs.Units.{IsUnit}
+use Rattle.core_tree.specs.declared.node.Node.{Node}
+use Rattle.core_tree.specs.declared.node.Unit.{Unit}
+use Rattle.core_tree.specs.declared.node.Entity.{Entity}
+use Rattle.core_tree.specs.declared.node.Storage.{Storage}
+use Rattle.core_tree.specs.declared.node.Storage.TheVariants.{Static, Automatic, FunctionBody, Parameter, Declared}
+use Rattle.core_tree.specs.declared.node.NodeKind.{NodeKind}
+use Rattle.core_tree.specs.declared.node.NodeKind.TheVariants.{CallNode, Literal}
+use Rattle.core_tree.specs.Typed.{CoreTrees, trees_of}
+use Rattle.core_tree.specs.Range.{node_at, entity_at}
+use Rattle.core_tree.specs.Rows.{Initialises}
+use Rattle.core_tree.specs.Linkages.{Linkages}
+use Rattle.core_tree.specs.Valid.{InRows, Owned, Bodied, HasBody, IsFunctionBody, IsObjectBody, Measured, MayStand, IsLiteralOf, IsLiteral, IsLasting, Valid, ValidUnit}
+use Rattle.c_scope.specs.declared.resolving.Bound.{Bound}
+use Rattle.c_scope.specs.Resolves.{IsBound}
+use Rattle.c_senses.specs.Names.{source_of, numbered}
+use Rattle.c_senses.specs.Tree.{Source}
+use Rattle.c_senses.specs.World.{World}
+use Rattle.c_senses.specs.Sense.{Sense, sense_in}
+use Rattle.c_senses.specs.Rows.{world_at}
+use Rattle.sense_laws.specs.Senses.{SoundSense}
+use Rattle.sense_laws.proofs.All.{asked_sound}
+use Rattle.align_laws.specs.Aligns.{AskedElseFit}
+use Rattle.align_laws.proofs.Fitting.{asked_aligns_fit}
+use Rattle.parsed_laws.proofs.InOrder.{children_first}
+use Rattle.parsed_laws.proofs.Constants.{constants_fit}
+use Rattle.statement_laws.proofs.Grammar.{statements_parsed}
+use Rattle.family_laws.proofs.Reading.{units_families}
+use Rattle.nesting_laws.proofs.Nesting.{units_nest}
+use Rattle.standing_laws.specs.Standing.{IsGrown, IsMade, BodiesKnown, StatementStands}
+use Rattle.grown_parts.proofs.Reading.{units_bring}
+use Rattle.text_rows.proofs.Fitting.{asked_fit}
+use Rattle.built_units.specs.Built.{IsBuilt}
+use Rattle.built_laws.proofs.Range.{in_range}
+use Rattle.built_laws.proofs.Keys.{keyed}
+use Rattle.built_laws.proofs.Uses.{uses_right}
+use Rattle.built_rows.specs.Rows.{types_declared}
+use Rattle.built_rows.proofs.Placed.{rows_asked}
+use Rattle.built_standing.proofs.Built.{statements_built}
+use Rattle.linkage_laws.proofs.Unlinked.{entities_unlinked}
+use Rattle.unlinked_laws.proofs.Unlinked.{literals_unlinked}
+use Rattle.body_laws.specs.Bodies.{BodiesInitialise, BodiesApart}
+use Rattle.body_laws.proofs.Apart.{one_body_each}
+use Rattle.function_laws.proofs.Functions.{functions_fit}
+use Rattle.case_laws.proofs.Cases.{cases_differ}
+use Rattle.lasting_literals.proofs.Lasting.{literals_last}
+use Rattle.once_nodes.specs.Once.{IsLaid}
+use Rattle.block_laws.proofs.Whole.{blocks_differ}
+use Rattle.single_nodes.proofs.Whole.{literals_once}
+use Rattle.owners_known.specs.Known.{OwnersRight}
+use Rattle.owners_known.proofs.Known.{owners_known}
+use Rattle.function_bodies.specs.Bodies.{FunctionFits}
+use Rattle.function_bodies.proofs.Reading.{functions_stand}
+use Rattle.named_definitions.proofs.Naming.{definitions_named}
+use Rattle.result_laws.proofs.Results.{results_sized}
+use Rattle.internal_laws.proofs.Reading as internal_laws
+use Rattle.built_valid.specs.Open.{CallStands, IsOpen}
+use Rattle.built_valid.specs.Whole.{BuiltIsValid}
+
+is_function : (s : Storage) → (s ≡ FunctionBody) ⊎ (s ≡ FunctionBody → ⊥)
+is_function Static = inr (λ e. cc)
+is_function Automatic = inr (λ e. cc)
+is_function FunctionBody = inl refl
+is_function Parameter = inr (λ e. cc)
+is_function Declared = inr (λ e. cc)
+
+-- a node that is no call, and a call
+may_stand : (u : CoreTrees) (n : ℕ) (kind : NodeKind) → StatementStands u n kind → CallStands u n kind → MayStand u n kind
+may_stand u n CallNode h c = c
+may_stand u n kind h c = h
+
+of_kind : (kind : NodeKind) (e : ℕ) → IsLiteralOf kind e → kind ≡ Literal e
+of_kind (Literal o) e h = ap Literal h
+of_kind kind e h = absurd h
+
+entity_within : (u : CoreTrees) (e : ℕ) (o : Option Entity) → entity_at u e ≡ o → IsLasting o → e < length u.entities
+entity_within u e None at h = absurd h
+entity_within u e (Some x) at h = slice_get_within u.entities e x at
+
+module _ (tokens : Tokens) (unit : ℕ) (tree : Tree) (tag_number : ℕ → ℕ) (name : List ℕ) (u : Unit) (bound : Bound) (cut : IsTokens tokens.text.now tokens.list.items) (is : IsUnit tokens unit tree) (bind : IsBound tokens tree bound) (built : IsBuilt (numbered tag_number (source_of tokens tree)) name u) (rest : IsOpen (numbered tag_number (source_of tokens tree)) name u built) where
+  abbrev s : Source
+  s = numbered tag_number (source_of tokens tree)
+
+  abbrev senses : List Sense
+  senses = built.senses
+
+  abbrev types : ℕ → Option Ctype
+  types = types_declared s senses
+
+  abbrev w : World
+  w = world_at s senses (length senses)
+
+  grown : IsGrown s
+  grown = record {
+    first = children_first tokens unit tree tag_number is;
+    families = units_families tokens unit tree tag_number cut is;
+    statements = statements_parsed tokens unit tree tag_number is;
+    nested = units_nest tokens unit tree tag_number is;
+  }
+
+  asked : AskedElseFit types s senses
+  asked = asked_fit s senses built.are_senses grown (units_bring tokens unit tree tag_number is) rest.types
+
+  rows : InRows (trees_of u)
+  rows = rows_asked s name u built grown.first (constants_fit tokens tree tag_number cut) grown.statements asked
+
+  sound : (i : ℕ) → SoundSense w types (sense_in senses i)
+  sound i =
+      let fit = asked_aligns_fit types s senses built.are_senses grown.first (constants_fit tokens tree tag_number cut) grown.statements asked in
+      let both = asked_sound types s senses built.are_senses grown.first (constants_fit tokens tree tag_number cut) grown.statements fit i in both.0
+
+  -- bodies
+  objects : BodiesInitialise u
+  objects e entity at not b is = let object = rest.bodies e entity at not b is in object.1
+
+  apart : BodiesApart u
+  apart = one_body_each s name u built objects
+
+  some_body : (e : ℕ) (entity : Entity) (b : ℕ) → entity_at (trees_of u) e ≡ Some entity → entity.body ≡ Some b → FunctionFits (trees_of u) entity (Some b) → IsFunctionBody (trees_of u) entity b ⊎ IsObjectBody (trees_of u) e entity b
+  some_body e entity b at is fits = elim (is_function entity.storage) [
+    | inl f ↦ let both = fits f in inl (record { function = both.0; storage = f; block = both.1; top = built.tops e entity at f b is })
+    | inr not ↦ let object = rest.bodies e entity at not b is in inr (record { object = object.0; storage = not; initialises = object.1 })
+  ]
+
+  has_body : (e : ℕ) (entity : Entity) (body : Option ℕ) → entity_at (trees_of u) e ≡ Some entity → entity.body ≡ body → FunctionFits (trees_of u) entity body → HasBody (trees_of u) e entity body
+  has_body e entity None at is fits = fits
+  has_body e entity (Some b) at is fits = (some_body e entity b at is fits, apart e entity at b is)
+
+  bodied : Bodied (trees_of u)
+  bodied e entity at = has_body e entity entity.body at refl (functions_stand tokens unit tree tag_number name u cut is built e entity at)
+
+  body_known : (e : ℕ) (entity : Entity) (body : Option ℕ) → HasBody (trees_of u) e entity body → IfSome body (λ b. (entity.storage ≡ FunctionBody) ⊎ Initialises (trees_of u) b e)
+  body_known e entity None h = tt
+  body_known e entity (Some b) (inl f, only) = inl f.storage
+  body_known e entity (Some b) (inr o, only) = inr o.initialises
+
+  known : BodiesKnown (trees_of u)
+  known e entity at = body_known e entity entity.body (bodied e entity at)
+
+  owned : Owned (trees_of u)
+  owned = internal_laws.owners_known tokens unit tree tag_number name u cut is built
+
+  owners : OwnersRight (trees_of u)
+  owners = owners_known tokens unit tree tag_number name u cut is built (definitions_named tokens unit tree tag_number senses cut is built.are_senses built.whole) (record { rows = rows; owned = owned; bodied = bodied; fixed = rest.fixed; forward = rest.forward })
+
+  -- compound literals
+  made : IsMade s senses built.numbering u
+  made = record {
+    are_senses = built.are_senses;
+    whole = built.whole;
+    each_declared = built.each_declared;
+    no_other_entity = built.no_other_entity;
+    ready = built.ready;
+    no_other_node = built.no_other_node;
+  }
+
+  body_kind : (e b : ℕ) (entity : Entity) (body : Option ℕ) → body ≡ Some b → IfSome body (λ c. (entity.storage ≡ FunctionBody) ⊎ Initialises (trees_of u) c e) → (entity.storage ≡ FunctionBody) ⊎ Initialises (trees_of u) b e
+  body_kind e b entity None is h = cc
+  body_kind e b entity (Some c) is h = let same : c ≡ b = cc in subst (λ (n : ℕ). (entity.storage ≡ FunctionBody) ⊎ Initialises (trees_of u) n e) same h
+
+  laid : IsLaid s senses built.numbering u
+  laid = record {
+    are_senses = built.are_senses;
+    whole = built.whole;
+    entity_once = built.entity_once;
+    each_declared = built.each_declared;
+    no_other_entity = built.no_other_entity;
+    initialises_once = built.initialises_once;
+    no_other_node = built.no_other_node;
+    children_first = built.ready.children;
+    bodies = λ e b entity at body. body_kind e b entity entity.body body (known e entity at);
+    blocks = blocks_differ tokens unit tree tag_number senses is built.are_senses built.whole;
+  }
+
+  literal : (n : ℕ) (node : Node) (kind : NodeKind) → node_at (trees_of u) n ≡ Some node → node.kind ≡ kind → IsLiteral (trees_of u) n kind
+  literal n node (Literal e) at is_one =
+      let lasts = literals_last s senses built.numbering u grown made n node at e is_one in (
+        lasts,
+        λ m other there h. literals_once tokens unit tree tag_number senses built.numbering u cut is laid m n e other node (entity_within (trees_of u) e (entity_at (trees_of u) e) refl lasts) there at (of_kind other.kind e h) is_one,
+      )
+  literal n node kind at is_one = tt
+
+  measured : Measured (trees_of u)
+  measured = record { objects = rest.objects; tags = rest.tags; values = rest.values; results = λ e entity at storage. results_sized tokens unit tree tag_number name u cut is built bodied e entity at storage }
+
+  trees : Valid (trees_of u)
+  trees = record {
+    in_range = in_range s name u built;
+    child_once = built.child_once;
+    rows = rows;
+    owned = owned;
+    bodied = bodied;
+    in_owner = owners.in_owner;
+    literals = λ n node at. literal n node node.kind at refl;
+    listed = rest.listed;
+    lists = owners.lists;
+    fixed = rest.fixed;
+    standing = λ n node at. may_stand (trees_of u) n node.kind (statements_built tokens unit tree tag_number name u cut is built w types sound rows known n node at) (rest.calls n node at);
+    functions = λ n node at. functions_fit tokens unit tree tag_number name u bound cut is bind built w types sound rows bodied n node at;
+    cases = λ n node at. cases_differ tokens unit tree tag_number name u cut is built w types sound rows known n node at;
+    uses = uses_right s name u built;
+    measured = measured;
+  }
+
+  linkages : Linkages (trees_of u)
+  linkages = record {
+    entities = entities_unlinked tokens unit tree tag_number name u cut is built;
+    nodes = λ n node at. record { literal = literals_unlinked s name u built n node at; declared = rest.declared n node at };
+  }
+
+  whole : ValidUnit u
+  whole = record { trees = trees; keys = keyed s name u built; linkages = linkages }
+
+pub built_is_valid : BuiltIsValid
+built_is_valid tokens unit tree tag_number name u bound cut is bind built rest = whole tokens unit tree tag_number name u bound cut is bind built rest

@@ -1,0 +1,46 @@
+-- What isn't proved yet of units that are built.
+use Rattle.std.specs.Prelude.{ℕ, ◌≡◌, ◌≢◌, ⊤, List, Some}
+use Rattle.c_types.specs.Table.{type_of}
+use Rattle.core_tree.specs.declared.node.Entity.{Entity}
+use Rattle.core_tree.specs.declared.node.Unit.{Unit}
+use Rattle.core_tree.specs.declared.node.Storage.TheVariants.{FunctionBody}
+use Rattle.core_tree.specs.declared.node.NodeKind.{NodeKind}
+use Rattle.core_tree.specs.declared.node.NodeKind.TheVariants.{CallNode}
+use Rattle.core_tree.specs.Typed.{CoreTrees, trees_of}
+use Rattle.core_tree.specs.Range.{EachNode, EachEntity}
+use Rattle.core_tree.specs.Rows.{Initialises}
+use Rattle.type_rules.specs.Sizes.{TagsHaveSizes}
+use Rattle.core_tree.specs.Linkages.{UsesDeclared}
+use Rattle.core_tree.specs.Valid.{IsFunctionEntity, AllListed, FixedStatics, InSomeBody, EntitySized, ValueSized}
+use Rattle.c_senses.specs.Tree.{Source}
+use Rattle.owner_laws.specs.Owners.{Forward}
+use Rattle.text_rows.specs.Texts.{TypesFit}
+use Rattle.built_units.specs.Built.{IsBuilt}
+
+-- the body of what is no function's is an object's own Initialise
+abbrev pub ObjectFits : CoreTrees → ℕ → Entity → Type 0
+ObjectFits u e entity = entity.storage ≢ FunctionBody → (b : ℕ) → entity.body ≡ Some b → (IsFunctionEntity u entity → ⊥) × Initialises u b e
+
+-- a call stands in the body of a function
+abbrev pub CallStands : CoreTrees → ℕ → NodeKind → Type 0
+CallStands u n CallNode = InSomeBody u n
+CallStands u n kind = ⊤
+
+-- by fields of a valid unit
+pub record IsOpen (s : Source) (name : List ℕ) (u : Unit) (b : IsBuilt s name u) : Type 0 where
+  -- rows: what a primary's name means, and the types of objects that are initialised
+  pub types : TypesFit s b.senses
+  -- bodies: those of objects alone
+  pub bodies : EachEntity (trees_of u) (λ e entity. ObjectFits (trees_of u) e entity)
+  -- in_owner and lists: where automatic objects are initialised
+  pub forward : Forward (trees_of u)
+  pub listed : AllListed (trees_of u)
+  pub fixed : FixedStatics (trees_of u)
+  -- standing: calls alone
+  pub calls : EachNode (trees_of u) (λ n node. CallStands (trees_of u) n node.kind)
+  -- measured: all but what functions give
+  pub objects : EachEntity (trees_of u) (λ e entity. EntitySized (trees_of u) entity)
+  pub tags : TagsHaveSizes u.types
+  pub values : EachNode (trees_of u) (λ n node. ValueSized (trees_of u) node)
+  -- linkages: uses of names with external linkage alone
+  pub declared : EachNode (trees_of u) (λ n node. UsesDeclared (trees_of u) (type_of u.types node.ty.0) node.kind)

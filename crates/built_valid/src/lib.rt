@@ -1,0 +1,4 @@
+//! The law that joins those of fields: a function that does nothing, whose contract it is.
+#![tactic(auto)]
+
+pub mod laws;

@@ -1,0 +1,4 @@
+pub mod Rooms
+pub mod Parents
+pub mod Parts
+pub mod Main

@@ -1,0 +1,10 @@
+pub mod Giving
+pub mod Lists
+pub mod Values
+pub mod Operators
+pub mod Expressions
+pub mod Statements
+pub mod Placing
+pub mod Initialised
+pub mod Types
+pub mod Rows

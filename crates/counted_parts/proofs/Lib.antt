@@ -1,0 +1,4 @@
+pub mod Steps
+pub mod Counting
+pub mod Rows
+pub mod Read

@@ -1,0 +1,4 @@
+//! Where declared names stand: a function that does nothing, whose contract is that law.
+#![tactic(auto)]
+
+pub mod laws;

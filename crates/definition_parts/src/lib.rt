@@ -1,0 +1,4 @@
+//! The definition of a function has one declarator.
+#![tactic(auto)]
+
+pub mod laws;

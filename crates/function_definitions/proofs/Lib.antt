@@ -1,0 +1,9 @@
+pub mod Tokens
+pub mod Shapes
+pub mod Mentioned
+pub mod Sensed
+pub mod Whole
+pub mod Found
+pub mod Declaring
+pub mod Defining
+pub mod Reading

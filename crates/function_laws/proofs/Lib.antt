@@ -1,0 +1,4 @@
+pub mod Says
+pub mod Parts
+pub mod Gotos
+pub mod Functions

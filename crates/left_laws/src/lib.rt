@@ -1,0 +1,4 @@
+//! What stands to the left of an operator behind it.
+#![tactic(auto)]
+
+pub mod laws;

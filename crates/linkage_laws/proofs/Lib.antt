@@ -1,0 +1,13 @@
+pub mod Origins
+pub mod Standings
+pub mod Seen
+pub mod Roles
+pub mod Chains
+pub mod Inverting
+pub mod Every
+pub mod Words
+pub mod Extern
+pub mod Scopes
+pub mod Linked
+pub mod Reading
+pub mod Unlinked

@@ -1,0 +1,4 @@
+//! The types of initialised objects: a function that does nothing, whose contract is that law.
+#![tactic(auto)]
+
+pub mod laws;

@@ -1,0 +1,4 @@
+pub mod Found
+pub mod Shapes
+pub mod Rooted
+pub mod Whole

@@ -1,0 +1,4 @@
+//! Nodes of a unit that the rows make once.
+#![tactic(auto)]
+
+pub mod laws;

@@ -1,0 +1,4 @@
+//! Parameters of a parsed unit stand in parameter lists.
+#![tactic(auto)]
+
+pub mod laws;

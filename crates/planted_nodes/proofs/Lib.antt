@@ -1,0 +1,4 @@
+pub mod Positions
+pub mod Bodies
+pub mod Numbers
+pub mod Anew

@@ -1,0 +1,4 @@
+pub mod Times
+pub mod Shapes
+pub mod Automatic
+pub mod Running

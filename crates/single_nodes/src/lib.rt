@@ -1,0 +1,4 @@
+//! Strings, calls and compound literals of a parsed unit are told apart.
+#![tactic(auto)]
+
+pub mod laws;

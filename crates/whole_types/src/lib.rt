@@ -1,0 +1,4 @@
+//! The type that all declarations of an internal name give: a function that does nothing, whose contract is that law.
+#![tactic(auto)]
+
+pub mod laws;
