@@ -18,7 +18,7 @@ use Rattle.core_tree.specs.Typed.{CoreTrees, trees_of}
 use Rattle.core_tree.specs.Range.{node_at, entity_at}
 use Rattle.core_tree.specs.Rows.{Initialises}
 use Rattle.core_tree.specs.Linkages.{Linkages}
-use Rattle.core_tree.specs.Valid.{InRows, Owned, Bodied, HasBody, IsFunctionBody, IsObjectBody, Measured, MayStand, IsLiteralOf, IsLiteral, IsLasting, Valid, ValidUnit}
+use Rattle.core_tree.specs.Valid.{InRows, FixedStatics, Owned, Bodied, HasBody, IsFunctionBody, IsObjectBody, Measured, MayStand, IsLiteralOf, IsLiteral, IsLasting, Valid, ValidUnit}
 use Rattle.c_scope.specs.declared.resolving.Bound.{Bound}
 use Rattle.c_scope.specs.Resolves.{IsBound}
 use Rattle.c_senses.specs.Names.{source_of, numbered}
@@ -37,7 +37,10 @@ use Rattle.family_laws.proofs.Reading.{units_families}
 use Rattle.nesting_laws.proofs.Nesting.{units_nest}
 use Rattle.standing_laws.specs.Standing.{IsGrown, IsMade, BodiesKnown, StatementStands}
 use Rattle.grown_parts.proofs.Reading.{units_bring}
+use Rattle.text_rows.specs.Texts.{TypesFit}
 use Rattle.text_rows.proofs.Fitting.{asked_fit}
+use Rattle.text_rows.proofs.Linked.{types_fit, tree_grown}
+use Rattle.name_order.proofs.Ordered.{units_ordered}
 use Rattle.built_units.specs.Built.{IsBuilt}
 use Rattle.built_laws.proofs.Range.{in_range}
 use Rattle.built_laws.proofs.Keys.{keyed}
@@ -50,6 +53,7 @@ use Rattle.unlinked_laws.proofs.Unlinked.{literals_unlinked}
 use Rattle.body_laws.specs.Bodies.{BodiesInitialise, BodiesApart}
 use Rattle.body_laws.proofs.Apart.{one_body_each}
 use Rattle.function_laws.proofs.Functions.{functions_fit}
+use Rattle.type_rules.specs.Sizes.{TagsHaveSizes}
 use Rattle.case_laws.proofs.Cases.{cases_differ}
 use Rattle.lasting_literals.proofs.Lasting.{literals_last}
 use Rattle.once_nodes.specs.Once.{IsLaid}
@@ -61,6 +65,11 @@ use Rattle.function_bodies.specs.Bodies.{FunctionFits}
 use Rattle.function_bodies.proofs.Reading.{functions_stand}
 use Rattle.named_definitions.proofs.Naming.{definitions_named}
 use Rattle.result_laws.proofs.Results.{results_sized}
+use Rattle.fixed_laws.proofs.Whole.{fixed_whole}
+use Rattle.member_laws.proofs.Measured.{values_have_sizes}
+use Rattle.tag_sizes.proofs.Sizes.{tags_sized}
+use Rattle.initialised_rows.proofs.Owning.{linked_fit}
+use Rattle.own_initialisers.proofs.Standing.{initialisers_stand}
 use Rattle.internal_laws.proofs.Reading as internal_laws
 use Rattle.built_valid.specs.Open.{CallStands, IsOpen}
 use Rattle.built_valid.specs.Whole.{BuiltIsValid}
@@ -106,8 +115,12 @@ module _ (tokens : Tokens) (unit : ℕ) (tree : Tree) (tag_number : ℕ → ℕ)
     nested = units_nest tokens unit tree tag_number is;
   }
 
+  fit : TypesFit s senses
+  fit = types_fit s senses built.are_senses grown (tree_grown tokens unit tree tag_number is) (units_bring tokens unit tree tag_number is) (units_ordered tokens unit tree tag_number cut is)
+      (linked_fit s senses built.are_senses grown (tree_grown tokens unit tree tag_number is) (units_bring tokens unit tree tag_number is) (initialisers_stand tokens unit tree tag_number cut is) rest.types)
+
   asked : AskedElseFit types s senses
-  asked = asked_fit s senses built.are_senses grown (units_bring tokens unit tree tag_number is) rest.types
+  asked = asked_fit s senses built.are_senses grown (units_bring tokens unit tree tag_number is) fit
 
   rows : InRows (trees_of u)
   rows = rows_asked s name u built grown.first (constants_fit tokens tree tag_number cut) grown.statements asked
@@ -116,6 +129,12 @@ module _ (tokens : Tokens) (unit : ℕ) (tree : Tree) (tag_number : ℕ → ℕ)
   sound i =
       let fit = asked_aligns_fit types s senses built.are_senses grown.first (constants_fit tokens tree tag_number cut) grown.statements asked in
       let both = asked_sound types s senses built.are_senses grown.first (constants_fit tokens tree tag_number cut) grown.statements fit i in both.0
+
+  sizes : TagsHaveSizes u.types
+  sizes = tags_sized s name u built grown.first grown.families rest.specified
+
+  fixed : FixedStatics (trees_of u)
+  fixed = fixed_whole tokens unit tree tag_number name u cut is built rest.literals_static rows
 
   -- bodies
   objects : BodiesInitialise u
@@ -149,7 +168,7 @@ module _ (tokens : Tokens) (unit : ℕ) (tree : Tree) (tag_number : ℕ → ℕ)
   owned = internal_laws.owners_known tokens unit tree tag_number name u cut is built
 
   owners : OwnersRight (trees_of u)
-  owners = owners_known tokens unit tree tag_number name u cut is built (definitions_named tokens unit tree tag_number senses cut is built.are_senses built.whole) (record { rows = rows; owned = owned; bodied = bodied; fixed = rest.fixed; forward = rest.forward })
+  owners = owners_known tokens unit tree tag_number name u cut is built (definitions_named tokens unit tree tag_number senses cut is built.are_senses built.whole) (record { rows = rows; owned = owned; bodied = bodied; fixed = fixed; forward = rest.forward })
 
   -- compound literals
   made : IsMade s senses built.numbering u
@@ -189,7 +208,7 @@ module _ (tokens : Tokens) (unit : ℕ) (tree : Tree) (tag_number : ℕ → ℕ)
   literal n node kind at is_one = tt
 
   measured : Measured (trees_of u)
-  measured = record { objects = rest.objects; tags = rest.tags; values = rest.values; results = λ e entity at storage. results_sized tokens unit tree tag_number name u cut is built bodied e entity at storage }
+  measured = record { objects = rest.objects; tags = sizes; values = values_have_sizes s name u built grown.first grown.families rows sizes; results = λ e entity at storage. results_sized tokens unit tree tag_number name u cut is built bodied e entity at storage }
 
   trees : Valid (trees_of u)
   trees = record {
@@ -202,7 +221,7 @@ module _ (tokens : Tokens) (unit : ℕ) (tree : Tree) (tag_number : ℕ → ℕ)
     literals = λ n node at. literal n node node.kind at refl;
     listed = rest.listed;
     lists = owners.lists;
-    fixed = rest.fixed;
+    fixed = fixed;
     standing = λ n node at. may_stand (trees_of u) n node.kind (statements_built tokens unit tree tag_number name u cut is built w types sound rows known n node at) (rest.calls n node at);
     functions = λ n node at. functions_fit tokens unit tree tag_number name u bound cut is bind built w types sound rows bodied n node at;
     cases = λ n node at. cases_differ tokens unit tree tag_number name u cut is built w types sound rows known n node at;

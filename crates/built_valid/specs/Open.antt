@@ -9,12 +9,13 @@ use Rattle.core_tree.specs.declared.node.NodeKind.TheVariants.{CallNode}
 use Rattle.core_tree.specs.Typed.{CoreTrees, trees_of}
 use Rattle.core_tree.specs.Range.{EachNode, EachEntity}
 use Rattle.core_tree.specs.Rows.{Initialises}
-use Rattle.type_rules.specs.Sizes.{TagsHaveSizes}
 use Rattle.core_tree.specs.Linkages.{UsesDeclared}
-use Rattle.core_tree.specs.Valid.{IsFunctionEntity, AllListed, FixedStatics, InSomeBody, EntitySized, ValueSized}
+use Rattle.core_tree.specs.Valid.{IsFunctionEntity, AllListed, InSomeBody, EntitySized}
 use Rattle.c_senses.specs.Tree.{Source}
 use Rattle.owner_laws.specs.Owners.{Forward}
-use Rattle.text_rows.specs.Texts.{TypesFit}
+use Rattle.fixed_laws.specs.Fixed.{LiteralsStatic}
+use Rattle.tag_sizes.specs.Sizes.{TagsSpecified}
+use Rattle.initialised_rows.specs.Rows.{InternalFit}
 use Rattle.built_units.specs.Built.{IsBuilt}
 
 -- the body of what is no function's is an object's own Initialise
@@ -28,19 +29,19 @@ CallStands u n kind = ⊤
 
 -- by fields of a valid unit
 pub record IsOpen (s : Source) (name : List ℕ) (u : Unit) (b : IsBuilt s name u) : Type 0 where
-  -- rows: what a primary's name means, and the types of objects that are initialised
-  pub types : TypesFit s b.senses
+  -- rows: what a primary's name with internal linkage means, and the types of such objects that are initialised
+  pub types : InternalFit s b.senses
   -- bodies: those of objects alone
   pub bodies : EachEntity (trees_of u) (λ e entity. ObjectFits (trees_of u) e entity)
   -- in_owner and lists: where automatic objects are initialised
   pub forward : Forward (trees_of u)
   pub listed : AllListed (trees_of u)
-  pub fixed : FixedStatics (trees_of u)
+  -- fixed: that the object of a compound literal which stands in no block lives for the whole run
+  pub literals_static : LiteralsStatic s b.senses
   -- standing: calls alone
   pub calls : EachNode (trees_of u) (λ n node. CallStands (trees_of u) n node.kind)
-  -- measured: all but what functions give
+  -- measured: objects alone, and that each structure of the table is that of a specifier
   pub objects : EachEntity (trees_of u) (λ e entity. EntitySized (trees_of u) entity)
-  pub tags : TagsHaveSizes u.types
-  pub values : EachNode (trees_of u) (λ n node. ValueSized (trees_of u) node)
+  pub specified : TagsSpecified s u.types
   -- linkages: uses of names with external linkage alone
   pub declared : EachNode (trees_of u) (λ n node. UsesDeclared (trees_of u) (type_of u.types node.ty.0) node.kind)

@@ -75,7 +75,7 @@ module _ (s : Source) (senses : List Sense) (are : AreSenses s senses) (grew : I
   bool_cases P true h k = h refl
   bool_cases P false h k = k refl
 
-  types_fit : TypesFit s senses
+  pub types_fit : TypesFit s senses
   types_fit = record {
     names = λ i lt primary. first_fits i lt primary (children_at s i) refl;
     objects = λ i lt p d leaf t actions is parent rest by_it name type placed.
@@ -85,7 +85,7 @@ module _ (s : Source) (senses : List Sense) (are : AreSenses s senses) (grew : I
         (bool_cases _ (lacks_a_length t) (λ lacks. inr (fit.initialisers i lt p d leaf t is parent rest by_it name type lacks)) (λ has. inl has)));
   }
 
-tree_grown : (tokens : Tokens) (unit : ℕ) (tree : Tree) (tag_number : ℕ → ℕ) → IsUnit tokens unit tree → Grown (numbered tag_number (source_of tokens tree))
+pub tree_grown : (tokens : Tokens) (unit : ℕ) (tree : Tree) (tag_number : ℕ → ℕ) → IsUnit tokens unit tree → Grown (numbered tag_number (source_of tokens tree))
 tree_grown tokens unit tree tag_number is = let read = is.0 in grown_read tokens tree tag_number (begin 0 no_names []) read.0 refl refl read.1 read.2
 
 pub rows_of_linked_texts : RowsOfLinkedTexts

@@ -1,0 +1,4 @@
+//! Where the initialiser of an automatic object stands in a unit.
+#![tactic(auto)]
+
+pub mod laws;

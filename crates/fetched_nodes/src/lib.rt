@@ -1,0 +1,4 @@
+//! Facts of the values of places and of calls, in all trees that rows give.
+#![tactic(auto)]
+
+pub mod laws;

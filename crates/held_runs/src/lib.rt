@@ -1,0 +1,4 @@
+//! Where what declarations run stands in a unit.
+#![tactic(auto)]
+
+pub mod laws;

@@ -1,0 +1,4 @@
+//! What initialisers say of the rows of nodes: a function that does nothing, whose contract is that law.
+#![tactic(auto)]
+
+pub mod laws;

@@ -1,0 +1,4 @@
+//! That objects are listed by one declaration.
+#![tactic(auto)]
+
+pub mod laws;

@@ -1,0 +1,12 @@
+-- Members of structures and unions of units that are built.
+use Rattle.std.specs.Prelude.{ℕ, List}
+use Rattle.core_tree.specs.declared.node.Unit.{Unit}
+use Rattle.c_senses.specs.Tree.{Source}
+use Rattle.sense_laws.specs.Senses.{ChildrenFirst}
+use Rattle.family_laws.specs.Families.{Families}
+use Rattle.built_units.specs.Built.{IsBuilt}
+use Rattle.value_laws.specs.Values.{MembersComplete}
+
+-- each member of structure or union type is complete
+abbrev pub MembersAreComplete : Type 0
+MembersAreComplete = (s : Source) (name : List ℕ) (u : Unit) → IsBuilt s name u → ChildrenFirst s → Families s → MembersComplete u.types

@@ -1,0 +1,4 @@
+//! Which initialisers a declaration runs.
+#![tactic(auto)]
+
+pub mod laws;

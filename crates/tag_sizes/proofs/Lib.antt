@@ -1,0 +1,3 @@
+mod Reading
+mod Completed
+pub mod Sizes

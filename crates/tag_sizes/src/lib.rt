@@ -1,0 +1,4 @@
+//! Sizes of structures and unions of a unit that is built.
+#![tactic(auto)]
+
+pub mod laws;

@@ -1,0 +1,4 @@
+//! Values of structures and unions of a unit that is built.
+#![tactic(auto)]
+
+pub mod laws;
