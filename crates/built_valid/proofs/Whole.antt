@@ -1,5 +1,5 @@
 -- The fields of a valid unit, one by one.
-use Rattle.std.proofs.Common.{◌≡◌, ◌<◌, ap, ℕ, ◌⊎◌, inl, inr, List, Option, Some, None, length, refl, subst}
+use Rattle.std.proofs.Common.{◌≡◌, ◌<◌, ap, ℕ, ◌⊎◌, inl, inr, List, [], ◌∷◌, Option, Some, None, length, refl, subst}
 use Rattle.std.specs.Prelude.{IfSome}
 use Rattle.std.proofs.lemmas.Option.{slice_get_within}
 use Rattle.c_lexer.specs.declared.Tokens.{Tokens}
@@ -12,6 +12,8 @@ use Rattle.core_tree.specs.declared.node.Unit.{Unit}
 use Rattle.core_tree.specs.declared.node.Entity.{Entity}
 use Rattle.core_tree.specs.declared.node.Storage.{Storage}
 use Rattle.core_tree.specs.declared.node.Storage.TheVariants.{Static, Automatic, FunctionBody, Parameter, Declared}
+use Rattle.core_tree.specs.declared.node.Linkage.{Linkage}
+use Rattle.core_tree.specs.declared.node.Linkage.TheVariants.{External, Internal, Local}
 use Rattle.core_tree.specs.declared.node.NodeKind.{NodeKind}
 use Rattle.core_tree.specs.declared.node.NodeKind.TheVariants.{CallNode, Literal}
 use Rattle.core_tree.specs.Typed.{CoreTrees, trees_of}
@@ -53,7 +55,6 @@ use Rattle.unlinked_laws.proofs.Unlinked.{literals_unlinked}
 use Rattle.body_laws.specs.Bodies.{BodiesInitialise, BodiesApart}
 use Rattle.body_laws.proofs.Apart.{one_body_each}
 use Rattle.function_laws.proofs.Functions.{functions_fit}
-use Rattle.type_rules.specs.Sizes.{TagsHaveSizes}
 use Rattle.case_laws.proofs.Cases.{cases_differ}
 use Rattle.lasting_literals.proofs.Lasting.{literals_last}
 use Rattle.once_nodes.specs.Once.{IsLaid}
@@ -66,10 +67,13 @@ use Rattle.function_bodies.proofs.Reading.{functions_stand}
 use Rattle.named_definitions.proofs.Naming.{definitions_named}
 use Rattle.result_laws.proofs.Results.{results_sized}
 use Rattle.fixed_laws.proofs.Whole.{fixed_whole}
-use Rattle.member_laws.proofs.Measured.{values_have_sizes}
+use Rattle.type_rules.specs.Sizes.{TagsHaveSizes}
 use Rattle.tag_sizes.proofs.Sizes.{tags_sized}
-use Rattle.initialised_rows.proofs.Owning.{linked_fit}
 use Rattle.own_initialisers.proofs.Standing.{initialisers_stand}
+use Rattle.initialised_rows.proofs.Owning.{linked_fit}
+use Rattle.placed_laws.proofs.Climbing.{Grown}
+use Rattle.member_laws.proofs.Measured.{values_have_sizes}
+use Rattle.object_bodies.proofs.Bodies.{named_objects_initialise}
 use Rattle.internal_laws.proofs.Reading as internal_laws
 use Rattle.built_valid.specs.Open.{CallStands, IsOpen}
 use Rattle.built_valid.specs.Whole.{BuiltIsValid}
@@ -80,6 +84,15 @@ is_function Automatic = inr (λ e. cc)
 is_function FunctionBody = inl refl
 is_function Parameter = inr (λ e. cc)
 is_function Declared = inr (λ e. cc)
+
+is_internal : (l : Linkage) → (l ≡ Internal) ⊎ (l ≡ Internal → ⊥)
+is_internal External = inr (λ e. cc)
+is_internal Internal = inl refl
+is_internal Local = inr (λ e. cc)
+
+is_unnamed : (n : List ℕ) → (n ≡ []) ⊎ (n ≡ [] → ⊥)
+is_unnamed [] = inl refl
+is_unnamed (x ∷ rest) = inr (λ e. cc)
 
 -- a node that is no call, and a call
 may_stand : (u : CoreTrees) (n : ℕ) (kind : NodeKind) → StatementStands u n kind → CallStands u n kind → MayStand u n kind
@@ -116,8 +129,10 @@ module _ (tokens : Tokens) (unit : ℕ) (tree : Tree) (tag_number : ℕ → ℕ)
   }
 
   fit : TypesFit s senses
-  fit = types_fit s senses built.are_senses grown (tree_grown tokens unit tree tag_number is) (units_bring tokens unit tree tag_number is) (units_ordered tokens unit tree tag_number cut is)
-      (linked_fit s senses built.are_senses grown (tree_grown tokens unit tree tag_number is) (units_bring tokens unit tree tag_number is) (initialisers_stand tokens unit tree tag_number cut is) rest.types)
+  fit =
+      let at : Grown s = tree_grown tokens unit tree tag_number is in
+      let linked = linked_fit s senses built.are_senses grown at (units_bring tokens unit tree tag_number is) (initialisers_stand tokens unit tree tag_number cut is) rest.types in
+      types_fit s senses built.are_senses grown at (units_bring tokens unit tree tag_number is) (units_ordered tokens unit tree tag_number cut is) linked
 
   asked : AskedElseFit types s senses
   asked = asked_fit s senses built.are_senses grown (units_bring tokens unit tree tag_number is) fit
@@ -130,15 +145,23 @@ module _ (tokens : Tokens) (unit : ℕ) (tree : Tree) (tag_number : ℕ → ℕ)
       let fit = asked_aligns_fit types s senses built.are_senses grown.first (constants_fit tokens tree tag_number cut) grown.statements asked in
       let both = asked_sound types s senses built.are_senses grown.first (constants_fit tokens tree tag_number cut) grown.statements fit i in both.0
 
-  sizes : TagsHaveSizes u.types
-  sizes = tags_sized s name u built grown.first grown.families rest.specified
-
   fixed : FixedStatics (trees_of u)
   fixed = fixed_whole tokens unit tree tag_number name u cut is built rest.literals_static rows
 
   -- bodies
+  initialises : (e : ℕ) (entity : Entity) (b : ℕ) → entity_at (trees_of u) e ≡ Some entity → (entity.storage ≡ FunctionBody → ⊥) → entity.body ≡ Some b → Initialises (trees_of u) b e
+  initialises e entity b at not held = by_linkage (is_internal entity.linkage) (is_unnamed entity.name)
+    where
+      open_part : (entity.linkage ≡ Internal) ⊎ (entity.name ≡ []) → Initialises (trees_of u) b e
+      open_part = let object = rest.bodies e entity at not b held in object.1
+
+      by_linkage : (entity.linkage ≡ Internal) ⊎ (entity.linkage ≡ Internal → ⊥) → (entity.name ≡ []) ⊎ (entity.name ≡ [] → ⊥) → Initialises (trees_of u) b e
+      by_linkage (inl internal) unnamed = open_part (inl internal)
+      by_linkage (inr other) (inl unnamed) = open_part (inr unnamed)
+      by_linkage (inr other) (inr named) = named_objects_initialise tokens unit tree tag_number name u cut is built rest.placed e entity at not other named b held
+
   objects : BodiesInitialise u
-  objects e entity at not b is = let object = rest.bodies e entity at not b is in object.1
+  objects e entity at not b is = initialises e entity b at not is
 
   apart : BodiesApart u
   apart = one_body_each s name u built objects
@@ -146,7 +169,7 @@ module _ (tokens : Tokens) (unit : ℕ) (tree : Tree) (tag_number : ℕ → ℕ)
   some_body : (e : ℕ) (entity : Entity) (b : ℕ) → entity_at (trees_of u) e ≡ Some entity → entity.body ≡ Some b → FunctionFits (trees_of u) entity (Some b) → IsFunctionBody (trees_of u) entity b ⊎ IsObjectBody (trees_of u) e entity b
   some_body e entity b at is fits = elim (is_function entity.storage) [
     | inl f ↦ let both = fits f in inl (record { function = both.0; storage = f; block = both.1; top = built.tops e entity at f b is })
-    | inr not ↦ let object = rest.bodies e entity at not b is in inr (record { object = object.0; storage = not; initialises = object.1 })
+    | inr not ↦ let object = rest.bodies e entity at not b is in inr (record { object = object.0; storage = not; initialises = initialises e entity b at not is })
   ]
 
   has_body : (e : ℕ) (entity : Entity) (body : Option ℕ) → entity_at (trees_of u) e ≡ Some entity → entity.body ≡ body → FunctionFits (trees_of u) entity body → HasBody (trees_of u) e entity body
@@ -207,8 +230,11 @@ module _ (tokens : Tokens) (unit : ℕ) (tree : Tree) (tag_number : ℕ → ℕ)
       )
   literal n node kind at is_one = tt
 
+  tags : TagsHaveSizes u.types
+  tags = tags_sized s name u built grown.first grown.families rest.tags
+
   measured : Measured (trees_of u)
-  measured = record { objects = rest.objects; tags = sizes; values = values_have_sizes s name u built grown.first grown.families rows sizes; results = λ e entity at storage. results_sized tokens unit tree tag_number name u cut is built bodied e entity at storage }
+  measured = record { objects = rest.objects; tags = tags; values = values_have_sizes s name u built grown.first grown.families rows tags; results = λ e entity at storage. results_sized tokens unit tree tag_number name u cut is built bodied e entity at storage }
 
   trees : Valid (trees_of u)
   trees = record {

@@ -1,9 +1,10 @@
 -- What isn't proved yet of units that are built.
-use Rattle.std.specs.Prelude.{ℕ, ◌≡◌, ◌≢◌, ⊤, List, Some}
+use Rattle.std.specs.Prelude.{ℕ, ◌≡◌, ◌≢◌, ◌⊎◌, ⊤, List, [], Some}
 use Rattle.c_types.specs.Table.{type_of}
 use Rattle.core_tree.specs.declared.node.Entity.{Entity}
 use Rattle.core_tree.specs.declared.node.Unit.{Unit}
 use Rattle.core_tree.specs.declared.node.Storage.TheVariants.{FunctionBody}
+use Rattle.core_tree.specs.declared.node.Linkage.TheVariants.{Internal}
 use Rattle.core_tree.specs.declared.node.NodeKind.{NodeKind}
 use Rattle.core_tree.specs.declared.node.NodeKind.TheVariants.{CallNode}
 use Rattle.core_tree.specs.Typed.{CoreTrees, trees_of}
@@ -13,14 +14,15 @@ use Rattle.core_tree.specs.Linkages.{UsesDeclared}
 use Rattle.core_tree.specs.Valid.{IsFunctionEntity, AllListed, InSomeBody, EntitySized}
 use Rattle.c_senses.specs.Tree.{Source}
 use Rattle.owner_laws.specs.Owners.{Forward}
+use Rattle.initialised_rows.specs.Rows.{InternalFit}
+use Rattle.object_bodies.specs.Objects.{InitialisersPlaced}
 use Rattle.fixed_laws.specs.Fixed.{LiteralsStatic}
 use Rattle.tag_sizes.specs.Sizes.{TagsSpecified}
-use Rattle.initialised_rows.specs.Rows.{InternalFit}
 use Rattle.built_units.specs.Built.{IsBuilt}
 
--- the body of what is no function's is an object's own Initialise
+-- the body of what is no function's is an object's, and that of a literal or of a name with internal linkage its own Initialise
 abbrev pub ObjectFits : CoreTrees → ℕ → Entity → Type 0
-ObjectFits u e entity = entity.storage ≢ FunctionBody → (b : ℕ) → entity.body ≡ Some b → (IsFunctionEntity u entity → ⊥) × Initialises u b e
+ObjectFits u e entity = entity.storage ≢ FunctionBody → (b : ℕ) → entity.body ≡ Some b → (IsFunctionEntity u entity → ⊥) × ((entity.linkage ≡ Internal) ⊎ (entity.name ≡ []) → Initialises u b e)
 
 -- a call stands in the body of a function
 abbrev pub CallStands : CoreTrees → ℕ → NodeKind → Type 0
@@ -31,7 +33,8 @@ CallStands u n kind = ⊤
 pub record IsOpen (s : Source) (name : List ℕ) (u : Unit) (b : IsBuilt s name u) : Type 0 where
   -- rows: what a primary's name with internal linkage means, and the types of such objects that are initialised
   pub types : InternalFit s b.senses
-  -- bodies: those of objects alone
+  -- bodies: those of objects alone, and where initialisers stand in declarations
+  pub placed : InitialisersPlaced s b.senses
   pub bodies : EachEntity (trees_of u) (λ e entity. ObjectFits (trees_of u) e entity)
   -- in_owner and lists: where automatic objects are initialised
   pub forward : Forward (trees_of u)
@@ -42,6 +45,6 @@ pub record IsOpen (s : Source) (name : List ℕ) (u : Unit) (b : IsBuilt s name 
   pub calls : EachNode (trees_of u) (λ n node. CallStands (trees_of u) n node.kind)
   -- measured: objects alone, and that each structure of the table is that of a specifier
   pub objects : EachEntity (trees_of u) (λ e entity. EntitySized (trees_of u) entity)
-  pub specified : TagsSpecified s u.types
+  pub tags : TagsSpecified s u.types
   -- linkages: uses of names with external linkage alone
   pub declared : EachNode (trees_of u) (λ n node. UsesDeclared (trees_of u) (type_of u.types node.ty.0) node.kind)
