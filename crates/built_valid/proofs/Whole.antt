@@ -1,6 +1,6 @@
 -- The fields of a valid unit, one by one.
 use Rattle.std.proofs.Common.{◌≡◌, ◌<◌, ap, ℕ, ◌⊎◌, inl, inr, List, [], ◌∷◌, Option, Some, None, length, refl, subst}
-use Rattle.std.specs.Prelude.{IfSome}
+use Rattle.std.specs.Prelude.{IfSome, ⊤}
 use Rattle.std.proofs.lemmas.Option.{slice_get_within}
 use Rattle.c_lexer.specs.declared.Tokens.{Tokens}
 use Rattle.c_lexer.specs.Cut.{IsTokens}
@@ -20,7 +20,7 @@ use Rattle.core_tree.specs.Typed.{CoreTrees, trees_of}
 use Rattle.core_tree.specs.Range.{node_at, entity_at}
 use Rattle.core_tree.specs.Rows.{Initialises}
 use Rattle.core_tree.specs.Linkages.{Linkages}
-use Rattle.core_tree.specs.Valid.{InRows, FixedStatics, Owned, Bodied, HasBody, IsFunctionBody, IsObjectBody, Measured, MayStand, IsLiteralOf, IsLiteral, IsLasting, Valid, ValidUnit}
+use Rattle.core_tree.specs.Valid.{InRows, FixedStatics, Owned, Bodied, HasBody, IsFunctionBody, IsObjectBody, Measured, MayStand, IsLiteralOf, IsLiteral, IsLasting, Valid, ValidUnit, InSomeBody}
 use Rattle.c_scope.specs.declared.resolving.Bound.{Bound}
 use Rattle.c_scope.specs.Resolves.{IsBound}
 use Rattle.c_senses.specs.Names.{source_of, numbered}
@@ -67,6 +67,7 @@ use Rattle.function_bodies.proofs.Reading.{functions_stand}
 use Rattle.named_definitions.proofs.Naming.{definitions_named}
 use Rattle.result_laws.proofs.Results.{results_sized}
 use Rattle.fixed_laws.proofs.Whole.{fixed_whole}
+use Rattle.static_literals.proofs.Whole.{literals_built}
 use Rattle.type_rules.specs.Sizes.{TagsHaveSizes}
 use Rattle.tag_sizes.proofs.Sizes.{tags_sized}
 use Rattle.own_initialisers.proofs.Standing.{initialisers_stand}
@@ -75,7 +76,10 @@ use Rattle.placed_laws.proofs.Climbing.{Grown}
 use Rattle.member_laws.proofs.Measured.{values_have_sizes}
 use Rattle.object_bodies.proofs.Bodies.{named_objects_initialise}
 use Rattle.internal_laws.proofs.Reading as internal_laws
-use Rattle.built_valid.specs.Open.{CallStands, IsOpen}
+use Rattle.built_filled.proofs.Filling.{built_are_filled}
+use Rattle.built_standing.proofs.Built.{parameters_built}
+use Rattle.calling_laws.proofs.Calls.{calls_stand}
+use Rattle.built_valid.specs.Open.{IsOpen}
 use Rattle.built_valid.specs.Whole.{BuiltIsValid}
 
 is_function : (s : Storage) → (s ≡ FunctionBody) ⊎ (s ≡ FunctionBody → ⊥)
@@ -93,6 +97,15 @@ is_internal Local = inr (λ e. cc)
 is_unnamed : (n : List ℕ) → (n ≡ []) ⊎ (n ≡ [] → ⊥)
 is_unnamed [] = inl refl
 is_unnamed (x ∷ rest) = inr (λ e. cc)
+
+-- a call stands in the body of a function
+abbrev CallStands : CoreTrees → ℕ → NodeKind → Type 0
+CallStands u n CallNode = InSomeBody u n
+CallStands u n kind = ⊤
+
+of_call : (u : CoreTrees) (n : ℕ) (kind : NodeKind) → (kind ≡ CallNode → InSomeBody u n) → CallStands u n kind
+of_call u n CallNode h = h refl
+of_call u n kind h = tt
 
 -- a node that is no call, and a call
 may_stand : (u : CoreTrees) (n : ℕ) (kind : NodeKind) → StatementStands u n kind → CallStands u n kind → MayStand u n kind
@@ -146,7 +159,7 @@ module _ (tokens : Tokens) (unit : ℕ) (tree : Tree) (tag_number : ℕ → ℕ)
       let both = asked_sound types s senses built.are_senses grown.first (constants_fit tokens tree tag_number cut) grown.statements fit i in both.0
 
   fixed : FixedStatics (trees_of u)
-  fixed = fixed_whole tokens unit tree tag_number name u cut is built rest.literals_static rows
+  fixed = fixed_whole tokens unit tree tag_number name u cut is built (literals_built tokens unit tree tag_number name u cut is built) rows
 
   -- bodies
   initialises : (e : ℕ) (entity : Entity) (b : ℕ) → entity_at (trees_of u) e ≡ Some entity → (entity.storage ≡ FunctionBody → ⊥) → entity.body ≡ Some b → Initialises (trees_of u) b e
@@ -230,6 +243,21 @@ module _ (tokens : Tokens) (unit : ℕ) (tree : Tree) (tag_number : ℕ → ℕ)
       )
   literal n node kind at is_one = tt
 
+  calls : (n : ℕ) (node : Node) → node_at (trees_of u) n ≡ Some node → node.kind ≡ CallNode → InSomeBody (trees_of u) n
+  calls = calls_stand (trees_of u) (record {
+    in_range = in_range s name u built;
+    rows = rows;
+    owned = owned;
+    bodied = bodied;
+    in_owner = owners.in_owner;
+    literals = λ n node at. literal n node node.kind at refl;
+    listed = rest.listed;
+    fixed = fixed;
+    no_other_node = built.no_other_node;
+    initialised = let filled = built_are_filled tokens unit tree tag_number name u is built in filled.each;
+    parameters = parameters_built tokens unit tree tag_number name u cut is built;
+  })
+
   tags : TagsHaveSizes u.types
   tags = tags_sized s name u built grown.first grown.families rest.tags
 
@@ -248,7 +276,7 @@ module _ (tokens : Tokens) (unit : ℕ) (tree : Tree) (tag_number : ℕ → ℕ)
     listed = rest.listed;
     lists = owners.lists;
     fixed = fixed;
-    standing = λ n node at. may_stand (trees_of u) n node.kind (statements_built tokens unit tree tag_number name u cut is built w types sound rows known n node at) (rest.calls n node at);
+    standing = λ n node at. may_stand (trees_of u) n node.kind (statements_built tokens unit tree tag_number name u cut is built w types sound rows known n node at) (of_call (trees_of u) n node.kind (calls n node at));
     functions = λ n node at. functions_fit tokens unit tree tag_number name u bound cut is bind built w types sound rows bodied n node at;
     cases = λ n node at. cases_differ tokens unit tree tag_number name u cut is built w types sound rows known n node at;
     uses = uses_right s name u built;
