@@ -67,6 +67,7 @@ use Rattle.function_bodies.proofs.Reading.{functions_stand}
 use Rattle.named_definitions.proofs.Naming.{definitions_named}
 use Rattle.result_laws.proofs.Results.{results_sized}
 use Rattle.fixed_laws.proofs.Whole.{fixed_whole}
+use Rattle.placed_initialisers.proofs.Whole.{units_place}
 use Rattle.static_literals.proofs.Whole.{literals_built}
 use Rattle.type_rules.specs.Sizes.{TagsHaveSizes}
 use Rattle.tag_sizes.proofs.Sizes.{tags_sized}
@@ -171,7 +172,7 @@ module _ (tokens : Tokens) (unit : ℕ) (tree : Tree) (tag_number : ℕ → ℕ)
       by_linkage : (entity.linkage ≡ Internal) ⊎ (entity.linkage ≡ Internal → ⊥) → (entity.name ≡ []) ⊎ (entity.name ≡ [] → ⊥) → Initialises (trees_of u) b e
       by_linkage (inl internal) unnamed = open_part (inl internal)
       by_linkage (inr other) (inl unnamed) = open_part (inr unnamed)
-      by_linkage (inr other) (inr named) = named_objects_initialise tokens unit tree tag_number name u cut is built rest.placed e entity at not other named b held
+      by_linkage (inr other) (inr named) = named_objects_initialise tokens unit tree tag_number name u cut is built (units_place tokens unit tree tag_number senses cut is) e entity at not other named b held
 
   objects : BodiesInitialise u
   objects e entity at not b is = initialises e entity b at not is

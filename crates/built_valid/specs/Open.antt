@@ -13,7 +13,6 @@ use Rattle.core_tree.specs.Valid.{IsFunctionEntity, AllListed, EntitySized}
 use Rattle.c_senses.specs.Tree.{Source}
 use Rattle.owner_laws.specs.Owners.{Forward}
 use Rattle.initialised_rows.specs.Rows.{InternalFit}
-use Rattle.object_bodies.specs.Objects.{InitialisersPlaced}
 use Rattle.tag_sizes.specs.Sizes.{TagsSpecified}
 use Rattle.built_units.specs.Built.{IsBuilt}
 
@@ -25,8 +24,7 @@ ObjectFits u e entity = entity.storage ≢ FunctionBody → (b : ℕ) → entity
 pub record IsOpen (s : Source) (name : List ℕ) (u : Unit) (b : IsBuilt s name u) : Type 0 where
   -- rows: what a primary's name with internal linkage means, and the types of such objects that are initialised
   pub types : InternalFit s b.senses
-  -- bodies: those of objects alone, and where initialisers stand in declarations
-  pub placed : InitialisersPlaced s b.senses
+  -- bodies: those of objects alone
   pub bodies : EachEntity (trees_of u) (λ e entity. ObjectFits (trees_of u) e entity)
   -- in_owner and lists: where automatic objects are initialised
   pub forward : Forward (trees_of u)

@@ -1,0 +1,4 @@
+//! Where initialisers stand in declarations.
+#![tactic(auto)]
+
+pub mod laws;
