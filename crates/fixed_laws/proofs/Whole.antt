@@ -37,7 +37,7 @@ use Rattle.linkage_laws.specs.Linked.{StandsLinked}
 use Rattle.linkage_laws.proofs.Linked.{stands_linked}
 use Rattle.linkage_laws.proofs.Reading.{tree_is}
 use Rattle.linkage_laws.proofs.Unlinked.{Made, made}
-use Rattle.fixed_laws.specs.Fixed.{automatic_by, all_fixed, LiteralsStatic, LiteralValuesFixed, ValuesFixed, FixedWhole, FixedBuilt}
+use Rattle.fixed_laws.specs.Fixed.{automatic_by, all_fixed, LiteralsStatic, LiteralValuesFixed, ValuesFixed, FixedWhole}
 use Rattle.fixed_laws.proofs.Objects.{named_fixed}
 use Rattle.fixed_laws.proofs.Declarators.{declarators_are}
 use Rattle.fixed_laws.proofs.Literals.{literals_fixed}
@@ -110,6 +110,3 @@ fixed_whole tokens unit tree tag_number name u cut is b literals rows n node at 
     let values : LiteralValuesFixed s b.senses = literals_fixed s b.senses b.are_senses (units_ordered tokens unit tree tag_number cut is) (units_in_order tokens unit tree tag_number is) (units_families tokens unit tree tag_number cut is)
     (λ i part. block_parts tokens unit tree tag_number i is part) (λ d definition. definitions_declare tokens unit tree tag_number b.senses d cut is b.are_senses b.whole definition) in
     node_fixed s name u b each literals (all_values s b.senses objects values) rows n node node.kind at refl
-
-pub fixed_built : FixedBuilt
-fixed_built tokens unit tree tag_number name u cut is b declarators literals values rows n node at = fixed_whole tokens unit tree tag_number name u cut is b literals rows n node at

@@ -58,10 +58,3 @@ FixedWhole =
     (tokens : Tokens) (unit : ℕ) (tree : Tree) (tag_number : ℕ → ℕ) (name : List ℕ) (u : Unit) → IsTokens tokens.text.now tokens.list.items → IsUnit tokens unit tree
     → (built : IsBuilt (numbered tag_number (source_of tokens tree)) name u)
     → LiteralsStatic (numbered tag_number (source_of tokens tree)) built.senses → InRows (trees_of u) → FixedStatics (trees_of u)
-
--- so it is where more is known
-abbrev pub FixedBuilt : Type 0
-FixedBuilt =
-    (tokens : Tokens) (unit : ℕ) (tree : Tree) (tag_number : ℕ → ℕ) (name : List ℕ) (u : Unit) → IsTokens tokens.text.now tokens.list.items → IsUnit tokens unit tree
-    → (built : IsBuilt (numbered tag_number (source_of tokens tree)) name u) → DeclaratorsInitialised (numbered tag_number (source_of tokens tree))
-    → LiteralsStatic (numbered tag_number (source_of tokens tree)) built.senses → LiteralValuesFixed (numbered tag_number (source_of tokens tree)) built.senses → InRows (trees_of u) → FixedStatics (trees_of u)
