@@ -20,7 +20,7 @@ use Rattle.c_senses.specs.Tree.{Source}
 use Rattle.c_senses.specs.Tags.{completed_from, members_under}
 use Rattle.c_senses.specs.Rows.{world_at}
 use Rattle.c_senses.specs.Sense.{Sense, sense_in}
-use Rattle.c_senses.specs.Right.{Numbering, SameOwner, SameBody, IsEntityOf, IsBody, IsLiteralOf, IsDeclaredAt, declared_name, literal_as, KeysRight, is_tag}
+use Rattle.c_senses.specs.Right.{Numbering, SameOwner, SameBody, IsEntityOf, InitialisesOnce, IsBody, IsLiteralOf, IsDeclaredAt, declared_name, literal_as, KeysRight, is_tag}
 use Rattle.c_senses.specs.Right as right
 use Rattle.unit_parts.specs.declared.declared.Declared.{Declared}
 use Rattle.unit_parts.specs.declared.literals.LiteralAt.{LiteralAt}
@@ -32,7 +32,7 @@ use Rattle.unit_finish.specs.declared.keeping.Kept.{Kept}
 use Rattle.unit_finish.specs.Complete.{IsKept}
 use Rattle.unit_finish.specs.Walked.{declared_seen, literal_entry, IsWalked}
 use Rattle.built_units.specs.Built.{IsEntered, IsTop, IsAlone, IsBuilt}
-use Rattle.built_parts.specs.Parts.{IsPut, PartsAreBuilt}
+use Rattle.built_parts.specs.Parts.{ArePut, PartsAreBuilt}
 use Rattle.unit_finish.proofs.Lists.{same_child, kept_from, found, entity_there, entity_back, literal_there, literal_back, body_there, body_back, get_left, get_right, get_either, get_map, map_back}
 use Rattle.unit_finish.proofs.Standing.{at_within, number_same, marked_node, within_there, within_top, kept_there, copy_of, stands}
 
@@ -44,67 +44,67 @@ option_some : {A : Type 0} (f : ℕ → A) (o : Option ℕ) (y : A) → option_m
 option_some f None y e = cc
 option_some f (Some j) y e = let same : f j ≡ y = cc in (j, refl, same)
 
-module _ (s : Source) (name : List ℕ) (new : Unit) (c : IsPut s name new) where
-  abbrev senses : List Sense
+module _ (s : Source) (name : List ℕ) (new : Unit) (c : ArePut s name new) where
+  abbrev pub senses : List Sense
   senses = c.senses
 
-  abbrev old : Unit
+  abbrev pub old : Unit
   old = c.walked
 
-  abbrev names : List Declared
+  abbrev pub names : List Declared
   names = c.names
 
-  abbrev kept : Kept
+  abbrev pub kept : Kept
   kept = c.kept
 
-  abbrev list : List Declared
+  abbrev pub list : List Declared
   list = c.list
 
-  abbrev walked : IsWalked s c.senses c.walked c.keys c.names
+  abbrev pub walked : IsWalked s c.senses c.walked c.keys c.names
   walked = c.made
 
-  abbrev ready : IsReady c.walked
+  abbrev pub ready : IsReady c.walked
   ready = c.ready
 
-  abbrev k : IsKept c.walked.nodes.items c.names c.kept
+  abbrev pub k : IsKept c.walked.nodes.items c.names c.kept
   k = c.stay
 
-  abbrev es : c.list ≡ c.kept.names.items ++ map (literal_entry s c.senses) (literals_in c.kept.nodes.items)
+  abbrev pub es : c.list ≡ c.kept.names.items ++ map (literal_entry s c.senses) (literals_in c.kept.nodes.items)
   es = c.declared
 
-  abbrev planted : List Declared
+  abbrev pub planted : List Declared
   planted = c.planted.list.items
 
-  abbrev ps : List Node
+  abbrev pub ps : List Node
   ps = c.planted.nodes.items
 
-  abbrev n : Numbering
+  abbrev pub n : Numbering
   n = numbering_of planted
 
-  abbrev numbers : List (Option ℕ)
+  abbrev pub numbers : List (Option ℕ)
   numbers = numbered_from 0 k.marks
 
-  abbrev made : IsPlanted kept.nodes.items list c.planted
+  abbrev pub made : IsPlanted kept.nodes.items list c.planted
   made = c.are_planted
 
   -- the entries of the list
-  entry_name : (i : ℕ) (x : Declared) → slice_get names i ≡ Some x → slice_get list i ≡ Some (with_moved_body numbers x)
+  pub entry_name : (i : ℕ) (x : Declared) → slice_get names i ≡ Some x → slice_get list i ≡ Some (with_moved_body numbers x)
   entry_name i x at =
       ap (λ (l : List Declared). slice_get l i) es
       ∙ get_left kept.names.items (map (literal_entry s senses) (literals_in kept.nodes.items)) i (with_moved_body numbers x) (ap (λ (l : List Declared). slice_get l i) k.names_are ∙ get_map (with_moved_body numbers) names i x at)
 
-  entry_literal : (i : ℕ) (l : LiteralAt) → slice_get (literals_in kept.nodes.items) i ≡ Some l → slice_get list (length kept.names.items + i) ≡ Some (literal_entry s senses l)
+  pub entry_literal : (i : ℕ) (l : LiteralAt) → slice_get (literals_in kept.nodes.items) i ≡ Some l → slice_get list (length kept.names.items + i) ≡ Some (literal_entry s senses l)
   entry_literal i l at =
       ap (λ (l : List Declared). slice_get l (length kept.names.items + i)) es
       ∙ (get_right kept.names.items (map (literal_entry s senses) (literals_in kept.nodes.items)) i ∙ get_map (literal_entry s senses) (literals_in kept.nodes.items) i l at)
 
-  abbrev IsNameEntry : Declared → Type 0
+  abbrev pub IsNameEntry : Declared → Type 0
   IsNameEntry y = (i : ℕ) × (x : Declared) × (slice_get names i ≡ Some x) × (y ≡ with_moved_body numbers x)
 
-  abbrev IsLiteralEntry : Declared → Type 0
+  abbrev pub IsLiteralEntry : Declared → Type 0
   IsLiteralEntry y = (i : ℕ) × (l : LiteralAt) × (slice_get (literals_in kept.nodes.items) i ≡ Some l) × (y ≡ literal_entry s senses l)
 
-  entry_cases : (e : ℕ) (y : Declared) → slice_get list e ≡ Some y → IsNameEntry y ⊎ IsLiteralEntry y
+  pub entry_cases : (e : ℕ) (y : Declared) → slice_get list e ≡ Some y → IsNameEntry y ⊎ IsLiteralEntry y
   entry_cases e y at =
       elim (get_either kept.names.items (map (literal_entry s senses) (literals_in kept.nodes.items)) e y (sym (ap (λ (l : List Declared). slice_get l e) es) ∙ at)) [
         | inl h ↦ let r = map_back (with_moved_body numbers) names e y (sym (ap (λ (l : List Declared). slice_get l e) k.names_are) ∙ h) in inl (e, r.0, r.1, r.2)
@@ -112,23 +112,23 @@ module _ (s : Source) (name : List ℕ) (new : Unit) (c : IsPut s name new) wher
       ]
 
   -- the same with new bodies
-  planted_entry : (e : ℕ) (y : Declared) → slice_get list e ≡ Some y → (z : Declared) × (slice_get planted e ≡ Some z) × IsMoved made.origin (length ps) y z
+  pub planted_entry : (e : ℕ) (y : Declared) → slice_get list e ≡ Some y → (z : Declared) × (slice_get planted e ≡ Some z) × IsMoved made.origin (length ps) y z
   planted_entry e y at =
       let lt : e < length planted = omega (arith, slice_get_within list e y at, made.long) in
       let there = at_within planted e lt in (there.0, there.1, made.each e y there.0 at there.1)
 
-  entry_back : (e : ℕ) (z : Declared) → slice_get planted e ≡ Some z → (y : Declared) × (slice_get list e ≡ Some y) × IsMoved made.origin (length ps) y z
+  pub entry_back : (e : ℕ) (z : Declared) → slice_get planted e ≡ Some z → (y : Declared) × (slice_get list e ≡ Some y) × IsMoved made.origin (length ps) y z
   entry_back e z at =
       let lt : e < length list = omega (arith, slice_get_within planted e z at, made.long) in
       let there = at_within list e lt in (there.0, there.1, made.each e there.0 z there.1 at)
 
-  entity_for : (e : ℕ) (z : Declared) → slice_get planted e ≡ Some z → entity_at (trees_of new) e ≡ Some (entity_from s.unit n new.nodes.items e z)
+  pub entity_for : (e : ℕ) (z : Declared) → slice_get planted e ≡ Some z → entity_at (trees_of new) e ≡ Some (entity_from s.unit n new.nodes.items e z)
   entity_for e z at = ap (λ (l : List Entity). slice_get l e) c.is_made.entities_are ∙ entity_there s.unit (numbering_of planted) new.nodes.items planted e z at
 
-  leaf_is : (y z : Declared) → IsMoved made.origin (length ps) y z → z.leaf ≡ y.leaf
+  pub leaf_is : (y z : Declared) → IsMoved made.origin (length ps) y z → z.leaf ≡ y.leaf
   leaf_is y z m = ap (λ (d : Declared). d.leaf) m.same
 
-  number_for : (e : ℕ) (y z : Declared) → slice_get planted e ≡ Some z → IsMoved made.origin (length ps) y z → n y.leaf ≡ Some e
+  pub number_for : (e : ℕ) (y z : Declared) → slice_get planted e ≡ Some z → IsMoved made.origin (length ps) y z → n y.leaf ≡ Some e
   number_for e y z at m = subst (λ (l : ℕ). n l ≡ Some e) (leaf_is y z m) (c.names_whole.apart e z at)
 
   owner_known : (e : ℕ) (y z : Declared) → slice_get planted e ≡ Some z → IsMoved made.origin (length ps) y z → is_owner_known n y.owner ≡ true
@@ -144,7 +144,7 @@ module _ (s : Source) (name : List ℕ) (new : Unit) (c : IsPut s name new) wher
   stays_at j x on at = ap (λ (ns : List Node). slice_get ns (new_number (numbered_from 0 k.marks) j)) k.nodes_are ∙ kept_there s senses old k.marks (bodies_of names) ready k.are_marked j x on at
 
   -- bodies stand in the unit
-  marked_body : (i : ℕ) (x : Declared) (j : ℕ) → slice_get names i ≡ Some x → x.body ≡ Some j → marked k.marks j
+  pub marked_body : (i : ℕ) (x : Declared) (j : ℕ) → slice_get names i ≡ Some x → x.body ≡ Some j → marked k.marks j
   marked_body i x j at e =
       let q = body_there names i x j at e in
       subst (λ (b : ℕ). marked k.marks b) (get_or_from_slice_get (bodies_of names) q.0 j 0 q.1) (k.are_marked.tops q.0 (slice_get_within (bodies_of names) q.0 j q.1))
@@ -233,7 +233,7 @@ module _ (s : Source) (name : List ℕ) (new : Unit) (c : IsPut s name new) wher
       let w = within_there s senses old k.marks (bodies_of names) ready k.are_marked t h.1.2 h.1.5 b.0 (marked_body r.0 x b.0 r.2 b.1) b.2 in
       literal_node d t h.0 w.0 w.1 w.2
 
-  each_declared : (d : ℕ) (what : right.Declared) → IsDeclaredAt s senses d what → HasEntity d what
+  pub each_declared : (d : ℕ) (what : right.Declared) → IsDeclaredAt s senses d what → HasEntity d what
   each_declared d what h =
       elim h [
         | inl named ↦ named_entity d what named
@@ -269,7 +269,7 @@ module _ (s : Source) (name : List ℕ) (new : Unit) (c : IsPut s name new) wher
       let lit = literal_of h.1 h.0 h.2 in
       (h.1.leaf, literal_as s senses h.1.leaf lit.0, inr (lit.0, lit.1, refl), subst (λ (l : ℕ). n l ≡ Some e) leaf (number_for e y z at m))
 
-  no_other_entity : (e : ℕ) → e < length new.entities.items → IsDeclaredAs e
+  pub no_other_entity : (e : ℕ) → e < length new.entities.items → IsDeclaredAs e
   no_other_entity e lt =
       let there = entity_back s.unit (numbering_of planted) new.nodes.items 0 planted e (subst (λ (l : List Entity). e < length l) c.is_made.entities_are lt) in
       let back = entry_back e there.0 there.1 in
@@ -278,7 +278,7 @@ module _ (s : Source) (name : List ℕ) (new : Unit) (c : IsPut s name new) wher
         | inr literal ↦ literal_declared e back.0 there.0 there.1 back.2 literal
       ]
 
-  entity_once : (a b e : ℕ) → n a ≡ Some e → n b ≡ Some e → a ≡ b
+  pub entity_once : (a b e : ℕ) → n a ≡ Some e → n b ≡ Some e → a ≡ b
   entity_once a b e ha hb =
       let ra = found planted a e ha in
       let rb = found planted b e hb in
@@ -287,10 +287,10 @@ module _ (s : Source) (name : List ℕ) (new : Unit) (c : IsPut s name new) wher
       sym ra.2 ∙ (ap (λ (x : Declared). x.leaf) same ∙ rb.2)
 
   -- each node is a body or a child
-  child_is : (p i : ℕ) → ChildIn ps p i → IsChild (trees_of new) p i
+  pub child_is : (p i : ℕ) → ChildIn ps p i → IsChild (trees_of new) p i
   child_is p i h = (h.0, ap (λ (ns : List Node). child_in (slice_get ns p) h.0) c.is_made.nodes_are ∙ (same_child n ps p h.0 ∙ h.1))
 
-  no_other_node : (i : ℕ) → i < length new.nodes.items → IsBody new i ⊎ ((p : ℕ) × IsChild (trees_of new) p i)
+  pub no_other_node : (i : ℕ) → i < length new.nodes.items → IsBody new i ⊎ ((p : ℕ) × IsChild (trees_of new) p i)
   no_other_node i lt =
       let few : i < length ps = omega (arith, subst (λ (ns : List Node). i < length ns) c.is_made.nodes_are lt, length-map ps (renamed_node n)) in
       elim (made.only i few) [
@@ -325,7 +325,7 @@ module _ (s : Source) (name : List ℕ) (new : Unit) (c : IsPut s name new) wher
         | inr h ↦ literal_marked y b h is
       ]
 
-  body_from : (b i : Option ℕ) (m : ℕ) → IsBodyCopy made.origin (length ps) b i → i ≡ Some m → (d : ℕ) × (b ≡ Some d) × (made.origin m ≡ d)
+  pub body_from : (b i : Option ℕ) (m : ℕ) → IsBodyCopy made.origin (length ps) b i → i ≡ Some m → (d : ℕ) × (b ≡ Some d) × (made.origin m ≡ d)
   body_from None None m h e = cc
   body_from None (Some i) m h e = absurd h
   body_from (Some d) None m h e = absurd h
@@ -385,7 +385,7 @@ module _ (s : Source) (name : List ℕ) (new : Unit) (c : IsPut s name new) wher
       let in_new : y.ty.0 < length new.types.terms = subst (λ (t : Table). y.ty.0 < length t.terms) (sym c.is_made.types_are) in_old in
       subst (λ (x : Node). x.ty.0 < length new.types.terms) (sym back.2) in_new
 
-  children_in : (i : ℕ) (node : Node) → slice_get new.nodes.items i ≡ Some node → All (λ c. c < i) node.children
+  pub children_in : (i : ℕ) (node : Node) → slice_get new.nodes.items i ≡ Some node → All (λ c. c < i) node.children
   children_in i node at =
       let back = map_back (renamed_node n) ps i node (sym (ap (λ (ns : List Node). slice_get ns i) c.is_made.nodes_are) ∙ at) in
       let copy = made.copies i back.0 back.1 in
@@ -395,14 +395,14 @@ module _ (s : Source) (name : List ℕ) (new : Unit) (c : IsPut s name new) wher
   new_ready = record { types = type_in; children = children_in }
 
   -- a node is the child of one at most
-  child_back : (a i d : ℕ) → child_in (slice_get new.nodes.items a) i ≡ Some d → child_in (slice_get ps a) i ≡ Some d
+  pub child_back : (a i d : ℕ) → child_in (slice_get new.nodes.items a) i ≡ Some d → child_in (slice_get ps a) i ≡ Some d
   child_back a i d h = sym (ap (λ (ns : List Node). child_in (slice_get ns a) i) c.is_made.nodes_are ∙ same_child n ps a i) ∙ h
 
   new_child_once : ChildOnce (trees_of new)
   new_child_once a b i j d ha hb = made.child_once a b i j d (child_back a i d ha) (child_back b j d hb)
 
   -- and a function's body is no child, and no other entity's
-  item_for : (e : ℕ) (entity : Entity) → entity_at (trees_of new) e ≡ Some entity → (z : Declared) × (slice_get planted e ≡ Some z) × (entity_from s.unit n new.nodes.items e z ≡ entity)
+  pub item_for : (e : ℕ) (entity : Entity) → entity_at (trees_of new) e ≡ Some entity → (z : Declared) × (slice_get planted e ≡ Some z) × (entity_from s.unit n new.nodes.items e z ≡ entity)
   item_for e entity at =
       let within : e < length new.entities.items = slice_get_within new.entities.items e entity at in
       let there = entity_back s.unit (numbering_of planted) new.nodes.items 0 planted e (subst (λ (l : List Entity). e < length l) c.is_made.entities_are within) in
@@ -454,7 +454,7 @@ module _ (s : Source) (name : List ℕ) (new : Unit) (c : IsPut s name new) wher
       let item = item_for e entity at in
       subst (IsEntered new e) item.2 (record { type = item_typed e item.0 item.1; used = refl })
 
-  numbered : (d e : ℕ) → n d ≡ Some e → e < length new.entities.items
+  pub numbered : (d e : ℕ) → n d ≡ Some e → e < length new.entities.items
   numbered d e h =
       let r = found planted d e h in
       slice_get_within new.entities.items e (entity_from s.unit n new.nodes.items e r.0) (entity_for e r.0 r.1)
@@ -466,8 +466,8 @@ module _ (s : Source) (name : List ℕ) (new : Unit) (c : IsPut s name new) wher
     tags = walked.knows.tags ∙ ap (λ (t : Table). t.tags) (sym c.is_made.types_are);
   }
 
-  pub is_built : IsBuilt s name new
-  is_built = record {
+  pub is_built : InitialisesOnce new → IsBuilt s name new
+  is_built once = record {
     named = c.is_made.named;
     senses = senses;
     are_senses = walked.are_senses;
@@ -489,9 +489,25 @@ module _ (s : Source) (name : List ℕ) (new : Unit) (c : IsPut s name new) wher
     child_once = new_child_once;
     tops = new_tops;
     alone = new_alone;
-    initialises_once = c.initialises_once;
+    initialises_once = once;
     no_other_node = no_other_node;
   }
 
 pub parts_built : PartsAreBuilt
-parts_built s name u put = is_built s name u put
+parts_built s name u put =
+    is_built s name u (record {
+      senses = put.senses;
+      walked = put.walked;
+      keys = put.keys;
+      names = put.names;
+      kept = put.kept;
+      list = put.list;
+      ready = put.ready;
+      made = put.made;
+      stay = put.stay;
+      declared = put.declared;
+      planted = put.planted;
+      are_planted = put.are_planted;
+      names_whole = put.names_whole;
+      is_made = put.is_made;
+    }) put.initialises_once

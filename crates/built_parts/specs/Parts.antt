@@ -33,5 +33,22 @@ pub record IsPut (s : Source) (name : List ℕ) (u : Unit) : Type 0 where
   pub is_made : IsMadeOf name s.unit walked.types keys planted.nodes.items planted.list.items u
   pub initialises_once : InitialisesOnce u
 
+-- the same, of which it isn't asked whether each initialiser is its entity's body
+pub record ArePut (s : Source) (name : List ℕ) (u : Unit) : Type 0 where
+  pub senses : List Sense
+  pub walked : Unit
+  pub keys : List (Option (List ℕ))
+  pub names : List Declared
+  pub kept : Kept
+  pub list : List Declared
+  pub ready : IsReady walked
+  pub made : IsWalked s senses walked keys names
+  pub stay : IsKept walked.nodes.items names kept
+  pub declared : list ≡ kept.names.items ++ map (literal_entry s senses) (literals_in kept.nodes.items)
+  pub planted : Planted
+  pub are_planted : IsPlanted kept.nodes.items list planted
+  pub names_whole : IsNamedWhole planted.nodes.items planted.list.items
+  pub is_made : IsMadeOf name s.unit walked.types keys planted.nodes.items planted.list.items u
+
 abbrev pub PartsAreBuilt : Type 0
 PartsAreBuilt = (s : Source) (name : List ℕ) (u : Unit) → IsPut s name u → IsBuilt s name u

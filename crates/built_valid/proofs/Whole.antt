@@ -1,5 +1,5 @@
 -- The fields of a valid unit, one by one.
-use Rattle.std.proofs.Common.{◌≡◌, ◌<◌, ap, ℕ, ◌⊎◌, inl, inr, List, [], ◌∷◌, Option, Some, None, length, refl, subst}
+use Rattle.std.proofs.Common.{◌≡◌, ◌<◌, ap, ℕ, ◌⊎◌, inl, inr, List, Option, Some, None, length, refl, subst}
 use Rattle.std.specs.Prelude.{IfSome, ⊤}
 use Rattle.std.proofs.lemmas.Option.{slice_get_within}
 use Rattle.c_lexer.specs.declared.Tokens.{Tokens}
@@ -12,15 +12,13 @@ use Rattle.core_tree.specs.declared.node.Unit.{Unit}
 use Rattle.core_tree.specs.declared.node.Entity.{Entity}
 use Rattle.core_tree.specs.declared.node.Storage.{Storage}
 use Rattle.core_tree.specs.declared.node.Storage.TheVariants.{Static, Automatic, FunctionBody, Parameter, Declared}
-use Rattle.core_tree.specs.declared.node.Linkage.{Linkage}
-use Rattle.core_tree.specs.declared.node.Linkage.TheVariants.{External, Internal, Local}
 use Rattle.core_tree.specs.declared.node.NodeKind.{NodeKind}
 use Rattle.core_tree.specs.declared.node.NodeKind.TheVariants.{CallNode, Literal}
 use Rattle.core_tree.specs.Typed.{CoreTrees, trees_of}
 use Rattle.core_tree.specs.Range.{node_at, entity_at}
 use Rattle.core_tree.specs.Rows.{Initialises}
 use Rattle.core_tree.specs.Linkages.{Linkages}
-use Rattle.core_tree.specs.Valid.{InRows, FixedStatics, Owned, Bodied, HasBody, IsFunctionBody, IsObjectBody, Measured, MayStand, IsLiteralOf, IsLiteral, IsLasting, Valid, ValidUnit, InSomeBody}
+use Rattle.core_tree.specs.Valid.{InRows, FixedStatics, Owned, Bodied, HasBody, IsFunctionBody, IsObjectBody, Measured, AllListed, MayStand, IsLiteralOf, IsLiteral, IsLasting, Valid, ValidUnit, InSomeBody}
 use Rattle.c_scope.specs.declared.resolving.Bound.{Bound}
 use Rattle.c_scope.specs.Resolves.{IsBound}
 use Rattle.c_senses.specs.Names.{source_of, numbered}
@@ -51,6 +49,7 @@ use Rattle.built_rows.specs.Rows.{types_declared}
 use Rattle.built_rows.proofs.Placed.{rows_asked}
 use Rattle.built_standing.proofs.Built.{statements_built}
 use Rattle.linkage_laws.proofs.Unlinked.{entities_unlinked}
+use Rattle.declared_uses.proofs.Reading.{uses_declared}
 use Rattle.unlinked_laws.proofs.Unlinked.{literals_unlinked}
 use Rattle.body_laws.specs.Bodies.{BodiesInitialise, BodiesApart}
 use Rattle.body_laws.proofs.Apart.{one_body_each}
@@ -62,25 +61,30 @@ use Rattle.block_laws.proofs.Whole.{blocks_differ}
 use Rattle.single_nodes.proofs.Whole.{literals_once}
 use Rattle.owners_known.specs.Known.{OwnersRight}
 use Rattle.owners_known.proofs.Known.{owners_known}
+use Rattle.all_listed.proofs.Whole.{units_list}
+use Rattle.owner_laws.specs.Owners.{Forward}
+use Rattle.owned_initialisers.proofs.Whole.{initialisers_owned}
 use Rattle.function_bodies.specs.Bodies.{FunctionFits}
 use Rattle.function_bodies.proofs.Reading.{functions_stand}
 use Rattle.named_definitions.proofs.Naming.{definitions_named}
 use Rattle.result_laws.proofs.Results.{results_sized}
 use Rattle.fixed_laws.proofs.Whole.{fixed_whole}
-use Rattle.placed_initialisers.proofs.Whole.{units_place}
 use Rattle.static_literals.proofs.Whole.{literals_built}
 use Rattle.type_rules.specs.Sizes.{TagsHaveSizes}
+use Rattle.tag_sizes.specs.Sizes.{TagsSpecified}
 use Rattle.tag_sizes.proofs.Sizes.{tags_sized}
 use Rattle.own_initialisers.proofs.Standing.{initialisers_stand}
+use Rattle.initialised_rows.specs.Rows.{InternalFit}
+use Rattle.entity_sizes.proofs.Whole.{entities_sized}
+use Rattle.internal_names.proofs.Reading.{internals_fit}
 use Rattle.initialised_rows.proofs.Owning.{linked_fit}
 use Rattle.placed_laws.proofs.Climbing.{Grown}
 use Rattle.member_laws.proofs.Measured.{values_have_sizes}
-use Rattle.object_bodies.proofs.Bodies.{named_objects_initialise}
+use Rattle.bodies_fit.proofs.Fitting.{bodies_fit}
 use Rattle.internal_laws.proofs.Reading as internal_laws
 use Rattle.built_filled.proofs.Filling.{built_are_filled}
 use Rattle.built_standing.proofs.Built.{parameters_built}
 use Rattle.calling_laws.proofs.Calls.{calls_stand}
-use Rattle.built_valid.specs.Open.{IsOpen}
 use Rattle.built_valid.specs.Whole.{BuiltIsValid}
 
 is_function : (s : Storage) → (s ≡ FunctionBody) ⊎ (s ≡ FunctionBody → ⊥)
@@ -89,15 +93,6 @@ is_function Automatic = inr (λ e. cc)
 is_function FunctionBody = inl refl
 is_function Parameter = inr (λ e. cc)
 is_function Declared = inr (λ e. cc)
-
-is_internal : (l : Linkage) → (l ≡ Internal) ⊎ (l ≡ Internal → ⊥)
-is_internal External = inr (λ e. cc)
-is_internal Internal = inl refl
-is_internal Local = inr (λ e. cc)
-
-is_unnamed : (n : List ℕ) → (n ≡ []) ⊎ (n ≡ [] → ⊥)
-is_unnamed [] = inl refl
-is_unnamed (x ∷ rest) = inr (λ e. cc)
 
 -- a call stands in the body of a function
 abbrev CallStands : CoreTrees → ℕ → NodeKind → Type 0
@@ -121,7 +116,7 @@ entity_within : (u : CoreTrees) (e : ℕ) (o : Option Entity) → entity_at u e 
 entity_within u e None at h = absurd h
 entity_within u e (Some x) at h = slice_get_within u.entities e x at
 
-module _ (tokens : Tokens) (unit : ℕ) (tree : Tree) (tag_number : ℕ → ℕ) (name : List ℕ) (u : Unit) (bound : Bound) (cut : IsTokens tokens.text.now tokens.list.items) (is : IsUnit tokens unit tree) (bind : IsBound tokens tree bound) (built : IsBuilt (numbered tag_number (source_of tokens tree)) name u) (rest : IsOpen (numbered tag_number (source_of tokens tree)) name u built) where
+module _ (tokens : Tokens) (unit : ℕ) (tree : Tree) (tag_number : ℕ → ℕ) (name : List ℕ) (u : Unit) (bound : Bound) (cut : IsTokens tokens.text.now tokens.list.items) (is : IsUnit tokens unit tree) (bind : IsBound tokens tree bound) (built : IsBuilt (numbered tag_number (source_of tokens tree)) name u) (specified : TagsSpecified (numbered tag_number (source_of tokens tree)) u.types) where
   abbrev s : Source
   s = numbered tag_number (source_of tokens tree)
 
@@ -142,10 +137,13 @@ module _ (tokens : Tokens) (unit : ℕ) (tree : Tree) (tag_number : ℕ → ℕ)
     nested = units_nest tokens unit tree tag_number is;
   }
 
+  internals : InternalFit s senses
+  internals = internals_fit tokens unit tree tag_number senses cut is built.are_senses built.whole
+
   fit : TypesFit s senses
   fit =
       let at : Grown s = tree_grown tokens unit tree tag_number is in
-      let linked = linked_fit s senses built.are_senses grown at (units_bring tokens unit tree tag_number is) (initialisers_stand tokens unit tree tag_number cut is) rest.types in
+      let linked = linked_fit s senses built.are_senses grown at (units_bring tokens unit tree tag_number is) (initialisers_stand tokens unit tree tag_number cut is) internals in
       types_fit s senses built.are_senses grown at (units_bring tokens unit tree tag_number is) (units_ordered tokens unit tree tag_number cut is) linked
 
   asked : AskedElseFit types s senses
@@ -163,19 +161,11 @@ module _ (tokens : Tokens) (unit : ℕ) (tree : Tree) (tag_number : ℕ → ℕ)
   fixed = fixed_whole tokens unit tree tag_number name u cut is built (literals_built tokens unit tree tag_number name u cut is built) rows
 
   -- bodies
-  initialises : (e : ℕ) (entity : Entity) (b : ℕ) → entity_at (trees_of u) e ≡ Some entity → (entity.storage ≡ FunctionBody → ⊥) → entity.body ≡ Some b → Initialises (trees_of u) b e
-  initialises e entity b at not held = by_linkage (is_internal entity.linkage) (is_unnamed entity.name)
-    where
-      open_part : (entity.linkage ≡ Internal) ⊎ (entity.name ≡ []) → Initialises (trees_of u) b e
-      open_part = let object = rest.bodies e entity at not b held in object.1
-
-      by_linkage : (entity.linkage ≡ Internal) ⊎ (entity.linkage ≡ Internal → ⊥) → (entity.name ≡ []) ⊎ (entity.name ≡ [] → ⊥) → Initialises (trees_of u) b e
-      by_linkage (inl internal) unnamed = open_part (inl internal)
-      by_linkage (inr other) (inl unnamed) = open_part (inr unnamed)
-      by_linkage (inr other) (inr named) = named_objects_initialise tokens unit tree tag_number name u cut is built (units_place tokens unit tree tag_number senses cut is) e entity at not other named b held
+  object : (e : ℕ) (entity : Entity) (b : ℕ) → entity_at (trees_of u) e ≡ Some entity → (entity.storage ≡ FunctionBody → ⊥) → entity.body ≡ Some b → IsObjectBody (trees_of u) e entity b
+  object e entity b at not held = bodies_fit tokens unit tree tag_number name u cut is built internals e entity at not b held
 
   objects : BodiesInitialise u
-  objects e entity at not b is = initialises e entity b at not is
+  objects e entity at not b is = (object e entity b at not is).initialises
 
   apart : BodiesApart u
   apart = one_body_each s name u built objects
@@ -183,7 +173,7 @@ module _ (tokens : Tokens) (unit : ℕ) (tree : Tree) (tag_number : ℕ → ℕ)
   some_body : (e : ℕ) (entity : Entity) (b : ℕ) → entity_at (trees_of u) e ≡ Some entity → entity.body ≡ Some b → FunctionFits (trees_of u) entity (Some b) → IsFunctionBody (trees_of u) entity b ⊎ IsObjectBody (trees_of u) e entity b
   some_body e entity b at is fits = elim (is_function entity.storage) [
     | inl f ↦ let both = fits f in inl (record { function = both.0; storage = f; block = both.1; top = built.tops e entity at f b is })
-    | inr not ↦ let object = rest.bodies e entity at not b is in inr (record { object = object.0; storage = not; initialises = initialises e entity b at not is })
+    | inr not ↦ inr (object e entity b at not is)
   ]
 
   has_body : (e : ℕ) (entity : Entity) (body : Option ℕ) → entity_at (trees_of u) e ≡ Some entity → entity.body ≡ body → FunctionFits (trees_of u) entity body → HasBody (trees_of u) e entity body
@@ -204,8 +194,12 @@ module _ (tokens : Tokens) (unit : ℕ) (tree : Tree) (tag_number : ℕ → ℕ)
   owned : Owned (trees_of u)
   owned = internal_laws.owners_known tokens unit tree tag_number name u cut is built
 
+  forward : Forward (trees_of u)
+  forward = initialisers_owned tokens unit tree tag_number name u cut is built (record { rows = rows; bodied = bodied; fixed = fixed })
+
   owners : OwnersRight (trees_of u)
-  owners = owners_known tokens unit tree tag_number name u cut is built (definitions_named tokens unit tree tag_number senses cut is built.are_senses built.whole) (record { rows = rows; owned = owned; bodied = bodied; fixed = fixed; forward = rest.forward })
+  owners =
+      owners_known tokens unit tree tag_number name u cut is built (definitions_named tokens unit tree tag_number senses cut is built.are_senses built.whole) (record { rows = rows; owned = owned; bodied = bodied; fixed = fixed; forward = forward })
 
   -- compound literals
   made : IsMade s senses built.numbering u
@@ -236,6 +230,9 @@ module _ (tokens : Tokens) (unit : ℕ) (tree : Tree) (tag_number : ℕ → ℕ)
     blocks = blocks_differ tokens unit tree tag_number senses is built.are_senses built.whole;
   }
 
+  listed : AllListed (trees_of u)
+  listed = units_list tokens unit tree tag_number name u cut is built laid owners.in_owner forward
+
   literal : (n : ℕ) (node : Node) (kind : NodeKind) → node_at (trees_of u) n ≡ Some node → node.kind ≡ kind → IsLiteral (trees_of u) n kind
   literal n node (Literal e) at is_one =
       let lasts = literals_last s senses built.numbering u grown made n node at e is_one in (
@@ -252,7 +249,7 @@ module _ (tokens : Tokens) (unit : ℕ) (tree : Tree) (tag_number : ℕ → ℕ)
     bodied = bodied;
     in_owner = owners.in_owner;
     literals = λ n node at. literal n node node.kind at refl;
-    listed = rest.listed;
+    listed = listed;
     fixed = fixed;
     no_other_node = built.no_other_node;
     initialised = let filled = built_are_filled tokens unit tree tag_number name u is built in filled.each;
@@ -260,10 +257,10 @@ module _ (tokens : Tokens) (unit : ℕ) (tree : Tree) (tag_number : ℕ → ℕ)
   })
 
   tags : TagsHaveSizes u.types
-  tags = tags_sized s name u built grown.first grown.families rest.tags
+  tags = tags_sized s name u built grown.first grown.families specified
 
   measured : Measured (trees_of u)
-  measured = record { objects = rest.objects; tags = tags; values = values_have_sizes s name u built grown.first grown.families rows tags; results = λ e entity at storage. results_sized tokens unit tree tag_number name u cut is built bodied e entity at storage }
+  measured = record { objects = entities_sized tokens unit tree tag_number name u cut is built sound tags; tags = tags; values = values_have_sizes s name u built grown.first grown.families rows tags; results = λ e entity at storage. results_sized tokens unit tree tag_number name u cut is built bodied e entity at storage }
 
   trees : Valid (trees_of u)
   trees = record {
@@ -274,7 +271,7 @@ module _ (tokens : Tokens) (unit : ℕ) (tree : Tree) (tag_number : ℕ → ℕ)
     bodied = bodied;
     in_owner = owners.in_owner;
     literals = λ n node at. literal n node node.kind at refl;
-    listed = rest.listed;
+    listed = listed;
     lists = owners.lists;
     fixed = fixed;
     standing = λ n node at. may_stand (trees_of u) n node.kind (statements_built tokens unit tree tag_number name u cut is built w types sound rows known n node at) (of_call (trees_of u) n node.kind (calls n node at));
@@ -287,11 +284,11 @@ module _ (tokens : Tokens) (unit : ℕ) (tree : Tree) (tag_number : ℕ → ℕ)
   linkages : Linkages (trees_of u)
   linkages = record {
     entities = entities_unlinked tokens unit tree tag_number name u cut is built;
-    nodes = λ n node at. record { literal = literals_unlinked s name u built n node at; declared = rest.declared n node at };
+    nodes = λ n node at. record { literal = literals_unlinked s name u built n node at; declared = uses_declared tokens unit tree tag_number name u cut is built n node at };
   }
 
   whole : ValidUnit u
   whole = record { trees = trees; keys = keyed s name u built; linkages = linkages }
 
 pub built_is_valid : BuiltIsValid
-built_is_valid tokens unit tree tag_number name u bound cut is bind built rest = whole tokens unit tree tag_number name u bound cut is bind built rest
+built_is_valid tokens unit tree tag_number name u bound cut is bind built specified = whole tokens unit tree tag_number name u bound cut is bind built specified

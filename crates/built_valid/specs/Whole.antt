@@ -9,10 +9,11 @@ use Rattle.core_tree.specs.Valid.{ValidUnit}
 use Rattle.c_scope.specs.declared.resolving.Bound.{Bound}
 use Rattle.c_scope.specs.Resolves.{IsBound}
 use Rattle.c_senses.specs.Names.{source_of, numbered}
+use Rattle.tag_sizes.specs.Sizes.{TagsSpecified}
 use Rattle.built_units.specs.Built.{IsBuilt}
-use Rattle.built_valid.specs.Open.{IsOpen}
 
 abbrev pub BuiltIsValid : Type 0
 BuiltIsValid =
     (tokens : Tokens) (unit : ℕ) (tree : Tree) (tag_number : ℕ → ℕ) (name : List ℕ) (u : Unit) (bound : Bound) → IsTokens tokens.text.now tokens.list.items → IsUnit tokens unit tree
-    → IsBound tokens tree bound → (built : IsBuilt (numbered tag_number (source_of tokens tree)) name u) → IsOpen (numbered tag_number (source_of tokens tree)) name u built → ValidUnit u
+    → IsBound tokens tree bound → IsBuilt (numbered tag_number (source_of tokens tree)) name u
+    → TagsSpecified (numbered tag_number (source_of tokens tree)) u.types → ValidUnit u

@@ -11,3 +11,5 @@ pub mod Walking
 pub mod Expressing
 pub mod Found
 pub mod Keeping
+pub mod Judged
+pub mod Alone

@@ -1,21 +1,22 @@
 -- Each built row is part of the table's.
 use Rattle.std.proofs.Common.{arith, ◌≡◌, ℕ, ◌==◌, ◌<◌, nat_lt, Bool, true, false, cond, ◌||◌, List, [], ◌∷◌, Option, Some, None, inl, inr, refl, sym, ◌∙◌, ap, subst}
-use Rattle.std.specs.Prelude.{◌&&◌, nat_le, if◌then◌else◌}
+use Rattle.std.specs.Prelude.{◌&&◌, not, nat_le, if◌then◌else◌}
 use Rattle.std.proofs.lemmas.Bool.{eqb-true, ltb-true, leb-true}
 use Rattle.std.proofs.lemmas.Bool.Decides.{eqb_tells}
-use Rattle.pta_base.specs.declared.kind.Kind.TheVariants.{NotBuilt}
+use Rattle.pta_base.specs.declared.kind.Kind.TheVariants.{NotBuilt, Operand}
 use Rattle.c_types.specs.Trees.{Ctype}
 use Rattle.c_grammar.specs.Terminals.{contains}
-use Rattle.c_grammar.specs.Productions.{p_primary}
-use Rattle.c_senses.specs.Tree.{Source}
-use Rattle.c_senses.specs.Given.{Given, Fits, Refuses, ◌>>=◌}
+use Rattle.c_grammar.specs.Productions.{p_primary, p_field, p_parameter}
+use Rattle.c_senses.specs.Tree.{Source, is_a, parent_of}
+use Rattle.c_senses.specs.Given.{Given, Fits, Refuses, given_if, ◌>>=◌}
 use Rattle.c_senses.specs.World.{World}
 use Rattle.c_senses.specs.Sense.{Sense, Nothing, IsCore, IsType, IsSpecified, IsDeclarator, IsDerivation, IsParameter, IsMembers, IsValue, IsRun, IsInitial}
 use Rattle.c_senses.specs.Expressions.{expression_row}
-use Rattle.c_senses.specs.Declarators.{plain_declarator_row, base_type}
+use Rattle.c_senses.specs.Declarators.{is_outermost, plain_declarator_row, base_type, derived, adjusted}
+use Rattle.c_senses.specs.Entities.{defined_parameter, is_parameter_complete, parameter_named, named_row, by_place}
 use Rattle.c_senses.specs.Rows.{row_of, declaring_row, declarator_row, at_its_name}
 use Rattle.c_operators.specs.Between.{PartOf}
-use Rattle.c_check.specs.Built.{Scene, names_unfinished, is_expression, is_list, is_type_part, is_declarator, lists, type_parts, finished_row, unless_named, unnamed_row, checked_row}
+use Rattle.c_check.specs.Built.{Scene, names_unfinished, is_expression, is_list, is_type_part, is_declarator, lists, finished_row, stands_in_parameter, may_be_named, unless_named, placed_row, checked_row}
 use Rattle.c_check.specs.Whole.{RowsArePart}
 
 off : {A : Type 0} (t : Bool) (a b : A) → t ≡ false → cond t a b ≡ b
@@ -83,34 +84,69 @@ module _ (w : World) (s : Source) (sense : ℕ → Sense) (at : ℕ) (children :
   expressed : (p : ℕ) → is_expression p ≡ true → expression_row w s sense p at children ≡ row_of w s sense p at children
   expressed p e = sym (ap (λ (b : Bool). cond b (expression_row w s sense p at children) (declaring_row w s sense p at children)) e)
 
-  -- a declarator
-  named_part : (x : Sense) → PartOf (unless_named at x) (at_its_name w s sense at (Fits x) (base_type w s sense at) x)
-  named_part x = by (base_type w s sense at) x
-    where
-      by : (o : Option Ctype) (x : Sense) → PartOf (unless_named at x) (at_its_name w s sense at (Fits x) o x)
-      by None (IsDeclarator None ds) = inl refl
-      by (Some base) (IsDeclarator None ds) = inl refl
-      by o (IsDeclarator (Some leaf) ds) = inr (at, refl)
-      by o Nothing = inr (at, refl)
-      by o (IsCore c) = inr (at, refl)
-      by o (IsType t) = inr (at, refl)
-      by o (IsSpecified y) = inr (at, refl)
-      by o (IsDerivation d) = inr (at, refl)
-      by o (IsParameter p) = inr (at, refl)
-      by o (IsMembers ms) = inr (at, refl)
-      by o (IsValue n) = inr (at, refl)
-      by o (IsRun cs) = inr (at, refl)
-      by o (IsInitial c n) = inr (at, refl)
+  -- what is asked of the name of a declarator, by the node in which it stands
+  abbrev asked : ℕ → Ctype → Ctype → Given Sense → Option ℕ → Given Sense
+  asked leaf t adjusted g o =
+      elim o as (λ _. Given Sense) [ None ↦ g | Some p ↦ if is_a s p_field p then g else (if is_a s p_parameter p then parameter_named w s sense at leaf adjusted g else named_row w s sense at leaf t g) ]
 
-  then_part : (g : Given Sense) → PartOf (g >>= unless_named at) (g >>= (λ x. at_its_name w s sense at (Fits x) (base_type w s sense at) x))
+  pick : (a b : Bool) (g x y : Given Sense) → b ≡ true → x ≡ g → (if a then g else (if b then x else y)) ≡ g
+  pick true b g x y e same = refl
+  pick false true g x y e same = same
+  pick false false g x y e same = cc
+
+  no_both : (b : Bool) → (b && false) ≡ true → ⊥
+  no_both true e = cc
+  no_both false e = cc
+
+  only : (b : Bool) → (b && true) ≡ true → b ≡ true
+  only true e = refl
+  only false e = cc
+
+  -- nothing, where it is a parameter in no definition's list
+  quiet : (leaf : ℕ) (t adjusted : Ctype) (g : Given Sense) (d : Bool) (o : Option ℕ) → defined_parameter w s sense at ≡ d → (stands_in_parameter s o && not d) ≡ true → asked leaf t adjusted g o ≡ g
+  quiet leaf t adjusted g true o same e = absurd (no_both (stands_in_parameter s o) e)
+  quiet leaf t adjusted g false None same e = refl
+  quiet leaf t adjusted g false (Some p) same e =
+      pick (is_a s p_field p) (is_a s p_parameter p) g _ _ (only (is_a s p_parameter p) e) (ap (λ (b : Bool). given_if (not b || is_parameter_complete w s sense adjusted) Operand leaf g) same)
+
+  outer : (leaf : ℕ) (t adjusted : Ctype) (g : Given Sense) (b : Bool) → is_outermost s at ≡ b → may_be_named w s sense at ≡ true → (if b then by_place w s sense at leaf t adjusted g else g) ≡ g
+  outer leaf t adjusted g true same may =
+      quiet leaf t adjusted g (defined_parameter w s sense at) (parent_of s at) refl
+      (sym (ap (λ (b : Bool). cond b (stands_in_parameter s (parent_of s at) && not (defined_parameter w s sense at)) true) same) ∙ may)
+  outer leaf t adjusted g false same may = refl
+
+  -- a declarator
+  named_part : (x : Sense) → PartOf (unless_named (may_be_named w s sense at) at x) (at_its_name w s sense at (Fits x) (base_type w s sense at) x)
+  named_part x = by (may_be_named w s sense at) refl (base_type w s sense at) x
+    where
+      by : (may : Bool) → may_be_named w s sense at ≡ may → (o : Option Ctype) (x : Sense) → PartOf (unless_named may at x) (at_its_name w s sense at (Fits x) o x)
+      by true e None (IsDeclarator name ds) = inl refl
+      by true e (Some base) (IsDeclarator None ds) = inl refl
+      by true e (Some base) (IsDeclarator (Some leaf) ds) =
+          inl (sym (outer leaf (derived ds base) (adjusted (derived ds base)) (Fits (IsDeclarator (Some leaf) ds)) (is_outermost s at) refl e))
+      by false e None (IsDeclarator None ds) = inl refl
+      by false e (Some base) (IsDeclarator None ds) = inl refl
+      by false e o (IsDeclarator (Some leaf) ds) = inr (at, refl)
+      by may e o Nothing = inr (at, refl)
+      by may e o (IsCore c) = inr (at, refl)
+      by may e o (IsType t) = inr (at, refl)
+      by may e o (IsSpecified y) = inr (at, refl)
+      by may e o (IsDerivation d) = inr (at, refl)
+      by may e o (IsParameter p) = inr (at, refl)
+      by may e o (IsMembers ms) = inr (at, refl)
+      by may e o (IsValue n) = inr (at, refl)
+      by may e o (IsRun cs) = inr (at, refl)
+      by may e o (IsInitial c n) = inr (at, refl)
+
+  then_part : (g : Given Sense) → PartOf (g >>= unless_named (may_be_named w s sense at) at) (g >>= (λ x. at_its_name w s sense at (Fits x) (base_type w s sense at) x))
   then_part (Fits x) = named_part x
   then_part (Refuses kind node) = inl refl
 
   declarator_is : (p : ℕ) → is_declarator p ≡ true → declarator_row w s sense at children ≡ row_of w s sense p at children
   declarator_is p e = one_of (λ q. declarator_row w s sense at children ≡ row_of w s sense q at children) p (19 ∷ 20 ∷ 21 ∷ []) (refl, (refl, (refl, tt))) e
 
-  declarator_part : (p : ℕ) → is_declarator p ≡ true → PartOf (unnamed_row w s sense at children) (row_of w s sense p at children)
-  declarator_part p e = subst (PartOf (unnamed_row w s sense at children)) (declarator_is p e) (then_part (plain_declarator_row w s sense at children))
+  declarator_part : (p : ℕ) → is_declarator p ≡ true → PartOf (placed_row w s sense at children) (row_of w s sense p at children)
+  declarator_part p e = subst (PartOf (placed_row w s sense at children)) (declarator_is p e) (then_part (plain_declarator_row w s sense at children))
 
 module _ (scene : Scene) (s : Source) (sense : ℕ → Sense) (p at : ℕ) (xs : List ℕ) where
   expression_part : is_expression p ≡ true → PartOf (finished_row scene s sense p at xs) (row_of scene.world s sense p at xs)

@@ -1,5 +1,5 @@
 -- Rows by their productions.
-use Rattle.std.proofs.Common.{◌≡◌, ℕ, ◌==◌, Bool, true, false, cond, List, refl, ap, ◌∙◌}
+use Rattle.std.proofs.Common.{◌≡◌, ℕ, ◌==◌, Bool, true, false, cond, List, ap, ◌∙◌}
 use Rattle.std.specs.Prelude.{◌&&◌, if◌then◌else◌}
 use Rattle.pta_base.specs.declared.kind.Kind.TheVariants.{NotBuilt}
 use Rattle.c_grammar.specs.Productions.{p_primary}
@@ -8,7 +8,7 @@ use Rattle.c_senses.specs.Tree.{Source}
 use Rattle.c_senses.specs.Sense.{Sense, Nothing}
 use Rattle.c_senses.specs.Expressions.{expression_row}
 use Rattle.c_senses.specs.Rows.{declaring_row}
-use Rattle.c_check.specs.Built.{Scene, names_unfinished, is_expression, is_list, is_type_part, is_declarator, finished_row, unnamed_row, checked_row}
+use Rattle.c_check.specs.Built.{Scene, names_unfinished, is_expression, is_list, is_type_part, is_declarator, finished_row, placed_row, checked_row}
 
 past : (t : Bool) (a b : Given Sense) → t ≡ false → cond t a b ≡ b
 past t a b e = ap (λ (x : Bool). cond x a b) e
@@ -25,7 +25,7 @@ module _ (scene : Scene) (s : Source) (sense : ℕ → Sense) (production at : �
   unfinished e = taken ((production == p_primary) && names_unfinished scene s xs) (Refuses NotBuilt at) _ e
 
   abbrev others : Given Sense
-  others = if is_declarator production then unnamed_row scene.world s sense at xs else Refuses NotBuilt at
+  others = if is_declarator production then placed_row scene.world s sense at xs else Refuses NotBuilt at
 
   abbrev parts : Given Sense
   parts = if is_type_part production then declaring_row scene.world s sense production at xs else others
@@ -42,7 +42,7 @@ module _ (scene : Scene) (s : Source) (sense : ℕ → Sense) (production at : �
   pub part_checked : is_list production ≡ false → is_expression production ≡ false → is_type_part production ≡ true → checked_row scene s sense production at xs ≡ declaring_row scene.world s sense production at xs
   part_checked a b c = past (is_list production) (Fits Nothing) inner a ∙ (past (is_expression production) _ parts b ∙ taken (is_type_part production) _ others c)
 
-  pub declarator_checked : is_list production ≡ false → is_expression production ≡ false → is_type_part production ≡ false → is_declarator production ≡ true → checked_row scene s sense production at xs ≡ unnamed_row scene.world s sense at xs
+  pub declarator_checked : is_list production ≡ false → is_expression production ≡ false → is_type_part production ≡ false → is_declarator production ≡ true → checked_row scene s sense production at xs ≡ placed_row scene.world s sense at xs
   declarator_checked a b c d =
       past (is_list production) (Fits Nothing) inner a ∙ (past (is_expression production) _ parts b ∙ (past (is_type_part production) _ others c ∙ taken (is_declarator production) _ (Refuses NotBuilt at) d))
 

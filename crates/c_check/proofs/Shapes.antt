@@ -1,5 +1,5 @@
 -- What rows of type names give: nothing whose constants are asked for, but what a type specifier takes over.
-use Rattle.std.proofs.Common.{◌≡◌, ◌==◌, ℕ, zero, suc, Bool, true, false, List, [], ◌∷◌, Option, Some, None, Result, Ok, Err, IfOk, All, refl, sym, ap, ◌∙◌, subst}
+use Rattle.std.proofs.Common.{ℕ, zero, suc, Bool, true, false, List, [], ◌∷◌, Option, Some, None, Result, Ok, Err, IfOk, All, subst}
 use Rattle.std.specs.Ordering.{int_eq}
 use Rattle.std.specs.Prelude.{⊤, ℤ, pos, not}
 use Rattle.std.proofs.lemmas.List.Elements.{All-head, All-tail, All-weaker}

@@ -1,5 +1,5 @@
 -- Answers that may say that what stands at a node isn't built.
-use Rattle.std.proofs.Common.{◌≡◌, ℕ, Result, Ok, Err, inl, inr}
+use Rattle.std.proofs.Common.{ℕ, Result, Ok, Err, inl, inr}
 use Rattle.core_tree.specs.declared.node.Unit.{Unit}
 use Rattle.core_nodes.specs.declared.fault.CheckFault.{CheckFault}
 use Rattle.core_nodes.specs.declared.fault.CheckFault.TheVariants.{BadOperand, Unsupported, OutOfMemory}

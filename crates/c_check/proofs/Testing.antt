@@ -1,5 +1,5 @@
 -- A table of types that were tested.
-use Rattle.std.proofs.Common.{arith, ◌≡◌, ℕ, ◌≤◌, inl, inr, length, sym, subst}
+use Rattle.std.proofs.Common.{arith, ◌≡◌, ℕ, inl, inr, length}
 use Rattle.core_tree.specs.declared.node.Unit.{Unit}
 use Rattle.core_nodes.specs.Standing.{Builds}
 use Rattle.c_types.specs.Made.{IsMade, AreNamed}

@@ -5,11 +5,12 @@ use Rattle.std.proofs.lemmas.Bool.Decides.{eqb_tells}
 use Rattle.std.proofs.lemmas.Option.{slice_get_within, get_or_from_slice_get, slice_get-get_or}
 use Rattle.std.proofs.lemmas.List.{take-append-le, get_or_append_left, map-append, length-append, length-map}
 use Rattle.std.proofs.Math.Seq.{take-append_seam, get_or-append_seam}
-use Rattle.std.specs.Prelude.{option_and_then}
+use Rattle.std.specs.Prelude.{Bool, ◌&&◌, ◌||◌, not, option_and_then}
 use Rattle.core_tree.specs.declared.node.Unit.{Unit}
 use Rattle.core_tree.specs.declared.node.Entity.{Entity}
 use Rattle.c_types.specs.Trees.{Ctype}
 use Rattle.c_grammar.specs.declared.trees.SyntaxNode.{SyntaxNode}
+use Rattle.c_scope.specs.declared.kinds.Declared.{Declared}
 use Rattle.c_senses.specs.World as world
 use Rattle.c_senses.specs.Given.{Given, Fits, Refuses}
 use Rattle.c_senses.specs.Tree.{Source, paired, production_of, children_of, production_at, children_at}
@@ -20,13 +21,13 @@ use Rattle.core_nodes.specs.declared.fault.CheckFault.TheVariants.{BadOperand, U
 use Rattle.core_nodes.proofs.Growing.{knows_on, builds_on}
 use Rattle.c_results.specs.declared.made.Made.{Made}
 use Rattle.c_results.specs.declared.made.Made.TheVariants as made
-use Rattle.c_results.specs.Standing.{sense_made, senses_made, IsWithin, Rowed}
+use Rattle.c_results.specs.Standing.{sense_made, senses_made, IsWithin}
 use Rattle.c_results.proofs.Keeping.{mades_kept, withins_kept}
 use Rattle.c_check.specs.declared.known.Meaning.{Meaning}
 use Rattle.c_check.specs.declared.known.Meaning.TheVariants.{Entity as EntityMeant, TypeName, Tag, Value}
-use Rattle.c_check.specs.Around.{IsMeant, IsKnown, Fitting, known_at, meant, meaning_seen, entity_meaning, object_or_function, is_open, is_open_entity, is_open_type, is_local, may_name_entity, own_name_in, name_of, scene_of}
+use Rattle.c_check.specs.Around.{IsMeant, IsKnown, Fitting, known_at, meant, meaning_seen, entity_meaning, object_or_function, is_open, is_open_entity, is_open_type, is_local, names_own, names_alone, may_name_entity, own_name_in, name_of, scene_of}
 use Rattle.c_check.specs.Built.{Scene, is_declarator, checked_row, AreChecked}
-use Rattle.c_check.specs.Limits.{AreTested, IsTested, RowedOr}
+use Rattle.c_check.specs.Limits.{IsTested, RowedOr}
 use Rattle.pta_base.specs.declared.kind.Kind.{Kind}
 use Rattle.pta_base.specs.declared.kind.Kind.TheVariants.{Operand}
 use Rattle.unit_limits.specs.Small.{IsSmallTable}
@@ -155,11 +156,11 @@ module _ (u v : Unit) (b : Builds u v) where
   pub own_on : (owner : Option ℕ) (name : Option (List ℕ)) → name ≡ own_name_in u owner → name ≡ own_name_in v owner
   own_on owner name e = e ∙ sym (own_kept owner)
 
-  pub fitting_on : (scene : Scene) (owner : Option ℕ) (list : List (ℕ × Meaning)) (uses : List (ℕ × ℕ)) → IsKnown u list → Fitting scene u owner list uses → Fitting scene v owner list uses
-  fitting_on scene owner list uses k f = record {
+  pub fitting_on : (scene : Scene) (owner : Option ℕ) (list : List (ℕ × Meaning)) (uses : List (ℕ × ℕ)) (names : List Declared) → IsKnown u list → Fitting scene u owner list uses names → Fitting scene v owner list uses names
+  fitting_on scene owner list uses names k f = record {
     knows = knows_on scene.world u v b f.knows;
     meaning = λ i. f.meaning i ∙ sym (meaning_kept k.entities (meant list uses i) (meant_if (meant list uses i) (meant list uses i) refl (λ x e. use_meant u list (paired uses i) x k.entries e)));
-    unfinished = λ i. f.unfinished i ∙ sym (unfinished_kept k.entities (meant list uses i));
+    unfinished = λ i. f.unfinished i ∙ ap (λ (b : Bool). (b && not (names_alone uses names i)) || names_own list uses i) (sym (unfinished_kept k.entities (meant list uses i)));
     may_name = λ e. f.may_name e ∙ ap (λ (l : List Entity). may_name_entity owner (slice_get l e)) (sym b.entities);
     own_name = own_on owner scene.world.own_name f.own_name;
     may_call = f.may_call;
@@ -231,8 +232,8 @@ none_yet scene s start u rs n = record {
 }
 
 -- a unit's own scene fits it
-pub fits_itself : (u : Unit) (owner : Option ℕ) (list : List (ℕ × Meaning)) (uses : List (ℕ × ℕ)) → Fitting (scene_of u owner list uses) u owner list uses
-fits_itself u owner list uses = record {
+pub fits_itself : (u : Unit) (owner : Option ℕ) (list : List (ℕ × Meaning)) (uses : List (ℕ × ℕ)) (names : List Declared) → Fitting (scene_of u owner list uses names) u owner list uses names
+fits_itself u owner list uses names = record {
   knows = record { members = λ tag. refl; extents = λ t. refl; tags = refl };
   meaning = λ i. refl;
   unfinished = λ i. refl;

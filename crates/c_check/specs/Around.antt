@@ -1,5 +1,5 @@
 -- What the known declarations of a unit give around an expression.
-use Rattle.std.specs.Prelude.{ℕ, ◌≡◌, ◌<◌, ◌==◌, ◌&&◌, Bool, true, false, List, [], ◌∷◌, length, Option, Some, None, slice_get, map, option_and_then, All, if◌then◌else◌}
+use Rattle.std.specs.Prelude.{ℕ, ◌≡◌, ◌<◌, ◌==◌, ◌&&◌, ◌||◌, not, Bool, true, false, List, [], ◌∷◌, length, Option, Some, None, slice_get, map, option_and_then, option_map, All, if◌then◌else◌}
 use Rattle.c_types.specs.declared.term.Form.TheVariants.{Unspecified}
 use Rattle.c_types.specs.Trees.{Ctype, FunctionFrom, ArrayOf}
 use Rattle.c_types.specs.Table.{Table, type_of, members_in, look_in}
@@ -14,6 +14,8 @@ use Rattle.core_tree.specs.Rows.{int}
 use Rattle.c_inits.specs.Made.{looked_up, laid_out}
 use Rattle.c_inits.specs.Tables.{tag_parts}
 use Rattle.c_grammar.specs.Productions.{p_primary}
+use Rattle.c_scope.specs.declared.kinds.Declared.{Declared}
+use Rattle.c_senses.specs.Names.{entry_of, made_before}
 use Rattle.c_senses.specs.Tree.{Source, paired, is_identifier, kind_at}
 use Rattle.c_senses.specs.World.{World, same_length}
 use Rattle.c_senses.specs.World as world
@@ -51,7 +53,7 @@ meaning_seen u (Some (TypeName t)) = Some (world.TypeName (type_of u.types t.0))
 meaning_seen u (Some (Tag t)) = Some (world.Tag t)
 meaning_seen u (Some (Value n)) = Some (world.Value n)
 
--- a type that another declaration of the name may complete, where the name has linkage
+-- a type that another declaration of the name may complete, where the name has linkage (6.2.7p4)
 abbrev pub is_open_type : Ctype → Bool
 is_open_type (FunctionFrom r ps Unspecified) = true
 is_open_type (ArrayOf of None) = true
@@ -68,6 +70,48 @@ is_open_entity table (Some entity) = if is_local entity.linkage then false else 
 abbrev pub is_open : Unit → Option Meaning → Bool
 is_open u (Some (EntityMeant e)) = is_open_entity u.types (slice_get u.entities.items e)
 is_open u m = false
+
+-- a use that is bound to a declaration of which nothing is known: one that the expression itself makes
+abbrev pub is_own : Option ℕ → Option Meaning → Bool
+is_own (Some node) None = true
+is_own declaring m = false
+
+abbrev pub names_own : List (ℕ × Meaning) → List (ℕ × ℕ) → ℕ → Bool
+names_own list uses i = is_own (paired uses i) (meant list uses i)
+
+-- the first leaf of a primary, where that is an identifier; and what holds of it
+abbrev pub first_name : Source → ℕ → List ℕ → Option ℕ
+first_name s production [] = None
+first_name s production (first ∷ rest) = if (production == p_primary) && is_identifier (kind_at s first) then Some first else None
+
+abbrev pub holds_of : (ℕ → Bool) → Option ℕ → Bool
+holds_of test None = false
+holds_of test (Some leaf) = test leaf
+
+-- a declaration's symbol among those of others
+abbrev pub has_symbol : ℕ → List Declared → Bool
+has_symbol symbol [] = false
+has_symbol symbol (d ∷ rest) = (d.symbol == symbol) || has_symbol symbol rest
+
+-- whether the declaration that a node makes of an ordinary name stands behind one of the same symbol, where there is such a declaration
+abbrev pub is_again : List Declared → ℕ → Option Bool
+is_again names node = option_map (λ d. has_symbol d.symbol (made_before node names)) (entry_of names node)
+
+-- a declaration before which none has its name: then no other one gives the name its type
+abbrev pub is_first : Option Bool → Bool
+is_first None = false
+is_first (Some again) = not again
+
+abbrev pub is_alone : List Declared → Option ℕ → Bool
+is_alone names None = false
+is_alone names (Some node) = is_first (is_again names node)
+
+abbrev pub names_alone : List (ℕ × ℕ) → List Declared → ℕ → Bool
+names_alone uses names i = is_alone names (paired uses i)
+
+-- what isn't built of a use
+abbrev pub is_unbuilt : Unit → List (ℕ × Meaning) → List (ℕ × ℕ) → List Declared → ℕ → Bool
+is_unbuilt u list uses names i = (is_open u (meant list uses i) && not (names_alone uses names i)) || names_own list uses i
 
 -- an object with automatic storage has its name in its own function's body alone
 abbrev pub is_automatic : Storage → Bool
@@ -104,14 +148,14 @@ world_of u owner list uses = record {
   own_name = own_name_in u owner;
 }
 
-abbrev pub scene_of : Unit → Option ℕ → List (ℕ × Meaning) → List (ℕ × ℕ) → Scene
-scene_of u owner list uses = record { world = world_of u owner list uses; unfinished = λ i. is_open u (meant list uses i) }
+abbrev pub scene_of : Unit → Option ℕ → List (ℕ × Meaning) → List (ℕ × ℕ) → List Declared → Scene
+scene_of u owner list uses names = record { world = world_of u owner list uses; unfinished = is_unbuilt u list uses names }
 
 -- a scene that is that of a unit, in what the rows ask of it
-pub record Fitting (scene : Scene) (u : Unit) (owner : Option ℕ) (list : List (ℕ × Meaning)) (uses : List (ℕ × ℕ)) : Type 0 where
+pub record Fitting (scene : Scene) (u : Unit) (owner : Option ℕ) (list : List (ℕ × Meaning)) (uses : List (ℕ × ℕ)) (names : List Declared) : Type 0 where
   pub knows : Knows scene.world u
   pub meaning : (i : ℕ) → scene.world.meaning i ≡ meaning_seen u (meant list uses i)
-  pub unfinished : (i : ℕ) → scene.unfinished i ≡ is_open u (meant list uses i)
+  pub unfinished : (i : ℕ) → scene.unfinished i ≡ is_unbuilt u list uses names i
   pub may_name : (e : ℕ) → scene.world.may_name e ≡ may_name_in u owner e
   pub own_name : scene.world.own_name ≡ own_name_in u owner
   pub may_call : scene.world.may_call ≡ true

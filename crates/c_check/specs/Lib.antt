@@ -7,3 +7,4 @@ pub mod Nothings
 pub mod Whole
 pub mod Begins
 pub mod Expressed
+pub mod Typed

@@ -48,12 +48,13 @@ fn first_node(tree: &Tree, node: u32) -> u32
 ///
 /// The syntax nodes of the expression, those of its type names among them (6.7.7), are judged in the order in which their productions
 /// end. `BadOperand` and `Unsupported` hold the first node that its row refuses, and the kind of the refusal. Not built yet, and
-/// `Unsupported` with `NotBuilt`, are a name with linkage whose type is an array without a length or a function without a list, which
-/// other declarations may complete; a declarator with a name, and one that meets types past the limits; and each node that is none of an
-/// expression's or a type name's: a specifier of a structure, union or enumeration with what stands in it, and the parts of an
+/// `Unsupported` with `NotBuilt`, are a name with linkage whose type is an array without a length or a function without a list, where
+/// `bound` has a declaration of the same name before its own, which may complete it; the use of a name that is bound to a declaration of which `known` says nothing, as that of a parameter
+/// within its own list; a declarator of a name that is no parameter's, and one that meets types past the limits; and each node that is none of
+/// an expression's or a type name's: a specifier of a structure, union or enumeration with what stands in it, and the parts of an
 /// initialiser. A node that gives no core node, as a type name, is `BadOperand`. All that stood in the unit goes on standing, and of
-/// the nodes that were added none is left but those of the expression's tree. The rows that are built declare nothing, so `known` stays
-/// as it was. Want of memory, a node of the number 2^32 - 1, and a unit, a tree or a list of 2^32 nodes or declarations are
+/// the nodes that were added none is left but those of the expression's tree. The rows that are built declare nothing but parameters
+/// in lists of their own, so `known` stays as it was. Want of memory, a node of the number 2^32 - 1, and a unit, a tree or a list of 2^32 nodes or declarations are
 /// `OutOfMemory`. What is answered is told of a tree whose constants and strings can be read, as those of each text that is parsed.
 ///
 /// A call takes time for the tree's nodes, since each node's parent is found in one pass, and for the unit's types; the rows
@@ -77,7 +78,7 @@ pub fn check_expression(
     ensures only { IfOk result (λ i. AllUnder unit.new (length unit.old.nodes.items) i) }
     ensures answer { let s = source_with tokens.now tree.now bound.now.uses.items in
         ((at : ℕ) → IsReadable s at) →
-        Expressed (scene_of unit.old known.old.owner known.old.list.items bound.now.uses.items) s node unit.new result }
+        Expressed (scene_of unit.old known.old.owner known.old.list.items bound.now.uses.items bound.now.names.items) s node unit.new result }
 {
     let start = first_node(tree, node);
     let Some(end) = node.checked_add(1) else {

@@ -1,6 +1,7 @@
 // What is known of the declarations before an expression.
 use crate::lookups::Lookups;
 use c_types::term::TypeId;
+use leaf_maps::LeafMap;
 use pta_base::Listing;
 
 /// What a declaration gives: the entity of an object or a function, the type that a typedef names, a tag, or the value
@@ -21,11 +22,12 @@ pub struct Known {
     pub list: Vec<(u32, Meaning)>,
 }
 
-/// What is known around an expression: where declarations are found, the own name of the function whose body is read, and which unions hold
+/// What is known around an expression: where declarations are found, which of them stand behind others of the same name, the own name of the function whose body is read, and which unions hold
 /// a structure that ends in an array without a length.
 #[derive(Drop)]
 pub struct Around {
     pub found: Lookups,
+    pub judged: LeafMap,
     pub own_name: Option<Listing<u8>>,
     pub flags: Vec<bool>,
 }

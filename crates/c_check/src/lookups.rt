@@ -1,12 +1,16 @@
 // Where the declarations of uses, and what is known of declarations, are found without a look through their lists.
 #![tactic(auto)]
 
-ghost use Rattle.std.specs.Prelude.{◌≡◌, ℕ, List, All, IfOk, IfSome, IsOkUnless};
+ghost use Rattle.std.specs.Prelude.{◌≡◌, ℕ, Bool, List, Option, [], ◌∷◌, ◌++◌, option_map, All, IfOk, IfSome, OnOk, IsOkUnless};
+ghost use Rattle.c_scope.specs.declared.kinds.Declared.{Declared as DeclaredSpec};
 ghost use Rattle.core_tree.specs.declared.node.Unit.{Unit as UnitSpec};
-ghost use Rattle.c_check.specs.Around.{meant, IsMeant};
-ghost use Rattle.c_check.specs.Lookups.{ArePositions, AreLookups};
+ghost use Rattle.c_check.specs.Around.{meant, names_own, names_alone, is_first, IsMeant};
+ghost use Rattle.c_check.specs.declared.known.Meaning.{Meaning as MeaningSpec};
+ghost use Rattle.c_check.specs.Lookups as spec;
+ghost use Rattle.c_check.specs.Lookups.{ArePositions, AreLookups, AreJudged, AreSymbols, number_of};
 
 use crate::known::Meaning;
+use c_scope::Declared;
 use core_nodes::CheckFault;
 use leaf_maps::LeafMap;
 use std::alloc::Global;
@@ -61,5 +65,70 @@ pub fn meaning_of(found: &Lookups, list: &[(u32, Meaning)], leaf: u32) -> Option
     match list.get(position as usize) {
         Some(entry) => Some(entry.1),
         None => None,
+    }
+}
+
+/// Whether a use is bound to a declaration of which nothing is known: one that the expression itself makes.
+pub fn is_own(found: &Lookups, list: &[(u32, Meaning)], leaf: u32) -> bool
+    ensures { (uses : List (ℕ × ℕ)) → AreLookups found.now list.now uses → result ≡ names_own list.now uses leaf }
+{
+    let meaning = meaning_of(found, list, leaf);
+    match found.uses.get(leaf) {
+        Some(_declaration) => meaning.is_none(),
+        None => false,
+    }
+}
+
+// A truth as a number.
+fn number_of(again: bool) -> u32
+    ensures { result ≡ spec.number_of again }
+{
+    if again { 1 } else { 0 }
+}
+
+// One declaration more: whether one of the same symbol stands before it.
+fn judge(seen: &mut LeafMap, judged: &mut LeafMap, d: Declared) -> Result<(), CheckFault>
+    ensures judged { OnOk result ((ds : List DeclaredSpec) →
+        AreSymbols seen.old ds → AreJudged judged.old ds → AreJudged judged.new (ds ++ d ∷ [])) }
+    ensures seen { OnOk result ((ds : List DeclaredSpec) → AreSymbols seen.old ds → AreSymbols seen.new (ds ++ d ∷ [])) }
+    ensures memory { IsOkUnless result CheckFault.OutOfMemory }
+{
+    let again = seen.get(d.symbol).is_some();
+    judged.add(d.node, number_of(again))?;
+    seen.add(d.symbol, 0)?;
+    Ok(())
+}
+
+/// Which declarations of ordinary names stand behind one of the same symbol: 1 by the node of each that does, and 0 by that of each other.
+pub fn judged_names(alloc: Global, names: &[Declared]) -> Result<LeafMap, CheckFault>
+    ensures judged { IfOk result (λ map. AreJudged map names.now) }
+    ensures memory { IsOkUnless result CheckFault.OutOfMemory }
+{
+    let mut seen = LeafMap::new(alloc);
+    let mut judged = LeafMap::new(alloc);
+    for d in names {
+        judge(&mut seen, &mut judged, *d)?;
+    }
+    Ok(judged)
+}
+
+// Whether a number says that no declaration of the same symbol stands before.
+fn says_first(number: Option<u32>) -> bool
+    ensures { (again : Option Bool) → number ≡ option_map number_of again → result ≡ is_first again }
+{
+    match number {
+        Some(number) => number == 0,
+        None => false,
+    }
+}
+
+/// Whether a use is bound to a declaration before which none has the same name.
+pub fn is_alone(found: &Lookups, judged: &LeafMap, leaf: u32) -> bool
+    ensures { (list : List (ℕ × MeaningSpec)) (uses : List (ℕ × ℕ)) (names : List DeclaredSpec) →
+        AreLookups found.now list uses → AreJudged judged.now names → result ≡ names_alone uses names leaf }
+{
+    match found.uses.get(leaf) {
+        Some(declaration) => says_first(judged.get(declaration)),
+        None => false,
     }
 }

@@ -1,18 +1,21 @@
 // The row of a node, by its production.
 #![tactic(auto)]
 
-ghost use Rattle.std.specs.Prelude.{◌≡◌, ◌<◌, ℕ, List, None, true, length, IfOk, IfSome, All};
+ghost use Rattle.std.specs.Prelude.{◌≡◌, ◌<◌, ℕ, List, Some, None, true, ◌&&◌, ◌||◌, not, length, IfOk, IfSome, All};
 ghost use Rattle.core_tree.specs.declared.node.Unit.{Unit as UnitSpec};
 ghost use Rattle.std.specs.Option.{option_copied};
 ghost use Rattle.c_lexer.specs.declared.TokenKind.TheVariants.{Identifier};
 ghost use Rattle.c_declarators.specs.Limited.{AreFlexible};
 ghost use Rattle.c_senses.specs.Tree.{production_at, children_at, kind_at};
 ghost use Rattle.c_senses.specs.Sense.{sense_in};
-ghost use Rattle.c_check.specs.Around.{Fitting, IsKnown, IsMeant, meant, first_meant, own_name_in};
+ghost use Rattle.c_check.specs.Around.{Fitting, IsKnown, IsMeant, meant, names_own, names_alone, first_meant, holds_of, own_name_in};
+ghost use Rattle.c_check.specs.Around as around;
+ghost use Rattle.c_check.specs.declared.known.Meaning.{Meaning as MeaningSpec};
+ghost use Rattle.c_scope.specs.declared.kinds.Declared.{Declared as DeclaredSpec};
 ghost use Rattle.c_check.specs.Built as spec;
 ghost use Rattle.c_check.specs.Built.{Scene};
 ghost use Rattle.c_check.specs.Limits.{IsTested, RowedOr};
-ghost use Rattle.c_check.specs.Lookups.{AreLookups};
+ghost use Rattle.c_check.specs.Lookups.{AreLookups, AreJudged};
 ghost use Rattle.core_nodes.specs.Standing.{IsReady, Builds};
 ghost use Rattle.c_results.specs.Standing.{sense_made, senses_made, IsWithin, Rowed};
 ghost use Rattle.expression_rows.specs.Readable.{IsReadable};
@@ -22,7 +25,7 @@ ghost use Rattle.whole_rows.specs.Constants.{SenseHasRows, HaveRowsMade};
 
 use crate::declarators::declarator;
 use crate::known::{Around, Known, Meaning};
-use crate::lookups::meaning_of;
+use crate::lookups::{is_alone, is_own, meaning_of};
 use crate::names::{is_unfinished_meaning, named_of};
 use crate::types::type_part;
 use c_lexer::TokenKind;
@@ -129,6 +132,62 @@ fn meaning_of_first(syntax: &Syntax, around: &Around, known: &Known, first: u32)
     }
 }
 
+// A leaf, where it is an identifier.
+fn identifier(syntax: &Syntax, first: u32) -> Option<u32>
+    ensures named { kind_at (source_read syntax.now) first ≡ Identifier → result ≡ Some first }
+    ensures other { (kind_at (source_read syntax.now) first ≡ Identifier → ⊥) → result ≡ None }
+{
+    match kind_of(syntax, first) {
+        TokenKind::Identifier => Some(first),
+        TokenKind::Keyword(_) | TokenKind::Punctuator(_) | TokenKind::Integer => None,
+        TokenKind::Floating | TokenKind::Character | TokenKind::Text | TokenKind::End => None,
+    }
+}
+
+// The first leaf of a primary, where that is an identifier.
+fn first_name(syntax: &Syntax, production: u32, children: &[u32]) -> Option<u32>
+    ensures { result ≡ around.first_name (source_read syntax.now) production children.now }
+{
+    if production != P_PRIMARY {
+        return None;
+    }
+    if children.is_empty() {
+        return None;
+    }
+    identifier(syntax, children[0])
+}
+
+// Whether a name is bound to a declaration before which none has the same name.
+fn is_alone_name(around: &Around, name: Option<u32>) -> bool
+    ensures { (list : List (ℕ × MeaningSpec)) (uses : List (ℕ × ℕ)) (names : List DeclaredSpec) →
+        AreLookups around.now.found list uses →
+        AreJudged around.now.judged names → result ≡ holds_of (names_alone uses names) name }
+{
+    match name {
+        Some(leaf) => is_alone(&around.found, &around.judged, leaf),
+        None => false,
+    }
+}
+
+// Whether a name is bound to a declaration of which nothing is known.
+fn is_own_name(around: &Around, known: &Known, name: Option<u32>) -> bool
+    ensures { (uses : List (ℕ × ℕ)) →
+        AreLookups around.now.found known.now.list.items uses →
+        result ≡ holds_of (names_own known.now.list.items uses) name }
+{
+    match name {
+        Some(leaf) => is_own(&around.found, known.list.as_slice(), leaf),
+        None => false,
+    }
+}
+
+// Whether a use isn't built: its type may be completed, and it isn't the only declaration of its name so far, or the expression declares it.
+fn is_unbuilt(unsettled: bool, alone: bool, own: bool) -> bool
+    ensures { result ≡ ((unsettled && not alone) || own) }
+{
+    (unsettled && !alone) || own
+}
+
 // The own name of the function whose body is read, as bytes.
 fn own_name_of(around: &Around) -> Option<&[u8]>
     ensures { option_copied result ≡ around.now.own_name }
@@ -161,7 +220,8 @@ fn first_meaning(
     meaning_of_first(syntax, around, known, children[0])
 }
 
-// What an expression's node stands for (C11 6.5); a name whose type other declarations may complete isn't built.
+// What an expression's node stands for (C11 6.5); a name whose type declarations before may complete isn't built, nor is one that the
+// expression itself declares.
 fn expression(
     alloc: Global,
     unit: &mut Unit,
@@ -179,18 +239,24 @@ fn expression(
     ensures builds { Builds unit.old unit.new }
     ensures within { IfOk result (IsWithin unit.new) }
     ensures rows { IfOk result (λ m. SenseHasRows (sense_made unit.new m)) }
-    ensures row { (scene : Scene) (uses : List (ℕ × ℕ)) →
+    ensures row { (scene : Scene) (uses : List (ℕ × ℕ)) (names : List DeclaredSpec) →
         AreLookups around.now.found known.now.list.items uses →
+        AreJudged around.now.judged names →
         around.now.own_name ≡ own_name_in unit.old known.now.owner →
-        Fitting scene unit.old known.now.owner known.now.list.items uses →
+        Fitting scene unit.old known.now.owner known.now.list.items uses names →
         let s = source_in syntax.now uses in
         IsReadable s at →
         let sense = sense_in (senses_made unit.old results.now) in
         Rowed unit.new result (spec.finished_row scene s sense (production_at s at) at (children_at s at)) }
 {
     let production = production_of(syntax, at);
-    let meaning = first_meaning(syntax, around, known, production, children_of(syntax, at));
-    if is_unfinished_meaning(unit, meaning) {
+    let children = children_of(syntax, at);
+    let meaning = first_meaning(syntax, around, known, production, children);
+    let name = first_name(syntax, production, children);
+    let unsettled = is_unfinished_meaning(unit, meaning);
+    let alone = is_alone_name(around, name);
+    let own = is_own_name(around, known, name);
+    if is_unbuilt(unsettled, alone, own) {
         return Err(CheckFault::Unsupported(Kind::NotBuilt, at));
     }
     let looked_up = expression_rows::Around {
@@ -201,8 +267,9 @@ fn expression(
     expression_row(alloc, unit, syntax, results, &looked_up, at)
 }
 
-/// What a node stands for, by its production (C11 6.5, 6.7.7). Not built are a name whose type other declarations may complete, a
-/// declarator with a name or where the unit's types aren't within the limits, and a node that is none of an expression's or a type name's.
+/// What a node stands for, by its production (C11 6.5, 6.7.7). Not built are a name whose type declarations before it may complete or that the
+/// expression itself declares, a declarator of a name that is no parameter's or where the unit's types aren't within the limits, and a
+/// node that is none of an expression's or a type name's.
 pub fn row(
     alloc: Global,
     unit: &mut Unit,
@@ -224,11 +291,12 @@ pub fn row(
     ensures within { IfOk result (IsWithin unit.new) }
     ensures rows { IfOk result (λ m. SenseHasRows (sense_made unit.new m)) }
     ensures tested { IsTested unit.new tested.new }
-    ensures row { (scene : Scene) (uses : List (ℕ × ℕ)) →
+    ensures row { (scene : Scene) (uses : List (ℕ × ℕ)) (names : List DeclaredSpec) →
         AreLookups around.now.found known.now.list.items uses →
+        AreJudged around.now.judged names →
         around.now.own_name ≡ own_name_in unit.old known.now.owner →
         AreFlexible scene.world around.now.flags.items →
-        Fitting scene unit.old known.now.owner known.now.list.items uses →
+        Fitting scene unit.old known.now.owner known.now.list.items uses names →
         let s = source_in syntax.now uses in
         IsReadable s at →
         let sense = sense_in (senses_made unit.old results.now) in

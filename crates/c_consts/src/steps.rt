@@ -151,7 +151,7 @@ pub(crate) fn last_of(nodes: &[Node], node: u32) -> Result<i128, ConstFault>
     ensures { result ≡ last_in node (slice_get nodes.now node) }
 {
     match &nodes[node as usize].kind {
-        NodeKind::Number(value) => Ok(*value),
+        NodeKind::Number(value) => Ok(value.get()),
         _ => Err(ConstFault::NotConstant(node)),
     }
 }

@@ -5,12 +5,13 @@ use std::alloc::{AllocError, Global};
 use std::marker::Model;
 use std::slice::from_ref;
 
-/// Children as they are held: one or two beside the node, more of them on the heap.
+/// Children as they are held: up to three beside the node, more of them on the heap.
 #[derive(Drop)]
 enum Held {
     Nothing,
     One(u32),
     Two([u32; 2]),
+    Three([u32; 3]),
     Many(Box<Vec<u32>>),
 }
 
@@ -48,6 +49,7 @@ impl Children {
             [] => Held::Nothing,
             [one] => Held::One(*one),
             [one, other] => Held::Two([*one, *other]),
+            [one, other, third] => Held::Three([*one, *other, *third]),
             _ => {
                 let many = Box::new(alloc, list)?;
                 Held::Many(many)
@@ -64,6 +66,7 @@ impl Children {
             Held::Nothing => &[],
             Held::One(one) => from_ref(one),
             Held::Two(both) => both.as_slice(),
+            Held::Three(all) => all.as_slice(),
             Held::Many(list) => list.as_slice(),
         }
     }

@@ -23,6 +23,7 @@ use c_inits::items::InitItem;
 use c_types::term::{PathStep, Term, TypeId};
 use core_nodes::CheckFault;
 use core_nodes::trees::{add_type, push_node};
+use core_tree::held::{Children, HeldList};
 use core_tree::node::{NodeKind, Unit};
 use pta_base::{Listing, Place};
 use std::alloc::{AllocError, Global};
@@ -77,6 +78,8 @@ fn initialised(
     let Ok(void) = add_type(unit, Term::Void) else {
         return Err(CheckFault::OutOfMemory);
     };
+    let paths = HeldList::of(alloc, paths.into_vec())?;
+    let values = Children::of(alloc, values.into_vec())?;
     push_node(
         unit,
         NodeKind::Initialise { entity, paths },

@@ -27,6 +27,7 @@ use c_types::term::{Term, TypeId};
 use core_nodes::CheckFault;
 use core_nodes::reads::{kind_of_node, place_of_node};
 use core_nodes::trees::push_leaf;
+use core_tree::held::Number;
 use core_tree::node::{NodeKind, Unit};
 use std::alloc::Global;
 use tree_reads::{Syntax, child_of};
@@ -124,7 +125,7 @@ pub(crate) fn character(
     let place = place_of_node(unit, node);
     let value = character_in(text_bytes(unit, node), position);
     match number_as(&unit.types, ty, value) {
-        Some(number) => push_leaf(alloc, unit, NodeKind::Number(number), place, ty),
+        Some(number) => push_leaf(alloc, unit, NodeKind::Number(Number::of(number)), place, ty),
         None => Err(CheckFault::OutOfMemory),
     }
 }

@@ -9,7 +9,7 @@ use Rattle.c_senses.specs.Names.{numbered}
 use Rattle.c_senses.specs.Rows.{RefusedAt}
 use Rattle.source_laws.proofs.Reading.{one_refusal, not_right}
 use Rattle.tag_numbers.specs.Ordered.{AreInOrder}
-use Rattle.c_lower.specs.Lowered.{IsNotLowered}
+use Rattle.unit_lowering.specs.Lowered.{IsNotLowered}
 use Rattle.c_lower.specs.Laws.{IsRefusal, OneAnswer}
 
 -- numbers in the order of first specifiers are one numbering

@@ -6,7 +6,7 @@ use Rattle.core_tree.specs.declared.node.Unit.{Unit}
 use Rattle.core_nodes.specs.declared.fault.CheckFault.{CheckFault}
 use Rattle.core_nodes.specs.declared.fault.CheckFault.TheVariants.{BadOperand, Unsupported, OutOfMemory}
 use Rattle.c_senses.specs.Tree.{Source}
-use Rattle.c_lower.specs.Lowered.{IsLowered, IsNotLowered}
+use Rattle.unit_lowering.specs.Lowered.{IsLowered, IsNotLowered}
 
 -- a refusal of a kind at a node, by a row
 abbrev pub IsRefusal : CheckFault → Kind → ℕ → Type 0

@@ -1,2 +1,1 @@
-pub mod Lowered
 pub mod Laws

@@ -4,3 +4,4 @@ pub mod Lists
 pub mod Fronts
 pub mod Values
 pub mod Keeping
+pub mod Onward

@@ -4,3 +4,4 @@ pub mod Internal
 pub mod Statics
 pub mod Joined
 pub mod Meanings
+pub mod Linkages

@@ -1,6 +1,7 @@
 //! What the names of a unit mean: their linkage, entities, storage and types (C11 6.2.1 to 6.2.4, 6.2.7).
 #![tactic(auto)]
 
+mod kept;
 mod linkage;
 mod meanings;
 mod names;
@@ -8,6 +9,7 @@ mod statics;
 mod storage;
 mod types;
 
+pub use kept::{Linkages, internal_kept, same_internal_kept};
 pub use linkage::{entity_of, is_internal, is_internal_after, linkage_of};
 pub use meanings::{Meaning, declared_meaning, meaning_at, meaning_of, named_by};
 pub use names::{

@@ -18,8 +18,8 @@ use c_results::Results;
 use core_tree::node::Linkage;
 use tree_reads::Syntax;
 
-// Whether a declaration takes over the linkage of those that are seen there (C11 6.2.2p4, p5).
-fn takes_over(names: &Names, syntax: &Syntax, results: &Results, leaf: u32) -> bool
+/// Whether a declaration takes over the linkage of those that are seen there (C11 6.2.2p4, p5).
+pub(crate) fn takes_over(names: &Names, syntax: &Syntax, results: &Results, leaf: u32) -> bool
     requires names { AreChained syntax.now names.now }
     requires leaf { leaf < length syntax.now.tree.now.nodes.items }
     ensures { (u : UnitSpec) (uses : List (ℕ × ℕ)) →

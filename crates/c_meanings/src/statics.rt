@@ -56,8 +56,8 @@ pub(crate) fn is_static_at_file(syntax: &Syntax, results: &Results, leaf: u32) -
     has_storage(syntax, results, WORD_STATIC, leaf) && is_at_file(syntax, leaf)
 }
 
-// Whether one of a list of declarations is `static` at file scope. It goes from the last one back to a list of which that is known.
-fn has_static(
+/// Whether one of a list of declarations is `static` at file scope. It goes from the last one back to a list of which that is known.
+pub(crate) fn has_static(
     names: &Names,
     syntax: &Syntax,
     results: &Results,

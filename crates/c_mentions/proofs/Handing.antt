@@ -78,3 +78,28 @@ module _ (tokens : List Token) (nodes : List Node) where
                   subst (λ s. Stands new s (get_or L j (outermost (length nodes)))) (sym (h.behind (suc j + m) d' (omega arith) ∙ ap (λ n. get_or list n d') e)) (stands_extends scopes new (get_or list (j + (m + 1)) d') (get_or L j (outermost (length nodes))) x u)
             ] k),
       )
+
+  -- a node without children more
+  pub behind_leaf : (m : ℕ) (scopes : List Scope) (list : List Setting) (node : Node) → m < length nodes → node ≡ get_or nodes m node → node.children ≡ [] → Behind tokens nodes scopes list (m + 1)
+      → Behind tokens nodes scopes list m
+  behind_leaf m scopes list node l g empty b =
+      let R : List Node = drop (m + 1) nodes in
+      let L : List Standing = standings tokens nodes (m + 1) R in
+      let own : Standing = standing tokens nodes m (m + 1) R L in
+      let next : suc m ≡ m + 1 = omega arith in
+      let cut : drop m nodes ≡ node ∷ R = drop-cons nodes m node l ∙ (ap (λ y. y ∷ drop (suc m) nodes) (sym g) ∙ ap (λ k. node ∷ drop k nodes) next) in
+      let handed : ℕ → List ℕ → Standing = λ i children. cond (contains children i) (handed_down tokens nodes m own) (standing tokens nodes i (m + 1) R L) in (
+        λ i d k.
+            subst (λ ns. Stands scopes (get_or list i d) (standing tokens nodes i m ns (standings tokens nodes m ns))) (sym cut)
+            (subst (λ c. Stands scopes (get_or list i d) (handed i c)) (sym empty) (b.0 i d (omega arith))),
+        λ j d k.
+            subst (λ ns. Stands scopes (get_or list (j + m) d) (get_or (standings tokens nodes m ns) j (outermost (length nodes)))) (sym cut)
+            (elim j as (λ j. j + m < length nodes → Stands scopes (get_or list (j + m) d) (get_or (own ∷ L) j (outermost (length nodes)))) [
+              | zero ↦ λ k.
+                  let e : zero + m ≡ m = omega arith in
+                  subst (λ n. Stands scopes (get_or list n d) own) (sym e) (b.0 m d (omega arith))
+              | suc j ↦ λ k.
+                  let e : suc j + m ≡ j + (m + 1) = omega arith in
+                  subst (λ n. Stands scopes (get_or list n d) (get_or L j (outermost (length nodes)))) (sym e) (b.1 j d (omega arith))
+            ] k),
+      )

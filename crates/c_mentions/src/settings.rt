@@ -237,8 +237,11 @@ pub fn settings_of(
     let mut node = nodes.len();
     while node > 0 {
         node -= 1;
-        let within = setting_within(tokens, nodes, &mut scopes, node as u32, list.at(node))?;
-        list.hand(nodes[node].children.as_slice(), node, within)?;
+        let children = nodes[node].children.as_slice();
+        if !children.is_empty() {
+            let within = setting_within(tokens, nodes, &mut scopes, node as u32, list.at(node))?;
+            list.hand(children, node, within)?;
+        }
     }
     Ok(Settings { scopes, list })
 }

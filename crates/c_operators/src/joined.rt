@@ -78,7 +78,7 @@ pub fn null_of(unit: &Unit, node: u32) -> Option<bool>
 {
     let ty = type_of_node(unit, node);
     match kind_of_node(unit, node) {
-        NodeKind::Number(n) => Some(*n == 0),
+        NodeKind::Number(n) => Some(n.get() == 0),
         NodeKind::NullValue => Some(is_void_pointer(&unit.types, ty)),
         NodeKind::Arith(_) => computed_null(&unit.types, ty),
         NodeKind::Choose => computed_null(&unit.types, ty),

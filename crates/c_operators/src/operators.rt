@@ -20,6 +20,7 @@ use core_nodes::integers::{arithmetic, compared, comparison, shifted};
 use core_nodes::reads::type_of_node;
 use core_nodes::sorts::{Operand, has_size, is_scalar, operand_of, same_types};
 use core_nodes::trees::{add_type, int_type, push_leaf, push_over_three, push_over_two};
+use core_tree::held::Number;
 use core_tree::node::{NodeKind, Op, Unit};
 use pta_base::Place;
 use std::alloc::Global;
@@ -461,7 +462,13 @@ pub fn int_number(alloc: Global, unit: &mut Unit, place: Place, n: u8) -> Result
     ensures made { Made unit.new result (Fits (spec.number_core n place)) }
 {
     let int = int_type(unit)?;
-    push_leaf(alloc, unit, NodeKind::Number(i128::from(n)), place, int)
+    push_leaf(
+        alloc,
+        unit,
+        NodeKind::Number(Number::of(i128::from(n))),
+        place,
+        int,
+    )
 }
 
 // The int 1 where a value isn't zero or null, else 0.

@@ -7,9 +7,9 @@ ghost use Rattle.c_results.specs.Standing.{sense_made, senses_made, IsWithin};
 use crate::boxed::{BoxedDerivation, BoxedList, WordList};
 use crate::derivation::Derivation;
 use crate::made::{Made, made_at};
-use crate::number::Number;
 use crate::results::Results;
 use c_types::term::{MemberTerm, Name};
+use core_tree::held::Number;
 use std::alloc::{AllocError, Global};
 
 // The same derivations once more.

@@ -5,7 +5,7 @@ use Rattle.pta_base.specs.declared.kind.Kind.TheVariants.{Operand}
 use Rattle.c_lexer.specs.declared.TokenKind.{TokenKind}
 use Rattle.c_lexer.specs.declared.TokenKind.TheVariants.{Identifier, Keyword, Punctuator, Integer, Floating, Character, Text, End}
 use Rattle.c_senses.specs.Tree.{Source, place_at, spelling_at, kind_at}
-use Rattle.c_senses.specs.Given.{Given, Fits, Refuses}
+use Rattle.c_senses.specs.Given.{Given, Refuses}
 use Rattle.c_senses.specs.World.{World}
 use Rattle.c_senses.specs.Objects.{name_row}
 use Rattle.c_senses.specs.Sense.{Sense, fits}

@@ -16,6 +16,7 @@ use c_literals::{character_value, integer_constant, is_in_range, is_narrow, push
 use c_types::term::Term;
 use core_nodes::CheckFault;
 use core_nodes::trees::{add_type, int_type, push_leaf};
+use core_tree::held;
 use core_tree::node::{NodeKind, Unit};
 use pta_base::{Kind, Listing, Place};
 use std::alloc::Global;
@@ -39,7 +40,13 @@ fn integer_node(
     let constant = integer_constant(bytes);
     let ty = add_type(unit, constant.ty.term())?;
     let value = i128::from(constant.value);
-    push_leaf(alloc, unit, NodeKind::Number(value), place, ty)
+    push_leaf(
+        alloc,
+        unit,
+        NodeKind::Number(held::Number::of(value)),
+        place,
+        ty,
+    )
 }
 
 /// An integer constant (C11 6.4.4.1). One of 2^64 or more isn't built.
@@ -80,7 +87,13 @@ fn character_node(
 {
     let int = int_type(unit)?;
     let value = i128::from(character_value(bytes));
-    push_leaf(alloc, unit, NodeKind::Number(value), place, int)
+    push_leaf(
+        alloc,
+        unit,
+        NodeKind::Number(held::Number::of(value)),
+        place,
+        int,
+    )
 }
 
 /// A character constant (C11 6.4.4.4).
@@ -161,6 +174,7 @@ pub fn text_node(
             length: Some(size),
         },
     )?;
+    let text = held::HeldList::of(alloc, text.into_vec())?;
     push_leaf(alloc, unit, NodeKind::Text(text), place, ty)
 }
 

@@ -16,6 +16,7 @@ use crate::literals::text_node;
 use c_types::term::{Term, TypeId};
 use core_nodes::CheckFault;
 use core_nodes::trees::{int_type, push_leaf};
+use core_tree::held;
 use core_tree::node::{NodeKind, Unit};
 use pta_base::{Kind, Listing, Place};
 use std::alloc::Global;
@@ -105,7 +106,13 @@ fn enumerator(alloc: Global, unit: &mut Unit, place: Place, value: i128) -> Resu
     ensures made { Made unit.new result (Fits (leaf (Number value) place int)) }
 {
     let int = int_type(unit)?;
-    push_leaf(alloc, unit, NodeKind::Number(value), place, int)
+    push_leaf(
+        alloc,
+        unit,
+        NodeKind::Number(held::Number::of(value)),
+        place,
+        int,
+    )
 }
 
 // The function's own name, as a string; outside of a body nothing has it.

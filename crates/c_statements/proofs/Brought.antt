@@ -1,24 +1,22 @@
 -- What has been made for the parts of a block is what they stand for.
-use Rattle.std.proofs.Common.{arith, ◌≡◌, ℕ, zero, suc, ◌<◌, ◌≤◌, Bool, true, false, cond, List, [], ◌∷◌, ◌++◌, Option, Some, None, Result, Ok, Err, All, length, map, get_or, slice_get, append_assoc, append-nil, refl, sym, ap, ◌∙◌, subst}
-use Rattle.std.proofs.lemmas.List.Elements.{All-append, All-nil, All-head, All-tail, All-weaker}
+use Rattle.std.proofs.Common.{arith, ◌≡◌, ℕ, zero, suc, ◌<◌, List, [], ◌∷◌, ◌++◌, Option, Some, Result, All, length, map, get_or, slice_get, refl, sym, ap, ◌∙◌, subst}
+use Rattle.std.proofs.lemmas.List.Elements.{All-append, All-nil, All-head, All-tail}
 use Rattle.pta_base.specs.declared.place.Place.{Place}
 use Rattle.c_types.specs.Trees.{Ctype, VoidType}
 use Rattle.c_types.specs.Table.{type_of}
 use Rattle.core_tree.specs.declared.node.NodeKind.{NodeKind}
-use Rattle.core_tree.specs.declared.node.NodeKind.TheVariants.{Block}
 use Rattle.core_tree.specs.declared.node.Unit.{Unit}
-use Rattle.c_grammar.specs.Productions.{p_rest, p_declaration, p_declarator}
 use Rattle.c_consts.specs.Core.{Core, Cores, Of, NoCores, MoreCores}
 use Rattle.c_senses.specs.Given.{Given, Fits, ◌>>=◌}
-use Rattle.c_senses.specs.Tree.{Source, is_a, children_at, first_where}
+use Rattle.c_senses.specs.Tree.{Source}
 use Rattle.c_senses.specs.World.{World}
-use Rattle.c_senses.specs.Sense.{Sense, Nothing, IsCore, IsRun, sense_in}
-use Rattle.c_senses.specs.Statements.{appended, automatic_name, is_automatic_object, objects_among, objects_in_rest, objects_declared, objects_in, cores_in, statement}
+use Rattle.c_senses.specs.Sense.{Sense, IsCore, IsRun, sense_in}
+use Rattle.c_senses.specs.Statements.{appended, cores_in, statement}
 use Rattle.core_nodes.specs.declared.fault.CheckFault.{CheckFault}
 use Rattle.core_nodes.specs.Standing.{core_at, cores_at, Builds, Made}
 use Rattle.c_results.specs.declared.made.Made.{Made as Result_of}
 use Rattle.c_results.specs.declared.made.Made.TheVariants as made
-use Rattle.c_results.specs.Standing.{sense_made, senses_made, sense_read, IsWithin}
+use Rattle.c_results.specs.Standing.{senses_made, sense_read, IsWithin}
 use Rattle.c_statements.specs.Parts.{gathered, nodes_of, nodes_made}
 
 -- a part that has been made stands for that

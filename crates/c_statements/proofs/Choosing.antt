@@ -1,5 +1,5 @@
 -- Cases and defaults among the nodes before one, and with one more.
-use Rattle.std.proofs.Common.{arith, ◌≡◌, ℕ, zero, suc, ◌+◌, ◌<◌, ◌≤◌, Bool, true, false, ◌&&◌, ◌||◌, ◌==◌, eqb, cond, List, [], ◌∷◌, Option, Some, None, Result, Ok, Err, is_some, take, get_or, refl, sym, ap, ◌∙◌, subst}
+use Rattle.std.proofs.Common.{arith, ◌≡◌, ℕ, zero, suc, ◌+◌, ◌<◌, Bool, true, false, ◌&&◌, ◌||◌, ◌==◌, eqb, cond, List, [], ◌∷◌, Option, Some, None, Result, Ok, Err, is_some, take, refl, sym, ap, ◌∙◌, subst}
 use Rattle.std.specs.Prelude.{ℤ}
 use Rattle.std.specs.declared.cmp.Ordering.{Ordering}
 use Rattle.std.specs.declared.cmp.Ordering.TheVariants.{Less, Equal, Greater}
@@ -9,7 +9,7 @@ use Rattle.std.proofs.lemmas.Bool.{eqb-true, eqb-false}
 use Rattle.std.proofs.lemmas.Bool.Decides.{nat_tests}
 use Rattle.c_senses.specs.Tree.{Source, any_where, numbers_from, is_number}
 use Rattle.c_senses.specs.World.{World, or_else}
-use Rattle.c_senses.specs.Sense.{Sense, Nothing, IsCore, sense_in}
+use Rattle.c_senses.specs.Sense.{Sense, IsCore, sense_in}
 use Rattle.c_results.specs.Parts.{core_in}
 use Rattle.c_senses.specs.Statements.{is_case_again, is_default_again, is_statement_of, switch_around, case_value, is_default}
 use Rattle.leaf_maps.specs.Numbers.{number_at}

@@ -1,5 +1,5 @@
 -- Cases over their parts.
-use Rattle.std.proofs.Common.{◌≡◌, ℕ, Bool, true, false, not, List, Option, Some, None, Result, Ok, Err, is_some, refl, sym, ap, ◌∙◌, subst}
+use Rattle.std.proofs.Common.{◌≡◌, ℕ, Bool, not, List, Option, Some, None, Err, refl, sym, ap, ◌∙◌, subst}
 use Rattle.std.specs.Prelude.{ℤ}
 use Rattle.pta_base.specs.declared.kind.Kind.{Kind}
 use Rattle.pta_base.specs.declared.kind.Kind.TheVariants.{Operand}
@@ -17,9 +17,8 @@ use Rattle.c_senses.specs.Statements.{switch_around, switched, expression_in, is
 use Rattle.core_nodes.specs.declared.fault.CheckFault.{CheckFault}
 use Rattle.core_nodes.specs.declared.fault.CheckFault.TheVariants.{BadOperand, Unsupported, OutOfMemory}
 use Rattle.core_nodes.specs.Standing.{Made}
-use Rattle.core_nodes.proofs.Failing.{fails}
 use Rattle.constant_values.specs.Constants.{ConstantMade}
-use Rattle.c_statements.specs.Labels.{case_at, number_for, AreCases}
+use Rattle.c_statements.specs.Labels.{number_for}
 
 -- a switch whose value is refused gives a case no type
 pub bad_number : (u : Unit) (e : CheckFault) (node : ℕ) (g : Given Core) (n : ℤ) → e ≡ BadOperand node → Made u (Err e) g → None ≡ number_for g n

@@ -1,10 +1,5 @@
 -- The core nodes that the parts of a block bring to it.
-use Rattle.std.specs.Prelude.{ℕ, ◌≡◌, Bool, false, List, [], ◌∷◌, ◌++◌, Option, Some, None, slice_get, get_or, if◌then◌else◌}
-use Rattle.c_grammar.specs.Productions.{p_rest, p_declaration, p_declarator}
-use Rattle.c_senses.specs.Tree.{Source, is_a, children_at, first_where}
-use Rattle.c_senses.specs.World.{World}
-use Rattle.c_senses.specs.Sense.{Sense}
-use Rattle.c_senses.specs.Statements.{is_automatic_object}
+use Rattle.std.specs.Prelude.{ℕ, List, [], ◌∷◌, ◌++◌, Option, Some, slice_get}
 use Rattle.c_results.specs.declared.made.Made.{Made}
 use Rattle.c_results.specs.declared.made.Made.TheVariants as made
 

@@ -15,8 +15,8 @@ use crate::parts::void_type;
 use c_results::{Made, Results};
 use core_nodes::CheckFault;
 use core_nodes::trees::push_node;
+use core_tree::held::{Children, HeldList};
 use core_tree::node::{NodeKind, Unit};
-use pta_base::Listing;
 use std::alloc::Global;
 use tree_reads::{Syntax, place_of};
 
@@ -85,6 +85,7 @@ pub fn block_row(
         Ok(ty) => ty,
         Err(_) => return Err(CheckFault::OutOfMemory),
     };
-    let kind = NodeKind::Block(Listing::of(objects));
-    push_node(unit, kind, place_of(syntax, at), ty, Listing::of(nodes))
+    let kind = NodeKind::Block(HeldList::of(alloc, objects)?);
+    let nodes = Children::of(alloc, nodes)?;
+    push_node(unit, kind, place_of(syntax, at), ty, nodes)
 }

@@ -24,6 +24,7 @@ use constant_values::constant_in;
 use core_nodes::CheckFault;
 use core_nodes::reads::type_of_node;
 use core_nodes::trees::push_over;
+use core_tree::held::Number;
 use core_tree::node::{NodeKind, Unit};
 use std::alloc::Global;
 use tree_reads::{Above, Syntax, child_of, children_of, nearest_above, place_of};
@@ -101,7 +102,7 @@ fn case_over(
     push_over(
         alloc,
         unit,
-        NodeKind::Case(number),
+        NodeKind::Case(Number::of(number)),
         place_of(syntax, at),
         ty,
         inner,

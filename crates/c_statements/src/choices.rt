@@ -95,7 +95,7 @@ fn number_of_kind(kind: &NodeKind) -> Option<i128>
     ensures { result ≡ labels.case_number kind.now }
 {
     match kind {
-        NodeKind::Case(number) => Some(*number),
+        NodeKind::Case(number) => Some(number.get()),
         _ => None,
     }
 }

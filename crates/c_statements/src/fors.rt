@@ -19,6 +19,7 @@ use core_nodes::CheckFault;
 use core_nodes::reads::type_of_node;
 use core_nodes::sorts::{is_scalar, operand_of};
 use core_nodes::trees::push_node;
+use core_tree::held::{Children, HeldList};
 use core_tree::node::{NodeKind, Unit};
 use pta_base::Listing;
 use std::alloc::Global;
@@ -313,8 +314,9 @@ pub fn for_row(
         Ok(ty) => ty,
         Err(_) => return Err(CheckFault::OutOfMemory),
     };
+    let nodes = Children::of(alloc, nodes.into_vec())?;
     let kind = NodeKind::For {
-        entities: Listing::of(objects),
+        entities: HeldList::of(alloc, objects)?,
         condition: condition.is_some(),
         after: after.is_some(),
     };

@@ -14,6 +14,7 @@ use crate::parts::{body, void_type};
 use c_results::Results;
 use core_nodes::CheckFault;
 use core_nodes::trees::{push_leaf, push_over};
+use core_tree::held::HeldText;
 use core_tree::node::{NodeKind, Unit};
 use leaf_maps::LeafMap;
 use pta_base::Text;
@@ -52,7 +53,7 @@ pub fn goto_row(
     let Some(name) = first_where(syntax, Test::Name, children) else {
         return Err(CheckFault::BadOperand(at));
     };
-    let label = text_of(alloc, spelling_of(syntax, name))?;
+    let label = HeldText::of(alloc, text_of(alloc, spelling_of(syntax, name))?)?;
     let ty = match void_type(unit) {
         Ok(ty) => ty,
         Err(_) => return Err(CheckFault::OutOfMemory),
@@ -85,7 +86,7 @@ pub fn labelled_row(
         Ok(node) => node,
         Err(fault) => return Err(fault),
     };
-    let label = text_of(alloc, spelling_of(syntax, name))?;
+    let label = HeldText::of(alloc, text_of(alloc, spelling_of(syntax, name))?)?;
     let ty = match void_type(unit) {
         Ok(ty) => ty,
         Err(_) => return Err(CheckFault::OutOfMemory),

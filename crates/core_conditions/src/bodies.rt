@@ -220,7 +220,7 @@ fn fits_body(trees: &Trees<'_>, entity: &Entity, body: u32, node: &Node) -> bool
         ↔ FitsBody (core_of trees.now) entity.now body node.now.kind node.now.children }
 {
     match &node.kind {
-        NodeKind::Goto(name) => label_once(trees, body, name),
+        NodeKind::Goto(name) => label_once(trees, body, name.get()),
         NodeKind::Return => returns_right(trees, entity, node.children.as_slice()),
         _ => true,
     }

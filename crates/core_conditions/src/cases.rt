@@ -47,7 +47,7 @@ fn is_case(x: Option<i128>, kind: &NodeKind) -> bool
     ensures { IsTrue result ↔ IsCase x kind.now }
 {
     match (x, kind) {
-        (Some(number), NodeKind::Case(y)) => *y == number,
+        (Some(number), NodeKind::Case(y)) => y.get() == number,
         (None, NodeKind::Default) => true,
         _ => false,
     }
@@ -81,7 +81,7 @@ pub fn case_differs(trees: &Trees<'_>, a: usize, kind: &NodeKind) -> bool
     ensures { IsTrue result ↔ CaseDiffers (core_of trees.now) a kind.now }
 {
     match kind {
-        NodeKind::Case(x) => differs_in_each(trees, a, Some(*x)),
+        NodeKind::Case(x) => differs_in_each(trees, a, Some(x.get())),
         NodeKind::Default => differs_in_each(trees, a, None),
         _ => true,
     }

@@ -10,8 +10,9 @@ ghost use Rattle.core_nodes.specs.Standing.{core_at, cores_at, IsReady, Builds, 
 
 use crate::CheckFault;
 use c_types::term::{Term, TypeId};
+use core_tree::held::Children;
 use core_tree::node::{Node, NodeKind, Unit};
-use pta_base::{Listing, Place};
+use pta_base::Place;
 use std::alloc::Global;
 
 /// One more node, over nodes that there are: the last of the unit. Only memory may want, or there are 2^32 - 1 nodes.
@@ -20,7 +21,7 @@ pub fn push_node(
     kind: NodeKind,
     place: Place,
     ty: TypeId,
-    children: Listing<u32>,
+    children: Children,
 ) -> Result<u32, CheckFault>
     requires ready { IsReady unit.old }
     requires ty { ty.0 < length unit.old.types.terms }
@@ -63,7 +64,7 @@ pub fn push_leaf(
     ensures made { Made unit.new result (Fits (leaf kind place (type_of unit.old.types ty.0))) }
     ensures within { IfOk result (λ i. i < length unit.new.nodes.items) }
 {
-    push_node(unit, kind, place, ty, Listing::new(alloc))
+    push_node(unit, kind, place, ty, Children::none())
 }
 
 /// A node over one other.
@@ -83,9 +84,7 @@ pub fn push_over(
     ensures made { Made unit.new result (Fits (over kind place (type_of unit.old.types ty.0) (core_at unit.old a))) }
     ensures within { IfOk result (λ i. i < length unit.new.nodes.items) }
 {
-    let mut children = Listing::new(alloc);
-    children.push(a)?;
-    push_node(unit, kind, place, ty, children)
+    push_node(unit, kind, place, ty, Children::one(a))
 }
 
 /// A node over two others.
@@ -108,10 +107,7 @@ pub fn push_over_two(
         (Fits (over_two kind place (type_of unit.old.types ty.0) (core_at unit.old a) (core_at unit.old b))) }
     ensures within { IfOk result (λ i. i < length unit.new.nodes.items) }
 {
-    let mut children = Listing::new(alloc);
-    children.push(a)?;
-    children.push(b)?;
-    push_node(unit, kind, place, ty, children)
+    push_node(unit, kind, place, ty, Children::two(a, b))
 }
 
 /// A node over three others.
@@ -136,11 +132,7 @@ pub fn push_over_three(
         (Fits (over_three kind place (type_of unit.old.types ty.0) (core_at unit.old a) (core_at unit.old b) (core_at unit.old c))) }
     ensures within { IfOk result (λ i. i < length unit.new.nodes.items) }
 {
-    let mut children = Listing::new(alloc);
-    children.push(a)?;
-    children.push(b)?;
-    children.push(c)?;
-    push_node(unit, kind, place, ty, children)
+    push_node(unit, kind, place, ty, Children::three(a, b, c))
 }
 
 /// The type of a term that names no tag: the first of the unit that is the same, where there is one, else one more.

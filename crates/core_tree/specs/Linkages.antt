@@ -1,6 +1,6 @@
 -- What a unit's linkages are (C11 6.2.2).
-use Rattle.std.specs.Prelude.{ℕ, ◌≡◌, ⊤, List, Option, Some, None}
-use Rattle.c_types.specs.Trees.{Ctype}
+use Rattle.std.specs.Prelude.{ℕ, ◌≡◌, ◌⊎◌, ⊤, List, Option, Some, None}
+use Rattle.c_types.specs.Trees.{Ctype, ArrayOf}
 use Rattle.c_types.specs.Table.{type_of}
 use Rattle.core_tree.specs.declared.node.Node.{Node}
 use Rattle.core_tree.specs.declared.node.Entity.{Entity}
@@ -28,9 +28,14 @@ abbrev pub MakesUnlinked : CoreTrees → NodeKind → Type 0
 MakesUnlinked u (Literal e) = HasNoLinkage (entity_at u e)
 MakesUnlinked u kind = ⊤
 
+-- a use has the type of the declaration, or one that lacks the length alone that the declaration has: so it is with an array within its own
+-- initialiser, which gives it its length only where it ends (C11 6.7.9p22)
+abbrev pub IsOfDeclared : Ctype → Ctype → Type 0
+IsOfDeclared d t = (d ≡ t) ⊎ ((of : Ctype) × (n : ℕ) × (d ≡ ArrayOf of (Some n)) × (t ≡ ArrayOf of None))
+
 -- the entity declares that name, with external linkage, as of that type
 abbrev pub DeclaresAs : CoreTrees → List ℕ → Ctype → Entity → Type 0
-DeclaresAs u name t entity = (entity.linkage ≡ External) × (entity.name ≡ name) × (type_of u.types entity.ty.0 ≡ t)
+DeclaresAs u name t entity = (entity.linkage ≡ External) × (entity.name ≡ name) × IsOfDeclared (type_of u.types entity.ty.0) t
 
 -- some external declaration of the name has the type
 pub record IsDeclaredAs (u : CoreTrees) (name : List ℕ) (t : Ctype) : Type 0 where

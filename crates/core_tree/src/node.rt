@@ -1,5 +1,6 @@
 // The nodes and entities of a unit and of a program.
 
+use crate::held::{Children, HeldList, HeldText, Number};
 use c_types::table::TypeTable;
 use c_types::term::{PathStep, TypeId};
 use pta_base::{Listing, Place, Text};
@@ -50,12 +51,12 @@ pub enum Op {
 #[derive(Drop)]
 pub enum NodeKind {
     Named(u32),
-    Text(Listing<u8>),
+    Text(HeldList<u8>),
     Literal(u32),
     FunctionName(u32),
     Deref,
     Member(u32),
-    Number(i128),
+    Number(Number),
     NullValue,
     Fetch,
     AddressOf,
@@ -76,26 +77,26 @@ pub enum NodeKind {
     MemberOfValue(u32),
     Arith(Op),
     Expression,
-    Block(Listing<u32>),
+    Block(HeldList<u32>),
     If,
     While,
     DoWhile,
     For {
-        entities: Listing<u32>,
+        entities: HeldList<u32>,
         condition: bool,
         after: bool,
     },
     Switch,
-    Case(i128),
+    Case(Number),
     Default,
-    Label(Text),
-    Goto(Text),
+    Label(HeldText),
+    Goto(HeldText),
     Break,
     Continue,
     Return,
     Initialise {
         entity: u32,
-        paths: Listing<Listing<PathStep>>,
+        paths: HeldList<Listing<PathStep>>,
     },
     Skip,
 }
@@ -106,7 +107,7 @@ pub struct Node {
     pub kind: NodeKind,
     pub place: Place,
     pub ty: TypeId,
-    pub children: Listing<u32>,
+    pub children: Children,
 }
 
 /// An object or a function. `owner` is the function of a local, `body` the node of a function's body or of an object's

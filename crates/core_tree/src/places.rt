@@ -10,7 +10,6 @@ use crate::kinds::{initialises, is_place_kind, is_value_kind};
 use crate::node::NodeKind;
 use crate::trees::Trees;
 use c_types::term::TypeId;
-use pta_base::Listing;
 use type_rules::conversions::agree;
 use type_rules::kinds::{is_function, is_text, is_void, lacks_length, points_to};
 use type_rules::members::{is_member, member_width};
@@ -32,7 +31,7 @@ pub fn named_row(trees: &Trees<'_>, e: u32, ty: TypeId, children: &[u32]) -> boo
 }
 
 /// Whether a string literal may have that type: an array of `char`, one longer than its bytes (C11 6.4.5p6).
-pub fn text_row(trees: &Trees<'_>, bytes: &Listing<u8>, ty: TypeId, children: &[u32]) -> bool
+pub fn text_row(trees: &Trees<'_>, bytes: &[u8], ty: TypeId, children: &[u32]) -> bool
     requires { ty.0 < length trees.now.types.now.terms }
     ensures { IsTrue result ↔ TextRow bytes.now (type_of trees.now.types.now ty.0) children.now }
 {

@@ -55,7 +55,7 @@ fn place_row(trees: &Trees<'_>, node: &Node) -> bool
     let children = node.children.as_slice();
     match &node.kind {
         NodeKind::Named(e) => named_row(trees, *e, node.ty, children),
-        NodeKind::Text(bytes) => text_row(trees, bytes, node.ty, children),
+        NodeKind::Text(bytes) => text_row(trees, bytes.as_slice(), node.ty, children),
         NodeKind::Literal(e) => literal_row(trees, *e, node.ty, children),
         NodeKind::FunctionName(e) => function_name_row(trees, *e, node.ty, children),
         NodeKind::Deref => deref_row(trees, node.ty, children),
@@ -75,7 +75,7 @@ fn value_row(trees: &Trees<'_>, node: &Node) -> bool
 {
     let children = node.children.as_slice();
     match &node.kind {
-        NodeKind::Number(n) => number_row(trees, *n, node.ty, children),
+        NodeKind::Number(n) => number_row(trees, n.get(), node.ty, children),
         NodeKind::NullValue => null_row(trees, node.ty, children),
         NodeKind::Fetch => fetch_row(trees, node.ty, children),
         NodeKind::AddressOf => address_row(trees, node.ty, children),

@@ -4,6 +4,7 @@ use Rattle.core_tree.specs.declared.node.Node.{Node}
 use Rattle.core_tree.specs.declared.node.Entity.{Entity}
 use Rattle.core_tree.specs.Typed.{CoreTrees}
 use Rattle.core_tree.specs.Range.{EachNode, EachEntity, named_by, listed_by, InRange, ChildOnce}
+use Rattle.core_tree.specs.Linkages.{NodeLinkage}
 use Rattle.core_tree.specs.Valid.{InRow, IsInOwner, IsLiteral, IsListable, HoldsFixed, MayStand, FitsFunctions, CaseDiffers, ValueSized, IsOwned, HasBody, IsListed, IsUsed, EntitySized, ResultSized, IsSigned, HasLength, InUnits}
 use Rattle.type_rules.specs.Sizes.{TagsHaveSizes}
 
@@ -54,6 +55,11 @@ pub record EntityRight (u : CoreTrees) (e : ℕ) (entity : Entity) : Type 0 wher
 abbrev pub EntityRightIn : CoreTrees → ℕ → Option Entity → Type 0
 EntityRightIn u e None = ⊥
 EntityRightIn u e (Some entity) = EntityRight u e entity
+
+-- the node has the linkages that it may have
+abbrev pub NodeLinkageIn : CoreTrees → Option Node → Type 0
+NodeLinkageIn u None = ⊥
+NodeLinkageIn u (Some node) = NodeLinkage u node
 
 pub record NodesRight (u : CoreTrees) : Type 0 where
   pub each : EachNode u (λ n node. NodeRight u n node)

@@ -4,9 +4,10 @@ ghost use Rattle.std.specs.Prelude.{◌≡◌, ℕ, ◌<◌, ◌↔◌, List, Is
 ghost use Rattle.c_types.specs.Table.{type_of};
 ghost use Rattle.core_tree.specs.Seen.{core_of};
 ghost use Rattle.core_tree.specs.Range.{EachNode, EachEntity, InRange, entity_at, named_by};
-ghost use Rattle.core_tree.specs.Linkages.{HasNoLinkage, MakesUnlinked, DeclaresAs, IsDeclaredAs, IsUseIn, UsesDeclared, NodeLinkage, EntityLinkage, Linkages};
+ghost use Rattle.core_tree.specs.Linkages.{HasNoLinkage, MakesUnlinked, IsOfDeclared, DeclaresAs, IsDeclaredAs, IsUseIn, UsesDeclared, NodeLinkage, EntityLinkage, Linkages};
 
-use c_types::term::TypeId;
+use c_types::table::TypeTable;
+use c_types::term::{Term, TypeId};
 use core_tree::node::{Entity, Linkage, Node, NodeKind, Storage};
 use core_tree::trees::Trees;
 use pta_base::Text;
@@ -40,7 +41,28 @@ fn makes_unlinked(trees: &Trees<'_>, kind: &NodeKind) -> bool
     }
 }
 
-// Whether an entity declares a name, with external linkage, as of a type.
+// Whether a type is one of a declaration, or lacks the length alone that the declaration's type has.
+fn is_of_declared(types: &TypeTable, declared: TypeId, ty: TypeId) -> bool
+    requires declared { declared.0 < length types.now.terms }
+    requires ty { ty.0 < length types.now.terms }
+    ensures { IsTrue result ↔ IsOfDeclared (type_of types.now declared.0) (type_of types.now ty.0) }
+{
+    if types.same(declared, ty) {
+        return true;
+    }
+    match (types.term(declared), types.term(ty)) {
+        (
+            Term::Array {
+                of: element,
+                length: Some(_),
+            },
+            Term::Array { of, length: None },
+        ) => types.same(*element, *of),
+        _ => false,
+    }
+}
+
+// Whether an entity declares a name, with external linkage, as of a type, but for a length.
 fn declares_as(trees: &Trees<'_>, name: &Text, ty: TypeId, entity: &Entity) -> bool
     requires ty { ty.0 < length trees.now.types.now.terms }
     requires entity { entity.now.ty.0 < length trees.now.types.now.terms }
@@ -48,7 +70,7 @@ fn declares_as(trees: &Trees<'_>, name: &Text, ty: TypeId, entity: &Entity) -> b
 {
     matches!(entity.linkage, Linkage::External)
         && entity.name.as_str() == name.as_str()
-        && trees.types.same(entity.ty, ty)
+        && is_of_declared(trees.types, entity.ty, ty)
 }
 
 // Whether some external declaration of a name has a type.
@@ -105,7 +127,12 @@ fn node_linkages(trees: &Trees<'_>) -> bool
     requires named { All (λ node. IfSome (named_by node.kind) (λ e. e < length trees.now.entities.now)) trees.now.nodes.now }
     ensures { IsTrue result ↔ EachNode (core_of trees.now) (λ n node. NodeLinkage (core_of trees.now) node) }
 {
-    trees.nodes.iter().all(|node| node_linkage(trees, node))
+    for n in 0..trees.nodes.len() {
+        if !node_linkage(trees, &trees.nodes[n]) {
+            return false;
+        }
+    }
+    true
 }
 
 // Whether each entity has a linkage that it may have.

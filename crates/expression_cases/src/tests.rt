@@ -9,7 +9,7 @@ use c_grammar::{Scopes, Tree};
 use c_lexer::lexer::tokens;
 use c_lexer::{TokenKind, Tokens};
 use c_parser::parse_expression;
-use c_scope::Bound;
+use c_scope::{Bound, Declared, Kind as DeclaredKind};
 use c_types::table::TypeTable;
 use c_types::term::{Form, Term, TypeId, TypeList};
 use core_tree::node::{Entity, Linkage, NodeKind, Op, Storage, Unit};
@@ -40,6 +40,7 @@ struct ObjectTypes {
     void_pointer: TypeId,
     array: TypeId,
     function: TypeId,
+    plain: TypeId,
 }
 
 // The unit that has these types and neither nodes nor entities.
@@ -49,7 +50,8 @@ fn bare_unit(alloc: Global) -> Result<(Unit, ObjectTypes), Fail>
     ensures none { IfOk result (λ made. length made.0.entities.items ≡ 0) }
     ensures types { IfOk result (λ made. (made.1.int.0 < length made.0.types.terms)
         × (made.1.pointer.0 < length made.0.types.terms) × (made.1.void_pointer.0 < length made.0.types.terms)
-        × (made.1.array.0 < length made.0.types.terms) × (made.1.function.0 < length made.0.types.terms)) }
+        × (made.1.array.0 < length made.0.types.terms) × (made.1.function.0 < length made.0.types.terms)
+        × (made.1.plain.0 < length made.0.types.terms)) }
 {
     let name = Text::copy_of(alloc, "sum.c")?;
     let mut types = TypeTable::new(alloc);
@@ -72,6 +74,11 @@ fn bare_unit(alloc: Global) -> Result<(Unit, ObjectTypes), Fail>
         parameters: TypeList::from_items(parameters),
         form: Form::Variadic,
     })?;
+    let plain = types.add(Term::Function {
+        result: int,
+        parameters: TypeList::from_items(Vec::new(alloc)),
+        form: Form::Unspecified,
+    })?;
     let unit = Unit {
         name,
         types,
@@ -87,6 +94,7 @@ fn bare_unit(alloc: Global) -> Result<(Unit, ObjectTypes), Fail>
             void_pointer,
             array,
             function,
+            plain,
         },
     ))
 }
@@ -123,12 +131,12 @@ fn object(alloc: Global, name: &str, ty: TypeId) -> Result<Entity, Fail>
     })
 }
 
-// The unit of the objects a and b of type int, p of type int *, v of type void * and e of type int[1], and of the function
-// int f(int *, ...).
-fn unit_of_six(alloc: Global) -> Result<Unit, Fail>
+// The unit of the objects a and b of type int, p of type int *, v of type void * and e of type int[1], and of the functions
+// int f(int *, ...) and int g().
+fn unit_of_seven(alloc: Global) -> Result<Unit, Fail>
     ensures ready { IfOk result (λ unit. IsReady unit) }
     ensures known { IfOk result (λ unit. IsKnown unit []) }
-    ensures count { IfOk result (λ unit. length unit.entities.items ≡ 6) }
+    ensures count { IfOk result (λ unit. length unit.entities.items ≡ 7) }
 {
     let (bare, types) = bare_unit(alloc)?;
     let one = add_entity(bare, object(alloc, "a", types.int)?)?;
@@ -136,13 +144,15 @@ fn unit_of_six(alloc: Global) -> Result<Unit, Fail>
     let three = add_entity(two, object(alloc, "p", types.pointer)?)?;
     let four = add_entity(three, object(alloc, "v", types.void_pointer)?)?;
     let five = add_entity(four, object(alloc, "e", types.array)?)?;
-    add_entity(five, object(alloc, "f", types.function)?)
+    let six = add_entity(five, object(alloc, "f", types.function)?)?;
+    add_entity(six, object(alloc, "g", types.plain)?)
 }
 
-// The objects of a unit, which the syntax nodes 1000 to 1005 declare, and the typedef name t of p's type, which the node 1006 declares.
+// The objects of a unit, which the syntax nodes 1000 to 1005 declare, and the typedef name t of p's type, which the node 1006 declares;
+// and the enumerator c of the value 2, which the node 1007 declares; and the function g, which the nodes 1009 and 1010 declare.
 fn known_objects(alloc: Global, unit: &Unit) -> Result<Known, Fail>
     requires known { IsKnown unit.now [] }
-    requires count { length unit.now.entities.items ≡ 6 }
+    requires count { length unit.now.entities.items ≡ 7 }
     ensures { IfOk result (λ known. IsKnown unit.now known.list.items) }
 {
     let pointer = unit.entities[2].ty;
@@ -154,6 +164,9 @@ fn known_objects(alloc: Global, unit: &Unit) -> Result<Known, Fail>
         (1004, Meaning::Entity(4)),
         (1005, Meaning::Entity(5)),
         (1006, Meaning::TypeName(pointer)),
+        (1007, Meaning::Value(2)),
+        (1009, Meaning::Entity(6)),
+        (1010, Meaning::Entity(6)),
     ];
     Ok(Known {
         owner: None,
@@ -161,7 +174,7 @@ fn known_objects(alloc: Global, unit: &Unit) -> Result<Known, Fail>
     })
 }
 
-// The syntax node that declares a name.
+// The syntax node that declares a name; of that of n nothing is known, as of that of a name that the expression itself declares.
 fn declaring(name: &[u8]) -> u32 {
     match name {
         b"a" => 1000,
@@ -171,6 +184,10 @@ fn declaring(name: &[u8]) -> u32 {
         b"e" => 1004,
         b"f" => 1005,
         b"t" => 1006,
+        b"c" => 1007,
+        b"n" => 1008,
+        b"g" => 1009,
+        b"h" => 1010,
         _ => 0,
     }
 }
@@ -195,7 +212,18 @@ fn is_identifier(found: &Tokens<'_>, token: u32) -> bool {
     }
 }
 
-// Each name with the node that declares it.
+// A declaration of a function in the scope of the file.
+fn function_declared(node: u32, symbol: u32) -> Declared {
+    Declared {
+        node,
+        symbol,
+        scope: 0,
+        kind: DeclaredKind::Linked,
+        is_function: true,
+    }
+}
+
+// Each name with the node that declares it. The node 1009 is the first declaration of g, and 1010, which h stands for, another one.
 fn bound_of(alloc: Global, found: &Tokens<'_>, tree: &Tree) -> Result<Bound, Fail> {
     let mut uses = Vec::new(alloc);
     for (i, node) in tree.nodes.iter().enumerate() {
@@ -206,10 +234,11 @@ fn bound_of(alloc: Global, found: &Tokens<'_>, tree: &Tree) -> Result<Bound, Fai
             }
         }
     }
+    let names = [function_declared(1009, 5), function_declared(1010, 5)];
     Ok(Bound {
         uses,
         labels: Vec::new(alloc),
-        names: Vec::new(alloc),
+        names: names.to_vec(alloc)?,
         tags: Vec::new(alloc),
     })
 }
@@ -248,7 +277,7 @@ type Refusal = (Kind, u32);
 
 // The unit with the core nodes of a text, and a refusal where there is one.
 fn answer(alloc: Global, text: &[u8]) -> Result<(Unit, Option<Refusal>), Fail> {
-    let mut unit = unit_of_six(alloc)?;
+    let mut unit = unit_of_seven(alloc)?;
     let mut known = known_objects(alloc, &unit)?;
     let found = tokens(alloc, text)?;
     let tree = parsed(alloc, &found)?;
@@ -292,7 +321,7 @@ fn letter_of_operator(op: Op) -> u8 {
 fn letter_of(kind: &NodeKind) -> u8 {
     match kind {
         NodeKind::Named(e) => b'a' + (*e).min(25) as u8,
-        NodeKind::Number(n) => b'0' + (*n).clamp(0, 9) as u8,
+        NodeKind::Number(n) => b'0' + n.get().clamp(0, 9) as u8,
         NodeKind::Text(_) => b'T',
         NodeKind::Fetch => b'F',
         NodeKind::NullValue => b'N',
@@ -342,7 +371,7 @@ fn refusal(alloc: Global, text: &[u8]) -> Result<Option<Refusal>, Fail> {
 }
 
 // Texts with their core nodes, written by hand.
-static TREES: [(&[u8], &[Shape<'static>]); 30] = [
+static TREES: [(&[u8], &[Shape<'static>]); 37] = [
     // A size leaves nothing but its number: the operand isn't evaluated, and an array stays one (C11 6.5.3.4p2, 6.3.2.1p3).
     (b"sizeof a", &[(b'4', 1, &[])]),
     (b"sizeof e", &[(b'4', 1, &[])]),
@@ -381,6 +410,26 @@ static TREES: [(&[u8], &[Shape<'static>]); 30] = [
     ),
     // A cast of the constant 0 to a pointer is a null value (C11 6.3.2.3p3).
     (b"(void*)0", &[(b'N', 8, &[])]),
+    // Parameters in the list of a type name may have names, of functions and in parentheses too, and the type is the same (C11 6.7.6.3,
+    // 6.7.7). A pointer to a function is converted to another one (6.3.2.3p8).
+    (b"(int(*)(int b))0", &[(b'N', 16, &[])]),
+    (
+        b"(int(*)(int(*b)[2],int d(char g)))f",
+        &[(b'f', 35, &[]), (b'D', 35, &[0]), (b'C', 35, &[1])],
+    ),
+    // An enumerator is a constant of type int, also where a constant is asked for (C11 6.4.4.3, 6.6p6).
+    (b"c", &[(b'2', 1, &[])]),
+    (b"sizeof c", &[(b'4', 1, &[])]),
+    (b"sizeof(char[c])", &[(b'2', 1, &[])]),
+    (
+        b"a+c",
+        &[
+            (b'a', 1, &[]),
+            (b'2', 3, &[]),
+            (b'F', 1, &[0]),
+            (b'+', 2, &[2, 1]),
+        ],
+    ),
     // A product is made before the sum that it is part of (C11 6.5.5, 6.5.6).
     (
         b"a+b*2",
@@ -485,6 +534,18 @@ static TREES: [(&[u8], &[Shape<'static>]); 30] = [
             (b'(', 2, &[3, 4, 5]),
         ],
     ),
+    // A function without a list of parameters takes any, where no declaration of its name before may have given one (C11 6.5.2.2p6,
+    // 6.2.7p4).
+    (
+        b"g(a)",
+        &[
+            (b'f', 1, &[]),
+            (b'a', 3, &[]),
+            (b'D', 1, &[0]),
+            (b'F', 3, &[1]),
+            (b'(', 2, &[2, 3]),
+        ],
+    ),
     (
         b"f(0)",
         &[
@@ -504,10 +565,10 @@ fn trees(rt: HostRuntime) -> Result<(), Fail> {
     Ok(())
 }
 
-// Texts that are refused, with the kind and the column of the first node in the tree's order that doesn't fit (C11 6.5.2.2p1, p2,
+// Texts that are refused, with the kind and the column of the first node in the tree's order that doesn't fit (C11 6.3.2.3p1, 6.5.2.2p1, p2,
 // 6.5.2.3p1, p2, 6.5.3.2p1, p2, 6.5.3.4p1, 6.5.4p2, 6.5.5p2, 6.5.8p2, 6.5.9p2, 6.5.15p3, 6.5.16.1p1, 6.7.6.2p1, p4); and
 // what isn't built yet.
-static REFUSALS: [(&[u8], Kind, u32); 21] = [
+static REFUSALS: [(&[u8], Kind, u32); 26] = [
     (b"&1", Kind::Operand, 1),
     (b"a+sizeof *v", Kind::Operand, 10),
     (b"p*a+&2", Kind::Operand, 1),
@@ -527,7 +588,12 @@ static REFUSALS: [(&[u8], Kind, u32); 21] = [
     (b"sizeof(int[0])", Kind::Operand, 11),
     (b"sizeof(int[a])", Kind::Vla, 11),
     (b"sizeof(int()[2])", Kind::Operand, 11),
-    (b"(int(*)(int b))0", Kind::NotBuilt, 13),
+    (b"(int(*)(int b))v", Kind::Operand, 1),
+    (b"&c", Kind::Operand, 1),
+    (b"c=a", Kind::Operand, 1),
+    (b"sizeof(int(*)(int b,int d[p]))", Kind::Operand, 26),
+    (b"h(a)", Kind::NotBuilt, 1),
+    (b"sizeof(int(*)(int n,int[sizeof n]))", Kind::NotBuilt, 32),
     (b"sizeof(struct s)", Kind::NotBuilt, 8),
 ];
 

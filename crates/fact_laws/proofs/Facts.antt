@@ -28,7 +28,7 @@ use Rattle.merged_laws.specs.Merged.{TagsFit}
 use Rattle.merged_laws.proofs.Members.{stands_within}
 use Rattle.fact_laws.specs.Known.{FactsValid, NodesKnown, MembersKnown}
 use Rattle.fact_laws.proofs.Nodes.{union_member, structure_member}
-use Rattle.fact_laws.proofs.Terms.{type_is}
+use Rattle.term_types.proofs.Grown.{types_grown}
 
 some_one : {X : Type 0} → {x y : X} → ◌≡◌ {A = Option X} (Some x) (Some y) → x ≡ y
 some_one h = cc
@@ -158,7 +158,7 @@ module _ (table : Table) (made : IsMade table) (named : AreNamed table) (system 
   proper_below : (bound id : ℕ) → id < bound → IsProper (type_of table id)
   proper_below zero id lt = absurd (omega arith)
   proper_below (suc bound) id lt = elim (slice_get_cases table.terms id).1 [
-    | inl p ↦ subst IsProper (sym (type_is table id p.0 named p.2)) (by_term id p.0 p.2 (λ of less. proper_below bound of (omega arith)))
+    | inl p ↦ subst IsProper (sym (types_grown table id p.0 named p.2)) (by_term id p.0 p.2 (λ of less. proper_below bound of (omega arith)))
     | inr past ↦
         let long = grown_length [] table.terms in
         let far = past.0 in

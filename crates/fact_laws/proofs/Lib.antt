@@ -1,3 +1,2 @@
 pub mod Nodes
-mod Terms
 pub mod Facts

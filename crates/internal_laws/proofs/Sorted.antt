@@ -24,7 +24,7 @@ module _ (text : List ℕ) (tokens : List Token) (nodes : List Node) where
   all = standings tokens nodes 0 nodes
 
   -- in order, from one node on and up to another
-  pub Sorted : ℕ → List Declared → ℕ → Type 0
+  unfoldable pub Sorted : ℕ → List Declared → ℕ → Type 0
   Sorted low [] high = low ≤ high
   Sorted low (d ∷ ds) high = (h : Origin d) × (low ≤ h.node) × Sorted (suc h.node) ds high
 

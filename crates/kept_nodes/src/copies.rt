@@ -14,8 +14,8 @@ ghost use Rattle.kept_nodes.specs.Copied.{AreCopied};
 
 use core_nodes::CheckFault;
 use core_nodes::trees::push_node;
+use core_tree::held::Children;
 use core_tree::node::{Node, Unit};
-use pta_base::Listing;
 use std::alloc::{AllocError, Global};
 use std::collections::VecDeque;
 
@@ -38,14 +38,14 @@ fn renumbered(
     from: u32,
     numbers: &[u32],
     children: &[u32],
-) -> Result<Listing<u32>, AllocError>
+) -> Result<Children, AllocError>
     ensures { IfOk result (λ list. list ≡ map (spec.number_of from numbers.now) children.now) }
 {
-    let mut list = Listing::new(alloc);
+    let mut list = Vec::new(alloc);
     for child in children {
         list.push(number_of(from, numbers, *child))?;
     }
-    Ok(list)
+    Children::of(alloc, list)
 }
 
 // A copy of one node, over the copies of its children.

@@ -65,7 +65,7 @@ module _ (s : Source) (tree : Tree s) (families : Families s) (order : InOrder s
   settles = specs_settled s tree families order only_specs
 
   -- the node that declares a linked name is its outermost declarator
-  declared_at : (y : Declared) (h : HasOrigin s.text s.tokens (nodes s) y) → has_linkage y ≡ true → outermost_of s y.node ≡ Some h.node
+  pub declared_at : (y : Declared) (h : HasOrigin s.text s.tokens (nodes s) y) → has_linkage y ≡ true → outermost_of s y.node ≡ Some h.node
   declared_at y h linked = by (roles.declares s.tokens (nodes s) s.text (symbol_of s.text s.tokens) h.node h.standing.role h.leaf h.symbol h.linkage h.derivation h.type_name (_) h.mentions)
     where
       node_is : h.leaf ≡ y.node

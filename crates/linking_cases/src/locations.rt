@@ -8,9 +8,10 @@ ghost use Rattle.c_types.specs.Made.{ArePlain, IsComplete};
 use c_types::key::ObjectKey;
 use c_types::table::TypeTable;
 use c_types::term::{Form, MemberTerm, Name, OutOfMemory, PathStep, Term, TypeId, TypeList};
+use core_tree::held::{Children, HeldList, Number};
 use core_tree::{Entity, Linkage, Node, NodeKind, Program, Storage};
 use obj_space::{Space, objects};
-use pta_base::{Listing, Place, Text};
+use pta_base::{Place, Text};
 use std::alloc::Global;
 use std::process::Abort;
 use std::test::Fail;
@@ -214,7 +215,7 @@ impl Draft {
             kind,
             place,
             ty,
-            children: Listing::of(Vec::from_slice(self.alloc, children)?),
+            children: Children::of(self.alloc, Vec::from_slice(self.alloc, children)?)?,
         };
         push_to(&mut self.nodes, node)
     }
@@ -362,14 +363,14 @@ fn list_entities(draft: &mut Draft, t: Types) -> Result<(), OutOfMemory> {
 
 // Nodes of the first program: its text, its call of malloc under a conversion, and the names of the other functions.
 fn list_nodes(draft: &mut Draft, t: Types) -> Result<(), OutOfMemory> {
-    let text = Listing::of(Vec::from_slice(draft.alloc, b"one")?);
+    let text = HeldList::of(draft.alloc, Vec::from_slice(draft.alloc, b"one")?)?;
     let array = draft.array(t.character, 4)?;
     draft.node(NodeKind::Text(text), at(23, 10), array, &[])?;
     draft.node(NodeKind::FunctionName(2), at(22, 9), t.plain, &[])?;
     draft.node(NodeKind::FunctionName(1), at(24, 9), t.plain, &[])?;
     draft.node(NodeKind::FunctionName(0), at(14, 20), t.taking, &[])?;
     draft.node(NodeKind::Decay, at(14, 20), t.pointer, &[3])?;
-    draft.node(NodeKind::Number(16), at(14, 27), t.int, &[])?;
+    draft.node(NodeKind::Number(Number::of(16)), at(14, 27), t.int, &[])?;
     draft.node(NodeKind::CallNode, at(14, 26), t.pointer, &[4, 5])?;
     draft.node(NodeKind::Convert, at(14, 26), t.to_structure, &[6])
 }
@@ -480,7 +481,7 @@ fn odd_entities(draft: &mut Draft, t: Types) -> Result<(), OutOfMemory> {
 
 // Nodes of the second program: malloc's name alone, calls of strdup and malloc, and the compound literal.
 fn odd_nodes(draft: &mut Draft, t: Types) -> Result<(), OutOfMemory> {
-    let text = Listing::of(Vec::from_slice(draft.alloc, b"x")?);
+    let text = HeldList::of(draft.alloc, Vec::from_slice(draft.alloc, b"x")?)?;
     draft.node(NodeKind::FunctionName(0), at(1, 83), t.taking, &[])?;
     draft.node(NodeKind::Decay, at(1, 83), t.pointer, &[0])?;
     draft.node(NodeKind::FunctionName(1), at(3, 61), t.taking, &[])?;

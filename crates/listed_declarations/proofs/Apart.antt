@@ -19,24 +19,24 @@ use Rattle.linkage_laws.proofs.Reading.{tree_is}
 use Rattle.linkage_laws.proofs.Seen.{some_same, no_both, parent_is}
 use Rattle.listed_declarations.specs.Listed.{ListedApart}
 
-member : (k x : ℕ) (ks : List ℕ) → contains (k ∷ ks) x ≡ true → (k ≡ x) ⊎ (contains ks x ≡ true)
+pub member : (k x : ℕ) (ks : List ℕ) → contains (k ∷ ks) x ≡ true → (k ≡ x) ⊎ (contains ks x ≡ true)
 member k x ks h = by (nat_eq k x) refl h
   where
     by : (b : Bool) → nat_eq k x ≡ b → (b || contains ks x) ≡ true → (k ≡ x) ⊎ (contains ks x ≡ true)
     by true e f = inl (eqb-true k x e)
     by false e f = inr f
 
-head_in : (k : ℕ) (ks : List ℕ) → contains (k ∷ ks) k ≡ true
+pub head_in : (k : ℕ) (ks : List ℕ) → contains (k ∷ ks) k ≡ true
 head_in k ks = ap (λ (b : Bool). b || contains ks k) (eq-eqb k k refl)
 
-next_in : (k x : ℕ) (ks : List ℕ) → contains ks x ≡ true → contains (k ∷ ks) x ≡ true
+pub next_in : (k x : ℕ) (ks : List ℕ) → contains ks x ≡ true → contains (k ∷ ks) x ≡ true
 next_in k x ks h = by (nat_eq k x)
   where
     by : (b : Bool) → (b || contains ks x) ≡ true
     by true = refl
     by false = h
 
-either_list : (xs ys : List ℕ) (x : ℕ) → contains (xs ++ ys) x ≡ true → (contains xs x ≡ true) ⊎ (contains ys x ≡ true)
+pub either_list : (xs ys : List ℕ) (x : ℕ) → contains (xs ++ ys) x ≡ true → (contains xs x ≡ true) ⊎ (contains ys x ≡ true)
 either_list [] ys x h = inr h
 either_list (k ∷ xs) ys x h = by (member k x (xs ++ ys) h) (λ f. either_list xs ys x f)
   where
@@ -61,14 +61,14 @@ seen_later (x ∷ xs) (suc i) (suc m) d ds e = let (is, lt) = seen_later xs i m 
 
 module _ (s : Source) (w : World) (sense : ℕ → Sense) (d : ℕ) where
   -- the declarator that brings an object
-  record Brings (ks : List ℕ) : Type 0 where
-    at : ℕ
-    inside : contains ks at ≡ true
-    is : is_a s p_declarator at ≡ true
-    derives : List Derivation
-    named : sense at ≡ IsDeclarator (Some d) derives
+  pub record Brings (ks : List ℕ) : Type 0 where
+    pub at : ℕ
+    pub inside : contains ks at ≡ true
+    pub is : is_a s p_declarator at ≡ true
+    pub derives : List Derivation
+    pub named : sense at ≡ IsDeclarator (Some d) derives
 
-  named_by : (x : Sense) → contains (automatic_name w s sense x) d ≡ true → (ds : List Derivation) × (x ≡ IsDeclarator (Some d) ds)
+  pub named_by : (x : Sense) → contains (automatic_name w s sense x) d ≡ true → (ds : List Derivation) × (x ≡ IsDeclarator (Some d) ds)
   named_by (IsDeclarator (Some l) ds) h = by (is_automatic_object w s sense l) h
     where
       by : (b : Bool) → contains (if b then l ∷ [] else []) d ≡ true → (es : List Derivation) × (IsDeclarator (Some l) ds ≡ IsDeclarator (Some d) es)
@@ -83,7 +83,7 @@ module _ (s : Source) (w : World) (sense : ℕ → Sense) (d : ℕ) where
   more_brings : (k : ℕ) (ks : List ℕ) → Brings ks → Brings (k ∷ ks)
   more_brings k ks b = record { at = b.at; inside = next_in k b.at ks b.inside; is = b.is; derives = b.derives; named = b.named }
 
-  among : (ks : List ℕ) → contains (objects_among w s sense ks) d ≡ true → Brings ks
+  pub among : (ks : List ℕ) → contains (objects_among w s sense ks) d ≡ true → Brings ks
   among [] h = cc
   among (c ∷ rest) h = by (is_a s p_declarator c) refl h (λ f. more_brings c rest (among rest f))
     where
@@ -96,13 +96,13 @@ module _ (s : Source) (w : World) (sense : ℕ → Sense) (d : ℕ) where
       by true e f later = pick e (either_list (automatic_name w s sense (sense c)) (objects_among w s sense rest) d f) later
       by false e f later = later f
 
-  record InRest (ks : List ℕ) : Type 0 where
-    rest : ℕ
-    inside : contains ks rest ≡ true
-    is : is_a s p_rest rest ≡ true
-    brings : Brings (children_at s rest)
+  pub record InRest (ks : List ℕ) : Type 0 where
+    pub rest : ℕ
+    pub inside : contains ks rest ≡ true
+    pub is : is_a s p_rest rest ≡ true
+    pub brings : Brings (children_at s rest)
 
-  in_rests : (ks : List ℕ) → contains (objects_in_rest w s sense ks) d ≡ true → InRest ks
+  pub in_rests : (ks : List ℕ) → contains (objects_in_rest w s sense ks) d ≡ true → InRest ks
   in_rests [] h = cc
   in_rests (c ∷ ks) h = by (is_a s p_rest c) refl h (λ f. more (in_rests ks f))
     where
@@ -138,10 +138,10 @@ module _ (s : Source) (senses : List Sense) (are : AreSenses s senses) (grown : 
       ap (λ (b : Bool). ((b || is_a s p_abstract c) || is_a s p_either c) && elim (parent_of s c) as (λ _. Bool) [ None ↦ true | Some p ↦ not (is_declarator s p) ]) is
       ∙ (ap (λ (o : Option ℕ). elim o as (λ _. Bool) [ None ↦ true | Some p ↦ not (is_declarator s p) ]) (parent_is s grown r c child) ∙ ap not off)
 
-  of_number : (p n : ℕ) → is_a s n p ≡ true → ((nat_eq n 19 || nat_eq n 20) || nat_eq n 21) ≡ false → is_declarator s p ≡ false
+  pub of_number : (p n : ℕ) → is_a s n p ≡ true → ((nat_eq n 19 || nat_eq n 20) || nat_eq n 21) ≡ false → is_declarator s p ≡ false
   of_number p n e off = ap (λ (q : ℕ). (nat_eq q 19 || nat_eq q 20) || nat_eq q 21) (eqb-true (production_at s p) n e) ∙ off
 
-  known : (i d r c : ℕ) (ds : List Derivation) → contains (children_at s r) c ≡ true → is_a s p_declarator c ≡ true → is_declarator s r ≡ false → sense_in (take i senses) c ≡ IsDeclarator (Some d) ds → outermost_of s d ≡ Some c
+  pub known : (i d r c : ℕ) (ds : List Derivation) → contains (children_at s r) c ≡ true → is_a s p_declarator c ≡ true → is_declarator s r ≡ false → sense_in (take i senses) c ≡ IsDeclarator (Some d) ds → outermost_of s d ≡ Some c
   known i d r c ds child is off named =
       let (later, lt) = seen_later senses i c d ds named in
       (leaves_declared.by_sense s senses are grown brought c d ds lt (is_outer r c child is off) later).outermost

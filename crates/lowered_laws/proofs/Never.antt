@@ -1,41 +1,136 @@
--- A unit that is made of parts is built, and valid where what is open holds.
-use Rattle.std.proofs.Common.{ℕ, List, refl}
+-- The parts of a walk are named whole, the unit that is made of them is built, and so it is valid.
+use Rattle.std.proofs.Common.{◌≡◌, ℕ, List, length, refl, sym, subst}
+use Rattle.c_lexer.specs.declared.Tokens.{Tokens}
+use Rattle.c_lexer.specs.Cut.{IsTokens}
+use Rattle.c_grammar.specs.declared.trees.Tree.{Tree}
+use Rattle.c_units.specs.Units.{IsUnit}
 use Rattle.core_tree.specs.declared.node.Unit.{Unit}
 use Rattle.c_senses.specs.Tree.{Source}
 use Rattle.c_senses.specs.Names.{source_of, numbered}
-use Rattle.unit_finish.specs.Complete.{IsMadeOf}
-use Rattle.built_parts.specs.Parts.{IsPut}
+use Rattle.c_senses.specs.Rows.{AreSenses}
+use Rattle.c_senses.specs.Right.{InitialisesOnce}
+use Rattle.c_senses.specs.Sense.{Sense}
+use Rattle.parsed_laws.proofs.InOrder.{children_first}
+use Rattle.statement_laws.proofs.Grammar.{statements_parsed}
+use Rattle.family_laws.proofs.Reading.{units_families}
+use Rattle.nesting_laws.proofs.Nesting.{units_nest}
+use Rattle.standing_laws.specs.Standing.{IsGrown}
+use Rattle.grown_parts.proofs.Reading.{units_bring}
+use Rattle.name_order.proofs.Ordered.{units_ordered}
+use Rattle.own_initialisers.proofs.Standing.{initialisers_stand}
+use Rattle.initialised_rows.proofs.Owning.{linked_fit}
+use Rattle.internal_names.proofs.Reading.{internals_fit}
+use Rattle.placed_laws.proofs.Climbing.{Grown}
+use Rattle.text_rows.specs.Texts.{TypesFit}
+use Rattle.text_rows.proofs.Linked.{types_fit, tree_grown}
+use Rattle.tag_sizes.specs.Sizes.{TagsSpecified}
+use Rattle.specified_types.proofs.Specified.{types_specified}
+use Rattle.unit_finish.specs.Complete.{IsNamedWhole, IsMadeOf}
+use Rattle.built_parts.specs.Parts.{ArePut, IsPut}
 use Rattle.built_parts.proofs.Building.{parts_built}
 use Rattle.built_valid.proofs.Whole.{built_is_valid}
-use Rattle.c_lower.specs.Lowered.{AreParts, declared_in, NoneCompletes}
-use Rattle.lowered_laws.specs.Open.{AllHolds, OpenAlone}
+use Rattle.parts_named.specs.Named.{AreParts as AreNamedParts}
+use Rattle.parts_named.proofs.Known.{parts_known}
+use Rattle.known_initials.proofs.Whole.{initials_known}
+use Rattle.raised_parts.proofs.Whole.{parts_once}
+use Rattle.unit_lowering.specs.Lowered.{AreParts, declared_in, NoneCompletes}
+use Rattle.lowered_laws.specs.Open.{NamesDeclared, OpenAlone}
 
-put_of : (s : Source) (name : List ℕ) (n : NoneCompletes s name) → AllHolds s name n → (u : Unit)
-    → IsMadeOf name s.unit n.parts.walked.types n.parts.keys n.none.planted.nodes.items n.none.planted.list.items u → IsPut s name u
-put_of s name n all u made =
-    let p : AreParts s = n.parts in
-    record {
+module _ (tokens : Tokens) (unit : ℕ) (tree : Tree) (tag_number : ℕ → ℕ) (cut : IsTokens tokens.text.now tokens.list.items) (is : IsUnit tokens unit tree) where
+  abbrev s : Source
+  s = numbered tag_number (source_of tokens tree)
+
+  fit : (senses : List Sense) → AreSenses s senses → length senses ≡ length s.nodes → TypesFit s senses
+  fit senses are whole =
+      let grown : IsGrown s = record {
+        first = children_first tokens unit tree tag_number is;
+        families = units_families tokens unit tree tag_number cut is;
+        statements = statements_parsed tokens unit tree tag_number is;
+        nested = units_nest tokens unit tree tag_number is;
+      } in
+      let at : Grown s = tree_grown tokens unit tree tag_number is in
+      let bring = units_bring tokens unit tree tag_number is in
+      let linked = linked_fit s senses are grown at bring (initialisers_stand tokens unit tree tag_number cut is) (internals_fit tokens unit tree tag_number senses cut is are whole) in
+      types_fit s senses are grown at bring (units_ordered tokens unit tree tag_number cut is) linked
+
+  -- the parts as they are named, and as a unit is put together of them
+  module _ (name : List ℕ) (n : NoneCompletes s name) (all : NamesDeclared s n.parts.senses) where
+    abbrev p : AreParts s
+    p = n.parts
+
+    abbrev named : AreNamedParts s
+    named = record {
       senses = p.senses;
       walked = p.walked;
       keys = p.keys;
+      listed = p.owned.0;
       names = p.names;
       kept = p.kept;
-      list = declared_in s p;
+      planted = n.none.planted;
       ready = p.ready;
       made = p.made;
+      owned = p.owned.1;
       stay = p.stay;
-      declared = refl;
-      planted = n.none.planted;
       are_planted = n.none.are_planted;
-      names_whole = all.names_whole;
-      is_made = made;
-      initialises_once = all.initialises_once u made;
     }
+
+    whole : IsNamedWhole n.none.planted.nodes.items n.none.planted.list.items
+    whole = parts_known tokens unit tree tag_number cut is named (record {
+      unlinked = all;
+      initials = λ c d paths inside kind off. initials_known tokens unit tree tag_number p.senses cut is p.made.are_senses p.made.whole c d paths inside kind;
+    })
+
+    module _ (u : Unit) (made : IsMadeOf name s.unit p.walked.types p.keys n.none.planted.nodes.items n.none.planted.list.items u) where
+      abbrev put : ArePut s name u
+      put = record {
+        senses = p.senses;
+        walked = p.walked;
+        keys = p.keys;
+        names = p.names;
+        kept = p.kept;
+        list = declared_in s p;
+        ready = p.ready;
+        made = p.made;
+        stay = p.stay;
+        declared = refl;
+        planted = n.none.planted;
+        are_planted = n.none.are_planted;
+        names_whole = whole;
+        is_made = made;
+      }
+
+      once : InitialisesOnce u
+      once =
+          parts_once tokens unit tree tag_number name u cut is put p.owned.0 p.owned.1 (fit p.senses p.made.are_senses p.made.whole)
+
+      whole_put : IsPut s name u
+      whole_put = record {
+        senses = p.senses;
+        walked = p.walked;
+        keys = p.keys;
+        names = p.names;
+        kept = p.kept;
+        list = declared_in s p;
+        ready = p.ready;
+        made = p.made;
+        stay = p.stay;
+        declared = refl;
+        planted = n.none.planted;
+        are_planted = n.none.are_planted;
+        names_whole = whole;
+        is_made = made;
+        initialises_once = once;
+      }
+
+      specified : TagsSpecified s u.types
+      specified = subst (TagsSpecified s) (sym made.types_are) (types_specified s p.walked.types p.tag_types p.table p.terms p.made.tags.no_other)
 
 pub open_alone : OpenAlone
 open_alone tokens unit tree tag_number name bound cut is bind n all =
-    let s : Source = numbered tag_number (source_of tokens tree) in
-    let made = n.none.none.made all.names_whole in
-    let built = parts_built s name made.0 (put_of s name n all made.0 made.1) in
-    let valid = built_is_valid tokens unit tree tag_number name made.0 bound cut is bind built (all.rest made.0 built) in
-    n.none.none.none made.0 (record { made = made.1; names_whole = all.names_whole; initialises_once = all.initialises_once made.0 made.1; valid = valid })
+    let whole_names = whole tokens unit tree tag_number cut is name n all in
+    let made = n.none.none.made whole_names in
+    let u : Unit = made.0 in
+    let once_each = once tokens unit tree tag_number cut is name n all u made.1 in
+    let built = parts_built (numbered tag_number (source_of tokens tree)) name u (whole_put tokens unit tree tag_number cut is name n all u made.1) in
+    let valid = built_is_valid tokens unit tree tag_number name u bound cut is bind built (specified tokens unit tree tag_number cut is name n all u made.1) in
+    n.none.none.none u (record { made = made.1; names_whole = whole_names; initialises_once = once_each; valid = valid })

@@ -349,6 +349,9 @@ void*a[2];void*a[]={a,a};
 a#6 ES [2]*v used 21
 a#16 ES [2]*v = init a#16([0]=conv:*v(decay(a#6:[2]*v)) [1]=conv:*v(decay(a#6:[2]*v)))
 
+void*b[]={b,b};
+b#6 ES [2]*v used 11 = init b([0]=conv:*v(decay(b:[]*v)) [1]=conv:*v(decay(b:[]*v)))
+
 typedef int T;typedef int T;T x;void f(void){typedef char T;T y;}
 x#31 ES i
 f#38 EF ()v = block[y]

@@ -150,7 +150,7 @@ fn write_value(shown: Shown<'_>, out: &mut String, kind: &NodeKind) -> Result<()
         }
         NodeKind::Deref => out.push_str("deref")?,
         NodeKind::Member(member) => write_member(alloc, out, ".", *member)?,
-        NodeKind::Number(number) => write_integer(alloc, out, *number)?,
+        NodeKind::Number(number) => write_integer(alloc, out, number.get())?,
         NodeKind::NullValue => out.push_str("null")?,
         NodeKind::Fetch => out.push_str("get")?,
         NodeKind::AddressOf => out.push_str("addr")?,
@@ -204,7 +204,7 @@ fn write_statement(shown: Shown<'_>, out: &mut String, kind: &NodeKind) -> Resul
         NodeKind::Switch => out.push_str("switch")?,
         NodeKind::Case(value) => {
             out.push_str("case ")?;
-            write_integer(shown.alloc, out, *value)?;
+            write_integer(shown.alloc, out, value.get())?;
         }
         NodeKind::Default => out.push_str("default")?,
         NodeKind::Label(name) => {

@@ -12,6 +12,7 @@ use Rattle.named_units.specs.Named.{HaveNames}
 use Rattle.named_units.specs.Named as own
 use Rattle.named_units.proofs.Reading.{units_named, tags_known}
 use Rattle.right_nodes.proofs.Whole.{right_nodes_once}
+use Rattle.owned_locals.proofs.Reading.{right_owned}
 use Rattle.named_rest.specs.Rest.{NamedWithRest}
 
 narrow : (place : Place) → own.IsNarrow place → IsNarrow place
@@ -31,7 +32,7 @@ text_is (Text bytes) h = (bytes, refl)
 text_is kind h = absurd h
 
 pub named_whole : NamedWithRest
-named_whole tokens unit tree tag_number name u cut read right bytes made named rest =
+named_whole tokens unit tree tag_number name u cut read right bytes made named =
     let h = units_named tokens unit tree tag_number name u cut read right bytes in
     let told = right_nodes_once tokens unit tree tag_number name u cut read right in
     record {
@@ -39,7 +40,7 @@ named_whole tokens unit tree tag_number name u cut read right bytes made named r
       entities = record {
         letters = h.entities.letters;
         place = λ e y at. narrow y.place (h.entities.place e y at);
-        owned = rest.owned;
+        owned = right_owned tokens unit tree tag_number name u cut read right;
         internal = h.entities.internal;
         local = λ e f y z p q same. h.entities.local e f y z (local_of u e y p) (local_of u f z q) (one_place y.place z.place same);
         literal = λ e f y z p q a b same. h.entities.literal e f y z p q a b (one_place y.place z.place same);

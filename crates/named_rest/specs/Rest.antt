@@ -1,4 +1,4 @@
--- What is left to be told apart of the parts of a parsed unit.
+-- The parts of a parsed unit are told apart.
 use Rattle.std.specs.Prelude.{ℕ, List}
 use Rattle.c_lexer.specs.declared.Tokens.{Tokens}
 use Rattle.c_lexer.specs.Cut.{IsTokens}
@@ -6,18 +6,13 @@ use Rattle.c_grammar.specs.declared.trees.Tree.{Tree}
 use Rattle.c_units.specs.Units.{IsUnit}
 use Rattle.c_types.specs.Made.{IsMade, AreNamed}
 use Rattle.core_tree.specs.declared.node.Unit.{Unit}
-use Rattle.core_tree.specs.declared.node.Entity.{Entity}
 use Rattle.name_shapes.specs.Bytes.{is_unit_byte, IsMadeOf}
-use Rattle.named_laws.specs.Units.{IsLocalOf, HasFunction, IsNamedUnit}
+use Rattle.named_laws.specs.Units.{IsNamedUnit}
 use Rattle.c_senses.specs.Names.{source_of, numbered}
 use Rattle.c_senses.specs.Right.{Right}
 
--- locals stand in functions that the unit defines
-pub record HasRest (x : Unit) : Type 0 where
-  pub owned : (e : ℕ) (y : Entity) → IsLocalOf x e y → HasFunction x y
-
--- with it, the parts of what is right for a parsed unit, over a table that was made, are told apart
+-- the parts of what is right for a parsed unit, over a table that was made, are told apart
 abbrev pub NamedWithRest : Type 0
 NamedWithRest =
     (tokens : Tokens) (unit : ℕ) (tree : Tree) (tag_number : ℕ → ℕ) (name : List ℕ) (u : Unit) → IsTokens tokens.text.now tokens.list.items → IsUnit tokens unit tree → Right (numbered tag_number (source_of tokens tree)) name u → IsMadeOf is_unit_byte name
-    → IsMade u.types → AreNamed u.types → HasRest u → IsNamedUnit u
+    → IsMade u.types → AreNamed u.types → IsNamedUnit u

@@ -6,7 +6,7 @@ use Rattle.c_lexer.specs.declared.Tokens.{Tokens}
 use Rattle.c_lexer.specs.Cut.{IsTokens}
 use Rattle.c_types.specs.Trees.{Ctype}
 use Rattle.c_grammar.specs.declared.trees.Tree.{Tree as SyntaxTree}
-use Rattle.c_grammar.specs.Productions.{p_external, p_block}
+use Rattle.c_grammar.specs.Productions.{p_external, p_rest, p_init, p_block}
 use Rattle.c_grammar.specs.Words.{word_extern}
 use Rattle.c_units.specs.Units.{IsUnit}
 use Rattle.core_tree.specs.declared.node.Node.{Node}
@@ -26,9 +26,9 @@ use Rattle.c_senses.specs.Tree.{Source, is_a, is_name, child_of, parent_of, abov
 use Rattle.c_senses.specs.Names.{source_of, numbered}
 use Rattle.c_senses.specs.World.{same_length}
 use Rattle.c_senses.specs.Declarators.{is_outermost, outermost_of}
-use Rattle.c_senses.specs.Entities.{declaration_of, is_defined, is_parameter, declares_function, has_storage, is_static_object, storage_of, linkage_of, entity_of, initialiser_of, initialiser_for, keep, first_of}
+use Rattle.c_senses.specs.Entities.{declaration_of, is_defined, is_parameter, declares_function, has_storage, is_static_object, storage_of, linkage_of, entity_of, initialiser_of, initialiser_for, keep, first_of, is_internal, is_linked}
 use Rattle.c_senses.specs.Sense.{Sense, IsDeclarator, Derivation, sense_in}
-use Rattle.c_senses.specs.Right.{Numbering, Declared as Declares, IsDeclaredAt, StandsBy, SameKind, SameBody, declares_entity, declared_as, entity_type, is_declaring, stands_in_declaration, representative, core_of_sense, body_at, block_for, storage_at, of_internal, is_tentative, is_definition_at}
+use Rattle.c_senses.specs.Right.{Numbering, Declared as Declares, IsDeclaredAt, IsEntityOf, StandsBy, SameKind, SameBody, declares_entity, declared_as, declared_name, entity_type, is_declaring, stands_in_declaration, representative, core_of_sense, body_at, block_for, storage_at, of_internal, is_tentative, is_definition_at}
 use Rattle.built_units.specs.Built.{IsBuilt}
 use Rattle.initialiser_laws.proofs.Found.{initialisers_found}
 use Rattle.initial_entities.specs.Own.{IsOwnInitial}
@@ -41,6 +41,8 @@ use Rattle.function_definitions.specs.Defined.{Defines}
 use Rattle.function_definitions.proofs.Reading.{definitions_declare}
 use Rattle.function_bodies.proofs.Reading.{parts_of, declarators_of}
 use Rattle.function_bodies.proofs.Standing.{named_by}
+use Rattle.representative_names.specs.Representatives.{IsKnown}
+use Rattle.representative_names.proofs.Standing.{representatives_known}
 use Rattle.object_bodies.specs.Objects.{IsPlaced, InitialisersPlaced, NamedInitialises, NamedObjectsInitialise}
 
 left : (a b : Bool) → (a && b) ≡ true → a ≡ true
@@ -125,51 +127,112 @@ module _ (tokens : Tokens) (unit : ℕ) (tree : SyntaxTree) (tag_number : ℕ �
       sym (ap (λ (x : Option ℕ). elim x as (λ _. Bool) [ None ↦ false | Some y ↦ elim (f y) as (λ _. Bool) [ IsDeclarator n xs ↦ same_length n (Some d) | _ ↦ false ] ]) outer) ∙ right (is_name s d) _ declares in
       eqb-true leaf d (sym (ap (λ (x : Sense). elim x as (λ _. Bool) [ IsDeclarator n xs ↦ same_length n (Some d) | _ ↦ false ]) named) ∙ told)
 
-  body_of : (d e k : ℕ) → is_declaring s b.senses d ≡ true → entity_of s f d ≡ d → b.numbering d ≡ Some e → is_defined s f d ≡ false → SameBody b.numbering u (body_at s b.senses d) (Some k) → Initialises (trees_of u) k e
-  body_of d e k declares own number plain same =
-      let first : SameBody b.numbering u (option_and_then (λ x. core_of_sense s b.senses (f x)) (initialiser_for s f d)) (Some k) =
-      subst (λ (z : Option Core). SameBody b.numbering u z (Some k)) (ap (λ (z : Bool). if z then option_and_then (λ x. core_of_sense s b.senses (f x)) (block_for s b.senses d) else option_and_then (λ x. core_of_sense s b.senses (f x)) (initialiser_for s f d)) plain) same in
-      by (initialiser_for s f d) refl first
+  -- how the body of an object stands: by an initialiser of the entity of that leaf
+  pub record OwnBody (d k : ℕ) : Type 0 where
+    pub init : ℕ
+    pub above : ℕ
+    pub starts : is_a s p_init init ≡ true
+    pub parent : parent_of s init ≡ Some above
+    pub rest : is_a s p_rest above ≡ true
+    pub own : IsOwnInitial s b.senses init
+    pub entity : entity_of s f own.leaf ≡ d
+    pub stands : StandsBy b.numbering u k own.core
+
+  -- of a declaration of the entity of d that has an initialiser
+  body_of : (r d k : ℕ) → is_declaring s b.senses r ≡ true → entity_of s f r ≡ d → is_defined s f r ≡ false → SameBody b.numbering u (body_at s b.senses r) (Some k) → OwnBody d k
+  body_of r d k declares own plain same =
+      let first : SameBody b.numbering u (option_and_then (λ x. core_of_sense s b.senses (f x)) (initialiser_for s f r)) (Some k) =
+      subst (λ (z : Option Core). SameBody b.numbering u z (Some k)) (ap (λ (z : Bool). if z then option_and_then (λ x. core_of_sense s b.senses (f x)) (block_for s b.senses r) else option_and_then (λ x. core_of_sense s b.senses (f x)) (initialiser_for s f r)) plain) same in
+      by (initialiser_for s f r) refl first
     where
-      by : (o : Option ℕ) → initialiser_for s f d ≡ o → SameBody b.numbering u (option_and_then (λ x. core_of_sense s b.senses (f x)) o) (Some k) → Initialises (trees_of u) k e
+      by : (o : Option ℕ) → initialiser_for s f r ≡ o → SameBody b.numbering u (option_and_then (λ x. core_of_sense s b.senses (f x)) o) (Some k) → OwnBody d k
       by None at h = absurd h
       by (Some init) at h =
-          let outer = and_then_some (outermost_of s d) (initialiser_of s f) init at in
-          let place : IsPlaced s outer.0 init = placed outer.0 init (found_above s (is_outermost s) (length s.nodes) outer.0 (parent_of s d) outer.1) outer.2 in
-          let r : IsOwnInitial s b.senses init = initialisers_own tokens unit tree tag_number b.senses cut is b.are_senses b.whole init place.above place.initialiser place.parent place.rest in
+          let outer = and_then_some (outermost_of s r) (initialiser_of s f) init at in
+          let place : IsPlaced s outer.0 init = placed outer.0 init (found_above s (is_outermost s) (length s.nodes) outer.0 (parent_of s r) outer.1) outer.2 in
+          let i : IsOwnInitial s b.senses init = initialisers_own tokens unit tree tag_number b.senses cut is b.are_senses b.whole init place.above place.initialiser place.parent place.rest in
           let found = initialisers_found tokens unit tree tag_number cut is f outer.0 init place.declarator outer.2 in
-          let one : r.declarator ≡ outer.0 = some_same (sym r.by_it ∙ found) in
-          let leaf : r.leaf ≡ d = same_leaf d outer.0 r.leaf r.derives declares outer.1 (ap f (sym one) ∙ r.named) in
-          let stands : StandsBy b.numbering u k r.core = subst (λ (x : Sense). SameBody b.numbering u (core_of_sense s b.senses x) (Some k)) r.is h in
-          initialises b.numbering u k d e r.paths r.core stands (r.kind ∙ ap (λ (x : ℕ). Initialise x r.paths) (ap (entity_of s f) leaf ∙ own)) number
+          let one : i.declarator ≡ outer.0 = some_same (sym i.by_it ∙ found) in
+          let leaf : i.leaf ≡ r = same_leaf r outer.0 i.leaf i.derives declares outer.1 (ap f (sym one) ∙ i.named) in
+          record {
+            init = init;
+            above = place.above;
+            starts = place.initialiser;
+            parent = place.parent;
+            rest = place.rest;
+            own = i;
+            entity = ap (entity_of s f) leaf ∙ own;
+            stands = subst (λ (x : Sense). SameBody b.numbering u (core_of_sense s b.senses x) (Some k)) i.is h;
+          }
+
+  -- the declaration that stands for a name declares its entity, and is stored as a function only where the entity is
+  record IsStood (d : ℕ) : Type 0 where
+    declares : is_declaring s b.senses (representative s b.senses d) ≡ true
+    entity : entity_of s f (representative s b.senses d) ≡ d
+    stored : storage_of s f (representative s b.senses d) ≡ FunctionBody → storage_at s b.senses d ≡ FunctionBody
+
+  abbrev linkage : ℕ → Bool → Linkage
+  linkage d x = if x then Internal else (if is_linked s f d then External else Local)
+
+  abbrev shown : ℕ → Storage → Storage
+  shown d x = elim x as (λ _. Storage) [ Declared ↦ if declares_function s f d then Declared else Static | other ↦ other ]
+
+  abbrev standing : ℕ → ℕ
+  standing d = representative s b.senses d
+
+  stood : (d : ℕ) → is_declaring s b.senses d ≡ true → entity_of s f d ≡ d → IsStood d
+  stood d declares own = by (is_internal s f d) refl
+    where
+      no_linkage : (x : Bool) → (if x then External else Local) ≢ Internal
+      no_linkage true e = cc
+      no_linkage false e = cc
+
+      by : (x : Bool) → is_internal s f d ≡ x → IsStood d
+      by true e =
+          let known : IsKnown s b.senses d = representatives_known tokens unit tree tag_number b.senses cut is b.are_senses b.whole d e in
+          record { declares = known.declares; entity = known.entity ∙ own; stored = λ h. ap (λ (x : Linkage). elim x as (λ _. Storage) [ Internal ↦ shown d (storage_of s f (standing d)) | _ ↦ storage_of s f d ]) (ap (linkage d) e) ∙ ap (shown d) h }
+      by false e =
+          let other : linkage_of s f d ≢ Internal = λ same. no_linkage (is_linked s f d) (sym (ap (linkage d) e) ∙ same) in
+          let itself : standing d ≡ d = plain_representative d (linkage_of s f d) refl other in
+          record {
+            declares = subst (λ (k : ℕ). is_declaring s b.senses k ≡ true) (sym itself) declares;
+            entity = ap (entity_of s f) itself ∙ own;
+            stored = λ h. plain_storage d (linkage_of s f d) refl other ∙ (ap (storage_of s f) (sym itself) ∙ h);
+          }
+
+  -- so the body of what a name declares as an object
+  pub named_body : (d : ℕ) (what : Declares) (entity : Entity) → declared_name s b.senses d ≡ Some what → IsEntityOf b.numbering u s.unit what entity → entity.storage ≢ FunctionBody → (k : ℕ) → entity.body ≡ Some k → OwnBody d k
+  named_body d what entity told is_one object k body = by (declares_entity s b.senses d) refl (entity_type s b.senses d) told
+    where
+      cases : (x : Bool) → is_defined s f (standing d) ≡ x → IsStood d → storage_at s b.senses d ≡ entity.storage → SameBody b.numbering u (body_at s b.senses (standing d)) (Some k) → OwnBody d k
+      cases true defined at storage same = absurd (object (sym storage ∙ at.stored (defined_stored (standing d) at.declares defined)))
+      cases false plain at storage same = body_of (standing d) d k at.declares at.entity plain same
+
+      by : (x : Bool) → declares_entity s b.senses d ≡ x → (o : Option Ctype) → (if x then option_map (declared_as s b.senses d) o else None) ≡ Some what → OwnBody d k
+      by false g o h = absurd (none_some h)
+      by true g None h = absurd (none_some h)
+      by true g (Some t) h =
+          let same : declared_as s b.senses d t ≡ what = some_same h in
+          let declares = left (is_declaring s b.senses d) _ g in
+          let own : entity_of s f d ≡ d = eqb-true (entity_of s f d) d (right _ _ (right (stands_in_declaration s b.senses d) _ (right (is_declaring s b.senses d) _ g))) in
+          let storage : storage_at s b.senses d ≡ entity.storage = ap (λ (x : Declares). x.storage) same ∙ sym is_one.storage in
+          let bodied : SameBody b.numbering u (body_at s b.senses (standing d)) (Some k) =
+          subst (λ (z : Option Core). SameBody b.numbering u z (Some k)) (ap (λ (x : Declares). x.body) (sym same)) (subst (λ (z : Option ℕ). SameBody b.numbering u what.body z) body is_one.body) in
+          cases (is_defined s f (standing d)) refl (stood d declares own) storage bodied
+
+  -- and it is its own Initialise
+  pub body_initialises : (d e k : ℕ) → b.numbering d ≡ Some e → OwnBody d k → Initialises (trees_of u) k e
+  body_initialises d e k number body = initialises b.numbering u k d e body.own.paths body.own.core body.stands (body.own.kind ∙ ap (λ (x : ℕ). Initialise x body.own.paths) body.entity) number
 
   fits : (e : ℕ) (entity : Entity) → slice_get u.entities.items e ≡ Some entity → NamedInitialises (trees_of u) e entity
-  fits e entity at stored internal named k body = pick (made s name u b e entity at)
+  fits e entity at stored named k body = pick (made s name u b e entity at)
     where
       pick : Made s name u b e entity → Initialises (trees_of u) k e
       pick m = which m.declared
         where
           which : IsDeclaredAt s b.senses m.leaf m.what → Initialises (trees_of u) k e
           which (inr (c, literal, same)) = absurd (named (m.is.name ∙ ap (λ (x : Declares). x.name) same))
-          which (inl told) = by (declares_entity s b.senses m.leaf) refl (entity_type s b.senses m.leaf) told
-            where
-              by : (a : Bool) → declares_entity s b.senses m.leaf ≡ a → (o : Option Ctype) → (if a then option_map (declared_as s b.senses m.leaf) o else None) ≡ Some m.what → Initialises (trees_of u) k e
-              by false g o h = absurd (none_some h)
-              by true g None h = absurd (none_some h)
-              by true g (Some t) h =
-                  let same : declared_as s b.senses m.leaf t ≡ m.what = some_same h in
-                  let linkage : linkage_of s f m.leaf ≡ entity.linkage = ap (λ (x : Declares). x.linkage) same ∙ sym m.is.linkage in
-                  let storage : storage_of s f m.leaf ≡ entity.storage = sym (plain_storage m.leaf entity.linkage linkage internal) ∙ (ap (λ (x : Declares). x.storage) same ∙ sym m.is.storage) in
-                  let declares = left (is_declaring s b.senses m.leaf) _ g in
-                  let own : entity_of s f m.leaf ≡ m.leaf = eqb-true (entity_of s f m.leaf) m.leaf (right _ _ (right (stands_in_declaration s b.senses m.leaf) _ (right (is_declaring s b.senses m.leaf) _ g))) in
-                  let bodied : SameBody b.numbering u (body_at s b.senses m.leaf) (Some k) =
-                  subst (λ (z : Option Core). SameBody b.numbering u z (Some k)) (ap (λ (x : Declares). x.body) (sym same) ∙ ap (body_at s b.senses) (plain_representative m.leaf entity.linkage linkage internal))
-                  (subst (λ (z : Option ℕ). SameBody b.numbering u m.what.body z) body m.is.body) in
-                  cases (is_defined s f m.leaf) refl declares own bodied storage
-                where
-                  cases : (d : Bool) → is_defined s f m.leaf ≡ d → is_declaring s b.senses m.leaf ≡ true → entity_of s f m.leaf ≡ m.leaf → SameBody b.numbering u (body_at s b.senses m.leaf) (Some k) → storage_of s f m.leaf ≡ entity.storage → Initialises (trees_of u) k e
-                  cases true d declares own bodied storage = absurd (stored (sym storage ∙ defined_stored m.leaf declares d))
-                  cases false d declares own bodied storage = body_of m.leaf e k declares own m.number d bodied
+          which (inl told) = body_initialises m.leaf e k m.number (named_body m.leaf m.what entity told m.is stored k body)
 
 pub named_objects_initialise : NamedObjectsInitialise
 named_objects_initialise tokens unit tree tag_number name u cut is b placed e entity at = fits tokens unit tree tag_number name u cut is b placed e entity at

@@ -7,7 +7,6 @@ use Rattle.c_grammar.specs.Productions.{p_rest, p_declarator, p_init}
 use Rattle.c_units.specs.Units.{IsUnit}
 use Rattle.core_tree.specs.declared.node.Entity.{Entity}
 use Rattle.core_tree.specs.declared.node.Unit.{Unit}
-use Rattle.core_tree.specs.declared.node.Linkage.TheVariants.{Internal}
 use Rattle.core_tree.specs.declared.node.Storage.TheVariants.{FunctionBody}
 use Rattle.core_tree.specs.Typed.{CoreTrees, trees_of}
 use Rattle.core_tree.specs.Range.{EachEntity}
@@ -30,9 +29,9 @@ pub record IsPlaced (s : Source) (o init : ℕ) : Type 0 where
 abbrev pub InitialisersPlaced : Source → List Sense → Type 0
 InitialisersPlaced s senses = (o init : ℕ) → is_outermost s o ≡ true → initialiser_of s (sense_in senses) o ≡ Some init → IsPlaced s o init
 
--- the body of a name that isn't internal is a function's or its own Initialise
+-- the body of a name is a function's or its own Initialise
 abbrev pub NamedInitialises : CoreTrees → ℕ → Entity → Type 0
-NamedInitialises u e entity = entity.storage ≢ FunctionBody → entity.linkage ≢ Internal → entity.name ≢ [] → (b : ℕ) → entity.body ≡ Some b → Initialises u b e
+NamedInitialises u e entity = entity.storage ≢ FunctionBody → entity.name ≢ [] → (b : ℕ) → entity.body ≡ Some b → Initialises u b e
 
 abbrev pub NamedObjectsInitialise : Type 0
 NamedObjectsInitialise =

@@ -82,7 +82,7 @@ module _ (s : Source) (d : ℕ) (name : is_name s d ≡ true) where
   no_sign Identifier h k = refl
   no_sign x h k = cc
 
-  opening_differs : (p : ℕ) → (is_a s p_cast p || is_a s p_unary p) ≡ true →
+  pub opening_differs : (p : ℕ) → (is_a s p_cast p || is_a s p_unary p) ≡ true →
       (nat_eq (elim (first_where (has_sign s sign_left_parenthesis) (children_at s p)) as (λ _. ℕ) [ None ↦ p | Some l ↦ l ]) d) ≡ false
   opening_differs p h = by (first_where (has_sign s sign_left_parenthesis) (children_at s p)) refl
     where
@@ -132,7 +132,7 @@ module _ (s : Source) (sense : ℕ → Sense) (d : ℕ) (linked : is_linked s se
   not_internal : (l : ℕ) → l ≡ d → is_internal s sense l ≡ true → ⊥
   not_internal l same h = no_both (is_linked s sense d) (subst (λ (x : ℕ). is_linked s sense x ≡ true) same (and_parts (is_linked s sense l) _ h).0) linked
 
-  own_name : (l : ℕ) → entity_of s sense l ≡ d → l ≡ d
+  pub own_name : (l : ℕ) → entity_of s sense l ≡ d → l ≡ d
   own_name l e = by (is_internal s sense l) refl e
     where
       among : (o : Option Declared) → is_internal s sense l ≡ true → first_of s sense l (internal_among s sense s.declared.ordinary o) ≡ d → (l ≡ d) ⊎ (is_internal s sense d ≡ true)

@@ -9,10 +9,10 @@ use Rattle.planted_nodes.specs.declared.planting.Planted.{Planted}
 use Rattle.planted_nodes.specs.Grown.{IsWhole}
 use Rattle.planted_nodes.specs.Placed.{ArePlaced}
 use Rattle.planted_nodes.specs.Copied.{copies_to, with_places}
-use Rattle.planted_nodes.specs.Planted.{IsMoved, IsPlanted}
+use Rattle.planted_nodes.specs.Planted.{IsMoved, IsUnder, IsPlanted}
 use Rattle.planted_nodes.proofs.Positions.{below_or}
 use Rattle.planted_nodes.proofs.Bodies.{place_some, item_there}
-use Rattle.planted_nodes.proofs.Numbers.{items_long, copies_are, child_once, origin_at, new_each, new_tops, new_alone, new_late, new_only}
+use Rattle.planted_nodes.proofs.Numbers.{items_long, copies_are, child_once, origin_at, new_each, new_tops, new_alone, new_late, new_earlier, new_only}
 
 pub all_within : (nodes : List Node) (o s : List ℕ) (list : List Declared) (bodies : List (Option ℕ)) → ArePlaced nodes list (length list) bodies o s → (e at : ℕ) → get_or bodies e None ≡ Some at → at < length o
 all_within nodes o s list bodies are e at h = elim (below_or e (length list)) [
@@ -35,6 +35,9 @@ module _ (nodes : List Node) (o s : List ℕ) (met : List (Option ℕ)) (list : 
     late = λ d x b at other e few free p c h same.
         new_late nodes o s met w list bodies are d x b (sym (ap (λ (l : List Declared). slice_get l d) el) ∙ at) other e few (λ q k. free q (subst (λ (l : List Node). ChildIn l q b) (sym en) k)) p c
         (subst (λ (l : List Node). ChildIn l p c) en h) same;
+    earlier = λ j k a b c x y less at_j at_k ea eb free under.
+        new_earlier nodes o s met w list bodies are j k a b c x y less (sym (ap (λ (l : List Declared). slice_get l j) el) ∙ at_j) (sym (ap (λ (l : List Declared). slice_get l k) el) ∙ at_k) ea eb
+        (λ p h. free p (subst (λ (l : List Node). ChildIn l p b) (sym en) h)) (subst (λ (l : List Node). IsUnder l a c) en under);
     only = λ i lt. elim (new_only nodes o s met w list bodies are i (subst (λ (l : List Node). i < length l) en lt)) [
       | inl h ↦ inl (h.0, h.1, ap (λ (l : List Declared). slice_get l h.0) el ∙ h.2, h.3)
       | inr h ↦ inr (h.0, subst (λ (l : List Node). ChildIn l h.0 i) (sym en) h.1)

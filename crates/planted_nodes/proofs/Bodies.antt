@@ -1,12 +1,12 @@
 -- The places of bodies, one after another.
-use Rattle.std.proofs.Common.{arith, ◌≡◌, ◌∙◌, ℕ, zero, suc, ◌+◌, ◌<◌, ◌⊎◌, inl, inr, List, [], ◌∷◌, ◌++◌, length, length-append, get_or, slice_get, Option, Some, None, refl, sym, ap, subst}
+use Rattle.std.proofs.Common.{arith, ◌≡◌, ◌∙◌, ℕ, zero, suc, ◌+◌, ◌<◌, ◌≤◌, ◌⊎◌, inl, inr, List, [], ◌∷◌, ◌++◌, length, length-append, get_or, slice_get, Option, Some, None, refl, sym, ap, subst}
 use Rattle.std.proofs.lemmas.List.{get_or_append_left, get_or_at}
 use Rattle.std.proofs.lemmas.Option.{slice_get_within}
 use Rattle.core_tree.specs.declared.node.Node.{Node}
 use Rattle.core_tree.specs.declared.node.Storage.{Storage}
 use Rattle.core_tree.specs.declared.node.Storage.TheVariants.{FunctionBody}
 use Rattle.unit_parts.specs.declared.declared.Declared.{Declared}
-use Rattle.planted_nodes.specs.Grown.{children_of, under_at, IsGrown, IsCovered, IsWhole, GrowsFrom}
+use Rattle.planted_nodes.specs.Grown.{children_of, under_at, end_at, IsGrown, IsCovered, IsWhole, GrowsFrom}
 use Rattle.planted_nodes.specs.Placed.{IsPlacedAt, Places, ArePlaced}
 use Rattle.planted_nodes.proofs.Positions.{none_grows, below_or, lt_or_same}
 
@@ -14,6 +14,9 @@ use Rattle.planted_nodes.proofs.Positions.{none_grows, below_or, lt_or_same}
 module _ (nodes : List Node) (o s new_o new_s : List ℕ) (met : List (Option ℕ)) (w : IsWhole nodes o s met) (h : GrowsFrom o s new_o new_s) where
   same_under : (p : ℕ) → p < length s → under_at nodes new_o p ≡ under_at nodes o p
   same_under p lt = ap (children_of nodes) (h.origins p (omega (arith, lt, w.grown.few)))
+
+  pub same_end : (p : ℕ) → p < length s → end_at nodes new_o new_s p ≡ end_at nodes o s p
+  same_end p lt = ap (λ (m : ℕ). m + length (under_at nodes new_o p)) (h.starts p lt) ∙ ap (λ (cs : List ℕ). get_or s p 0 + length cs) (same_under p lt)
 
   pub covered_grows : (q : ℕ) → IsCovered nodes o s q → IsCovered nodes new_o new_s q
   covered_grows q c = record {
@@ -113,6 +116,8 @@ none_placed nodes list o s e = record {
   each = λ i x lt. absurd (omega (arith, lt));
   alone = λ d i c x lt. absurd (omega (arith, lt));
   late = λ i c x lt. absurd (omega (arith, lt));
+  earlier = λ j k a b less lt. absurd (omega (arith, lt));
+  closed = λ k b lt. absurd (omega (arith, lt));
   all = λ q lt. absurd (omega (arith, e, lt));
 }
 
@@ -206,6 +211,43 @@ module _ (nodes : List Node) (list : List Declared) (n : ℕ) (bodies : List (Op
         late_new c (λ f. other (subst (λ (z : Declared). z.storage ≡ FunctionBody) (sym item) f)) here free few q less d same
   ]
 
+  -- one that is no child is behind all that stood there
+  behind : (b : ℕ) → place ≡ Some b → (IsCovered nodes new_o new_s b → ⊥) → b ≡ length o
+  behind b is free = elim (below_or b (length o)) [
+    | inl inside ↦ absurd (free (covered_grows nodes o s new_o new_s met w p.grows b (p.again b is inside)))
+    | inr le ↦ p.first b is le
+  ]
+
+  earlier_more : (j k a b : ℕ) → j < k → k < n + 1 → get_or (bodies ++ place ∷ []) j None ≡ Some a → get_or (bodies ++ place ∷ []) k None ≡ Some b → (IsCovered nodes new_o new_s b → ⊥) → a < b
+  earlier_more j k a b less lt hj hk free =
+      let first : j < n = omega (arith, less, lt) in
+      let was : get_or bodies j None ≡ Some a = sym (kept j first) ∙ hj in
+      elim (lt_or_same k n lt) [
+        | inl second ↦ are.earlier j k a b less second was (sym (kept k second) ∙ hk) (λ c. free (covered_grows nodes o s new_o new_s met w p.grows b c))
+        | inr same ↦
+            let is : place ≡ Some b = sym last ∙ (ap (λ (i : ℕ). get_or (bodies ++ place ∷ []) i None) (sym same) ∙ hk) in
+            let end = behind b is free in
+            let inside = before j a first was in
+            omega (arith, end, inside)
+      ]
+
+  closed_more : (k b : ℕ) → k < n + 1 → get_or (bodies ++ place ∷ []) k None ≡ Some b → (IsCovered nodes new_o new_s b → ⊥) → (q : ℕ) → q < b → end_at nodes new_o new_s q ≤ b
+  closed_more k b lt hk free q less = elim (lt_or_same k n lt) [
+    | inl second ↦
+        let was : get_or bodies k None ≡ Some b = sym (kept k second) ∙ hk in
+        let inside = before k b second was in
+        let same = same_end nodes o s new_o new_s met w p.grows q (omega (arith, less, inside, w.done)) in
+        let old = are.closed k b second was (λ c. free (covered_grows nodes o s new_o new_s met w p.grows b c)) q less in
+        omega (arith, same, old)
+    | inr at_last ↦
+        let is : place ≡ Some b = sym last ∙ (ap (λ (i : ℕ). get_or (bodies ++ place ∷ []) i None) (sym at_last) ∙ hk) in
+        let end = behind b is free in
+        let few : q < length s = omega (arith, less, end, w.done) in
+        let same = same_end nodes o s new_o new_s met w p.grows q few in
+        let within = w.grown.within q few in
+        omega (arith, same, within, end)
+  ]
+
   all_more : (q : ℕ) → q < length new_o → IsCovered nodes new_o new_s q ⊎ ((e : ℕ) × (e < n + 1) × (get_or (bodies ++ place ∷ []) e None ≡ Some q))
   all_more q lt = elim (below_or q (length o)) [
     | inl less ↦ elim (are.all q less) [
@@ -224,5 +266,7 @@ module _ (nodes : List Node) (list : List Declared) (n : ℕ) (bodies : List (Op
     each = each_more;
     alone = alone_more;
     late = late_more;
+    earlier = earlier_more;
+    closed = closed_more;
     all = all_more;
   }

@@ -9,10 +9,10 @@ use Rattle.core_tree.specs.declared.node.Storage.TheVariants.{FunctionBody}
 use Rattle.core_tree.specs.Range.{child_in}
 use Rattle.kept_nodes.specs.Marked.{ChildIn}
 use Rattle.unit_parts.specs.declared.declared.Declared.{Declared}
-use Rattle.planted_nodes.specs.Grown.{children_of, under_at, IsCovered, IsWhole}
+use Rattle.planted_nodes.specs.Grown.{children_of, under_at, end_at, IsCovered, IsWhole}
 use Rattle.planted_nodes.specs.Placed.{IsPlacedAt, ArePlaced}
 use Rattle.planted_nodes.specs.Copied.{node_of, number_of, numbers_from, copy_at, copies_to, with_place, with_places}
-use Rattle.planted_nodes.specs.Planted.{IsCopy, IsBodyCopy, IsMoved, IsAlone}
+use Rattle.planted_nodes.specs.Planted.{IsCopy, IsBodyCopy, IsMoved, IsAlone, IsUnder, here, below}
 use Rattle.planted_nodes.proofs.Positions.{below_or, lt_or_same}
 use Rattle.planted_nodes.proofs.Bodies.{place_some, item_there}
 
@@ -318,3 +318,25 @@ module _ (nodes : List Node) (o s : List ℕ) where
               | inr one ↦ absurd (lone (subst (IsCovered nodes o s) one covered))
             ]
       ]
+
+      -- what is reached from a greater number has one, where no position before has children from there on
+      under_greater : (b : ℕ) → b < length o → ((q : ℕ) → q < number_of (length o) b → end_at nodes o s q ≤ number_of (length o) b) → (a c : ℕ) → b < a → IsUnder (copies_to nodes o s (length o)) a c → b < c
+      under_greater b lt closed a c less here = less
+      under_greater b lt closed a c less (below {parent} up h) =
+          let greater = under_greater b lt closed a parent less up in
+          let child = child_of parent h.0 c (slice_get (copies_to nodes o s (length o)) parent) refl h.1 in
+          let end = closed (number_of (length o) parent) (omega (arith, greater, child.within)) in
+          omega (arith, end, child.few, child.less, child.number, lt)
+
+      pub new_earlier : (j k a b c : ℕ) (x y : Declared) → j < k → slice_get new j ≡ Some x → slice_get new k ≡ Some y → x.body ≡ Some a → y.body ≡ Some b → ((p : ℕ) → ChildIn (copies_to nodes o s (length o)) p b → ⊥)
+          → IsUnder (copies_to nodes o s (length o)) a c → b < c
+      new_earlier j k a b c x y less at_j at_k ea eb free under =
+          let q = place_of j x a at_j ea in
+          let r = place_of k y b at_k eb in
+          let inside : b < length o = omega (arith, r.number, r.within) in
+          let back : number_of (length o) b ≡ r.place = ap (number_of (length o)) r.number ∙ twice (length o) r.place r.within in
+          let lone : IsCovered nodes o s r.place → ⊥ = λ k. (let there = child_there b r.place inside (sym back) k in free there.0 there.1) in
+          let few = slice_get_within list k r.item r.at in
+          let order = are.earlier j k q.place r.place less few q.is r.is lone in
+          let closed = are.closed k r.place few r.is lone in
+          under_greater b inside (subst (λ (m : ℕ). (i : ℕ) → i < m → end_at nodes o s i ≤ m) (sym back) closed) a c (omega (arith, order, q.number, r.number, q.within, r.within)) under

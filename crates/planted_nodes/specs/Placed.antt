@@ -4,7 +4,7 @@ use Rattle.core_tree.specs.declared.node.Node.{Node}
 use Rattle.core_tree.specs.declared.node.Storage.{Storage}
 use Rattle.core_tree.specs.declared.node.Storage.TheVariants.{FunctionBody}
 use Rattle.unit_parts.specs.declared.declared.Declared.{Declared}
-use Rattle.planted_nodes.specs.Grown.{IsCovered, IsWhole, GrowsFrom}
+use Rattle.planted_nodes.specs.Grown.{end_at, IsCovered, IsWhole, GrowsFrom}
 
 -- a copy of the body, if there is one, and a function's is no child
 abbrev pub IsPlacedAt : List Node → List ℕ → List ℕ → Storage → Option ℕ → Option ℕ → Type 0
@@ -23,11 +23,14 @@ pub record Places (nodes : List Node) (old_origins old_starts new_origins new_st
   pub late : (storage ≡ FunctionBody → ⊥) → (c : ℕ) → place ≡ Some c → length old_origins ≤ c → get_or new_origins c 0 < length nodes
       → (q : ℕ) → IsCovered nodes old_origins old_starts q → get_or old_origins q 0 ≡ get_or new_origins c 0 → ⊥
 
--- the bodies of the first so many of what is declared have their places, and all that stands there is such a body, or a child
+-- the bodies of the first so many of what is declared have their places, and all that stands there is such a body, or a child; one that is
+-- no child stands behind the bodies before it, and no position before it has children from there on
 pub record ArePlaced (nodes : List Node) (list : List Declared) (count : ℕ) (bodies : List (Option ℕ)) (origins starts : List ℕ) : Type 0 where
   pub long : length bodies ≡ count
   pub each : (e : ℕ) (x : Declared) → e < count → slice_get list e ≡ Some x → IsPlacedAt nodes origins starts x.storage x.body (get_or bodies e None)
   pub alone : (d e c : ℕ) (x : Declared) → d < count → e < count → slice_get list d ≡ Some x → x.storage ≡ FunctionBody → get_or bodies d None ≡ Some c → get_or bodies e None ≡ Some c → d ≡ e
   pub late : (e c : ℕ) (x : Declared) → e < count → slice_get list e ≡ Some x → (x.storage ≡ FunctionBody → ⊥) → get_or bodies e None ≡ Some c → (IsCovered nodes origins starts c → ⊥)
       → get_or origins c 0 < length nodes → (q : ℕ) → q < c → IsCovered nodes origins starts q → get_or origins q 0 ≡ get_or origins c 0 → ⊥
+  pub earlier : (j k a b : ℕ) → j < k → k < count → get_or bodies j None ≡ Some a → get_or bodies k None ≡ Some b → (IsCovered nodes origins starts b → ⊥) → a < b
+  pub closed : (k b : ℕ) → k < count → get_or bodies k None ≡ Some b → (IsCovered nodes origins starts b → ⊥) → (p : ℕ) → p < b → end_at nodes origins starts p ≤ b
   pub all : (q : ℕ) → q < length origins → IsCovered nodes origins starts q ⊎ ((e : ℕ) × (e < count) × (get_or bodies e None ≡ Some q))

@@ -29,9 +29,14 @@ pub record IsMoved (origin : ℕ → ℕ) (count : ℕ) (x y : Declared) : Type 
 abbrev pub IsAlone : List Declared → ℕ → ℕ → Type 0
 IsAlone list d b = (e : ℕ) (y : Declared) → slice_get list e ≡ Some y → y.body ≡ Some b → d ≡ e
 
+-- a node is the top one, or is reached from it by children
+pub data IsUnder (nodes : List Node) (top : ℕ) : ℕ → Type 0 where
+  here : IsUnder nodes top top
+  below : {parent child : ℕ} → IsUnder nodes top parent → ChildIn nodes parent child → IsUnder nodes top child
+
 -- each node is a copy of one of the nodes, and the child of one at most; of what is declared each body has a copy, which of a function is no
 -- child and no other's body, and of another one is no child only where no node before it, which has a greater number, is a copy of it as a
--- child; and each node is a body, or a child
+-- child; a body that is no child has a smaller number than all nodes under the bodies before it in the list; and each node is a body, or a child
 pub record IsPlanted (nodes : List Node) (list : List Declared) (planted : Planted) : Type 0 where
   pub origin : ℕ → ℕ
   pub copies : (i : ℕ) (y : Node) → slice_get planted.nodes.items i ≡ Some y → IsCopy nodes origin i y
@@ -42,4 +47,6 @@ pub record IsPlanted (nodes : List Node) (list : List Declared) (planted : Plant
   pub alone : (d : ℕ) (x : Declared) (b : ℕ) → slice_get planted.list.items d ≡ Some x → x.storage ≡ FunctionBody → x.body ≡ Some b → IsAlone planted.list.items d b
   pub late : (d : ℕ) (x : Declared) (b : ℕ) → slice_get planted.list.items d ≡ Some x → (x.storage ≡ FunctionBody → ⊥) → x.body ≡ Some b → origin b < length nodes
       → ((p : ℕ) → ChildIn planted.nodes.items p b → ⊥) → (p c : ℕ) → ChildIn planted.nodes.items p c → origin c ≡ origin b → c < b
+  pub earlier : (j k a b c : ℕ) (x y : Declared) → j < k → slice_get planted.list.items j ≡ Some x → slice_get planted.list.items k ≡ Some y → x.body ≡ Some a → y.body ≡ Some b
+      → ((p : ℕ) → ChildIn planted.nodes.items p b → ⊥) → IsUnder planted.nodes.items a c → b < c
   pub only : (i : ℕ) → i < length planted.nodes.items → ((e : ℕ) × (y : Declared) × (slice_get planted.list.items e ≡ Some y) × (y.body ≡ Some i)) ⊎ ((p : ℕ) × ChildIn planted.nodes.items p i)

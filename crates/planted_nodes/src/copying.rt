@@ -8,8 +8,9 @@ ghost use Rattle.planted_nodes.specs.Copied.{numbers_from, copy_at, copies_to, w
 
 use crate::kinds::copied_kind;
 use c_types::term::TypeId;
+use core_tree::held::Children;
 use core_tree::node::{Node, NodeKind};
-use pta_base::{Listing, Place};
+use pta_base::Place;
 use std::alloc::{AllocError, Global};
 use std::collections::VecDeque;
 use unit_parts::Declared;
@@ -23,24 +24,19 @@ fn number_of(total: u32, position: u32) -> u32
 }
 
 // The numbers of so many positions.
-fn numbers_from(
-    alloc: Global,
-    total: u32,
-    start: u32,
-    count: usize,
-) -> Result<Listing<u32>, AllocError>
+fn numbers_from(alloc: Global, total: u32, start: u32, count: usize) -> Result<Children, AllocError>
     requires { start + count ≤ total }
     ensures { IfOk result (λ list. list ≡ numbers_from total start count) }
 {
-    let mut list = Listing::new(alloc);
+    let mut list = Vec::new(alloc);
     for k in 0..count {
         list.push(number_of(total, start + k as u32))?;
     }
-    Ok(list)
+    Children::of(alloc, list)
 }
 
 // A copy of a node over children of those numbers.
-fn copied(alloc: Global, node: &Node, children: Listing<u32>) -> Result<Node, AllocError>
+fn copied(alloc: Global, node: &Node, children: Children) -> Result<Node, AllocError>
     ensures { IfOk result (λ copy. copy ≡ record node.now { children = children }) }
 {
     Ok(Node {
@@ -52,7 +48,7 @@ fn copied(alloc: Global, node: &Node, children: Listing<u32>) -> Result<Node, Al
 }
 
 // What stands for a node that isn't there.
-fn no_node(alloc: Global) -> Node
+fn no_node() -> Node
     ensures { result ≡ spec.no_node }
 {
     Node {
@@ -63,7 +59,7 @@ fn no_node(alloc: Global) -> Node
             column: 0,
         },
         ty: TypeId(0),
-        children: Listing::new(alloc),
+        children: Children::none(),
     }
 }
 
@@ -82,10 +78,11 @@ fn copy_at(
     ensures { IfOk result (λ copy. copy ≡ copy_at nodes.now origins.now starts.now position) }
 {
     let Some(node) = nodes.get(origins[position] as usize) else {
-        return Ok(no_node(alloc));
+        return Ok(no_node());
     };
     let total = origins.len() as u32;
-    let children = numbers_from(alloc, total, starts[position], node.children.len())?;
+    let count = node.children.as_slice().len();
+    let children = numbers_from(alloc, total, starts[position], count)?;
     copied(alloc, node, children)
 }
 

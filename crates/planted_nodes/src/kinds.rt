@@ -5,30 +5,31 @@ ghost use Rattle.std.specs.Prelude.{◌≡◌, IfOk};
 ghost use Rattle.planted_nodes.specs.Kinds.{IsBare, IsPlain};
 
 use c_types::term::PathStep;
+use core_tree::held::{HeldList, HeldText, Number};
 use core_tree::node::NodeKind;
 use pta_base::{Listing, Text};
 use std::alloc::{AllocError, Global};
 
 // A copy of some numbers.
-fn copied_numbers(alloc: Global, numbers: &[u32]) -> Result<Listing<u32>, AllocError>
+fn copied_numbers(alloc: Global, numbers: &[u32]) -> Result<HeldList<u32>, AllocError>
     ensures { IfOk result (λ copy. copy ≡ numbers.now) }
 {
-    let mut copy = Listing::new(alloc);
+    let mut copy = Vec::new(alloc);
     for number in numbers {
         copy.push(*number)?;
     }
-    Ok(copy)
+    HeldList::of(alloc, copy)
 }
 
 // A copy of some bytes.
-fn copied_bytes(alloc: Global, bytes: &[u8]) -> Result<Listing<u8>, AllocError>
+fn copied_bytes(alloc: Global, bytes: &[u8]) -> Result<HeldList<u8>, AllocError>
     ensures { IfOk result (λ copy. copy ≡ bytes.now) }
 {
-    let mut copy = Listing::new(alloc);
+    let mut copy = Vec::new(alloc);
     for byte in bytes {
         copy.push(*byte)?;
     }
-    Ok(copy)
+    HeldList::of(alloc, copy)
 }
 
 // A copy of a path.
@@ -46,14 +47,21 @@ fn copied_path(alloc: Global, path: &[PathStep]) -> Result<Listing<PathStep>, Al
 fn copied_paths(
     alloc: Global,
     paths: &[Listing<PathStep>],
-) -> Result<Listing<Listing<PathStep>>, AllocError>
+) -> Result<HeldList<Listing<PathStep>>, AllocError>
     ensures { IfOk result (λ copy. copy ≡ paths.now) }
 {
-    let mut copy = Listing::new(alloc);
+    let mut copy = Vec::new(alloc);
     for path in paths {
         copy.push(copied_path(alloc, path.as_slice())?)?;
     }
-    Ok(copy)
+    HeldList::of(alloc, copy)
+}
+
+// A copy of a text.
+fn copied_text(alloc: Global, text: &str) -> Result<HeldText, AllocError>
+    ensures { IfOk result (λ copy. copy ≡ text.now) }
+{
+    HeldText::of(alloc, Text::copy_of(alloc, text)?)
 }
 
 // A copy of what a node is that holds nothing.
@@ -95,8 +103,8 @@ fn plain(kind: &NodeKind) -> NodeKind
         NodeKind::FunctionName(entity) => NodeKind::FunctionName(*entity),
         NodeKind::Member(member) => NodeKind::Member(*member),
         NodeKind::MemberOfValue(member) => NodeKind::MemberOfValue(*member),
-        NodeKind::Number(number) => NodeKind::Number(*number),
-        NodeKind::Case(number) => NodeKind::Case(*number),
+        NodeKind::Number(number) => NodeKind::Number(Number::of(number.get())),
+        NodeKind::Case(number) => NodeKind::Case(Number::of(number.get())),
         NodeKind::Arith(op) => NodeKind::Arith(*op),
         NodeKind::PointerAdd { minus } => NodeKind::PointerAdd { minus: *minus },
         NodeKind::Update { op, post } => NodeKind::Update {
@@ -126,8 +134,8 @@ pub(crate) fn copied_kind(alloc: Global, kind: &NodeKind) -> Result<NodeKind, Al
             condition: *condition,
             after: *after,
         }),
-        NodeKind::Label(name) => Ok(NodeKind::Label(Text::copy_of(alloc, name.as_str())?)),
-        NodeKind::Goto(name) => Ok(NodeKind::Goto(Text::copy_of(alloc, name.as_str())?)),
+        NodeKind::Label(name) => Ok(NodeKind::Label(copied_text(alloc, name.as_str())?)),
+        NodeKind::Goto(name) => Ok(NodeKind::Goto(copied_text(alloc, name.as_str())?)),
         NodeKind::Initialise { entity, paths } => Ok(NodeKind::Initialise {
             entity: *entity,
             paths: copied_paths(alloc, paths.as_slice())?,

@@ -23,8 +23,8 @@ pub struct Planted {
 /// Makes nodes anew from the trees under the bodies of what is declared, so that no node is the child of two, or of one twice: a node that
 /// is shared is copied for each of its parents. A function's body is the root of a tree of its own, and so is another one's that hasn't
 /// been met as a child under the bodies before it; the others are those children. The nodes under one root stand side by side, level by
-/// level, and children have smaller numbers. It takes time and memory linear in both lists and in the new nodes. Only memory may want, or
-/// there are 2^32 nodes.
+/// level, and children have smaller numbers; so have the roots of later bodies, and all under them. It takes time and memory linear in both
+/// lists and in the new nodes. Only memory may want, or there are 2^32 nodes.
 pub fn plant(alloc: Global, nodes: Vec<Node>, list: Vec<Declared>) -> Result<Planted, CheckFault>
     ensures planted { IfOk result (λ planted. IsPlanted nodes.items list.items planted) }
     ensures memory { IsOkUnless result OutOfMemory }

@@ -12,3 +12,4 @@ pub mod ProgramSize
 pub mod Linked
 pub mod Linkable
 pub mod Scripted
+pub mod Naming

@@ -26,7 +26,7 @@ use Rattle.command_line.specs.Meaning.{Says}
 use Rattle.command_line.specs.declared.command.Command.{Command}
 use Rattle.report_cli.specs.Words.{names_read, units_read, with_script}
 use Rattle.report_cli.specs.Told.{Told, parted, names_for, told_as, told_for}
-use Rattle.report_cli.specs.Printed.{AreAnswersTo, IsPrinted, IsLongScript, HasRefusedLine, IsUnbuiltScript, IsRefusedScript}
+use Rattle.report_cli.specs.Printed.{AreAnswersTo, IsPrinted, IsLongScript, HasRefusedLine, IsRefusedScript}
 use Rattle.report_cli.specs.Faults.{IsFaultOfTold}
 use Rattle.report_cli.specs.Answers.{NamedText, Answer, told_units}
 use Rattle.report_cli.specs.Alone.{IsReadAs, IsRefusedAlone, lexical_refusal, syntax_refusal, name_refusal}
@@ -236,15 +236,9 @@ line_whole : (program : Program) (space : List Location) (system : System) (scri
 line_whole program space system script answer h =
     let P : List ℕ → Type 0 = λ t. HasRefusedLine program space system (script.0, t) answer in subst P (whole_text script.1 h.short) h
 
-shared_whole : (names : List (List ℕ)) (space : List Location) (script : NamedText) (answer : Answer) → IsUnbuiltScript names space (script.0, take 16777217 script.1) answer → IsUnbuiltScript names space script answer
-shared_whole names space script answer h =
-    let P : List ℕ → Type 0 = λ t. IsUnbuiltScript names space (script.0, t) answer in subst P (whole_text script.1 h.short) h
-
-script_whole : (names : List (List ℕ)) (program : Program) (space : List Location) (system : System) (script : NamedText) (answer : Answer)
-    → IsRefusedScript names program space system (script.0, take 16777217 script.1) answer → IsRefusedScript names program space system script answer
-script_whole names program space system script answer (inl h) = inl (long_whole script answer h)
-script_whole names program space system script answer (inr (inl h)) = inr (inl (line_whole program space system script answer h))
-script_whole names program space system script answer (inr (inr h)) = inr (inr (shared_whole names space script answer h))
+script_whole : (program : Program) (space : List Location) (system : System) (script : NamedText) (answer : Answer) → IsRefusedScript program space system (script.0, take 16777217 script.1) answer → IsRefusedScript program space system script answer
+script_whole program space system script answer (inl h) = inl (long_whole script answer h)
+script_whole program space system script answer (inr h) = inr (line_whole program space system script answer h)
 
 script_refused_whole : (told : List NamedText) (script : Option NamedText) (answer : Answer) → RefusesScript (read_units told) (option_map cut script) answer → RefusesScript told script answer
 unfolding cut
@@ -255,9 +249,7 @@ script_refused_whole told (Some script) answer h = record {
   space = h.space;
   system = h.system;
   system_of = h.system_of;
-  refused =
-      let P : List (List ℕ) → Type 0 = λ names. IsRefusedScript names h.program h.space h.system script answer in
-      subst P (names_whole told) (script_whole (map (λ (unit : NamedText). unit.0) (read_units told)) h.program h.space h.system script answer h.refused);
+  refused = script_whole h.program h.space h.system script answer h.refused;
 }
 
 pub told_refuses : (read told : Told) (answer : Answer) → IsReadOf read told → RefusesTold read answer → RefusesTold told answer
@@ -360,14 +352,13 @@ unfolding Refuses
 refuses_status units answer (inl h) = first_status 0 units answer h
 refuses_status units answer (inr h) = together_status units answer h
 
-refused_script_status : (names : List (List ℕ)) (program : Program) (space : List Location) (system : System) (script : NamedText) (answer : Answer) → IsRefusedScript names program space system script answer → IsStatus answer.status
-refused_script_status names program space system script answer (inl h) = status_of answer _ h.answer_is (inr (inr (inr (inl refl))))
-refused_script_status names program space system script answer (inr (inl h)) = status_of answer _ h.answer_is (inr (inr (inr (inr refl))))
-refused_script_status names program space system script answer (inr (inr h)) = status_of answer _ h.answer_is (inr (inl refl))
+refused_script_status : (program : Program) (space : List Location) (system : System) (script : NamedText) (answer : Answer) → IsRefusedScript program space system script answer → IsStatus answer.status
+refused_script_status program space system script answer (inl h) = status_of answer _ h.answer_is (inr (inr (inr (inl refl))))
+refused_script_status program space system script answer (inr h) = status_of answer _ h.answer_is (inr (inr (inr (inr refl))))
 
 script_status : (units : List NamedText) (script : Option NamedText) (answer : Answer) → RefusesScript units script answer → IsStatus answer.status
 script_status units None answer h = absurd h
-script_status units (Some script) answer h = refused_script_status (map (λ (unit : NamedText). unit.0) units) h.program h.space h.system script answer h.refused
+script_status units (Some script) answer h = refused_script_status h.program h.space h.system script answer h.refused
 
 -- a refusal has one of these statuses
 pub told_status : (told : Told) (answer : Answer) → RefusesTold told answer → IsStatus answer.status

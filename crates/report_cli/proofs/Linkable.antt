@@ -24,12 +24,12 @@ within (n ∷ names) zero name is = omega arith
 within (n ∷ names) (suc at) name is = let below = within names at name is in omega arith
 
 -- a unit at a position, and the text for which it is right
-record IsUnitOf (first : ℕ) (texts : List NamedText) (at : ℕ) (x : Unit) : Type 0 where
-  text : NamedText
-  stands : slice_get (map (λ (t : NamedText). t.0) texts) at ≡ Some text.0
-  right : IsRightText (first + at) text x
+pub record IsUnitOf (first : ℕ) (texts : List NamedText) (at : ℕ) (x : Unit) : Type 0 where
+  pub text : NamedText
+  pub stands : slice_get (map (λ (t : NamedText). t.0) texts) at ≡ Some text.0
+  pub right : IsRightText (first + at) text x
 
-unit_of : (first : ℕ) (texts : List NamedText) (units : List Unit) (at : ℕ) (x : Unit) → AreRightTexts first texts units → slice_get units at ≡ Some x → IsUnitOf first texts at x
+pub unit_of : (first : ℕ) (texts : List NamedText) (units : List Unit) (at : ℕ) (x : Unit) → AreRightTexts first texts units → slice_get units at ≡ Some x → IsUnitOf first texts at x
 unit_of first texts [] at x right is = absurd (none_some is)
 unit_of first [] (u ∷ us) at x right is = absurd right
 unit_of first (text ∷ texts) (u ∷ us) zero x right is =

@@ -15,7 +15,7 @@ use Rattle.c_senses.specs.Names.{source_of, numbered}
 use Rattle.c_senses.specs.Rows.{RefusedAt}
 use Rattle.c_senses.specs.Right.{Right}
 use Rattle.unit_walk.specs.Walked.{AreDense}
-use Rattle.c_lower.specs.Lowered.{IsLowered, IsNotLowered, UnfinishedIn}
+use Rattle.unit_lowering.specs.Lowered.{IsLowered, IsNotLowered, UnfinishedIn}
 use Rattle.link_names.specs.declared.fault.LinkFault.{LinkFault}
 use Rattle.link_names.specs.declared.fault.LinkFault.TheVariants as link
 use Rattle.unit_link.specs.Linked.{LinksBadly}

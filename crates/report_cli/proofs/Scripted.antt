@@ -1,5 +1,5 @@
 -- What a script of questions comes to.
-use Rattle.std.proofs.Common.{◌≡◌, ◌<◌, ◌≤◌, ◌^◌, ◌++◌, ℕ, List, [], ◌∷◌, Option, Some, None, option_map, map, take, length, get_or, slice_get, codes, inl, inr, refl, sym, ◌∙◌, ap, subst, arith, append-nil}
+use Rattle.std.proofs.Common.{◌≡◌, ◌<◌, ◌≤◌, ◌^◌, ◌++◌, ℕ, List, [], ◌∷◌, Option, Some, None, option_map, take, length, get_or, slice_get, codes, inl, inr, refl, sym, ◌∙◌, ap, subst, arith, append-nil}
 use Rattle.std.proofs.lemmas.List.{length-append, length-map}
 use Rattle.std.proofs.lemmas.Option.{slice_get-get_or}
 use Rattle.std.specs.Prelude.{zip, decimal, Result, Ok, Err, IfOk, IfErr}
@@ -9,15 +9,13 @@ use Rattle.sol_model.specs.declared.system.System.{System}
 use Rattle.obj_space.specs.declared.location.Location.{Location}
 use Rattle.unit_system.specs.Of.{IsSystemOf}
 use Rattle.unit_answers.specs.declared.fault.AnswersFault.{AnswersFault}
-use Rattle.unit_answers.specs.declared.fault.AnswersFault.TheVariants.{Question, NotBuilt, OutOfMemory}
+use Rattle.unit_answers.specs.declared.fault.AnswersFault.TheVariants.{Question, OutOfMemory}
 use Rattle.unit_answers.specs.Answered.{IsProgramAnswers}
 use Rattle.unit_answers.specs.Fault.{IsAnswersFault}
 use Rattle.report_cli.specs.declared.fault.UnitsFault.{UnitsFault}
 use Rattle.report_cli.specs.declared.fault.UnitsFault.TheVariants.{Refused, Memory}
-use Rattle.report_cli.specs.Answers.{NamedText, Answer, refusal, place_text}
+use Rattle.report_cli.specs.Answers.{NamedText, Answer, refusal}
 use Rattle.report_cli.specs.Words.{names_of, with_script}
-use Rattle.report_cli.specs.Linking.{unit_name}
-use Rattle.report_cli.specs.Unbuilt.{not_built}
 use Rattle.report_cli.specs.Printed.{AreAnswersTo, IsPrinted, IsRefusedScript}
 use Rattle.report_cli.specs.Outcome.{Denotes}
 use Rattle.report_cli.specs.Scripts.{told_with}
@@ -26,37 +24,32 @@ use Rattle.report_cli.specs.Faults.{fault_of, IsFaultOf, IsFaultOfTold, IsFaultO
 one_of : (a b : List ℕ) → Some a ≡ Some b → a ≡ b
 one_of a b h = cc
 
-module _ (names : List (List ℕ)) (program : Program) (space : List Location) (system : System) (script : NamedText) where
-  script_so : (answer : Answer) (fault : UnitsFault) → fault ≡ fault_of answer → answer.out ≡ [] → IsRefusedScript names program space system script answer → IsFaultOfScript names program space system script fault
+module _ (program : Program) (space : List Location) (system : System) (script : NamedText) where
+  script_so : (answer : Answer) (fault : UnitsFault) → fault ≡ fault_of answer → answer.out ≡ [] → IsRefusedScript program space system script answer → IsFaultOfScript program space system script fault
   script_so answer fault is nothing refused =
-      let P : UnitsFault → Type 0 = λ f. IsFaultOfScript names program space system script f in
-      let Q : List ℕ → Type 0 = λ out. IsRefusedScript names program space system script (record { status = answer.status; out = out; err = answer.err }) in
+      let P : UnitsFault → Type 0 = λ f. IsFaultOfScript program space system script f in
+      let Q : List ℕ → Type 0 = λ out. IsRefusedScript program space system script (record { status = answer.status; out = out; err = answer.err }) in
       subst P (sym is) (subst Q nothing refused)
 
   -- a script over the limit is refused
-  pub long_script : (fault : UnitsFault) → 2 ^ 24 < length script.1 → fault ≡ fault_of (refusal 6 (script.0 ++ codes ": too large text 16777217")) → IsFaultOfScript names program space system script fault
+  pub long_script : (fault : UnitsFault) → 2 ^ 24 < length script.1 → fault ≡ fault_of (refusal 6 (script.0 ++ codes ": too large text 16777217")) → IsFaultOfScript program space system script fault
   long_script fault long is = script_so (refusal 6 (script.0 ++ codes ": too large text 16777217")) fault is refl (inl (record { long = long; answer_is = refl }))
 
   -- the fault of a script within the limit refuses it
-  pub script_refused : (cause : AnswersFault) (fault : UnitsFault) → length script.1 ≤ 2 ^ 24 → IsAnswersFault program space system script.1 cause → IsAnswersRefusal names cause fault → IsFaultOfScript names program space system script fault
+  pub script_refused : (cause : AnswersFault) (fault : UnitsFault) → length script.1 ≤ 2 ^ 24 → IsAnswersFault program space system script.1 cause → IsAnswersRefusal cause fault → IsFaultOfScript program space system script fault
   script_refused (Question number) fault short h is =
-      script_so (refusal 10 (codes "question " ++ decimal number)) fault is refl (inr (inl (record { short = short; number = number; line = h; answer_is = refl })))
-  script_refused NotBuilt fault short h is =
-      script_so (not_built (place_text (unit_name names 0) 1 1)) fault is refl (inr (inr (record { short = short; shared = h; answer_is = refl })))
-  script_refused OutOfMemory fault short h is = let P : UnitsFault → Type 0 = λ f. IsFaultOfScript names program space system script f in subst P (sym is) tt
+      script_so (refusal 10 (codes "question " ++ decimal number)) fault is refl (inr (record { short = short; number = number; line = h; answer_is = refl }))
+  script_refused OutOfMemory fault short h is = let P : UnitsFault → Type 0 = λ f. IsFaultOfScript program space system script f in subst P (sym is) tt
 
   -- the answers to a script within the limit
   pub answers_printed : (text : List ℕ) → length script.1 ≤ 2 ^ 24 → IsSystemOf program space system → IsProgramAnswers program space system script.1 text → IsPrinted (Some script) program system text
   unfolding AreAnswersTo
   answers_printed text short of h = (short, (space, of, h))
 
-  -- the refusal of a script on the program of units
-  pub script_told : (texts : List NamedText) (fault : UnitsFault) → names ≡ map (λ (text : NamedText). text.0) texts → Denotes texts program → IsSystemOf program space system
-      → IsFaultOfScript names program space system script fault → IsFaultOfTold (told_with texts (Some script)) fault
-  script_told texts (Refused status line) named denoted of h =
-      let P : List (List ℕ) → Type 0 = λ n. IsRefusedScript n program space system script (record { status = status; out = []; err = line }) in
-      inr (record { program = program; denoted = denoted; space = space; system = system; system_of = of; refused = subst P named h })
-  script_told texts Memory named denoted of h = tt
+  -- the refusal of a script on the program that texts denote
+  pub script_told : (texts : List NamedText) (fault : UnitsFault) → Denotes texts program → IsSystemOf program space system → IsFaultOfScript program space system script fault → IsFaultOfTold (told_with texts (Some script)) fault
+  script_told texts (Refused status line) denoted of h = inr (record { program = program; denoted = denoted; space = space; system = system; system_of = of; refused = h })
+  script_told texts Memory denoted of h = tt
 
 pub both_ok : {A E : Type 0} (r : Result A E) (P Q R : A → Type 0) → ((x : A) → P x → Q x → R x) → IfOk r P → IfOk r Q → IfOk r R
 both_ok (Ok x) P Q R f p q = f x p q

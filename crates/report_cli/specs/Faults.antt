@@ -13,7 +13,7 @@ use Rattle.c_parser.specs.declared.ParseFault.{ParseFault}
 use Rattle.c_parser.specs.declared.ParseFault.TheVariants.{Malformed, Unsupported, TooDeep, OutOfMemory}
 use Rattle.report_cli.specs.declared.fault.UnitsFault.{UnitsFault}
 use Rattle.report_cli.specs.declared.fault.UnitsFault.TheVariants.{Refused, Memory}
-use Rattle.report_cli.specs.Answers.{NamedText, Answer, place_text, refusal}
+use Rattle.report_cli.specs.Answers.{NamedText, Answer, refusal}
 use Rattle.report_cli.specs.Alone.{IsRefusedAlone, lexical_refusal, syntax_refusal, name_refusal}
 use Rattle.pta_base.specs.declared.kind.Kind.TheVariants.{Operand}
 use Rattle.core_nodes.specs.declared.fault.CheckFault.{CheckFault}
@@ -22,8 +22,7 @@ use Rattle.link_names.specs.declared.fault.LinkFault.TheVariants as link
 use Rattle.unit_system.specs.declared.fault.UnitFault.{UnitFault}
 use Rattle.unit_system.specs.declared.fault.UnitFault.TheVariants as unit
 use Rattle.report_cli.specs.Lowered.{kind_refusal}
-use Rattle.report_cli.specs.Linking.{link_refusal, nodes_refusal, words_refusal, unit_name}
-use Rattle.report_cli.specs.Unbuilt.{not_built}
+use Rattle.report_cli.specs.Linking.{link_refusal, nodes_refusal, words_refusal}
 use Rattle.core_tree.specs.declared.node.Program.{Program}
 use Rattle.sol_model.specs.declared.system.System.{System}
 use Rattle.obj_space.specs.declared.location.Location.{Location}
@@ -47,10 +46,10 @@ abbrev pub IsFaultOfTold : Told → UnitsFault → Type 0
 IsFaultOfTold told (Refused status line) = IsRefusedBy told status line
 IsFaultOfTold told Memory = Unit {0}
 
--- a refusal is that of a script on a program of units with these names
-abbrev pub IsFaultOfScript : List (List ℕ) → Program → List Location → System → NamedText → UnitsFault → Type 0
-IsFaultOfScript names program space system script (Refused status line) = IsRefusedScript names program space system script (record { status = status; out = []; err = line })
-IsFaultOfScript names program space system script Memory = Unit {0}
+-- a refusal is that of a script on a program
+abbrev pub IsFaultOfScript : Program → List Location → System → NamedText → UnitsFault → Type 0
+IsFaultOfScript program space system script (Refused status line) = IsRefusedScript program space system script (record { status = status; out = []; err = line })
+IsFaultOfScript program space system script Memory = Unit {0}
 
 -- a refusal is that of a unit alone
 abbrev pub IsFaultAlone : NamedText → UnitsFault → Type 0
@@ -98,7 +97,6 @@ IsSystemRefusal names (unit.Words words) fault = fault ≡ fault_of (words_refus
 IsSystemRefusal names unit.OutOfMemory fault = fault ≡ Memory
 
 -- the refusal for the fault of a script
-abbrev pub IsAnswersRefusal : List (List ℕ) → AnswersFault → UnitsFault → Type 0
-IsAnswersRefusal names (answers.Question number) fault = fault ≡ fault_of (refusal 10 (codes "question " ++ decimal number))
-IsAnswersRefusal names answers.NotBuilt fault = fault ≡ fault_of (not_built (place_text (unit_name names 0) 1 1))
-IsAnswersRefusal names answers.OutOfMemory fault = fault ≡ Memory
+abbrev pub IsAnswersRefusal : AnswersFault → UnitsFault → Type 0
+IsAnswersRefusal (answers.Question number) fault = fault ≡ fault_of (refusal 10 (codes "question " ++ decimal number))
+IsAnswersRefusal answers.OutOfMemory fault = fault ≡ Memory

@@ -1,5 +1,5 @@
 -- What the words, the texts of the units and the script of questions say of the answer.
-use Rattle.std.specs.Prelude.{◌≡◌, ◌⊎◌, ℕ, ◌+◌, ⊤, List, [], ◌∷◌, Option, Some, None, map, codes}
+use Rattle.std.specs.Prelude.{◌≡◌, ◌⊎◌, ℕ, ◌+◌, ⊤, List, [], ◌∷◌, Option, Some, None, codes}
 use Rattle.core_tree.specs.declared.node.Unit.{Unit}
 use Rattle.core_tree.specs.declared.node.Program.{Program}
 use Rattle.sol_model.specs.declared.system.System.{System}
@@ -65,7 +65,7 @@ pub record IsScriptRefusal (texts : List NamedText) (script : NamedText) (answer
   pub space : List Location
   pub system : System
   pub system_of : IsSystemOf program space system
-  pub refused : IsRefusedScript (map (λ (text : NamedText). text.0) texts) program space system script answer
+  pub refused : IsRefusedScript program space system script answer
 
 abbrev pub RefusesScript : List NamedText → Option NamedText → Answer → Type 0
 RefusesScript texts None answer = ⊥

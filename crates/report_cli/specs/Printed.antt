@@ -3,13 +3,10 @@ use Rattle.std.specs.Prelude.{◌≡◌, ◌⊎◌, ◌<◌, ◌≤◌, ◌^◌,
 use Rattle.core_tree.specs.declared.node.Program.{Program}
 use Rattle.sol_model.specs.declared.system.System.{System}
 use Rattle.obj_space.specs.declared.location.Location.{Location}
-use Rattle.obj_space.specs.Space.{DistinctNames}
 use Rattle.unit_system.specs.Of.{IsSystemOf}
 use Rattle.unit_report.specs.Reported.{IsProgramReport}
 use Rattle.unit_answers.specs.Answered.{IsProgramAnswers, IsRefusedLine}
-use Rattle.report_cli.specs.Answers.{NamedText, Answer, refusal, place_text}
-use Rattle.report_cli.specs.Linking.{unit_name}
-use Rattle.report_cli.specs.Unbuilt.{not_built}
+use Rattle.report_cli.specs.Answers.{NamedText, Answer, refusal}
 
 -- bytes are the report of the least solution of a program's system
 unfoldable pub IsReport : Program → System → List ℕ → Type 0
@@ -37,13 +34,6 @@ pub record HasRefusedLine (program : Program) (space : List Location) (system : 
   pub line : IsRefusedLine program space system script.1 number
   pub answer_is : answer ≡ refusal 10 (codes "question " ++ decimal number)
 
--- the refusal of a script within the limit on a program that has two locations of one name, which isn't built: at the start of the first unit
-pub record IsUnbuiltScript (names : List (List ℕ)) (space : List Location) (script : NamedText) (answer : Answer) : Type 0 where
-  pub short : length script.1 ≤ 2 ^ 24
-  pub shared : DistinctNames space → ⊥
-  pub answer_is : answer ≡ not_built (place_text (unit_name names 0) 1 1)
-
--- the refusal of a script on a program of units with these names
-abbrev pub IsRefusedScript : List (List ℕ) → Program → List Location → System → NamedText → Answer → Type 0
-IsRefusedScript names program space system script answer =
-    IsLongScript script answer ⊎ (HasRefusedLine program space system script answer ⊎ IsUnbuiltScript names space script answer)
+-- the refusal of a script on a program
+abbrev pub IsRefusedScript : Program → List Location → System → NamedText → Answer → Type 0
+IsRefusedScript program space system script answer = IsLongScript script answer ⊎ HasRefusedLine program space system script answer

@@ -1,17 +1,13 @@
 -- Forms that aren't built: the answers that no rule of the language asks for.
-use Rattle.std.specs.Prelude.{◌≡◌, ℕ, List, ◌++◌, codes}
+use Rattle.std.specs.Prelude.{◌≡◌, ℕ}
 use Rattle.pta_base.specs.declared.kind.Kind.TheVariants.{NotBuilt}
 use Rattle.c_lexer.specs.declared.Tokens.{Tokens}
 use Rattle.c_grammar.specs.declared.trees.Tree.{Tree}
 use Rattle.c_senses.specs.Names.{source_of, numbered}
 use Rattle.unit_walk.specs.Walked.{AreDense}
-use Rattle.c_lower.specs.Lowered.{NoneCompletes}
-use Rattle.report_cli.specs.Answers.{NamedText, Answer, refusal}
+use Rattle.unit_lowering.specs.Lowered.{NoneCompletes}
+use Rattle.report_cli.specs.Answers.{NamedText, Answer}
 use Rattle.report_cli.specs.Lowered.{IsParsed, kind_refusal}
-
--- the refusal of what isn't built, at a place
-abbrev pub not_built : List ℕ → Answer
-not_built place = refusal 4 (place ++ codes ": not accepted not-built")
 
 -- the refusal of a text at the root of its tree, the rows of whose nodes all fit, but of whose parts, with such numbers of its tags, no
 -- valid unit is made

@@ -1,7 +1,9 @@
 -- The words of the command line, and what right words ask for.
 use Rattle.std.specs.Prelude.{ℕ, List, [], ◌∷◌, ◌++◌, map, string_bytes, String, Option, Some, None}
+use Rattle.std.specs.List.{All}
 use Rattle.std.specs.Borrow.{Bor}
 use Rattle.std.specs.declared.alloc.Global.{Global}
+use Rattle.name_shapes.specs.Bytes.{is_unit_byte, IsMadeOf}
 use Rattle.command_line.specs.Language.{found_in}
 use Rattle.command_line.specs.Rules.{script_word, unit_words}
 
@@ -12,6 +14,10 @@ texts_of words = map string_bytes words
 -- the texts of names that are borrowed
 abbrev pub names_of : List (Bor (List ℕ)) → List (List ℕ)
 names_of names = map (λ name. name.now) names
+
+-- names that are made of the bytes of units' names, which keep the parts of a location's name apart
+abbrev pub AreUnitNames : List (List ℕ) → Type 0
+AreUnitNames names = All (IsMadeOf is_unit_byte) names
 
 -- the names of the units that words ask for, in order
 abbrev pub units_read : List (List ℕ) → List (List ℕ)

@@ -6,7 +6,6 @@ ghost use Rattle.report_cli.specs.Words.{names_of};
 ghost use Rattle.report_cli.specs.Answers.{place_text, refusal};
 ghost use Rattle.report_cli.specs.Lowered.{kind_refusal};
 ghost use Rattle.report_cli.specs.Linking.{unit_name, link_refusal};
-ghost use Rattle.report_cli.specs.Unbuilt.{not_built};
 ghost use Rattle.report_cli.specs.Faults.{fault_of, IsAnswersRefusal, IsKindRefusal, IsSystemRefusal};
 
 use crate::alone::not_accepted;
@@ -34,15 +33,6 @@ fn refused(status: u8, line: Vec<u8>) -> Result<UnitsFault, AllocError>
         status,
         line: Listing::of(line),
     })
-}
-
-/// The refusal of a form of text that isn't built, at a place.
-pub(crate) fn not_built(place: Vec<u8>) -> Result<UnitsFault, AllocError>
-    ensures { IfOk result (λ fault. fault ≡ fault_of (not_built place.items)) }
-{
-    let mut line = place;
-    line.extend_from_slice(b": not accepted not-built")?;
-    refused(4, line)
 }
 
 /// The refusal of a construct that isn't accepted, at the own token of a node.
@@ -182,13 +172,9 @@ pub(crate) fn system_refusal(
     }
 }
 
-/// The refusal for the fault of a script on units with these names.
-pub(crate) fn answers_refusal(
-    alloc: Global,
-    names: &[&str],
-    fault: AnswersFault,
-) -> Result<UnitsFault, AllocError>
-    ensures { IfOk result (IsAnswersRefusal (names_of names.now) fault) }
+/// The refusal for the fault of a script.
+pub(crate) fn answers_refusal(alloc: Global, fault: AnswersFault) -> Result<UnitsFault, AllocError>
+    ensures { IfOk result (IsAnswersRefusal fault) }
 {
     match fault {
         AnswersFault::Question(number) => {
@@ -197,7 +183,6 @@ pub(crate) fn answers_refusal(
             line.extend_from_slice(buffer.format(number).as_bytes())?;
             refused(10, line)
         }
-        AnswersFault::NotBuilt => not_built(place_text(alloc, unit_name(names, 0), 1, 1)?),
         AnswersFault::OutOfMemory => Ok(UnitsFault::Memory),
     }
 }

@@ -5,9 +5,11 @@ ghost use Rattle.filled_units.specs.Filled.{AreFilled};
 ghost use Rattle.unit_link.specs.Needs.{AreLinkable};
 ghost use Rattle.core_tree.specs.declared.node.Program.{Program};
 ghost use Rattle.sol_model.specs.declared.system.System.{System};
+ghost use Rattle.obj_space.specs.Space.{DistinctNames};
+ghost use Rattle.named_laws.specs.Units.{AreNamedUnits};
 ghost use Rattle.unit_system.specs.Of.{IsSystemOf};
 ghost use Rattle.unit_report.specs.Solved.{IsSolved};
-ghost use Rattle.report_cli.specs.Words.{names_of};
+ghost use Rattle.report_cli.specs.Words.{names_of, AreUnitNames};
 ghost use Rattle.report_cli.specs.Answers.{NamedText};
 ghost use Rattle.report_cli.specs.Lowered.{AreRightTexts};
 ghost use Rattle.report_cli.specs.Printed.{IsPrinted};
@@ -20,6 +22,7 @@ use crate::fault::UnitsFault;
 use crate::lowered::lower_each;
 use crate::refusals::{answers_refusal, system_refusal};
 use core_tree::Unit;
+use link_merge::tags::tables_told;
 use pta_base::{Gate, Listing};
 use std::alloc::Global;
 use std::thread::Threads;
@@ -37,44 +40,49 @@ pub(crate) struct Script<'a> {
     pub(crate) text: &'a [u8],
 }
 
-/// The program that the texts of core units denote, with its locations and its system, or the fault that refuses them.
+/// The program that the texts of core units denote, with its locations, no two of which have one name, and its system, or the fault that
+/// refuses them.
 fn linked(alloc: Global, names: &[&str], units: Vec<Unit>) -> Result<UnitSystem, UnitsFault>
     requires linkable { AreLinkable units.items }
     requires filled { AreFilled units.items }
+    requires named { AreNamedUnits units.items }
     ensures linked { (texts : List NamedText) → AreRightTexts 0 texts units.items →
         IfOk result (λ made. Denotes texts made.program × IsSystemOf made.program made.space made.system) }
     ensures refused { (texts : List NamedText) → names_of names.now ≡ map (λ text. text.0) texts → AreRightTexts 0 texts units.items →
         IfErr result (IsFaultOf texts) }
+    ensures distinct { IfOk result (λ made. DistinctNames made.space) }
 {
     match linked_system(alloc, units) {
-        Ok(made) => Ok(made),
+        Ok(made) => {
+            let _types = made.program.types.type_count();
+            Ok(made)
+        }
         Err(fault) => Err(system_refusal(alloc, names, fault)?),
     }
 }
 
-/// The answers to a script on a program of units with these names, with the system that was solved for them, or the fault that refuses
-/// the script.
+/// The answers to a script on a program, with the system that was solved for them, or the fault that refuses the script.
 fn answers_to<R: Threads + Sync, G: Gate + Sync>(
     rt: &R,
     alloc: Global,
-    names: &[&str],
     made: UnitSystem,
     script: Script<'_>,
     workers: u32,
     gate: &G,
 ) -> Result<(Vec<u8>, Solved), UnitsFault>
     requires system { IsSystemOf made.program made.space made.system }
+    requires distinct { DistinctNames made.space }
     requires workers { (0 < workers) × (workers ≤ 64) }
     ensures printed { IfOk result (λ found. IsPrinted (Some (named script.entry)) made.program made.system found.0.items) }
     ensures solved { IfOk result (λ found. IsSolved made.system found.1) }
-    ensures refused { IfErr result (IsFaultOfScript (names_of names.now) made.program made.space made.system (named script.entry)) }
+    ensures refused { IfErr result (IsFaultOfScript made.program made.space made.system (named script.entry)) }
 {
     if script.text.len() > MOST {
         return Err(too_large(alloc, script.name)?);
     }
     match answers_of_system(rt, alloc, made, script.text, workers, gate) {
         Ok(found) => Ok(found),
-        Err(fault) => Err(answers_refusal(alloc, names, fault)?),
+        Err(fault) => Err(answers_refusal(alloc, fault)?),
     }
 }
 
@@ -91,6 +99,7 @@ pub(crate) fn text_of_units<R: Threads + Sync, G: Gate + Sync>(
 ) -> Result<(Vec<u8>, Solved), UnitsFault>
     requires few { length names.now ≤ 2 ^ 8 }
     requires distinct { AreDistinct (names_of names.now) }
+    requires bytes { AreUnitNames (names_of names.now) }
     requires count { length texts.now ≡ length names.now }
     requires workers { (0 < workers) × (workers ≤ 64) }
     ensures printed { IfOk result (λ made. (program : Program) × (system : System) × Denotes (zip (names_of names.now) texts.now) program
@@ -98,12 +107,13 @@ pub(crate) fn text_of_units<R: Threads + Sync, G: Gate + Sync>(
     ensures refused { IfErr result (IsFaultOfTold (told_with (zip (names_of names.now) texts.now) (named_script script.entry))) }
 {
     let units = lower_each(alloc, names, texts)?;
+    tables_told(units.as_slice());
     let made = match linked(alloc, names, units) {
         Ok(made) => made,
         Err(fault) => return Err(fault),
     };
     match script {
-        Some(script) => answers_to(rt, alloc, names, made, script, workers, gate),
+        Some(script) => answers_to(rt, alloc, made, script, workers, gate),
         None => Ok(report_of_system(rt, alloc, made, workers, gate)?),
     }
 }

@@ -5,7 +5,7 @@ ghost use Rattle.core_tree.specs.declared.node.Program.{Program};
 ghost use Rattle.sol_model.specs.declared.system.System.{System};
 ghost use Rattle.command_line.specs.Rules.{AreRight};
 ghost use Rattle.command_line.specs.Distinct.{AreDistinct};
-ghost use Rattle.report_cli.specs.Words.{names_of, names_read, texts_of};
+ghost use Rattle.report_cli.specs.Words.{names_of, names_read, texts_of, AreUnitNames};
 ghost use Rattle.report_cli.specs.Answers.{Answer};
 ghost use Rattle.report_cli.specs.Told.{names_for, told_as, told_for};
 ghost use Rattle.report_cli.specs.Printed.{IsPrinted};
@@ -123,6 +123,7 @@ fn answer_units<R: Threads + Sync, O: Sink, E: Sink, G: Gate + Sync>(
     kept: &mut Option<Solved>,
 ) -> u8
     requires distinct { AreDistinct (names_of command.now.units.items) }
+    requires bytes { AreUnitNames (names_of command.now.units.items) }
     requires few { length command.now.units.items ≤ 2 ^ 8 }
     requires workers { (0 < command.now.workers) × (command.now.workers ≤ 64) }
     requires count { length texts.now ≡ length (names_for command.now) }

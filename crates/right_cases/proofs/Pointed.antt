@@ -37,9 +37,9 @@ unfolding computing
 linked = record {
   entities = λ e entity h. each_of (λ k one. EntityLinkage one) entities (tt, (tt, (tt, tt))) e entity h;
   nodes = λ n one h. each_of (λ k other. NodeLinkage trees other) nodes (
-    record { literal = tt; declared = λ external. record { some = (1, p, refl, (refl, refl, refl)) } },
+    record { literal = tt; declared = λ external. record { some = (1, p, refl, (refl, refl, inl refl)) } },
     (
-      record { literal = tt; declared = λ external. record { some = (0, x, refl, (refl, refl, refl)) } },
+      record { literal = tt; declared = λ external. record { some = (0, x, refl, (refl, refl, inl refl)) } },
       (
         record { literal = tt; declared = tt },
         (

@@ -4,7 +4,8 @@ use Rattle.std.specs.List.{slice_get}
 use Rattle.std.specs.Option.{option_map, option_map_or}
 use Rattle.std.specs.Str.{bytes_eq}
 use Rattle.std.specs.Cmp.Lexicographic.{bytes_decides}
-use Rattle.c_types.specs.Trees.{Ctype}
+use Rattle.c_types.specs.declared.term.Form.TheVariants.{Fixed, Variadic, Unspecified}
+use Rattle.c_types.specs.Trees.{Ctype, VoidType, BoolType, IntegerType, FloatingType, VaListType, PointerTo, ArrayOf, FunctionFrom, StructureOf, UnionOf}
 use Rattle.c_types.specs.Table.{type_of}
 use Rattle.type_rules.specs.Conversions.{Agree}
 use Rattle.core_tree.specs.declared.node.Unit.{Unit}
@@ -16,9 +17,10 @@ use Rattle.core_tree.specs.declared.node.Storage.{Storage}
 use Rattle.core_tree.specs.declared.node.Storage.TheVariants.{Static, Automatic, FunctionBody, Parameter, Declared as DeclaredOnly}
 use Rattle.core_tree.specs.Typed.{trees_in, trees_of}
 use Rattle.core_tree.specs.Rows.{IsEntityIn, IsEntityOf}
-use Rattle.core_tree.specs.Linkages.{IsUnlinked, IsUseIn}
+use Rattle.core_tree.specs.Linkages.{IsUnlinked, IsOfDeclared, IsUseIn}
 use Rattle.core_tree.specs.Valid.{IsLocal}
 use Rattle.link_model.specs.Units.{item}
+use Rattle.link_model.specs.Renamed.{renamed}
 use Rattle.link_model.specs.Merged.{moved}
 use Rattle.link_names.specs.declared.declared.Declared.{Declared}
 use Rattle.link_names.specs.Externals.{Joined, IsExternal, IsDeclaration, declared_as, item_of, declared_type, is_named, type_in, has_body, is_defined}
@@ -38,6 +40,21 @@ external_by Parameter linkage unlinked e local = let bad : External ≡ Local = 
 external_by Static linkage unlinked e local = local
 external_by FunctionBody linkage unlinked e local = local
 external_by DeclaredOnly linkage unlinked e local = local
+
+-- an array agrees without its length with what it agrees with
+without_length : (a t : Ctype) (n : ℕ) → Agree (ArrayOf a (Some n)) t → Agree (ArrayOf a None) t
+without_length a (ArrayOf b None) n h = h
+without_length a (ArrayOf b (Some m)) n h = let same : a ≡ b = cc in same
+without_length a (FunctionFrom r ps Unspecified) n h = absurd (let bad : ⊥ = cc in bad)
+without_length a (FunctionFrom r ps Fixed) n h = absurd (let bad : ⊥ = cc in bad)
+without_length a (FunctionFrom r ps Variadic) n h = absurd (let bad : ⊥ = cc in bad)
+without_length a t n h = absurd (let bad : ⊥ = cc in bad)
+
+-- a type that a use may have agrees with what the declared type agrees with
+of_declared_agrees : (f : ℕ → ℕ) (d t other : Ctype) → IsOfDeclared d t → Agree (renamed f d) other → Agree (renamed f t) other
+of_declared_agrees f d t other (inl same) h = subst (λ (x : Ctype). Agree (renamed f x) other) same h
+of_declared_agrees f d t other (inr (of, n, whole, open_one)) h =
+    subst (λ (x : Ctype). Agree (renamed f x) other) (sym open_one) (without_length (renamed f of) other n (subst (λ (x : Ctype). Agree (renamed f x) other) whole h))
 
 module _ (units : List Unit) (p : Program) (linkable : AreLinkable units) (h : Linked units p) where
   abbrev j : Joined
@@ -98,6 +115,6 @@ module _ (units : List Unit) (p : Program) (linkable : AreLinkable units) (h : L
                 let m = made.1 in
                 let (f, z, z_at, its) = (declared made.0.linkage).some in
                 let external = external_entity u f of z is z_at its.0 in
-                subst (λ (k : Ctype). Agree (moved h.numbers u k) (type_of p.types s.entity.ty.0)) its.2 (agrees_made m.declared m.of m.own s.entity m.name u f of z is z_at external (its.1 ∙ sym m.named))
+                of_declared_agrees (h.numbers.tag u) (type_of of.types z.ty.0) t (type_of p.types s.entity.ty.0) its.2 (agrees_made m.declared m.of m.own s.entity m.name u f of z is z_at external (its.1 ∙ sym m.named))
             | inr other ↦ subst (Agree (moved h.numbers u t)) (sym other.type) (agree_to (h.numbers.tag u) t (type_of of.types x.ty.0) agrees)
           ])

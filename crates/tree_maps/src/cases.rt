@@ -22,7 +22,7 @@ fn case_of(kind: &NodeKind) -> Option<Option<i128>>
     ensures { result ≡ spec.case_of kind.now }
 {
     match kind {
-        NodeKind::Case(x) => Some(Some(*x)),
+        NodeKind::Case(x) => Some(Some(x.get())),
         NodeKind::Default => Some(None),
         _ => None,
     }

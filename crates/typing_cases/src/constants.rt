@@ -9,9 +9,10 @@ ghost use Rattle.c_consts.specs.Nodes.{AreRows, IsConstantKind, bare};
 use c_consts::{ConstFault, constant, convert};
 use c_types::table::TypeTable;
 use c_types::term::{OutOfMemory, Term, TypeId};
+use core_tree::held::{Children, Number};
 use core_tree::node::{Node, NodeKind, Op};
 use core_tree::rows::{holds, is_integer, is_value_kind};
-use pta_base::{Listing, Place};
+use pta_base::Place;
 use std::alloc::Global;
 use std::test::Fail;
 
@@ -140,7 +141,7 @@ fn row_fits(
     ensures { IsTrue result → IsConstantKind kind.now → RowOf (bare types.now nodes.now) kind.now (type_of types.now ty.0) children.now }
 {
     match kind {
-        NodeKind::Number(n) => children.is_empty() && holds(types, ty, *n),
+        NodeKind::Number(n) => children.is_empty() && holds(types, ty, n.get()),
         NodeKind::Arith(op) => match children {
             [a] => { is_value(nodes, *a) && unary_fits(types, *op, nodes[*a as usize].ty, ty) }
             [a, b] => {
@@ -218,7 +219,7 @@ fn append(sheet: &mut Sheet, node: Node) -> bool
 }
 
 // One node more, if it is in its row; its number.
-fn push(sheet: &mut Sheet, kind: NodeKind, ty: TypeId, children: Vec<u32>) -> Result<u32, Fail>
+fn push(sheet: &mut Sheet, kind: NodeKind, ty: TypeId, children: Children) -> Result<u32, Fail>
     requires { AreRows sheet.old.types sheet.old.nodes.items }
     ensures { AreRows sheet.new.types sheet.new.nodes.items }
 {
@@ -246,7 +247,7 @@ fn push(sheet: &mut Sheet, kind: NodeKind, ty: TypeId, children: Vec<u32>) -> Re
             column: 1,
         },
         ty,
-        children: Listing::of(children),
+        children,
     };
     if append(sheet, node) {
         Ok(number as u32)
@@ -311,13 +312,13 @@ fn read(alloc: Global, sheet: &mut Sheet, stack: &mut Vec<u32>, word: Word) -> R
         Word::Two(_) => 2,
         Word::Choice => 3,
     };
-    let children = take(alloc, stack, operands)?;
+    let children = Children::of(alloc, take(alloc, stack, operands)?)?;
     let first = type_of(sheet, children.as_slice().first().copied());
     let int = sheet.int;
     let unsigned = sheet.unsigned;
     let number = match word {
-        Word::Int(n) => push(sheet, NodeKind::Number(n), int, children)?,
-        Word::Unsigned(n) => push(sheet, NodeKind::Number(n), unsigned, children)?,
+        Word::Int(n) => push(sheet, NodeKind::Number(Number::of(n)), int, children)?,
+        Word::Unsigned(n) => push(sheet, NodeKind::Number(Number::of(n)), unsigned, children)?,
         Word::Variable => push(sheet, NodeKind::Fetch, int, children)?,
         Word::One(op) => push(sheet, NodeKind::Arith(op), first, children)?,
         Word::Two(Op::Less) => push(sheet, NodeKind::Arith(Op::Less), int, children)?,

@@ -2,9 +2,10 @@
 
 use c_types::table::TypeTable;
 use c_types::term::{Form, OutOfMemory, Term, TypeId, TypeList};
+use core_tree::held::{Children, HeldList, HeldText};
 use core_tree::{Entity, Linkage, Node, NodeKind, Program, Storage, Unit};
 use core_valid::{valid_program, valid_unit};
-use pta_base::{Listing, Place, Text};
+use pta_base::{Place, Text};
 use std::alloc::Global;
 use std::test::Fail;
 
@@ -93,7 +94,7 @@ fn push_node(
         kind,
         place: place_at(column),
         ty: TypeId(ty),
-        children: Listing::of(Vec::from_slice(alloc, children)?),
+        children: Children::of(alloc, Vec::from_slice(alloc, children)?)?,
     };
     push_to(nodes, node)
 }
@@ -126,12 +127,12 @@ fn nodes_of(alloc: Global, fault: Fault) -> Result<Vec<Node>, OutOfMemory> {
     push_node(alloc, &mut nodes, 30, NodeKind::Named(0), INT, &[])?;
     push_node(alloc, &mut nodes, 30, NodeKind::Fetch, ty, &[0])?;
     let jump = if fault == Fault::GotoWithoutLabel {
-        NodeKind::Goto(Text::copy_of(alloc, "out")?)
+        NodeKind::Goto(HeldText::of(alloc, Text::copy_of(alloc, "out")?)?)
     } else {
         NodeKind::Break
     };
     push_node(alloc, &mut nodes, 35, jump, VOID, &[])?;
-    let block = NodeKind::Block(Listing::new(alloc));
+    let block = NodeKind::Block(HeldList::of(alloc, Vec::new(alloc))?);
     push_node(alloc, &mut nodes, 33, block, VOID, &[2])?;
     let kind = if fault == Fault::BreakOutsideLoop {
         NodeKind::If
@@ -162,10 +163,10 @@ fn last_nodes(alloc: Global, nodes: &mut Vec<Node>, fault: Fault) -> Result<(), 
     };
     if fault == Fault::ReturnOfOtherType {
         push_node(alloc, nodes, 43, NodeKind::Return, VOID, &[7])?;
-        let block = NodeKind::Block(Listing::new(alloc));
+        let block = NodeKind::Block(HeldList::of(alloc, Vec::new(alloc))?);
         return push_node(alloc, nodes, 21, block, VOID, &[4, 8]);
     }
-    let block = NodeKind::Block(Listing::new(alloc));
+    let block = NodeKind::Block(HeldList::of(alloc, Vec::new(alloc))?);
     push_node(alloc, nodes, 21, block, VOID, children)
 }
 

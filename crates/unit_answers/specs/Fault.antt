@@ -3,11 +3,10 @@ use Rattle.std.specs.Prelude.{ℕ, ⊤, List}
 use Rattle.core_tree.specs.declared.node.Program.{Program}
 use Rattle.sol_model.specs.declared.system.System.{System}
 use Rattle.obj_space.specs.declared.location.Location.{Location}
-use Rattle.obj_space.specs.Space.{DistinctNames}
 use Rattle.alias_query.specs.declared.answers.AskFault.{AskFault}
 use Rattle.alias_query.specs.declared.answers.AskFault.TheVariants as ask
 use Rattle.unit_answers.specs.declared.fault.AnswersFault.{AnswersFault}
-use Rattle.unit_answers.specs.declared.fault.AnswersFault.TheVariants.{Question, NotBuilt, OutOfMemory}
+use Rattle.unit_answers.specs.declared.fault.AnswersFault.TheVariants.{Question, OutOfMemory}
 use Rattle.unit_answers.specs.Answered.{IsRefusedLine}
 
 -- the fault of a script's line, by the number of the line alone
@@ -16,8 +15,7 @@ fault_of (ask.BadLine number) = Question number
 fault_of (ask.NoName number) = Question number
 fault_of ask.OutOfMemory = OutOfMemory
 
--- the first line at fault, or that the program isn't built; want of memory says nothing of the script
+-- the first line at fault; want of memory says nothing of the script
 abbrev pub IsAnswersFault : Program → List Location → System → List ℕ → AnswersFault → Type 0
 IsAnswersFault p space system script (Question number) = IsRefusedLine p space system script number
-IsAnswersFault p space system script NotBuilt = DistinctNames space → ⊥
 IsAnswersFault p space system script OutOfMemory = ⊤

@@ -4,6 +4,7 @@ ghost use Rattle.std.specs.Prelude.{◌≡◌, ◌<◌, ◌≤◌, ◌^◌, All,
 ghost use Rattle.sol_model.specs.Families.{Family};
 ghost use Rattle.sol_model.specs.Solutions.{IsLeast};
 ghost use Rattle.sol_model.specs.Systems.{IsValid};
+ghost use Rattle.obj_space.specs.Space.{DistinctNames};
 ghost use Rattle.alias_query.specs.Answers.{IsKnown};
 ghost use Rattle.ask_rounds.specs.Said.{AreAnswers};
 ghost use Rattle.unit_system.specs.Of.{IsSystemOf};
@@ -14,7 +15,6 @@ ghost use Rattle.unit_answers.specs.Fault.{IsAnswersFault};
 use crate::fault::{AnswersFault, fault_of};
 use alias_query::{Answer, Question, questions};
 use ask_rounds::{answers_text, solve_and_ask};
-use name_tests::names_differ;
 use pta_base::{Gate, OutOfMemory};
 use set_rows::RowTable;
 use sol_model::System;
@@ -52,10 +52,10 @@ fn answer_on_rows<R: Threads + Sync, G: Gate + Sync>(
     ))
 }
 
-/// The answers to a script of at most 2^24 bytes on a program whose system was made, with the system that was solved for them by so many
-/// workers on shared rows, each of whom passes the gate before each of its pieces. An asker beside them tries each question, and what is
-/// open then is asked when the system is solved. At Err it is the first line that isn't in the grammar or names nothing of the right sort.
-/// The text stands whole in memory before any of it is written. Not built is a program of which two locations have one name.
+/// The answers to a script of at most 2^24 bytes on a program whose system was made, no two of whose locations have one name, with the
+/// system that was solved for them by so many workers on shared rows, each of whom passes the gate before each of its pieces. An asker
+/// beside them tries each question, and what is open then is asked when the system is solved. At Err it is the first line that isn't in the
+/// grammar or names nothing of the right sort. The text stands whole in memory before any of it is written.
 pub fn answers_of_system<R: Threads + Sync, G: Gate + Sync>(
     rt: &R,
     alloc: Global,
@@ -65,6 +65,7 @@ pub fn answers_of_system<R: Threads + Sync, G: Gate + Sync>(
     gate: &G,
 ) -> Result<(Vec<u8>, Solved), AnswersFault>
     requires system { IsSystemOf made.program made.space made.system }
+    requires distinct { DistinctNames made.space }
     requires script { length script.now ≤ 2 ^ 24 }
     requires workers { (0 < workers) × (workers ≤ 64) }
     ensures answered { IfOk result (λ found. IsProgramAnswers made.program made.space made.system script.now found.0.items) }
@@ -76,9 +77,6 @@ pub fn answers_of_system<R: Threads + Sync, G: Gate + Sync>(
         space,
         system,
     } = made;
-    if !names_differ(alloc, &space)? {
-        return Err(AnswersFault::NotBuilt);
-    }
     let asked = match questions(alloc, script, &space, &system, program.names.as_slice()) {
         Ok(asked) => asked,
         Err(fault) => return Err(fault_of(fault)),

@@ -6,11 +6,10 @@ ghost use Rattle.unit_answers.specs.Fault.{fault_of};
 use alias_query::AskFault;
 use pta_base::OutOfMemory;
 
-/// The first line at fault, by its number from 1; a program of which two locations have one name, which isn't built; or want of memory.
+/// The first line at fault, by its number from 1; or want of memory.
 #[derive(Clone, Copy, Debug, PartialEq, Eq)]
 pub enum AnswersFault {
     Question(u32),
-    NotBuilt,
     OutOfMemory,
 }
 

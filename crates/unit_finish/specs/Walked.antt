@@ -27,11 +27,12 @@ declared_seen u x = record {
   body = option_map (core_at u) x.body;
 }
 
--- the list has what each leaf of a name declares, once, with a type of the table, and nothing else
+-- the list has what each leaf of a name declares, once, in the order of the leaves, with a type of the table, and nothing else
 pub record AreNames (s : Source) (senses : List Sense) (u : Unit) (names : List Declared) : Type 0 where
   pub each : (k : ℕ) (x : Declared) → slice_get names k ≡ Some x → declared_name s senses x.leaf ≡ Some (declared_seen u x)
   pub all : (d : ℕ) (what : right.Declared) → declared_name s senses d ≡ Some what → (k : ℕ) × (x : Declared) × (slice_get names k ≡ Some x) × (x.leaf ≡ d)
   pub once : (j k : ℕ) (x y : Declared) → slice_get names j ≡ Some x → slice_get names k ≡ Some y → x.leaf ≡ y.leaf → j ≡ k
+  pub ascend : (j k : ℕ) (x y : Declared) → j < k → slice_get names j ≡ Some x → slice_get names k ≡ Some y → x.leaf < y.leaf
   pub typed : (k : ℕ) (x : Declared) → slice_get names k ≡ Some x → x.ty.0 < length u.types.terms
 
 -- what is declared at a compound literal

@@ -4,3 +4,4 @@ pub mod Typed
 pub mod Parts
 pub mod Listing
 mod Past
+pub mod Known

@@ -36,12 +36,13 @@ seen_kept old new b x h =
 pub declared_more : (old new : Unit) → Builds old new → (x : Declared) → IsDeclaredIn old x → IsDeclaredIn new x
 declared_more old new b x h = record { ty = omega (arith, h.ty, b.terms); body = body_more old new b x.body h.body }
 
--- the list has what each of the first so many leaves declares, and nothing else
+-- the list has what each of the first so many leaves declares, in their order, and nothing else
 pub record ListsTo (s : Source) (senses : List Sense) (u : Unit) (n : ℕ) (list : List Declared) : Type 0 where
   pub each : (k : ℕ) (x : Declared) → slice_get list k ≡ Some x → declared_name s senses x.leaf ≡ Some (declared_seen u x)
   pub all : (d : ℕ) (what : right.Declared) → d < n → declared_name s senses d ≡ Some what → (k : ℕ) × (x : Declared) × (slice_get list k ≡ Some x) × (x.leaf ≡ d)
   pub below : (k : ℕ) (x : Declared) → slice_get list k ≡ Some x → x.leaf < n
   pub once : (j k : ℕ) (x y : Declared) → slice_get list j ≡ Some x → slice_get list k ≡ Some y → x.leaf ≡ y.leaf → j ≡ k
+  pub ascend : (j k : ℕ) (x y : Declared) → j < k → slice_get list j ≡ Some x → slice_get list k ≡ Some y → x.leaf < y.leaf
 
 get_front : (xs : List Declared) (ys : List Declared) (k : ℕ) (x : Declared) → slice_get xs k ≡ Some x → slice_get (xs ++ ys) k ≡ Some x
 get_front [] ys k x e = absurd (cc)
@@ -74,6 +75,7 @@ lists_none s senses u = record {
   all = λ d what lt e. absurd (omega arith);
   below = λ k x e. absurd (cc);
   once = λ j k x y e f same. absurd (cc);
+  ascend = λ j k x y less e f. absurd (cc);
 }
 
 module _ (s : Source) (senses : List Sense) (old new : Unit) (b : Builds old new) (n : ℕ) (list : List Declared) (inside : All (IsDeclaredIn old) list) (h : ListsTo s senses old n list) where
@@ -98,6 +100,21 @@ module _ (s : Source) (senses : List Sense) (old new : Unit) (b : Builds old new
         ]
       ]
 
+  -- and a greater one than those before it
+  ascend_more : (x : Declared) → x.leaf ≡ n → (j k : ℕ) (y z : Declared) → j < k → slice_get (list ++ x ∷ []) j ≡ Some y → slice_get (list ++ x ∷ []) k ≡ Some z → y.leaf < z.leaf
+  ascend_more x leaf j k y z less e f =
+      elim (get_pushed list x k z f) [
+        | inl early ↦ elim (get_pushed list x j y e) [
+          | inl first ↦ h.ascend j k y z less first early
+          | inr past ↦ (let lt = slice_get_within list k z early in absurd (omega (arith, less, lt, past.0)))
+        ]
+        | inr late ↦ elim (get_pushed list x j y e) [
+          | inl first ↦ (let lt = h.below j y first in
+              let at : z.leaf ≡ n = ap (λ (w : Declared). w.leaf) (sym late.1) ∙ leaf in omega (arith, lt, at))
+          | inr past ↦ absurd (omega (arith, less, late.0, past.0))
+        ]
+      ]
+
   pub lists_more : (found : Option Declared) → option_map (declared_seen new) found ≡ declared_name s senses n → IfSome found (λ x. x.leaf ≡ n) → ListsTo s senses new (n + 1) (list ++ option_to_list found)
   lists_more None is leaf = record {
     each = λ k x e. each_kept k x (sym (ap (λ (l : List Declared). slice_get l k) (append-nil list)) ∙ e);
@@ -108,6 +125,7 @@ module _ (s : Source) (senses : List Sense) (old new : Unit) (b : Builds old new
         ];
     below = λ k x e. (let lt = h.below k x (sym (ap (λ (l : List Declared). slice_get l k) (append-nil list)) ∙ e) in omega (arith, lt));
     once = λ j k x y e f same. h.once j k x y (sym (ap (λ (l : List Declared). slice_get l j) (append-nil list)) ∙ e) (sym (ap (λ (l : List Declared). slice_get l k) (append-nil list)) ∙ f) same;
+    ascend = λ j k x y less e f. h.ascend j k x y less (sym (ap (λ (l : List Declared). slice_get l j) (append-nil list)) ∙ e) (sym (ap (λ (l : List Declared). slice_get l k) (append-nil list)) ∙ f);
   }
   lists_more (Some x) is leaf = record {
     each = λ k y e.
@@ -126,6 +144,7 @@ module _ (s : Source) (senses : List Sense) (old new : Unit) (b : Builds old new
           | inr same ↦ (let at : y.leaf ≡ n = ap (λ (z : Declared). z.leaf) (sym same) ∙ leaf in omega (arith, at))
         ];
     once = λ j k y z e f same. once_more x leaf j k y z e f same;
+    ascend = λ j k y z less e f. ascend_more x leaf j k y z less e f;
   }
 
 pub inside_more : (old new : Unit) → Builds old new → (list : List Declared) (found : Option Declared) → All (IsDeclaredIn old) list → IfSome found (IsDeclaredIn new) → All (IsDeclaredIn new) (list ++ option_to_list found)
@@ -151,6 +170,7 @@ lists_all s senses u n list whole inside h = record {
   each = h.each;
   all = λ d what e. let below : d < length s.nodes = name_below s d (name_declares s senses d what e) in h.all d what (omega arith) e;
   once = h.once;
+  ascend = h.ascend;
   typed = λ k x e. (let at : IsDeclaredIn u x = subst (IsDeclaredIn u) (get_or_from_slice_get list k x x e) (All-get_or (IsDeclaredIn u) list k x (slice_get_within list k x e) inside) in at.ty);
 }
 

@@ -4,3 +4,5 @@ pub mod Typing
 pub mod Storages
 pub mod Bodies
 pub mod Entries
+pub mod Firsts
+pub mod Asked

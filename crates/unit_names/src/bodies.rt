@@ -68,7 +68,7 @@ fn place_of_body(syntax: &Syntax, leaf: u32) -> Option<u32>
 
 /// The body of what the declaration of a leaf declares, by its core node: of a function its block (C11 6.9.1), of an object its
 /// initialiser (6.7.9); None where it has none, or where none is made.
-pub fn body_at(syntax: &Syntax, results: &Results, leaf: u32) -> Option<u32>
+pub(crate) fn body_at(syntax: &Syntax, results: &Results, leaf: u32) -> Option<u32>
     requires { leaf < length syntax.now.tree.now.nodes.items }
     ensures seen { (u : UnitSpec) (uses : List (ℕ × ℕ)) →
         option_map (core_at u) result ≡ right.body_at (source_in syntax.now uses) (senses_made u results.now) leaf }

@@ -12,7 +12,7 @@ ghost use Rattle.unit_names.specs.Choosing as choice;
 
 use crate::internal::of_internal;
 use c_entities::{has_storage, initialiser_for, is_defined};
-use c_meanings::{Names, declares_function, is_internal};
+use c_meanings::{Names, declares_function};
 use c_results::Results;
 use core_nodes::CheckFault;
 use std::alloc::Global;
@@ -112,24 +112,28 @@ pub(crate) fn chosen(
 }
 
 /// The declaration at which the name that a leaf declares has its place: of an internal name its definition, else its first tentative
-/// definition, else its first declaration (C11 6.9.1, 6.9.2); of any other name its own. Only memory may want.
-pub fn representative(
+/// definition, else its first declaration (C11 6.9.1, 6.9.2); of any other name its own. `internal` says whether it has internal linkage.
+/// Only memory may want.
+pub(crate) fn representative(
     alloc: Global,
     names: &Names,
     lists: &SymbolLists,
     syntax: &Syntax,
     results: &Results,
+    internal: bool,
     leaf: u32,
 ) -> Result<u32, CheckFault>
     requires names { AreNamed syntax.now results.now names.now }
     requires lists { AreOf (source_read syntax.now).declared.ordinary lists.now }
+    requires internal { (u : UnitSpec) (uses : List (ℕ × ℕ)) →
+        internal ≡ spec.is_internal (source_in syntax.now uses) (sense_in (senses_made u results.now)) leaf }
     requires leaf { leaf < length syntax.now.tree.now.nodes.items }
     ensures representative { (u : UnitSpec) (uses : List (ℕ × ℕ)) →
         IfOk result (λ at. at ≡ right.representative (source_in syntax.now uses) (senses_made u results.now) leaf) }
     ensures within { IfOk result (λ at. at < length syntax.now.tree.now.nodes.items) }
     ensures memory { IsOkUnless result CheckFault.OutOfMemory }
 {
-    if !is_internal(names, syntax, results, leaf) {
+    if !internal {
         return Ok(leaf);
     }
     let list = of_internal(alloc, names, lists, syntax, results, leaf)?;

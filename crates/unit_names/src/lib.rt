@@ -4,6 +4,7 @@
 mod bodies;
 mod choosing;
 mod declared;
+mod firsts;
 mod internal;
 mod list;
 mod literals;
@@ -11,11 +12,5 @@ mod owners;
 mod storages;
 mod types;
 
-pub use bodies::body_at;
-pub use choosing::representative;
-pub use declared::{declared_at, declares_entity};
 pub use list::declared_names;
 pub use literals::{declared_literals, literal_entries};
-pub use owners::owner_at;
-pub use storages::storage_at;
-pub use types::entity_type;

@@ -11,7 +11,7 @@ ghost use Rattle.c_meanings.specs.Known.{AreNamed};
 ghost use Rattle.unit_parts.specs.Entities.{bodies_of};
 ghost use Rattle.unit_finish.specs.Walked.{AreNames};
 
-use crate::declared::declared_at;
+use crate::declared::{Asked, declared_at};
 use c_meanings::Names;
 use c_mentions::settings::place_of;
 use c_results::Results;
@@ -60,9 +60,10 @@ pub fn declared_names(
     let Ok(count) = place_of(syntax.tree.nodes.len()) else {
         return Err(CheckFault::OutOfMemory);
     };
+    let mut asked = Asked::new(alloc, names)?;
     let mut list = Vec::new(alloc);
     for leaf in 0..count {
-        let found = declared_at(alloc, unit, names, lists, syntax, results, leaf)?;
+        let found = declared_at(alloc, unit, names, lists, syntax, results, &mut asked, leaf)?;
         add_some(&mut list, found)?;
     }
     Ok(list)

@@ -10,7 +10,7 @@ ghost use Rattle.tree_reads.specs.Sources.{source_in};
 ghost use Rattle.name_places.specs.Named.{IsNamedIn};
 ghost use Rattle.c_meanings.specs.Known.{AreNamed};
 
-use c_meanings::{Names, entity_of, linkage_of};
+use c_meanings::{Names, entity_of};
 use c_results::Results;
 use core_tree::node::Linkage;
 use name_places::function_around;
@@ -38,15 +38,24 @@ pub(crate) fn function_entity(
 }
 
 /// The function that owns what a leaf declares, by the leaf of its entity: of a name without linkage the function around it (C11
-/// 6.2.2p6); None for any other, and outside of functions.
-pub fn owner_at(names: &Names, syntax: &Syntax, results: &Results, leaf: u32) -> Option<u32>
+/// 6.2.2p6); None for any other, and outside of functions. `linkage` is the
+/// name's.
+pub(crate) fn owner_at(
+    names: &Names,
+    syntax: &Syntax,
+    results: &Results,
+    linkage: Linkage,
+    leaf: u32,
+) -> Option<u32>
     requires names { AreNamed syntax.now results.now names.now }
     requires named { All (IsNamedIn (length syntax.now.tree.now.nodes.items)) results.now }
+    requires linkage { (u : UnitSpec) (uses : List (ℕ × ℕ)) →
+        linkage ≡ spec.linkage_of (source_in syntax.now uses) (sense_in (senses_made u results.now)) leaf }
     requires leaf { leaf < length syntax.now.tree.now.nodes.items }
     ensures { (u : UnitSpec) (uses : List (ℕ × ℕ)) →
         result ≡ right.owner_at (source_in syntax.now uses) (senses_made u results.now) leaf }
 {
-    match linkage_of(names, syntax, results, leaf) {
+    match linkage {
         Linkage::Local => function_entity(names, syntax, results, leaf),
         Linkage::External | Linkage::Internal => None,
     }

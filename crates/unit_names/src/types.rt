@@ -4,6 +4,7 @@ ghost use Rattle.c_types.specs.Trees.{Ctype};
 ghost use Rattle.c_senses.specs.Sense.{sense_in};
 ghost use Rattle.c_senses.specs.Entities as spec;
 ghost use Rattle.c_senses.specs.Right as right;
+ghost use Rattle.core_tree.specs.declared.node.Unit.{Unit as UnitSpec};
 ghost use Rattle.core_nodes.specs.Standing.{IsReady, Builds};
 ghost use Rattle.c_results.specs.Standing.{senses_made, IsWithin};
 ghost use Rattle.tree_reads.specs.Sources.{source_read, source_in};
@@ -16,7 +17,7 @@ ghost use Rattle.unit_names.specs.Typing.{type_of_internal};
 use crate::choosing::chosen;
 use crate::internal::of_internal;
 use c_entities::{is_defined, own_type, together, with_length};
-use c_meanings::{Names, is_internal};
+use c_meanings::Names;
 use c_results::Results;
 use c_types::table::TypeTable;
 use c_types::term::TypeId;
@@ -120,20 +121,23 @@ fn internal_type(
 
 /// The type of the object or function that a leaf declares: of an internal name that of its definition as a function, else the type
 /// that all its declarations give together, where an array without a length gets one element (C11 6.2.7p4, 6.9.2p5); of any other
-/// name that of its own declaration. None where none is made. Only memory may want.
-pub fn entity_type(
+/// name that of its own declaration. None where none is made. `internal` says whether the name has internal linkage. Only memory may want.
+pub(crate) fn entity_type(
     alloc: Global,
     unit: &mut Unit,
     names: &Names,
     lists: &SymbolLists,
     syntax: &Syntax,
     results: &Results,
+    internal: bool,
     leaf: u32,
 ) -> Result<Option<TypeId>, CheckFault>
     requires ready { IsReady unit.old }
     requires results { All (IsWithin unit.old) results.now }
     requires names { AreNamed syntax.now results.now names.now }
     requires lists { AreOf (source_read syntax.now).declared.ordinary lists.now }
+    requires internal { (u : UnitSpec) (uses : List (ℕ × ℕ)) →
+        internal ≡ spec.is_internal (source_in syntax.now uses) (sense_in (senses_made u results.now)) leaf }
     requires leaf { leaf < length syntax.now.tree.now.nodes.items }
     ensures ready { IsReady unit.new }
     ensures builds { Builds unit.old unit.new }
@@ -142,7 +146,7 @@ pub fn entity_type(
     ensures within { IfOk result (λ t. IfSome t (λ id. id.0 < length unit.new.types.terms)) }
     ensures memory { IsOkUnless result CheckFault.OutOfMemory }
 {
-    if !is_internal(names, syntax, results, leaf) {
+    if !internal {
         return own_type(alloc, unit, syntax, results, leaf);
     }
     let list = of_internal(alloc, names, lists, syntax, results, leaf)?;

@@ -6,8 +6,8 @@ ghost use Rattle.unit_parts.specs.Numbered as spec;
 ghost use Rattle.unit_parts.specs.Numbered.{numbered_from, kept_of};
 ghost use Rattle.unit_parts.specs.Turns.{Turns};
 
+use core_tree::held::Children;
 use core_tree::node::Node;
-use pta_base::Listing;
 use std::alloc::{AllocError, Global};
 use std::collections::VecDeque;
 
@@ -44,14 +44,14 @@ fn new_numbers(
     alloc: Global,
     numbers: &[Option<u32>],
     nodes: &[u32],
-) -> Result<Listing<u32>, AllocError>
+) -> Result<Children, AllocError>
     ensures { IfOk result (λ list. list ≡ map (spec.new_number numbers.now) nodes.now) }
 {
-    let mut list = Listing::new(alloc);
+    let mut list = Vec::new(alloc);
     for node in nodes {
         list.push(new_number(numbers, *node))?;
     }
-    Ok(list)
+    Children::of(alloc, list)
 }
 
 // A node over the new numbers of its children.

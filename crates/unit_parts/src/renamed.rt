@@ -6,9 +6,9 @@ ghost use Rattle.leaf_maps.specs.Numbers.{number_at};
 ghost use Rattle.unit_parts.specs.Renamed as spec;
 ghost use Rattle.unit_parts.specs.Turns.{Comes};
 
+use core_tree::held::HeldList;
 use core_tree::node::{Node, NodeKind};
 use leaf_maps::LeafMap;
-use pta_base::Listing;
 use std::alloc::{AllocError, Global};
 use std::collections::VecDeque;
 
@@ -24,14 +24,14 @@ fn entity_numbers(
     alloc: Global,
     numbers: &LeafMap,
     leaves: &[u32],
-) -> Result<Listing<u32>, AllocError>
+) -> Result<HeldList<u32>, AllocError>
     ensures { IfOk result (λ list. list ≡ map (spec.entity_number (number_at numbers.now)) leaves.now) }
 {
-    let mut list = Listing::new(alloc);
+    let mut list = Vec::new(alloc);
     for leaf in leaves {
         list.push(entity_number(numbers, *leaf))?;
     }
-    Ok(list)
+    HeldList::of(alloc, list)
 }
 
 // A kind with the numbers of the entities that it names.
@@ -46,7 +46,10 @@ fn renamed(alloc: Global, numbers: &LeafMap, kind: NodeKind) -> Result<NodeKind,
             entity: entity_number(numbers, entity),
             paths,
         }),
-        NodeKind::Block(ds) => Ok(NodeKind::Block(entity_numbers(alloc, numbers, ds.as_slice())?)),
+        NodeKind::Block(ds) => {
+            let ds = entity_numbers(alloc, numbers, ds.as_slice())?;
+            Ok(NodeKind::Block(ds))
+        }
         NodeKind::For {
             entities,
             condition,

@@ -8,6 +8,7 @@ ghost use Rattle.c_senses.specs.Rows.{declarator_row};
 ghost use Rattle.core_nodes.specs.Standing.{IsReady, Builds, Knows};
 ghost use Rattle.c_declarators.specs.Limited.{AreLimited};
 ghost use Rattle.c_meanings.specs.Known.{AreNamed};
+ghost use Rattle.c_meanings.specs.Linkages.{AreLinkages};
 ghost use Rattle.c_named.specs.Said.{IsSaidIn, AreSaid};
 ghost use Rattle.c_results.specs.Standing.{senses_made, IsWithin, Rowed};
 ghost use Rattle.name_places.specs.Named.{IsNamedIn};
@@ -18,7 +19,7 @@ ghost use Rattle.unit_rows.specs.Standing.{IsKnown, Stand, source_known, nodes_k
 
 use crate::initials::nothing_said;
 use crate::known::Known;
-use c_meanings::Names;
+use c_meanings::{Linkages, Names};
 use c_named::{Around, Said, declarator_row};
 use c_results::{Made, Results};
 use core_nodes::CheckFault;
@@ -36,36 +37,43 @@ fn said_in(
     names: &Names,
     lists: &SymbolLists,
     results: &Results,
+    linkages: &mut Linkages,
     children: &[u32],
 ) -> Result<Said, CheckFault>
     requires named { All (IsNamedIn (length syntax.now.tree.now.nodes.items)) results.now }
     requires names { AreNamed syntax.now results.now names.now }
     requires lists { AreListed syntax.now lists.now }
+    requires linkages { AreLinkages syntax.now results.now names.now linkages.old }
+    ensures linkages { AreLinkages syntax.now results.now names.now linkages.new }
     ensures said { IfOk result (λ said. (u : UnitSpec) (w : World) (uses : List (ℕ × ℕ)) →
         AreSaid w (source_in syntax.now uses) (sense_in (senses_made u results.now)) children.now said) }
     ensures within { IfOk result (IsSaidIn (length syntax.now.tree.now.nodes.items)) }
     ensures memory { IsOkUnless result CheckFault.OutOfMemory }
 {
     match name_in(syntax, results, children) {
-        Some(leaf) => said_of(alloc, names, lists, syntax, results, leaf),
+        Some(leaf) => said_of(alloc, names, lists, syntax, results, linkages, leaf),
         None => Ok(nothing_said(alloc)),
     }
 }
 
 /// The row of a declarator (C11 6.7.6), with what its declaration may say of the name that it declares (6.2.2p7, 6.7, 6.9.1), where the
-/// types made so far are within the limits. `unions` are the tags that have a structure that ends in an array without a length.
+/// types made so far are within the limits. `linkages` is what is kept of the names before it; `unions` are the tags that have a structure
+/// that ends in an array without a length.
 pub(crate) fn declared_name(
     alloc: Global,
     unit: &mut Unit,
     known: &Known,
     results: &Results,
+    linkages: &mut Linkages,
     unions: &[bool],
     at: u32,
 ) -> Result<Made, CheckFault>
     requires known { IsKnown known.now }
     requires stand { Stand (nodes_known known.now) unit.old results.now }
+    requires linkages { AreLinkages known.now.numbered.now.syntax results.now known.now.names.now linkages.old }
     requires unions { AreUnions unit.old.types unions.now }
     requires at { at < nodes_known known.now }
+    ensures linkages { AreLinkages known.now.numbered.now.syntax results.now known.now.names.now linkages.new }
     ensures ready { IsReady unit.new }
     ensures builds { Builds unit.old unit.new }
     ensures within { IfOk result (IsWithin unit.new) }
@@ -83,7 +91,15 @@ pub(crate) fn declared_name(
     let _count = unit.types.type_count();
     let syntax = &known.numbered.syntax;
     let children = children_of(syntax, at);
-    let said = match said_in(alloc, syntax, known.names, known.lists, results, children) {
+    let said = match said_in(
+        alloc,
+        syntax,
+        known.names,
+        known.lists,
+        results,
+        linkages,
+        children,
+    ) {
         Ok(said) => said,
         Err(fault) => return Err(fault),
     };

@@ -9,6 +9,7 @@ ghost use Rattle.core_nodes.specs.Standing.{IsReady, Builds, Knows};
 ghost use Rattle.c_results.specs.Standing.{sense_made, senses_made, IsWithin, Rowed};
 ghost use Rattle.c_declarators.specs.Limited.{AreLimited};
 ghost use Rattle.c_initials.specs.Filling.{Fills};
+ghost use Rattle.c_meanings.specs.Linkages.{AreLinkages};
 ghost use Rattle.c_named.specs.Said.{IsSaid, IsSaidIn};
 ghost use Rattle.init_rows.specs.Around.{object_at};
 ghost use Rattle.name_places.specs.Named.{IsNamedIn};
@@ -18,6 +19,7 @@ ghost use Rattle.unit_rows.specs.Standing.{IsKnown, AreKept, source_known, nodes
 
 use crate::known::Known;
 use c_initials::storage::Scope;
+use c_meanings::Linkages;
 use c_named::Said;
 use c_results::{Made, Results};
 use core_nodes::CheckFault;
@@ -42,10 +44,18 @@ pub(crate) fn nothing_said(alloc: Global) -> Said
 }
 
 // What is said of the name of the object whose whole initialiser a node is, if it is one.
-fn said_at(alloc: Global, known: &Known, results: &Results, at: u32) -> Result<Said, CheckFault>
+fn said_at(
+    alloc: Global,
+    known: &Known,
+    results: &Results,
+    linkages: &mut Linkages,
+    at: u32,
+) -> Result<Said, CheckFault>
     requires known { IsKnown known.now }
+    requires linkages { AreLinkages known.now.numbered.now.syntax results.now known.now.names.now linkages.old }
     requires named { All (IsNamedIn (nodes_known known.now)) results.now }
     requires at { at < nodes_known known.now }
+    ensures linkages { AreLinkages known.now.numbered.now.syntax results.now known.now.names.now linkages.new }
     ensures said { IfOk result (λ said. (u : UnitSpec) (w : World) (leaf : ℕ) →
         let s = source_known known.now in
         let sense = sense_in (senses_made u results.now) in
@@ -55,7 +65,15 @@ fn said_at(alloc: Global, known: &Known, results: &Results, at: u32) -> Result<S
 {
     let syntax = &known.numbered.syntax;
     match initialised_name(syntax, results, at) {
-        Some(leaf) => said_of(alloc, known.names, known.lists, syntax, results, leaf),
+        Some(leaf) => said_of(
+            alloc,
+            known.names,
+            known.lists,
+            syntax,
+            results,
+            linkages,
+            leaf,
+        ),
         None => Ok(nothing_said(alloc)),
     }
 }
@@ -67,14 +85,17 @@ pub(crate) fn initial_row(
     unit: &mut Unit,
     known: &Known,
     results: &Results,
+    linkages: &mut Linkages,
     at: u32,
 ) -> Result<Made, CheckFault>
     requires known { IsKnown known.now }
+    requires linkages { AreLinkages known.now.numbered.now.syntax results.now known.now.names.now linkages.old }
     requires ready { IsReady unit.old }
     requires results { All (IsWithin unit.old) results.now }
     requires kept { AreKept (nodes_known known.now) unit.old results.now }
     requires at { at < nodes_known known.now }
     requires part { is_initial (production_at (source_known known.now) at) ≡ true }
+    ensures linkages { AreLinkages known.now.numbered.now.syntax results.now known.now.names.now linkages.new }
     ensures ready { IsReady unit.new }
     ensures builds { Builds unit.old unit.new }
     ensures within { IfOk result (IsWithin unit.new) }
@@ -92,7 +113,7 @@ pub(crate) fn initial_row(
         results,
         functions: known.kinds.functions.as_slice(),
     };
-    let said = match said_at(alloc, known, results, at) {
+    let said = match said_at(alloc, known, results, linkages, at) {
         Ok(said) => said,
         Err(fault) => return Err(fault),
     };

@@ -4,6 +4,7 @@ ghost use Rattle.c_senses.specs.Tree.{production_at};
 ghost use Rattle.c_senses.specs.Rows.{AreSenses};
 ghost use Rattle.c_senses.specs.Sense.{sense_in};
 ghost use Rattle.c_declarators.specs.Limited.{AreLimited};
+ghost use Rattle.c_meanings.specs.Linkages.{AreLinkages};
 ghost use Rattle.c_structures.specs.Listed.{AreLists};
 ghost use Rattle.core_nodes.specs.Standing.{IsReady, Builds, Knows};
 ghost use Rattle.c_results.specs.Standing.{sense_made, senses_made, IsWithin, Rowed};
@@ -24,6 +25,7 @@ use crate::initials::initial_row;
 use crate::known::Known;
 use crate::parts::{derivation, specifier};
 use crate::structures::structure;
+use c_meanings::Linkages;
 use c_results::{Made, Results};
 use c_statements::Choices;
 use c_structures::{MemberLists, listed_member};
@@ -179,6 +181,7 @@ fn limited(
     results: &Results,
     lists: &mut MemberLists,
     unions: &mut Vec<bool>,
+    linkages: &mut Linkages,
     at: u32,
 ) -> Result<Made, CheckFault>
     requires known { IsKnown known.now }
@@ -191,6 +194,7 @@ fn limited(
     requires families { Families (source_known known.now) }
     requires lists { AreLists known.now.numbered.now.syntax results.now lists.old }
     requires unions { AreUnions unit.old.types unions.old.items }
+    requires linkages { AreLinkages known.now.numbered.now.syntax results.now known.now.names.now linkages.old }
     requires long { length results.now ≡ at }
     requires at { at < nodes_known known.now }
     requires limited { is_limited (production_at (source_known known.now) at) ≡ true }
@@ -201,6 +205,7 @@ fn limited(
         IfOk result (λ m. Grows unit.old unit.new (completed_at (source_known known.now) sense at)) }
     ensures lists { AreLists known.now.numbered.now.syntax results.now lists.new }
     ensures unions { IfOk result (λ m. AreUnions unit.new.types unions.new.items) }
+    ensures linkages { AreLinkages known.now.numbered.now.syntax results.now known.now.names.now linkages.new }
     ensures row { Rowed unit.new result (row_there known.now unit.old results.now at) }
 {
     // (What every table keeps is told by its count.)
@@ -214,9 +219,9 @@ fn limited(
         return listed_member(alloc, unit, syntax, results, unions.as_slice(), lists, at);
     }
     if is_declarator(production) {
-        return declared_name(alloc, unit, known, results, unions.as_slice(), at);
+        return declared_name(alloc, unit, known, results, linkages, unions.as_slice(), at);
     }
-    initial_row(alloc, unit, known, results, at)
+    initial_row(alloc, unit, known, results, linkages, at)
 }
 
 // The row of a node of a declaration or a statement.
@@ -275,14 +280,14 @@ pub fn row(
     requires families { Families (source_known known.now) }
     requires limits { AreLimited (world_there known.now unit.old results.now at) (senses_made unit.old results.now) }
     requires long { length results.now ≡ at }
-    requires along { AreAlong known.now.numbered.now.syntax unit.old results.now along.old }
+    requires along { AreAlong known.now.numbered.now.syntax known.now.names.now unit.old results.now along.old }
     requires at { at < nodes_known known.now }
     ensures ready { IsReady unit.new }
     ensures within { IfOk result (IsWithin unit.new) }
     ensures keeps { IfOk result (λ m. Keeps (nodes_known known.now) (sense_made unit.new m)) }
     ensures grows { let sense = sense_in (senses_made unit.old results.now) in
         IfOk result (λ m. Grows unit.old unit.new (completed_at (source_known known.now) sense at)) }
-    ensures along { IfOk result (λ m. AreAlong known.now.numbered.now.syntax unit.new results.now along.new) }
+    ensures along { IfOk result (λ m. AreAlong known.now.numbered.now.syntax known.now.names.now unit.new results.now along.new) }
     ensures row { Rowed unit.new result (row_there known.now unit.old results.now at) }
 {
     let syntax = &known.numbered.syntax;
@@ -303,6 +308,7 @@ pub fn row(
         results,
         &mut along.lists,
         &mut along.unions,
+        &mut along.linkages,
         at,
     )
 }

@@ -63,7 +63,7 @@ pub(crate) fn fits_functions(view: &View<'_>, labels: &Labels, n: usize, node: &
     ensures { IsTrue result ↔ FitsFunctions (core_of view.now.trees) n node.now }
 {
     match &node.kind {
-        NodeKind::Goto(name) => jumps_fit(view, labels, n, node, name),
+        NodeKind::Goto(name) => jumps_fit(view, labels, n, node, name.get()),
         NodeKind::Return => returns_fit(view, n, node),
         _ => true,
     }

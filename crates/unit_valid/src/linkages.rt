@@ -88,10 +88,12 @@ fn node_linkages(trees: &Trees<'_>, declared: &Declarations) -> bool
     requires named { All (λ node. IfSome (named_by node.kind) (λ e. e < length trees.now.entities.now)) trees.now.nodes.now }
     ensures { IsTrue result ↔ EachNode (core_of trees.now) (λ n node. NodeLinkage (core_of trees.now) node) }
 {
-    trees
-        .nodes
-        .iter()
-        .all(|node| node_linkage(trees, declared, node))
+    for n in 0..trees.nodes.len() {
+        if !node_linkage(trees, declared, &trees.nodes[n]) {
+            return false;
+        }
+    }
+    true
 }
 
 // Whether each entity has a linkage that it may have.

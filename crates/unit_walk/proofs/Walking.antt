@@ -28,6 +28,9 @@ use Rattle.row_shapes.specs.Kept.{Keeps}
 use Rattle.unit_worlds.specs.Growing.{Grows, completed_at}
 use Rattle.unit_worlds.proofs.Sensing.{no_senses, row_as, senses_more}
 use Rattle.unit_worlds.proofs.Worlds.{known_one}
+use Rattle.c_meanings.specs.declared.names.Names.{Names}
+use Rattle.c_meanings.specs.Linkages.{AreLinkages}
+use Rattle.c_meanings.proofs.Onward.{linkages_more}
 use Rattle.c_structures.specs.Listed.{AreLists}
 use Rattle.c_structures.proofs.Opening.{lists_more}
 use Rattle.tree_reads.specs.declared.syntax.Syntax.{Syntax}
@@ -57,10 +60,11 @@ senses_with s u v rs more m at pushed within grows =
     ap (senses_made v) pushed ∙ (map-append (sense_made v) rs (m ∷ []) ∙ ap (λ (t : List Sense). t ++ sense_made v m ∷ []) (mades_grown u v (completed_at s (sense_in (senses_made u rs)) at) grows rs within))
 
 -- what is kept beside a unit stays right with one result more
-pub along_more : (syntax : Syntax) (v : Unit) (rs more : List Made) (m : Made) (a : Along) → more ≡ rs ++ m ∷ [] → AreAlong syntax v rs a → AreAlong syntax v more a
-along_more syntax v rs more m a e h = record {
+pub along_more : (syntax : Syntax) (names : Names) (v : Unit) (rs more : List Made) (m : Made) (a : Along) → more ≡ rs ++ m ∷ [] → AreAlong syntax names v rs a → AreAlong syntax names v more a
+along_more syntax names v rs more m a e h = record {
   lists = subst (λ (l : List Made). AreLists syntax l a.lists) (sym e) (lists_more syntax rs m a.lists h.lists);
   unions = h.unions;
+  linkages = subst (λ (l : List Made). AreLinkages syntax l names a.linkages) (sym e) (linkages_more syntax rs m names a.linkages h.linkages);
 }
 
 -- what is known is the same around every node

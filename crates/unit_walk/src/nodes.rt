@@ -29,6 +29,7 @@ pub fn walk_nodes(alloc: Global, unit: &mut Unit, known: &Known) -> Result<Resul
     requires count { unit.old.types.tags ≡ known.now.numbered.now.tags.count }
     ensures stand { IfOk result (λ results. Stand (nodes_known known.now) unit.new results) }
     ensures entities { IfOk result (λ results. unit.new.entities.items ≡ unit.old.entities.items) }
+    ensures types { IfOk result (λ results. HasTagTypes (source_known known.now) unit.new.types) }
     ensures walked { let s = source_known known.now in
         MatchResult result (λ results. IsWalked s unit.new results) (λ fault. RefusedBy s fault) }
 {
@@ -37,7 +38,7 @@ pub fn walk_nodes(alloc: Global, unit: &mut Unit, known: &Known) -> Result<Resul
     let syntax = &known.numbered.syntax;
     let mut results = Results::with_capacity(alloc, syntax.tree.nodes.len())?;
     let mut choices = no_choices(alloc);
-    let Ok(mut along) = Along::new(alloc, unit) else {
+    let Ok(mut along) = Along::new(alloc, unit, known.names) else {
         return Err(CheckFault::OutOfMemory);
     };
     for at in 0..syntax.tree.nodes.len() {

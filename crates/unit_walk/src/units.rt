@@ -143,6 +143,7 @@ pub fn walk<'a>(
         ≡ numbered (number_in w.ground.numbered.syntax.tag_numbers) (source_of tokens.now tree.now)) }
     ensures ordered { IfOk result (λ w. AreInOrder (source_ground w.ground bound.now)) }
     ensures stand { IfOk result (λ w. Stand (nodes_ground w.ground) w.unit w.results) }
+    ensures types { IfOk result (λ w. HasTagTypes (source_ground w.ground bound.now) w.unit.types) }
     ensures walked { MatchResult result
         (λ w. IsWalked (source_ground w.ground bound.now) w.unit w.results)
         (RefusedIn (source_of tokens.now tree.now)) }

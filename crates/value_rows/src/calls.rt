@@ -24,6 +24,7 @@ use core_nodes::reads::type_of_node;
 use core_nodes::sorts::Operand;
 use core_nodes::trees::push_node;
 use core_nodes::values::value as value_node;
+use core_tree::held::Children;
 use core_tree::node::{NodeKind, Unit};
 use pta_base::{Kind, Listing, Place};
 use std::alloc::Global;
@@ -133,6 +134,7 @@ fn call_over(
     if !is_returned(unit, ty) {
         return Err(CheckFault::BadOperand(at));
     }
+    let children = Children::of(alloc, children.into_vec())?;
     push_node(unit, NodeKind::CallNode, place, ty, children)
 }
 

@@ -1,13 +1,11 @@
 -- The trees of a call's arguments, one after another.
-use Rattle.std.proofs.Common.{arith, ◌≡◌, ◌≢◌, ℕ, zero, suc, ◌<◌, ◌≤◌, ◌+◌, ◌==◌, All, not, Bool, true, false, cond, List, [], ◌∷◌, ◌++◌, Option, Some, None, Ok, Err, map, length, get_or, drop, drop-cons, inl, inr, eqb, refl, sym, ap, ◌∙◌, subst}
+use Rattle.std.proofs.Common.{arith, ◌≡◌, ℕ, zero, suc, ◌<◌, ◌≤◌, ◌+◌, All, not, Bool, true, false, cond, List, [], ◌∷◌, ◌++◌, Some, Ok, Err, map, length, get_or, drop, drop-cons, refl, sym, ap, ◌∙◌, subst}
 use Rattle.std.proofs.lemmas.List.{map-append}
 use Rattle.std.proofs.lemmas.List.Elements.{All-same, All-push}
 use Rattle.core_tree.specs.declared.node.Unit.{Unit}
 use Rattle.c_grammar.specs.Words.{sign_left_parenthesis}
-use Rattle.pta_base.specs.declared.place.Place.{Place}
 use Rattle.c_consts.specs.Core.{Core}
 use Rattle.c_senses.specs.Given.{Given, Fits, Refuses, ◌>>=◌}
-use Rattle.pta_base.specs.declared.kind.Kind.TheVariants.{Operand, NotBuilt}
 use Rattle.c_senses.specs.World.{World}
 use Rattle.c_senses.specs.Tree.{Source, is_leaf, all_where, place_at, sign_at, left_of}
 use Rattle.c_senses.specs.Sense.{Sense, core_of}

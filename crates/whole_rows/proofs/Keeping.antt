@@ -1,5 +1,5 @@
 -- Results whose constants can be computed, as they are read and go on standing.
-use Rattle.std.proofs.Common.{arith, ◌≡◌, ◌<◌, ℕ, zero, suc, List, [], ◌∷◌, All, Ok, Err, Result, IfOk, length, refl, sym, ap, ◌∙◌, subst}
+use Rattle.std.proofs.Common.{arith, ◌≡◌, ◌<◌, ℕ, zero, suc, List, [], ◌∷◌, All, Ok, Err, Result, IfOk, length, sym, subst}
 use Rattle.std.proofs.lemmas.List.Elements.{All-head, All-tail, All-cons}
 use Rattle.core_tree.specs.declared.node.Unit.{Unit}
 use Rattle.c_consts.specs.Core.{Core}

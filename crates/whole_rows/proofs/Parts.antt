@@ -1,7 +1,7 @@
 -- Rows by their children.
-use Rattle.std.proofs.Common.{arith, ◌≡◌, ◌<◌, ◌≤◌, ℕ, not, Bool, true, cond, List, [], ◌∷◌, Option, Some, length, get_or, drop, refl, sym, ap, ◌∙◌}
+use Rattle.std.proofs.Common.{arith, ◌≡◌, ◌<◌, ◌≤◌, ℕ, not, Bool, true, cond, List, [], ◌∷◌, Some, length, get_or, drop, refl, sym, ap, ◌∙◌}
 use Rattle.c_grammar.specs.Productions.{p_cast}
-use Rattle.c_senses.specs.Given.{Given, Fits}
+use Rattle.c_senses.specs.Given.{Fits}
 use Rattle.c_senses.specs.World.{World}
 use Rattle.c_senses.specs.Tree.{Source, is_a, is_leaf, last_where, place_at}
 use Rattle.c_senses.specs.Sense.{Sense}

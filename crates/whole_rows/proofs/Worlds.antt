@@ -1,16 +1,15 @@
 -- A unit's own members and layouts, where no name means anything.
-use Rattle.std.proofs.Common.{◌≡◌, ℕ, Ok, Err, Result, IfOk, true, map, None, [], refl, subst}
+use Rattle.std.proofs.Common.{ℕ, Ok, Err, Result, IfOk, true, map, None, [], refl, subst}
 use Rattle.core_tree.specs.declared.node.Unit.{Unit}
 use Rattle.c_types.specs.Table.{members_in, look_in}
 use Rattle.c_inits.specs.Made.{looked_up, laid_out}
 use Rattle.c_inits.specs.Tables.{tag_parts}
 use Rattle.c_consts.specs.Core.{Core}
-use Rattle.c_senses.specs.Given.{Given, Fits}
+use Rattle.c_senses.specs.Given.{Given}
 use Rattle.c_senses.specs.Tree.{Source}
 use Rattle.c_senses.specs.World.{World}
 use Rattle.core_nodes.specs.Standing.{core_at, parts_in, Knows, Made}
 use Rattle.core_nodes.specs.declared.fault.CheckFault.{CheckFault}
-use Rattle.c_conversions.specs.Constants.{HasRows}
 use Rattle.sense_laws.specs.Sound.{Gives}
 
 pub bare_world : Unit → World

@@ -3,7 +3,7 @@ use Rattle.std.specs.Prelude.{ℕ}
 use Rattle.pta_base.specs.declared.place.Place.{Place}
 use Rattle.c_consts.specs.Core.{Core}
 use Rattle.c_senses.specs.Given.{Given, ◌>>=◌}
-use Rattle.c_senses.specs.Tree.{Source, place_at, sign_at}
+use Rattle.c_senses.specs.Tree.{Source, sign_at}
 use Rattle.c_senses.specs.World.{World}
 use Rattle.c_senses.specs.Conversions.{value_of}
 use Rattle.c_senses.specs.Operators.{Between, between, choice_row}

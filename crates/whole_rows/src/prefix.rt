@@ -27,6 +27,7 @@ use core_nodes::reads::type_of_node;
 use core_nodes::trees::{add_type, push_leaf};
 use core_nodes::values::value;
 use core_nodes::widths::named_width;
+use core_tree::held::Number;
 use core_tree::node::{NodeKind, Op, Unit};
 use pta_base::Place;
 use std::alloc::Global;
@@ -206,7 +207,13 @@ fn size_number(alloc: Global, unit: &mut Unit, place: Place, size: u64) -> Resul
             signed: false,
         },
     )?;
-    push_leaf(alloc, unit, NodeKind::Number(i128::from(size)), place, ty)
+    push_leaf(
+        alloc,
+        unit,
+        NodeKind::Number(Number::of(i128::from(size))),
+        place,
+        ty,
+    )
 }
 
 // The size of a type (C11 6.5.3.4).

@@ -19,7 +19,7 @@ returns-in-Ok-Some-clause-answer c = λ readable.
     let u2 = c.keep_under.new.unit in
     let known = c.args.known.now in
     let uses = c.args.bound.now.uses.items in
-    let scene = scene_of u0 known.owner known.list.items uses in
+    let scene = scene_of u0 known.owner known.list.items uses c.args.bound.now.names.items in
     let s = source_with c.args.tokens.now c.args.tree.now uses in
     let start = c.first_node-start.result in
     let end = c.in-Some.end in
@@ -39,7 +39,7 @@ returns-in-Ok-None-clause-answer c = λ readable.
     let u1 = c.walked.new.unit in
     let known = c.args.known.now in
     let uses = c.args.bound.now.uses.items in
-    let scene = scene_of u0 known.owner known.list.items uses in
+    let scene = scene_of u0 known.owner known.list.items uses c.args.bound.now.names.items in
     let s = source_with c.args.tokens.now c.args.tree.now uses in
     let start = c.first_node-start.result in
     let end = c.in-Some.end in
@@ -60,5 +60,5 @@ returns-in-Err-clause-answer c = λ readable.
     record {
       start = c.first_node-start.result;
       begins = c.first_node-start.ensures.begins;
-      answer = expressed_fault (scene_of u0 known.owner known.list.items uses) (source_with c.args.tokens.now c.args.tree.now uses) c.first_node-start.result c.args.node c.in-Some.end u1 c.in-Err.fault (c.in-Err.ensures.answer readable);
+      answer = expressed_fault (scene_of u0 known.owner known.list.items uses c.args.bound.now.names.items) (source_with c.args.tokens.now c.args.tree.now uses) c.first_node-start.result c.args.node c.in-Some.end u1 c.in-Err.fault (c.in-Err.ensures.answer readable);
     }

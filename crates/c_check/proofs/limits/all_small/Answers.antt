@@ -1,4 +1,4 @@
-use Rattle.std.proofs.Common.{inl, inr, refl, ◌∙◌, sym, arith}
+use Rattle.std.proofs.Common.{inr}
 use Rattle.std.proofs.lemmas.Bool.{both_ways}
 use Rattle.c_check.proofs.Testing.{tested_small}
 use Rattle.c_check.proofs.Walking.{builds_same}

@@ -1,10 +1,9 @@
-use Rattle.std.proofs.Common.{◌≡◌, ◌∙◌, ℕ, List, [], None, sym, ap, subst}
+use Rattle.std.proofs.Common.{ℕ, [], None, sym, subst}
 use Rattle.c_senses.specs.Declarators.{suffix_row, parameter_row, type_name_row}
 use Rattle.c_senses.specs.Rows.{declaring_row}
-use Rattle.c_senses.specs.Sense.{Sense, sense_in}
+use Rattle.c_senses.specs.Sense.{sense_in}
 use Rattle.c_senses.specs.Specifiers.{specs_row, align_specifier}
 use Rattle.c_senses.specs.Statements.{assert_row}
-use Rattle.c_senses.specs.Tree.{production_at, children_at}
 use Rattle.c_results.specs.Standing.{senses_made, Rowed}
 use Rattle.tree_reads.specs.Sources.{source_in}
 use Rattle.c_check.specs.Around.{world_of}

@@ -1,9 +1,9 @@
-use Rattle.std.proofs.Common.{◌≡◌, ◌∙◌, ℕ, List, [], Option, All, get_or, sym, ap, subst}
-use Rattle.c_senses.specs.Sense.{Sense, sense_in}
+use Rattle.std.proofs.Common.{◌∙◌, ℕ, List, [], Option, All, get_or, sym, ap, subst}
+use Rattle.c_senses.specs.Sense.{sense_in}
 use Rattle.c_senses.specs.Specifiers as spec
 use Rattle.c_senses.specs.World.{World, Meaning}
 use Rattle.c_declarators.specs.Named.{IsNamed}
-use Rattle.c_results.specs.Standing.{senses_made, Rowed}
+use Rattle.c_results.specs.Standing.{senses_made}
 use Rattle.tree_reads.specs.Sources.{source_in}
 use Rattle.c_check.specs.declared.known.Meaning.{Meaning as Known}
 use Rattle.c_check.specs.Lookups.{AreLookups}

@@ -1,5 +1,4 @@
-use Rattle.std.proofs.Common.{refl, subst}
-use Rattle.c_declarators.specs.Limited.{AreFlexible}
+use Rattle.std.proofs.Common.{refl}
 use Rattle.c_check.proofs.walk.around.Goals as goal
 
 pub returns-clause-flags : goal.returns-clause-flags

@@ -1,4 +1,4 @@
-use Rattle.std.proofs.Common.{arith, ◌≡◌, ◌∙◌, ◌+◌, ◌-◌, ℕ, List, Err, true, length, All, inl, refl, sym, ap, subst}
+use Rattle.std.proofs.Common.{arith, ◌≡◌, ◌∙◌, ◌+◌, ◌-◌, ℕ, length, inl, refl, sym, ap, subst}
 use Rattle.std.proofs.lemmas.List.{length-map}
 use Rattle.std.proofs.lemmas.List.Elements.{All-weaker}
 use Rattle.c_results.specs.declared.made.Made.{Made}
@@ -7,12 +7,9 @@ use Rattle.c_senses.specs.Given.{Fits}
 use Rattle.c_senses.specs.Sense.{sense_in}
 use Rattle.c_senses.specs.Tree.{production_at, children_at}
 use Rattle.core_nodes.proofs.Growing.{builds_on}
-use Rattle.c_results.specs.Standing.{sense_made, senses_made, IsWithin, Rowed}
-use Rattle.c_results.specs.Parts.{core_in, NodeSeen}
+use Rattle.c_results.specs.Standing.{sense_made, senses_made, IsWithin}
 use Rattle.tree_reads.specs.Sources.{source_in}
-use Rattle.unit_limits.specs.Small.{IsSmallTable}
-use Rattle.c_check.specs.Built.{AreChecked, is_declarator, checked_row}
-use Rattle.c_check.specs.Limits.{RowedOr}
+use Rattle.c_check.specs.Built.{AreChecked, checked_row}
 use Rattle.c_check.proofs.Walking.{builds_same, fitting_on, own_on, one_more, refused, pushed, within_on, longer, none_yet}
 use Rattle.whole_rows.specs.Constants.{SenseHasRows}
 use Rattle.c_check.proofs.Keeping.{rows_pushed}
@@ -29,7 +26,7 @@ loop-at-init c =
       within = All-weaker (λ (m : Made). m ≡ made.Nothing) (IsWithin u) (λ m e. subst (IsWithin u) (sym e) tt) rs c.in_ok-results.ensures.nothing;
       rows = All-weaker (λ (m : Made). m ≡ made.Nothing) (λ (m : Made). SenseHasRows (sense_made u m)) (λ m e. subst (λ (m : Made). SenseHasRows (sense_made u m)) (sym e) tt) rs c.in_ok-results.ensures.nothing;
       tested = inl refl;
-      checked = λ scene uses found own flexible fit readable. none_yet scene (source_in c.args.syntax.now uses) c.args.start u rs c.in_ok-results.ensures;
+      checked = λ scene uses names found judged own flexible fit readable. none_yet scene (source_in c.args.syntax.now uses) c.args.start u rs c.in_ok-results.ensures;
     }
 
 pub loop-at-preserved : goal.loop-at-preserved
@@ -55,17 +52,17 @@ loop-at-preserved c =
       within = within_on u u1 ok.builds rs c.push.new.self c.in-Ok.made items inv.within ok.within;
       rows = rows_pushed u u1 ok.builds rs c.push.new.self c.in-Ok.made items inv.within inv.rows ok.rows;
       tested = ok.tested;
-      checked = λ scene uses found own flexible fit readable.
-          let fit1 = fitting_on u0 u inv.builds scene owner list uses c.requires.known fit in
+      checked = λ scene uses names found judged own flexible fit readable.
+          let fit1 = fitting_on u0 u inv.builds scene owner list uses names c.requires.known fit in
           let own1 = own_on u0 u inv.builds owner c.args.around.now.own_name own in
-          let row = (ok.row scene uses found own1 flexible fit1 (readable at)) in
+          let row = (ok.row scene uses names found judged own1 flexible fit1 (readable at)) in
           let row1 = subst (λ (i : ℕ). checked_row scene (s uses) (sense_in senses) (production_at (s uses) i) i (children_at (s uses) i) ≡ Fits (sense_made u1 c.in-Ok.made)) (sym many) row in
           subst (AreChecked scene (s uses) start) (sym (pushed u u1 ok.builds rs c.push.new.self c.in-Ok.made items inv.within))
-          (one_more scene (s uses) start senses (sense_made u1 c.in-Ok.made) (inv.checked scene uses found own flexible fit readable) (omega (arith, many, c.loop-at.auto.at)) row1);
+          (one_more scene (s uses) start senses (sense_made u1 c.in-Ok.made) (inv.checked scene uses names found judged own flexible fit readable) (omega (arith, many, c.loop-at.auto.at)) row1);
     }
 
 pub returns-in-Err-clause-answer : goal.returns-in-Err-clause-answer
-returns-in-Err-clause-answer c scene uses found own flexible fit readable =
+returns-in-Err-clause-answer c scene uses names found judged own flexible fit readable =
     let u0 = c.args.unit.now in
     let u = c.loop-at.unit in
     let u1 = c.row.new.unit in
@@ -75,13 +72,13 @@ returns-in-Err-clause-answer c scene uses found own flexible fit readable =
     let at = c.loop-at.at in
     let rs = c.loop-at.results in
     let inv = c.loop-at.invariant in
-    let fit1 = fitting_on u0 u inv.builds scene owner list uses c.requires.known fit in
+    let fit1 = fitting_on u0 u inv.builds scene owner list uses names c.requires.known fit in
     let own1 = own_on u0 u inv.builds owner c.args.around.now.own_name own in
-    let row = (c.in-Err.ensures.row scene uses found own1 flexible fit1 (readable at)) in
-    refused scene (s uses) c.args.start c.args.end at u u1 rs inv.long c.loop-at.auto.at (omega (arith, c.loop-at-test.true, c.requires.parsed)) (inv.checked scene uses found own flexible fit readable) c.in-Err.fault row
+    let row = (c.in-Err.ensures.row scene uses names found judged own1 flexible fit1 (readable at)) in
+    refused scene (s uses) c.args.start c.args.end at u u1 rs inv.long c.loop-at.auto.at (omega (arith, c.loop-at-test.true, c.requires.parsed)) (inv.checked scene uses names found judged own flexible fit readable) c.in-Err.fault row
 
 pub returns-clause-answer : goal.returns-clause-answer
-returns-clause-answer c scene uses found own flexible fit readable =
+returns-clause-answer c scene uses names found judged own flexible fit readable =
     let u = c.loop-at.unit in
     let rs = c.loop-at.results in
     let inv = c.loop-at.invariant in
@@ -90,7 +87,7 @@ returns-clause-answer c scene uses found own flexible fit readable =
     let seen = c.node_at.ensures.seen u in
     record {
       sense = sense_in S (c.args.end - 1);
-      fits = record { senses = S; checked = inv.checked scene uses found own flexible fit readable; long = length-map rs (sense_made u) ∙ (inv.long ∙ ends); last = refl };
+      fits = record { senses = S; checked = inv.checked scene uses names found judged own flexible fit readable; long = length-map rs (sense_made u) ∙ (inv.long ∙ ends); last = refl };
       seen = seen;
     }
 

@@ -1,4 +1,5 @@
-use Rattle.std.proofs.Common.{sym, subst, map}
+use Rattle.std.proofs.Common.{arith, ◌≡◌, ◌<◌, ℕ, length, sym, ap, ◌∙◌, subst, map}
+use Rattle.std.proofs.lemmas.List.Elements.{All-same, All-weaker}
 use Rattle.c_types.specs.Table.{type_of}
 use Rattle.c_consts.specs.Core.{Cores}
 use Rattle.c_inits.specs.Items.{placed_of}
@@ -26,6 +27,19 @@ returns-in-Err-clause-made c = λ w told.
 pub returns-in_default-add_type-clause-builds : goal.returns-in_default-add_type-clause-builds
 returns-in_default-add_type-clause-builds c = builds_on c.args.unit.now c.placed_values.new.unit c.add_type.new.unit c.placed_values.ensures.builds c.add_type.ensures.builds
 
+pub returns-in_err-paths-clause-builds : goal.returns-in_err-paths-clause-builds
+returns-in_err-paths-clause-builds c = builds_on c.args.unit.now c.placed_values.new.unit c.add_type.new.unit c.placed_values.ensures.builds c.add_type.ensures.builds
+
+pub returns-in_err-values-clause-builds : goal.returns-in_err-values-clause-builds
+returns-in_err-values-clause-builds c = builds_on c.args.unit.now c.placed_values.new.unit c.add_type.new.unit c.placed_values.ensures.builds c.add_type.ensures.builds
+
+pub push_node-requires-clause-children : goal.push_node-requires-clause-children
+push_node-requires-clause-children c =
+    let mid = c.placed_values.new.unit in
+    let now = c.add_type.new.unit in
+    All-same (λ (i : ℕ). i < length now.nodes.items) c.in_ok-values.values c.in-Ok.values (c.in_ok-values.ensures ∙ c.into_vec-2.ensures)
+    (All-weaker (λ (i : ℕ). i < length mid.nodes.items) (λ (i : ℕ). i < length now.nodes.items) (λ i l. omega (arith, c.add_type.ensures.builds.more)) c.in-Ok.values c.in-Ok.ensures.within)
+
 pub returns-clause-builds : goal.returns-clause-builds
 returns-clause-builds c =
     builds_on c.args.unit.now c.placed_values.new.unit c.push_node.new.unit c.placed_values.ensures.builds
@@ -34,8 +48,9 @@ returns-clause-builds c =
 pub returns-clause-rows : goal.returns-clause-rows
 returns-clause-rows c =
     let kept = cores_kept c.placed_values.new.unit c.add_type.new.unit c.add_type.ensures.builds c.in-Ok.values c.in-Ok.ensures.within in
-    node_rows c.push_node.new.unit c.push_node.result c.args.entity c.in-Ok-paths_of.paths c.args.place (type_of c.add_type.new.unit.types c.in-Ok-add_type.void.0) (cores_at c.add_type.new.unit c.in-Ok.values)
-    c.push_node.ensures.made (subst HaveRows (sym kept) c.in-Ok.ensures.rows)
+    let same : c.in_ok-values.values ≡ c.in-Ok.values = c.in_ok-values.ensures ∙ c.into_vec-2.ensures in
+    node_rows c.push_node.new.unit c.push_node.result c.args.entity c.in_ok-paths.paths c.args.place (type_of c.add_type.new.unit.types c.in-Ok-add_type.void.0) (cores_at c.add_type.new.unit c.in_ok-values.values)
+    c.push_node.ensures.made (subst HaveRows (sym (ap (cores_at c.add_type.new.unit) same ∙ kept)) c.in-Ok.ensures.rows)
 
 pub returns-clause-made : goal.returns-clause-made
 returns-clause-made c = λ w told.
@@ -44,6 +59,7 @@ returns-clause-made c = λ w told.
     let sense = sense_in (senses_made u c.args.scope.now.results.now) in
     let items = map placed_of c.args.items.now in
     let kept = cores_kept c.placed_values.new.unit c.add_type.new.unit c.add_type.ensures.builds c.in-Ok.values c.in-Ok.ensures.within in
+    let same : c.in_ok-values.values ≡ c.in-Ok.values = c.in_ok-values.ensures ∙ c.into_vec-2.ensures in
     node_made w s sense c.args.is_static c.args.entity c.args.place (type_of u.types c.args.whole.0) (type_of c.add_type.new.unit.types c.in-Ok-add_type.void.0) items
-    (cores_at c.placed_values.new.unit c.in-Ok.values) (cores_at c.add_type.new.unit c.in-Ok.values) c.in-Ok-paths_of.paths c.push_node.new.unit c.push_node.result
-    (c.in-Ok.ensures.made w told) (c.in-Ok-paths_of.ensures w s sense) c.in-Ok-add_type.ensures.made kept c.push_node.ensures.made
+    (cores_at c.placed_values.new.unit c.in-Ok.values) (cores_at c.add_type.new.unit c.in_ok-values.values) c.in_ok-paths.paths c.push_node.new.unit c.push_node.result
+    (c.in-Ok.ensures.made w told) (c.in_ok-paths.ensures ∙ (c.into_vec.ensures ∙ c.in-Ok-paths_of.ensures w s sense)) c.in-Ok-add_type.ensures.made (ap (cores_at c.add_type.new.unit) same ∙ kept) c.push_node.ensures.made

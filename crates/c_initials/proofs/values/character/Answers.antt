@@ -20,7 +20,7 @@ returns-in-Some-clause-made c = λ w s sense.
     let fits : FitsSigned w128 c.character_in-value.result = search rules in
     let value = to_z-of_z fits ∙ c.character_in-value.ensures ∙ ap (λ (b : List ℕ). char_value (slice_index b c.args.position)) (c.text_bytes.ensures w s sense) in
     let whole : FitsSigned w128 c.in-Some.number = search rules in
-    let number = to_z-of_z whole ∙ c.in-Some.ensures.0 ∙ ap (converted t) value in
+    let number = c.of.ensures ∙ to_z-of_z whole ∙ c.in-Some.ensures.0 ∙ ap (converted t) value in
     made_same c.push_leaf.new.unit c.push_leaf.result _ _
     (ap (λ (n : ℤ). Fits (leaf (Number n) c.place_of_node-place.result t)) number ∙ ap (λ (p : Place). Fits (leaf (Number (converted t (char_value (slice_index (text_bytes w s sense (kind_of (core_at u c.args.node))) c.args.position)))) p t)) c.place_of_node-place.ensures)
     c.push_leaf.ensures.made

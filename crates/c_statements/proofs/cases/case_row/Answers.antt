@@ -1,18 +1,14 @@
-use Rattle.std.proofs.Common.{◌≡◌, ℕ, Bool, true, false, Some, None, Ok, Err, List, rules, is_some, to_z-of_z, FitsSigned, refl, sym, ap, ◌∙◌, subst}
+use Rattle.std.proofs.Common.{Err, rules, to_z-of_z, FitsSigned, sym, subst}
 use Rattle.std.specs.Prelude.{ℤ}
 use Rattle.std.specs.Int.{w128}
-use Rattle.c_types.specs.Trees.{Ctype}
-use Rattle.c_consts.specs.Core.{Core}
-use Rattle.c_consts.specs.Wrapped.{converted}
 use Rattle.c_senses.specs.Sense.{sense_in}
 use Rattle.c_senses.specs.Statements as spec
 use Rattle.c_results.specs.Standing.{senses_made}
 use Rattle.tree_reads.specs.Sources.{source_in}
-use Rattle.c_statements.specs.Labels.{number_for}
-use Rattle.c_senses.specs.Given.{Given, ◌>>=◌}
+use Rattle.c_senses.specs.Given.{◌>>=◌}
 use Rattle.core_nodes.specs.Standing.{core_at, Made}
 use Rattle.core_nodes.proofs.Failing.{fails, follows, made_same}
-use Rattle.c_statements.proofs.Numbering.{no_part, no_constant, no_switch, with_switch}
+use Rattle.c_statements.proofs.Numbering.{no_constant, no_switch, with_switch}
 use Rattle.c_statements.proofs.cases.case_row.Goals as goal
 
 pub returns-in-Err-clause-made : goal.returns-in-Err-clause-made

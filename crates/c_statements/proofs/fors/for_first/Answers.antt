@@ -1,4 +1,4 @@
-use Rattle.std.proofs.Common.{◌≡◌, ℕ, Option, Some, Result, Ok, Err, sym, ap, ◌∙◌, subst}
+use Rattle.std.proofs.Common.{ℕ, Option, Err, sym, subst}
 use Rattle.c_senses.specs.Sense.{sense_in}
 use Rattle.c_senses.specs.Statements as spec
 use Rattle.c_results.specs.Standing.{senses_made}

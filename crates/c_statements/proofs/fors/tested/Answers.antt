@@ -1,4 +1,4 @@
-use Rattle.std.proofs.Common.{◌≡◌, Bool, true, false, sym, ap, ◌∙◌}
+use Rattle.std.proofs.Common.{◌≡◌, true, false, sym, ap, ◌∙◌}
 use Rattle.c_types.specs.Trees.{Ctype}
 use Rattle.c_consts.specs.Core.{ctype_of}
 use Rattle.c_senses.specs.Sense.{sense_in, value_in}

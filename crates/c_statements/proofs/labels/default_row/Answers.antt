@@ -1,9 +1,8 @@
-use Rattle.std.proofs.Common.{◌≡◌, ℕ, false, sym, ap, ◌∙◌, is_some, Ok, Err}
-use Rattle.std.proofs.Common.{Option}
+use Rattle.std.proofs.Common.{◌≡◌, false, sym, ap, ◌∙◌, is_some, Err}
 use Rattle.core_tree.specs.declared.node.NodeKind.TheVariants.{Default}
 use Rattle.c_types.specs.Trees.{VoidType}
-use Rattle.c_consts.specs.Core.{Core, Of, NoCores, MoreCores}
-use Rattle.c_senses.specs.Given.{Given, Fits}
+use Rattle.c_consts.specs.Core.{Of, NoCores, MoreCores}
+use Rattle.c_senses.specs.Given.{Fits}
 use Rattle.c_senses.specs.Tree.{place_at, any_where, numbers_from}
 use Rattle.c_senses.specs.Sense.{sense_in}
 use Rattle.c_senses.specs.Statements as spec

@@ -1,4 +1,4 @@
-use Rattle.std.proofs.Common.{◌≡◌, ℕ, List, Ok, Err, sym, ◌∙◌, subst}
+use Rattle.std.proofs.Common.{◌≡◌, ℕ, List, sym, ◌∙◌, subst}
 use Rattle.core_tree.specs.declared.node.NodeKind.TheVariants.{Label}
 use Rattle.c_types.specs.Trees.{VoidType}
 use Rattle.c_consts.specs.Core.{Of, NoCores, MoreCores}
@@ -30,6 +30,6 @@ returns-clause-made c = λ w uses ascii.
     let sense = sense_in (senses_made u0 c.args.results.now) in
     let body = spec.body_of w s sense c.args.at (spec.statements_among w s sense c.args.children.now) in
     let spelled : c.spelling_of.result.now ≡ spelling_at s c.args.name = c.spelling_of.ensures in
-    let label : c.in_ok-label.label ≡ spelling_at s c.args.name = c.in_ok-label.ensures (subst IsAscii (sym spelled) ascii) ∙ spelled in
+    let label : c.in_ok-label.label ≡ spelling_at s c.args.name = c.in_ok-label.ensures ∙ (c.in_ok-text_of.ensures (subst IsAscii (sym spelled) ascii) ∙ spelled) in
     subst (λ (k : List ℕ). Made u2 c.push_over.result (body >>= (λ b. Fits (Of (Label k) (place_at s c.args.at) VoidType (MoreCores b NoCores))))) label
     (row_one u0 c.void_type.new.unit u2 c.push_over.result body (Label c.in_ok-label.label) c.place_of.result (place_at s c.args.at) c.in-Ok-void_type.ty.0 c.in-Ok.node c.in-Ok-void_type.ensures.builds c.in-Ok.ensures.within c.in-Ok-void_type.ensures.made c.place_of.ensures (c.in-Ok.ensures.made w) c.push_over.ensures.made)

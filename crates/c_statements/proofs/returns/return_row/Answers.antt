@@ -1,4 +1,4 @@
-use Rattle.std.proofs.Common.{◌≡◌, Some, Option, Ok, Err, sym, subst}
+use Rattle.std.proofs.Common.{◌≡◌, Some, Option, Err, sym, subst}
 use Rattle.core_tree.specs.declared.node.NodeKind.TheVariants.{Return}
 use Rattle.c_types.specs.declared.term.TypeId.{TypeId}
 use Rattle.c_types.specs.Trees.{VoidType}

@@ -1,4 +1,4 @@
-use Rattle.std.proofs.Common.{ℕ, false, ap, subst, sym, ◌≡◌}
+use Rattle.std.proofs.Common.{false, ap, subst, ◌≡◌}
 use Rattle.std.proofs.Common.{Ok, Err}
 use Rattle.c_types.specs.Trees.{Ctype}
 use Rattle.c_types.specs.Table.{type_of}

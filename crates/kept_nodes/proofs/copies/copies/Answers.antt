@@ -78,6 +78,33 @@ loop-node-preserved-in-Continue-branch-2 c =
       copied = subst (λ (n : ℕ). AreCopied u0.types (u0.nodes.items ++ cut) from marks n more u1) (sym long) copied;
     }
 
+pub loop-node-preserved-in_ok-push-2 : goal.loop-node-preserved-in_ok-push-2
+loop-node-preserved-in_ok-push-2 c =
+    let u0 = c.args.unit.now in
+    let u = c.loop-node.unit in
+    let cut = c.args.cut.items in
+    let marks = c.args.marks.now in
+    let numbers = c.loop-node.numbers.items in
+    let more = c.push-else-marks-len.new.self.items in
+    let k = length numbers in
+    let node : Node = c.in-Some.node in
+    let from = c.args.from in
+    let next = next_node u0.nodes.items cut c.loop-node.rest.items c.pop_front.new.self.items k from node c.requires.from c.loop-node.invariant.rest c.in-Some.ensures.items in
+    let all = length-append u0.nodes.items cut in
+    let lt : k < length marks = omega (arith, next.2, all, c.requires.closed.long, c.requires.from) in
+    let same : c.len.result ≡ k = omega (arith, c.len.ensures) in
+    let off : get_or marks k false ≡ false = ap (λ (i : ℕ). get_or marks i false) (sym same) ∙ (sym (mark_is marks c.len.result _ (omega (arith, same, lt))) ∙ c.if-marks-len.false) in
+    let pushed : more ≡ numbers ++ 0 ∷ [] = c.in_ok-push-2.ensures.items in
+    let long : length more ≡ k + 1 = ap length pushed ∙ length-append numbers (0 ∷ []) in
+    let copied = one_skipped u0 u cut from k marks numbers node c.requires.from c.requires.order c.requires.closed c.loop-node.invariant.builds c.loop-node.invariant.copied next.0 lt more off pushed in
+    record {
+      ready = c.loop-node.invariant.ready;
+      builds = c.loop-node.invariant.builds;
+      rest = next.1 ∙ ap (λ (n : ℕ). drop n cut) (sym long);
+      few = omega (arith, long, next.2);
+      copied = subst (λ (n : ℕ). AreCopied u0.types (u0.nodes.items ++ cut) from marks n more u) (sym long) copied;
+    }
+
 pub loop-node-preserved : goal.loop-node-preserved
 loop-node-preserved c =
     let u0 = c.args.unit.now in

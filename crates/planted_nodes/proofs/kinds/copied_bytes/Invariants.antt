@@ -2,4 +2,4 @@ use Rattle.std.proofs.Common.{◌≡◌, take}
 use Rattle.planted_nodes.proofs.kinds.copied_bytes.Given as goal
 
 abbrev pub invariant-loop-byte : goal.invariant-loop-byte
-invariant-loop-byte l = l.copy ≡ take l.byte-index l.bytes
+invariant-loop-byte l = l.copy.items ≡ take l.byte-index l.bytes

@@ -1,5 +1,6 @@
 use Rattle.report_cli.specs.Words.{names_of}
 use Rattle.report_cli.proofs.Linked.{system_refused, denoted}
+use Rattle.report_cli.proofs.Naming.{are_distinct}
 use Rattle.report_cli.proofs.solved.linked.Goals as goal
 
 pub returns-in-Ok-clause-linked : goal.returns-in-Ok-clause-linked
@@ -9,3 +10,8 @@ returns-in-Ok-clause-linked c texts right =
 pub returns-in_ok-system_refusal-in-Err-clause-refused : goal.returns-in_ok-system_refusal-in-Err-clause-refused
 returns-in_ok-system_refusal-in-Err-clause-refused c texts named right =
     system_refused texts c.args.units.items right (names_of c.args.names.now) c.in-Err.fault _ named c.in-Err.ensures c.in_ok-system_refusal-in-Err.ensures
+
+pub returns-in-Ok-clause-distinct : goal.returns-in-Ok-clause-distinct
+returns-in-Ok-clause-distinct c =
+    let made = c.in-Ok.made in
+    are_distinct c.args.units.items made.program made.space made.system c.requires.linkable c.requires.named c.in-Ok.ensures c.type_count-types.ensures.made c.type_count-types.ensures.named

@@ -1,13 +1,16 @@
 use Rattle.std.specs.Prelude.{zip}
 use Rattle.std.proofs.Common.{List, ℕ, Option, sym, subst}
 use Rattle.command_line.specs.Distinct.{AreDistinct}
-use Rattle.report_cli.specs.Words.{names_of}
+use Rattle.core_tree.specs.declared.node.Unit.{Unit}
+use Rattle.link_merge.specs.Tags.{AreMade}
+use Rattle.report_cli.specs.Words.{names_of, AreUnitNames}
 use Rattle.report_cli.specs.declared.solved.Script.{Script}
 use Rattle.report_cli.specs.Printed.{IsPrinted}
 use Rattle.report_cli.specs.Faults.{IsFaultOfTold}
 use Rattle.report_cli.specs.Scripts.{named, named_script, told_with}
 use Rattle.report_cli.proofs.Refused.{zip_names}
 use Rattle.report_cli.proofs.Linkable.{linkable, filled}
+use Rattle.report_cli.proofs.Naming.{are_named}
 use Rattle.report_cli.proofs.Linked.{reported}
 use Rattle.report_cli.proofs.Scripted.{both_ok, on_fault, units_told, script_told}
 use Rattle.report_cli.proofs.solved.text_of_units.Goals as goal
@@ -20,6 +23,13 @@ linked-requires-clause-linkable g c =
     let texts = zip (names_of c.args.names.now) c.args.texts.now in
     let D : List (List ℕ) → Type 0 = AreDistinct in
     linkable texts c.in_ok-units.units.items (subst D (zip_names c.args.names.now c.args.texts.now c.requires.count) c.requires.distinct) c.in_ok-units.ensures.right
+
+pub linked-requires-clause-named : goal.linked-requires-clause-named
+linked-requires-clause-named g c =
+    let texts = zip (names_of c.args.names.now) c.args.texts.now in
+    let N : List (List ℕ) → Type 0 = AreUnitNames in
+    let M : List Unit → Type 0 = AreMade in
+    are_named texts c.in_ok-units.units.items (subst N (zip_names c.args.names.now c.args.texts.now c.requires.count) c.requires.bytes) c.in_ok-units.ensures.right (subst M c.as_slice.ensures.value c.tables_told.ensures)
 
 pub returns-in-Err-clause-refused : goal.returns-in-Err-clause-refused
 returns-in-Err-clause-refused g c =
@@ -41,7 +51,7 @@ returns-in-Some-clause-refused g c =
     on_fault c.answers_to.result _ _ (λ fault refused.
     let P : Option Script → Type 0 = λ script. IsFaultOfTold (told_with texts (named_script script)) fault in
     subst P (sym c.in-Some.is)
-    (script_told (names_of c.args.names.now) made.program made.space made.system (named c.in-Some.script) texts fault (zip_names c.args.names.now c.args.texts.now c.requires.count) linked.0 linked.1 refused))
+    (script_told made.program made.space made.system (named c.in-Some.script) texts fault linked.0 linked.1 refused))
     c.answers_to.ensures.refused
 
 pub returns-in_ok-report_of_system-in-None-clause-printed : goal.returns-in_ok-report_of_system-in-None-clause-printed

@@ -3,13 +3,14 @@ use Rattle.std.specs.Prelude.{Contains}
 use Rattle.sol_model.proofs.Members.{Contains-at}
 use Rattle.command_line.specs.Rules.{AreRight}
 use Rattle.command_line.specs.Distinct.{AreDistinct}
-use Rattle.report_cli.specs.Words.{names_of, texts_of}
+use Rattle.report_cli.specs.Words.{names_of, texts_of, AreUnitNames}
 use Rattle.report_cli.specs.Answers.{Answer, refusal}
 use Rattle.report_cli.specs.Told.{names_for, told_for}
 use Rattle.report_cli.specs.Outside.{Receives, source_fault}
 use Rattle.report_cli.proofs.Lifted.{IsStatus, names_asked, with_told_for, told_denotes, told_prints, told_refuses}
 use Rattle.report_cli.proofs.Exclusion.{told_read}
 use Rattle.report_cli.proofs.OneOutcome.{told_right}
+use Rattle.report_cli.proofs.Naming.{unit_names}
 use Rattle.report_cli.proofs.Answered.{not_risen, grows_nothing, receives_nothing, always, same_name, number_of_workers, few_names}
 use Rattle.report_cli.proofs.top.analyse.Goals as goal
 
@@ -102,6 +103,10 @@ answer_units-requires-clause-workers g c κs within = number_of_workers _ _ c.in
 pub answer_units-requires-clause-distinct : goal.answer_units-requires-clause-distinct
 answer_units-requires-clause-distinct g c κs within =
     let D : List (List ℕ) → Type 0 = AreDistinct in subst D (sym c.in-Ok.ensures.ok.says.units) c.in-Ok.ensures.ok.right.rules.units.distinct
+
+pub answer_units-requires-clause-bytes : goal.answer_units-requires-clause-bytes
+answer_units-requires-clause-bytes g c κs within =
+    let N : List (List ℕ) → Type 0 = AreUnitNames in subst N (sym c.in-Ok.ensures.ok.says.units) (unit_names _ c.in-Ok.ensures.ok.right.rules.units.formed)
 
 pub answer_units-requires-clause-few : goal.answer_units-requires-clause-few
 answer_units-requires-clause-few g c κs within = few_names _ _ c.in-Ok.ensures.ok.says.units c.in-Ok.ensures.ok.right.rules.units.few

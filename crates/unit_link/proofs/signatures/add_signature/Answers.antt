@@ -1,4 +1,4 @@
-use Rattle.std.proofs.Common.{◌≡◌, ℕ, ◌+◌, List, [], length, length-append, ap, ◌∙◌, arith}
+use Rattle.std.proofs.Common.{◌≡◌, ◌+◌, List, length, length-append, ap, ◌∙◌, arith}
 use Rattle.c_types.specs.declared.term.TypeId.{TypeId}
 use Rattle.c_types.specs.declared.term.Form.TheVariants.{Fixed}
 use Rattle.c_types.specs.Trees.{FunctionFrom, trees_at, tree_at}

@@ -11,5 +11,5 @@ returns-clause-seen c = λ u uses.
     let s = source_in c.args.syntax.now uses in
     let senses = senses_made u c.args.results.now in
     let place = c.in_ok-at.ensures.representative u uses in
-    same_parts _ _ _ _ _ _ _ _ _ _ _ _ _ c.in_ok-name.ensures.name (c.place_of.ensures ∙ ap (place_at s) place) (c.linkage_of.ensures u uses) (c.storage_at.ensures u uses place) (c.owner_at.ensures u uses)
+    same_parts _ _ _ _ _ _ _ _ _ _ _ _ _ c.in_ok-name.ensures.name (c.place_of.ensures ∙ ap (place_at s) place) (c.linkage_by-linkage.ensures u uses) (c.storage_at.ensures u uses place) (c.owner_at.ensures u uses)
     (c.body_at.ensures.seen u uses ∙ ap (right.body_at s senses) place)

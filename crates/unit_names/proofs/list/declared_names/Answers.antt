@@ -1,4 +1,5 @@
-use Rattle.std.proofs.Common.{◌≤◌, ◌+◌, List, All, length, arith, sym, ap, subst, ◌∙◌}
+use Rattle.std.proofs.lemmas.List.Elements.{All-nil}
+use Rattle.std.proofs.Common.{rules, ◌≤◌, ◌+◌, List, All, length, arith, sym, ap, subst, ◌∙◌}
 use Rattle.c_results.specs.Standing.{senses_made}
 use Rattle.tree_reads.specs.Sources.{source_in}
 use Rattle.core_nodes.proofs.Growing.{builds_on}
@@ -7,7 +8,7 @@ use Rattle.c_senses.specs.Right.{declared_name}
 use Rattle.c_results.proofs.Keeping.{mades_kept, withins_kept}
 use Rattle.unit_parts.specs.declared.declared.Declared.{Declared}
 use Rattle.unit_names.specs.Entries.{IsDeclaredIn}
-use Rattle.unit_names.proofs.Listing.{ListsTo, lists_more, inside_more, lists_all, bodies_within}
+use Rattle.unit_names.proofs.Listing.{ListsTo, lists_none, lists_more, inside_more, lists_all, bodies_within}
 use Rattle.unit_names.proofs.list.declared_names.Goals as goal
 
 pub returns-in_err-found-clause-builds : goal.returns-in_err-found-clause-builds
@@ -15,6 +16,22 @@ returns-in_err-found-clause-builds c = builds_on c.args.unit.now c.loop-leaf.uni
 
 pub returns-in_err-add_some-clause-builds : goal.returns-in_err-add_some-clause-builds
 returns-in_err-add_some-clause-builds c = builds_on c.args.unit.now c.loop-leaf.unit c.declared_at.new.unit c.loop-leaf.invariant.builds c.in_ok-found.ensures.builds
+
+pub loop-leaf-init : goal.loop-leaf-init
+loop-leaf-init c =
+    let u = c.args.unit.now in
+    let none = c.new-list.ensures.items in
+    record {
+      ready = c.requires.ready;
+      asked = c.in_ok-asked.ensures.asked c.args.syntax.now c.args.results.now;
+      builds = search rules;
+      results = c.requires.results;
+      inside = subst (All (IsDeclaredIn u)) (sym none) (All-nil (IsDeclaredIn u));
+      lists = λ uses.
+          let s = source_in c.args.syntax.now uses in
+          let senses = senses_made u c.args.results.now in
+          subst (λ (l : List Declared). ListsTo s senses u 0 l) (sym none) (lists_none s senses u);
+    }
 
 pub loop-leaf-preserved : goal.loop-leaf-preserved
 loop-leaf-preserved c =
@@ -27,6 +44,7 @@ loop-leaf-preserved c =
     let list = c.loop-leaf.list.items in
     record {
       ready = c.in_ok-found.ensures.ready;
+      asked = c.in_ok-found.ensures.asked;
       builds = builds_on first old new inv.builds more;
       results = withins_kept old new more c.args.results.now inv.results;
       inside = subst (All (IsDeclaredIn new)) (sym added) (inside_more old new more list c.in_ok-found.found inv.inside c.in_ok-found.ensures.within);

@@ -3,6 +3,7 @@ use Rattle.core_nodes.specs.Standing.{IsReady, Builds}
 use Rattle.c_results.specs.Standing.{senses_made, IsWithin}
 use Rattle.tree_reads.specs.Sources.{source_in}
 use Rattle.unit_names.specs.Entries.{IsDeclaredIn}
+use Rattle.unit_names.specs.Asked.{AreAsked}
 use Rattle.unit_names.proofs.Listing.{ListsTo}
 use Rattle.unit_names.proofs.list.declared_names.Given as goal
 
@@ -10,6 +11,7 @@ use Rattle.unit_names.proofs.list.declared_names.Given as goal
 abbrev pub invariant-loop-leaf : goal.invariant-loop-leaf
 invariant-loop-leaf l = record {
   ready : IsReady l.unit;
+  asked : AreAsked l.syntax l.results l.names l.asked;
   builds : Builds l.fn.unit l.unit;
   results : All (IsWithin l.unit) l.results;
   inside : All (IsDeclaredIn l.unit) l.list.items;

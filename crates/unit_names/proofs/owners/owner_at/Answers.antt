@@ -12,7 +12,7 @@ returns-in-Local c = λ u uses.
     let s = source_in c.args.syntax.now uses in
     let sense = sense_in (senses_made u c.args.results.now) in
     c.function_entity.ensures u uses
-    ∙ ap (λ (l : Linkage). elim l as (λ q. Option ℕ) [ Local ↦ option_map (entity_of s sense) (function_around s sense c.args.leaf) | _ ↦ None ]) (c.in-Local.ensures u uses)
+    ∙ ap (λ (l : Linkage). elim l as (λ q. Option ℕ) [ Local ↦ option_map (entity_of s sense) (function_around s sense c.args.leaf) | _ ↦ None ]) (sym c.in-Local.is ∙ c.requires.linkage u uses)
 
 pub returns-in-External : goal.returns-in-External
 returns-in-External c = λ u uses.
@@ -20,6 +20,6 @@ returns-in-External c = λ u uses.
     let sense = sense_in (senses_made u c.args.results.now) in
     let owned : Linkage → Option ℕ = λ l. elim l as (λ q. Option ℕ) [ Local ↦ option_map (entity_of s sense) (function_around s sense c.args.leaf) | _ ↦ None ] in
     elim c.in-External.is [
-      | inl external ↦ ap owned (sym external ∙ c.linkage_of.ensures u uses)
-      | inr internal ↦ ap owned (sym internal ∙ c.linkage_of.ensures u uses)
+      | inl external ↦ ap owned (sym external ∙ c.requires.linkage u uses)
+      | inr internal ↦ ap owned (sym internal ∙ c.requires.linkage u uses)
     ]

@@ -108,7 +108,7 @@ returns-then-is_expression-clause-along c =
     let q = production_at s at in
     let ys = children_at s at in
     let p = c.production_of-production.ensures in
-    anyway c.expression.result (AreAlong k.numbered.now.syntax c.expression.new.unit rs c.args.along.now) (along_on k.numbered.now.syntax u c.expression.new.unit rs c.args.along.now c.requires.along c.expression.ensures.builds)
+    anyway c.expression.result (AreAlong k.numbered.now.syntax k.names.now c.expression.new.unit rs c.args.along.now) (along_on k.numbered.now.syntax k.names.now u c.expression.new.unit rs c.args.along.now c.requires.along c.expression.ensures.builds)
 
 pub returns-then-is_plain-clause-row : goal.returns-then-is_plain-clause-row
 returns-then-is_plain-clause-row c =
@@ -170,7 +170,7 @@ returns-then-is_plain-clause-along c =
     let q = production_at s at in
     let ys = children_at s at in
     let p = c.production_of-production.ensures in
-    anyway c.declared.result (AreAlong k.numbered.now.syntax c.declared.new.unit rs c.args.along.now) (along_on k.numbered.now.syntax u c.declared.new.unit rs c.args.along.now c.requires.along c.declared.ensures.builds)
+    anyway c.declared.result (AreAlong k.numbered.now.syntax k.names.now c.declared.new.unit rs c.args.along.now) (along_on k.numbered.now.syntax k.names.now u c.declared.new.unit rs c.args.along.now c.requires.along c.declared.ensures.builds)
 
 pub limited-requires-clause-limited : goal.limited-requires-clause-limited
 limited-requires-clause-limited c =
@@ -213,5 +213,5 @@ expression-requires-clause-names c = record { named = c.requires.known.names c.a
 
 pub returns-clause-along : goal.returns-clause-along
 returns-clause-along c =
-    along_by c.args.known.now.numbered.now.syntax c.limited.new.unit c.args.results.now (record { lists = c.limited.new.lists; unions = c.limited.new.unions }) c.limited.result
-    c.limited.ensures.lists c.limited.ensures.unions
+    along_by c.args.known.now.numbered.now.syntax c.args.known.now.names.now c.limited.new.unit c.args.results.now (record { lists = c.limited.new.lists; unions = c.limited.new.unions; linkages = c.limited.new.linkages }) c.limited.result
+    c.limited.ensures.lists c.limited.ensures.unions c.limited.ensures.linkages

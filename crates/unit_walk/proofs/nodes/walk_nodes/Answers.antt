@@ -32,7 +32,7 @@ loop-at-init c =
       told =
           subst (λ (l : List Made). IsTold (world_at s (senses_made u l) 0) s (sense_in (senses_made u l)) 0 c.no_choices-choices.result) (sym none)
           (c.no_choices-choices.ensures (world_at s (senses_made u []) 0) s (sense_in (senses_made u [])) c.requires.known.spelled);
-      along = subst (λ (l : List Made). AreAlong k.numbered.now.syntax u l c.in-Ok.along) (sym none) (c.in-Ok.ensures.along k.numbered.now.syntax);
+      along = subst (λ (l : List Made). AreAlong k.numbered.now.syntax k.names.now u l c.in-Ok.along) (sym none) (c.in-Ok.ensures.along k.numbered.now.syntax);
       table = c.type_count-count.ensures.made;
     }
 
@@ -65,7 +65,7 @@ loop-at-preserved c =
           subst (λ (t : List Sense). IsTold (world_at s t (at + 1)) s (sense_in t) (at + 1) c.note.new.choices) (sym pushed)
           (c.in_ok-note.ensures.told (world_at s senses at) (world_at s (senses ++ sense_made v m ∷ []) (at + 1)) k.bound.now.uses.items senses (sense_made v m)
           pushed (length_made u rs ∙ inv.long) inv.told);
-      along = along_more k.numbered.now.syntax v rs more m c.row.new.along items ok.along;
+      along = along_more k.numbered.now.syntax k.names.now v rs more m c.row.new.along items ok.along;
       table = table;
     }
 
@@ -123,3 +123,6 @@ row-requires-clause-limits c =
 
 pub row-requires-clause-long : goal.row-requires-clause-long
 row-requires-clause-long c = c.loop-at.invariant.long
+
+pub returns-clause-types : goal.returns-clause-types
+returns-clause-types c = c.loop-at.invariant.types

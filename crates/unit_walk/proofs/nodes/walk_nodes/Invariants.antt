@@ -18,6 +18,6 @@ invariant-loop-at l = record {
   fills : Fills (world_at (source_known l.known) (senses_made l.unit l.results) l.at) l.unit;
   types : HasTagTypes (source_known l.known) l.unit.types;
   told : ChoicesFit l.known l.unit l.results l.at l.choices;
-  along : AreAlong l.known.numbered.now.syntax l.unit l.results l.along;
+  along : AreAlong l.known.numbered.now.syntax l.known.names.now l.unit l.results l.along;
   table : IsMade l.unit.types;
 }

@@ -1,4 +1,5 @@
-use Rattle.std.proofs.Common.{◌≡◌, Bool, map, sym, ap, ◌∙◌, subst}
+use Rattle.std.proofs.Common.{◌≡◌, ◌<◌, ℕ, Bool, List, length, map, sym, ap, ◌∙◌, subst}
+use Rattle.std.proofs.lemmas.List.Elements.{All-same}
 use Rattle.pta_base.specs.declared.kind.Kind.TheVariants.{Operand}
 use Rattle.core_tree.specs.declared.node.NodeKind.TheVariants.{CallNode}
 use Rattle.c_types.specs.Trees.{Ctype}
@@ -25,6 +26,10 @@ returns-then-not-is_returned-clause-made c = λ w k.
     call_made (core_at u c.args.c) (is_returned w (result_in t)) c.args.at CallNode c.args.place (result_in t) (arguments w c.args.at (parameters_in t) cores) (cores_at mid c.in_ok-children.children) (c.in_ok-children.ensures.made w k)
     ∙ ap (λ (b : Bool). given_if b Operand c.args.at (Fits (Of CallNode c.args.place (result_in t) (cores_at mid c.in_ok-children.children)))) no
 
+pub push_node-requires-clause-children : goal.push_node-requires-clause-children
+push_node-requires-clause-children c =
+    All-same (λ (i : ℕ). i < length c.passed.new.unit.nodes.items) c.in_ok-children-2.children c.in_ok-children.children (c.in_ok-children-2.ensures ∙ c.into_vec.ensures) c.in_ok-children.ensures.within
+
 pub returns-clause-builds : goal.returns-clause-builds
 returns-clause-builds c = builds_on c.args.unit.now c.passed.new.unit c.push_node.new.unit c.in_ok-children.ensures.builds c.push_node.ensures.builds
 
@@ -39,4 +44,6 @@ returns-clause-made c = λ w k.
     let cores = map (λ a. core_at u a) c.args.arguments.now in
     let e = call_made (core_at u c.args.c) (is_returned w (result_in t)) c.args.at CallNode c.args.place (result_in t) (arguments w c.args.at (parameters_in t) cores) (cores_at mid c.in_ok-children.children) (c.in_ok-children.ensures.made w k)
     ∙ ap (λ (b : Bool). given_if b Operand c.args.at (Fits (Of CallNode c.args.place (result_in t) (cores_at mid c.in_ok-children.children)))) yes in
-    made_same c.push_node.new.unit c.push_node.result _ _ (sym e) (subst (λ (x : Ctype). Made c.push_node.new.unit c.push_node.result (Fits (Of CallNode c.args.place x (cores_at mid c.in_ok-children.children)))) ty c.push_node.ensures.made)
+    let same : c.in_ok-children-2.children ≡ c.in_ok-children.children = c.in_ok-children-2.ensures ∙ c.into_vec.ensures in
+    let listed = subst (λ (is : List ℕ). Made c.push_node.new.unit c.push_node.result (Fits (Of CallNode c.args.place (type_of mid.types c.result_type-ty.result.0) (cores_at mid is)))) same c.push_node.ensures.made in
+    made_same c.push_node.new.unit c.push_node.result _ _ (sym e) (subst (λ (x : Ctype). Made c.push_node.new.unit c.push_node.result (Fits (Of CallNode c.args.place x (cores_at mid c.in_ok-children.children)))) ty listed)

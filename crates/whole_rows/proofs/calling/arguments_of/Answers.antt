@@ -1,11 +1,6 @@
-use Rattle.std.proofs.Common.{arith, ◌≡◌, ◌<◌, ◌∙◌, ℕ, false, true, map, not, ◌+◌, ◌++◌, ◌∷◌, [], List, All, length, get_or, drop, Vec, Global, sym, ap, subst}
-use Rattle.std.proofs.lemmas.List.Elements.{All-same, All-push}
-use Rattle.c_senses.specs.Tree.{is_leaf, all_where}
+use Rattle.std.proofs.Common.{arith, ◌<◌, ◌∙◌, ℕ, map, ◌+◌, List, length, Vec, Global, sym, ap, subst}
 use Rattle.c_senses.specs.Sense.{sense_in}
-use Rattle.c_senses.specs.World.{World}
-use Rattle.c_senses.specs.Expressions.{all_cores}
 use Rattle.core_nodes.specs.Standing.{core_at}
-use Rattle.c_conversions.specs.Constants.{HasRows}
 use Rattle.c_results.specs.Standing.{senses_made}
 use Rattle.tree_reads.specs.Sources.{source_read}
 use Rattle.whole_rows.proofs.Arguments.{Gathered, none_gathered, all_gathered, fault_same, part_refused, gathered_more, gathered_token}

@@ -1,6 +1,6 @@
-use Rattle.std.proofs.Common.{◌≡◌, ◌∙◌, List, Ok, Err, subst}
+use Rattle.std.proofs.Common.{◌≡◌, List, Ok, Err, subst}
 use Rattle.c_consts.specs.Core.{Core}
-use Rattle.c_senses.specs.Given.{Given, ◌>>=◌}
+use Rattle.c_senses.specs.Given.{◌>>=◌}
 use Rattle.c_senses.specs.Operators.{choice_row}
 use Rattle.c_senses.specs.Sense.{Sense, sense_in, value_in}
 use Rattle.core_nodes.specs.Standing.{core_at, Made}

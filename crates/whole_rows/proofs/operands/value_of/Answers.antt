@@ -1,6 +1,6 @@
 use Rattle.c_senses.specs.Conversions.{value_of}
 use Rattle.c_senses.specs.Sense.{sense_in, core_of}
-use Rattle.core_nodes.proofs.Failing.{fails, follows}
+use Rattle.core_nodes.proofs.Failing.{follows}
 use Rattle.c_results.specs.Standing.{senses_made}
 use Rattle.whole_rows.proofs.operands.value_of.Goals as goal
 

@@ -1,4 +1,4 @@
-use Rattle.std.proofs.Common.{ℕ, Bool, Some, cond, ◌==◌, ◌&&◌, ◌∙◌, ap, to_z-of_z}
+use Rattle.std.proofs.Common.{Bool, Some, cond, ◌==◌, ◌&&◌, ◌∙◌, ap, to_z-of_z}
 use Rattle.std.specs.Ordering.{int_eq}
 use Rattle.c_statements.specs.Labels.{case_at}
 use Rattle.c_statements.proofs.Choosing.{key_same}

@@ -1,4 +1,4 @@
-use Rattle.std.proofs.Common.{◌≡◌, ◌+◌, ◌||◌, ℕ, List, is_some, take, sym, ap, ◌∙◌, subst}
+use Rattle.std.proofs.Common.{◌≡◌, ◌+◌, ◌||◌, ℕ, List, is_some, take, sym, subst}
 use Rattle.std.specs.Prelude.{ℤ}
 use Rattle.c_senses.specs.Sense.{sense_in}
 use Rattle.c_senses.specs.Statements.{is_case_again}

@@ -1,4 +1,4 @@
-use Rattle.std.proofs.Common.{◌≡◌, ℕ, ℤ, true, false, Some, None, rules, to_z-of_z, FitsSigned, refl, sym, ap, ◌∙◌, subst}
+use Rattle.std.proofs.Common.{rules, to_z-of_z, FitsSigned, ap, ◌∙◌}
 use Rattle.std.proofs.Common.{is_some, ◌==◌, ◌&&◌}
 use Rattle.std.specs.Ordering.{int_eq}
 use Rattle.std.specs.Int.{w128}

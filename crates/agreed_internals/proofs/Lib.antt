@@ -1,0 +1,5 @@
+pub mod Rows
+pub mod Found
+pub mod Lists
+pub mod Entities
+pub mod Agreeing

@@ -1,0 +1,4 @@
+//! When all types of one name agree: a function that does nothing, whose contract is that law.
+#![tactic(auto)]
+
+pub mod laws;

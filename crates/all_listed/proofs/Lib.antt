@@ -1,0 +1,4 @@
+pub mod Path
+pub mod Literals
+pub mod Tops
+pub mod Whole

@@ -1,0 +1,4 @@
+pub mod Off
+pub mod Free
+pub mod Rows
+pub mod Chain

@@ -1,0 +1,5 @@
+pub mod Spelling
+pub mod Asked
+pub mod Linkage
+pub mod Used
+pub mod Reading

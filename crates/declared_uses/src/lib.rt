@@ -1,0 +1,4 @@
+//! The law of uses of external names: a function that does nothing, whose contract it is.
+#![tactic(auto)]
+
+pub mod laws;

@@ -1,0 +1,6 @@
+pub mod Lists
+pub mod Words
+pub mod Types
+pub mod Known
+pub mod Internals
+pub mod Whole

@@ -1,0 +1,4 @@
+//! Where the declarations of functions come from: a function that does nothing, whose contract is that law.
+#![tactic(auto)]
+
+pub mod laws;

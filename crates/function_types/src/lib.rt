@@ -1,0 +1,4 @@
+//! The types of what is declared as a function: a function that does nothing, whose contract is that law.
+#![tactic(auto)]
+
+pub mod laws;

@@ -1,0 +1,4 @@
+//! What internal names mean: a function that does nothing, whose contract is that law.
+#![tactic(auto)]
+
+pub mod laws;

@@ -1,0 +1,4 @@
+//! What the initialisers in bodies are of.
+#![tactic(auto)]
+
+pub mod laws;

@@ -1,0 +1,3 @@
+pub mod Inward
+pub mod Whole
+pub mod Reading

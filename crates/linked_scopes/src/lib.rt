@@ -1,0 +1,4 @@
+//! In which scopes names with linkage are declared and seen: a function that does nothing, whose contract is that law.
+#![tactic(auto)]
+
+pub mod laws;

@@ -1,0 +1,5 @@
+pub mod Sums
+pub mod Objects
+pub mod Nodes
+pub mod Places
+pub mod Whole

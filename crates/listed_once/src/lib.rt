@@ -1,0 +1,4 @@
+//! That objects are listed once.
+#![tactic(auto)]
+
+pub mod laws;

@@ -1,0 +1,4 @@
+//! Which block lists an automatic object.
+#![tactic(auto)]
+
+pub mod laws;

@@ -1,0 +1,9 @@
+pub mod Giving
+pub mod Values
+pub mod Operators
+pub mod Expressions
+pub mod Initialised
+pub mod Statements
+pub mod Types
+pub mod Rows
+pub mod All

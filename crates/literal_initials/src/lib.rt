@@ -1,0 +1,4 @@
+//! Where initialisers stand in the trees that rows give.
+#![tactic(auto)]
+
+pub mod laws;

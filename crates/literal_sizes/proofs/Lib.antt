@@ -1,0 +1,4 @@
+pub mod Shapes
+pub mod Inside
+pub mod Rows
+pub mod Sizes

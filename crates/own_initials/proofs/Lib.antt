@@ -1,0 +1,7 @@
+pub mod Trees
+pub mod Names
+pub mod Rests
+pub mod Automatic
+pub mod Functions
+pub mod Roots
+pub mod Own

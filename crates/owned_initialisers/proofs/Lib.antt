@@ -1,0 +1,4 @@
+pub mod Function
+pub mod Names
+pub mod Literals
+pub mod Whole

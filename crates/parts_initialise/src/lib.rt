@@ -1,0 +1,4 @@
+//! Where a unit that is made of a parsed tree's senses initialises its objects.
+#![tactic(auto)]
+
+pub mod laws;

@@ -1,0 +1,4 @@
+//! The laws of the names of what is planted: functions that do nothing, whose contracts they are.
+#![tactic(auto)]
+
+pub mod laws;

@@ -1,0 +1,4 @@
+//! That the unit which is put together of the parts of a walk initialises each object once.
+#![tactic(auto)]
+
+pub mod laws;

@@ -1,0 +1,68 @@
+-- Units that are right for texts whose names are well formed are told apart by their names, and so are their program's locations.
+use Rattle.std.proofs.Common.{◌≡◌, ◌∙◌, ℕ, zero, suc, ◌+◌, ◌<◌, ◌&&◌, not, Bool, true, false, List, [], ◌∷◌, map, length, arith, refl, sym, ap, subst, get_or}
+use Rattle.std.specs.Prelude.{nat_eq}
+use Rattle.std.specs.List.{All, list_all}
+use Rattle.std.proofs.lemmas.Bool.{eqb-true}
+use Rattle.std.proofs.lemmas.Option.{slice_get-get_or, slice_get_within}
+use Rattle.c_types.specs.Made.{IsMade, AreNamed}
+use Rattle.core_tree.specs.declared.node.Unit.{Unit}
+use Rattle.core_tree.specs.declared.node.Program.{Program}
+use Rattle.sol_model.specs.declared.system.System.{System}
+use Rattle.obj_space.specs.declared.location.Location.{Location}
+use Rattle.obj_space.specs.Space.{DistinctNames}
+use Rattle.link_merge.specs.Tags.{AreMade}
+use Rattle.unit_link.specs.Needs.{AreLinkable}
+use Rattle.unit_system.specs.Of.{AreLinkedAs}
+use Rattle.name_shapes.specs.Bytes.{is_unit_byte, IsMadeOf}
+use Rattle.name_shapes.proofs.Cutting.{and}
+use Rattle.named_laws.specs.Units.{IsNamedUnit, AreNamedUnits}
+use Rattle.named_laws.proofs.Whole.{linked_distinct}
+use Rattle.named_rest.proofs.Whole.{named_whole}
+use Rattle.command_line.specs.Rules.{IsUnitWord}
+use Rattle.command_line.specs.Rules as word
+use Rattle.report_cli.specs.Answers.{NamedText}
+use Rattle.report_cli.specs.Words.{AreUnitNames}
+use Rattle.report_cli.specs.Lowered.{IsRightText, AreRightTexts}
+use Rattle.report_cli.proofs.Texts.{some_same}
+use Rattle.report_cli.proofs.Linked.{cut_tokens}
+use Rattle.report_cli.proofs.Linkable.{IsUnitOf, unit_of}
+
+-- a byte of a word is none that stands between the parts of a location's name
+off : (k : ℕ) → word.is_unit_byte k ≡ false → (c : ℕ) → word.is_unit_byte c ≡ true → nat_eq c k ≡ false
+off k fails c passes = by (nat_eq c k) refl
+  where
+    by : (b : Bool) → nat_eq c k ≡ b → b ≡ false
+    by true e = let both : true ≡ false = sym passes ∙ (ap word.is_unit_byte (eqb-true c k e) ∙ fails) in cc
+    by false e = refl
+
+byte_of : (c : ℕ) → word.is_unit_byte c ≡ true → is_unit_byte c ≡ true
+byte_of c passes =
+    and (not (nat_eq c 58) && not (nat_eq c 64)) (not (nat_eq c 42)) (and (not (nat_eq c 58)) (not (nat_eq c 64)) (ap not (off 58 refl c passes)) (ap not (off 64 refl c passes))) (ap not (off 42 refl c passes))
+
+made_of : (name : List ℕ) → All (λ (b : ℕ). word.is_unit_byte b ≡ true) name → IsMadeOf is_unit_byte name
+made_of [] h = refl
+made_of (c ∷ rest) h = and (is_unit_byte c) (list_all is_unit_byte rest) (byte_of c (h zero c (omega arith))) (made_of rest (λ k d within. h (suc k) d (omega arith)))
+
+pub unit_names : (names : List (List ℕ)) → All IsUnitWord names → AreUnitNames names
+unit_names names h k d within = made_of _ (h k d within).bytes
+
+-- a unit that is right for a text
+named_of : (number : ℕ) (text : NamedText) (u : Unit) → IsRightText number text u → IsMadeOf is_unit_byte text.0 → IsMade u.types → AreNamed u.types → IsNamedUnit u
+named_of number text u h bytes made named = named_whole h.tokens number h.tree h.tag_number text.0 u (cut_tokens number text h.tokens h.tree h.parsed) h.parsed.tree_is h.right bytes made named
+
+-- each of the units
+pub are_named : (texts : List NamedText) (units : List Unit) → AreUnitNames (map (λ (text : NamedText). text.0) texts) → AreRightTexts 0 texts units → AreMade units → AreNamedUnits units
+are_named texts units bytes right made u x at =
+    let own : IsUnitOf 0 texts u x = unit_of 0 texts units u x right at in
+    let names = map (λ (text : NamedText). text.0) texts in
+    let within : u < length names = slice_get_within names u own.text.0 own.stands in
+    let same : get_or names u own.text.0 ≡ own.text.0 = some_same _ _ (sym (slice_get-get_or names u own.text.0 within) ∙ own.stands) in
+    let P : List ℕ → Type 0 = λ name. IsMadeOf is_unit_byte name in
+    named_of (0 + u) own.text x own.right (subst P same (bytes u own.text.0 within)) (made.made u x at) (made.named u x at)
+
+-- and the locations of their program
+pub are_distinct : (units : List Unit) (program : Program) (space : List Location) (system : System) → AreLinkable units → AreNamedUnits units → AreLinkedAs units program space system → IsMade program.types → AreNamed program.types
+    → DistinctNames space
+are_distinct units program space system linkable named h made terms =
+    let P : List Location → Type 0 = λ locations. DistinctNames locations in
+    subst P (sym h.system_of.space_is) (linked_distinct units program linkable named h.linked made terms)

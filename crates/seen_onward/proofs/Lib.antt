@@ -1,0 +1,11 @@
+pub mod Lists
+pub mod Between
+pub mod Descent
+pub mod Openers
+pub mod Around
+pub mod Nested
+pub mod Leaves
+pub mod Made
+pub mod Whole
+pub mod Blocks
+pub mod Reading

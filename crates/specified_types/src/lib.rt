@@ -1,0 +1,4 @@
+//! Structures and unions of a table are those of specifiers.
+#![tactic(auto)]
+
+pub mod laws;

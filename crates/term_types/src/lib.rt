@@ -1,0 +1,4 @@
+//! Types of a table by their terms.
+#![tactic(auto)]
+
+pub mod laws;

@@ -1,0 +1,3 @@
+mod Keywords
+mod Leaves
+pub mod Texts
