@@ -31,10 +31,11 @@ use Rattle.built_parts.proofs.Building.{parts_built}
 use Rattle.built_valid.proofs.Whole.{built_is_valid}
 use Rattle.parts_named.specs.Named.{AreParts as AreNamedParts}
 use Rattle.parts_named.proofs.Known.{parts_known}
+use Rattle.known_names.proofs.Whole.{names_known}
 use Rattle.known_initials.proofs.Whole.{initials_known}
 use Rattle.raised_parts.proofs.Whole.{parts_once}
 use Rattle.unit_lowering.specs.Lowered.{AreParts, declared_in, NoneCompletes}
-use Rattle.lowered_laws.specs.Open.{NamesDeclared, OpenAlone}
+use Rattle.lowered_laws.specs.Never.{NeverUnfinished}
 
 module _ (tokens : Tokens) (unit : ℕ) (tree : Tree) (tag_number : ℕ → ℕ) (cut : IsTokens tokens.text.now tokens.list.items) (is : IsUnit tokens unit tree) where
   abbrev s : Source
@@ -54,7 +55,7 @@ module _ (tokens : Tokens) (unit : ℕ) (tree : Tree) (tag_number : ℕ → ℕ)
       types_fit s senses are grown at bring (units_ordered tokens unit tree tag_number cut is) linked
 
   -- the parts as they are named, and as a unit is put together of them
-  module _ (name : List ℕ) (n : NoneCompletes s name) (all : NamesDeclared s n.parts.senses) where
+  module _ (name : List ℕ) (n : NoneCompletes s name) where
     abbrev p : AreParts s
     p = n.parts
 
@@ -76,7 +77,7 @@ module _ (tokens : Tokens) (unit : ℕ) (tree : Tree) (tag_number : ℕ → ℕ)
 
     whole : IsNamedWhole n.none.planted.nodes.items n.none.planted.list.items
     whole = parts_known tokens unit tree tag_number cut is named (record {
-      unlinked = all;
+      unlinked = λ c d inside kind off. names_known tokens unit tree tag_number p.senses cut is p.made.are_senses p.made.whole c d inside kind off;
       initials = λ c d paths inside kind off. initials_known tokens unit tree tag_number p.senses cut is p.made.are_senses p.made.whole c d paths inside kind;
     })
 
@@ -125,12 +126,12 @@ module _ (tokens : Tokens) (unit : ℕ) (tree : Tree) (tag_number : ℕ → ℕ)
       specified : TagsSpecified s u.types
       specified = subst (TagsSpecified s) (sym made.types_are) (types_specified s p.walked.types p.tag_types p.table p.terms p.made.tags.no_other)
 
-pub open_alone : OpenAlone
-open_alone tokens unit tree tag_number name bound cut is bind n all =
-    let whole_names = whole tokens unit tree tag_number cut is name n all in
+pub never_unfinished : NeverUnfinished
+never_unfinished tokens unit tree tag_number name bound cut is bind n =
+    let whole_names = whole tokens unit tree tag_number cut is name n in
     let made = n.none.none.made whole_names in
     let u : Unit = made.0 in
-    let once_each = once tokens unit tree tag_number cut is name n all u made.1 in
-    let built = parts_built (numbered tag_number (source_of tokens tree)) name u (whole_put tokens unit tree tag_number cut is name n all u made.1) in
-    let valid = built_is_valid tokens unit tree tag_number name u bound cut is bind built (specified tokens unit tree tag_number cut is name n all u made.1) in
+    let once_each = once tokens unit tree tag_number cut is name n u made.1 in
+    let built = parts_built (numbered tag_number (source_of tokens tree)) name u (whole_put tokens unit tree tag_number cut is name n u made.1) in
+    let valid = built_is_valid tokens unit tree tag_number name u bound cut is bind built (specified tokens unit tree tag_number cut is name n u made.1) in
     n.none.none.none u (record { made = made.1; names_whole = whole_names; initialises_once = once_each; valid = valid })

@@ -11,8 +11,8 @@ use Rattle.c_scope.specs.Resolves.{first_of}
 use Rattle.report_cli.specs.Answers.{NamedText, Answer}
 use Rattle.report_cli.specs.Laws.{OneAlone}
 use Rattle.report_cli.specs.Alone.{Reading, IsReadAs, IsRefusedAlone, AreReadAlone, lexical_refusal, syntax_refusal, name_refusal}
-use Rattle.report_cli.specs.Lowered.{IsRightText}
-use Rattle.report_cli.specs.Outcome.{IsRefusedText, IsRefusedRead, FirstRefused, Refuses, RefusesRead, RefusesTold, RefusesToldRead}
+use Rattle.report_cli.specs.Lowered.{IsRightText, IsRefusedRow}
+use Rattle.report_cli.specs.Outcome.{IsRefusedText, FirstRefused, Refuses, RefusesRead, RefusesTold, RefusesToldRead}
 use Rattle.report_cli.specs.Told.{Told}
 
 -- a unit has one list of tokens
@@ -102,7 +102,7 @@ pub one_alone_first : OneAlone
 one_alone_first = record { one = one_first; none = first_or_read }
 
 -- what refuses texts that are read alone is no refusal alone
-first_read : (number : ℕ) (texts : List NamedText) (answer : Answer) → AreReadAlone texts → FirstRefused IsRefusedText number texts answer → FirstRefused IsRefusedRead number texts answer
+first_read : (number : ℕ) (texts : List NamedText) (answer : Answer) → AreReadAlone texts → FirstRefused IsRefusedText number texts answer → FirstRefused IsRefusedRow number texts answer
 first_read number [] answer alone h = h
 first_read number (text ∷ texts) answer alone (inl (inl h)) = absurd (alone_or_read text answer alone.0.0 h alone.0.1)
 first_read number (text ∷ texts) answer alone (inl (inr h)) = inl h

@@ -32,7 +32,6 @@ use Rattle.report_cli.specs.Answers.{NamedText, Answer, told_units}
 use Rattle.report_cli.specs.Alone.{IsReadAs, IsRefusedAlone, lexical_refusal, syntax_refusal, name_refusal}
 use Rattle.report_cli.specs.Lowered.{IsParsed, IsRightText, AreRightTexts, IsRefusedRow}
 use Rattle.report_cli.specs.Linking.{IsLinkRefusal, HaveManyNodes, HaveManyWords, link_refusal}
-use Rattle.report_cli.specs.Unbuilt.{IsUnbuilt}
 use Rattle.report_cli.specs.Outcome.{Denotes, IsRefusedText, FirstRefused, AreRefusedTogether, Refuses, RefusesScript, RefusesTold}
 
 -- the names of told units are those that were asked for
@@ -110,10 +109,6 @@ rights_whole number [] (u ∷ us) h = h
 rights_whole number (unit ∷ told) [] h = h
 rights_whole number (unit ∷ told) (u ∷ us) h = (right_whole number unit u h.0, rights_whole (number + 1) told us h.1)
 
-unbuilt_whole : (number : ℕ) (unit : NamedText) (answer : Answer) → IsUnbuilt number (unit.0, take 16777217 unit.1) answer → IsUnbuilt number unit answer
-unbuilt_whole number unit answer h =
-    let P : List ℕ → Type 0 = λ t. IsUnbuilt number (unit.0, t) answer in subst P (parsed_whole number unit h.tokens h.tree h.parsed) h
-
 row_whole : (number : ℕ) (unit : NamedText) (answer : Answer) → IsRefusedRow number (unit.0, take 16777217 unit.1) answer → IsRefusedRow number unit answer
 row_whole number unit answer h =
     let P : List ℕ → Type 0 = λ t. IsRefusedRow number (unit.0, t) answer in subst P (parsed_whole number unit h.tokens h.tree h.parsed) h
@@ -156,8 +151,7 @@ words_whole told answer h = record {
 
 text_whole : (number : ℕ) (unit : NamedText) (answer : Answer) → IsRefusedText number (unit.0, take 16777217 unit.1) answer → IsRefusedText number unit answer
 text_whole number unit answer (inl h) = inl (refused_alone_whole unit answer h)
-text_whole number unit answer (inr (inl h)) = inr (inl (row_whole number unit answer h))
-text_whole number unit answer (inr (inr h)) = inr (inr (unbuilt_whole number unit answer h))
+text_whole number unit answer (inr h) = inr (row_whole number unit answer h)
 
 first_whole : (number : ℕ) (told : List NamedText) (answer : Answer) → FirstRefused IsRefusedText number (read_units told) answer → FirstRefused IsRefusedText number told answer
 unfolding read_units
@@ -331,8 +325,7 @@ alone_status unit answer (inr (inr h)) = status_of answer _ h.7 (name_status uni
 first_status : (number : ℕ) (units : List NamedText) (answer : Answer) → FirstRefused IsRefusedText number units answer → IsStatus answer.status
 first_status number [] answer h = absurd h
 first_status number (unit ∷ units) answer (inl (inl h)) = alone_status unit answer h
-first_status number (unit ∷ units) answer (inl (inr (inl h))) = status_of answer _ h.answer_is (inr (inl refl))
-first_status number (unit ∷ units) answer (inl (inr (inr h))) = status_of answer _ h.answer_is (inr (inl refl))
+first_status number (unit ∷ units) answer (inl (inr h)) = status_of answer _ h.answer_is (inr (inl refl))
 first_status number (unit ∷ units) answer (inr h) = first_status (number + 1) units answer h.2
 
 link_status : (units : List Unit) (names : List (List ℕ)) (fault : LinkFault) → LinksBadly units fault → IsStatus (link_refusal names fault).status

@@ -1,7 +1,7 @@
 -- The refusals of a text that is read alone, and those of texts that are right.
-use Rattle.std.proofs.Common.{◌≡◌, ℕ, List, [], map, inl, inr, refl, sym, ap, subst}
+use Rattle.std.proofs.Common.{◌≡◌, ℕ, List, [], map, inl, inr, refl, sym, subst}
 use Rattle.pta_base.specs.declared.kind.Kind.{Kind}
-use Rattle.pta_base.specs.declared.kind.Kind.TheVariants.{Operand, NotBuilt}
+use Rattle.pta_base.specs.declared.kind.Kind.TheVariants.{Operand}
 use Rattle.c_lexer.specs.declared.Tokens.{Tokens}
 use Rattle.c_lexer.specs.Cut.{IsTokens}
 use Rattle.c_grammar.specs.declared.trees.Tree.{Tree}
@@ -14,8 +14,8 @@ use Rattle.c_senses.specs.Tree.{Source}
 use Rattle.c_senses.specs.Names.{source_of, numbered}
 use Rattle.c_senses.specs.Rows.{RefusedAt}
 use Rattle.c_senses.specs.Right.{Right}
-use Rattle.unit_walk.specs.Walked.{AreDense}
-use Rattle.unit_lowering.specs.Lowered.{IsLowered, IsNotLowered, UnfinishedIn}
+use Rattle.unit_walk.specs.Walked.{AreDense, RefusedIn}
+use Rattle.unit_lowering.specs.Lowered.{IsLowered}
 use Rattle.link_names.specs.declared.fault.LinkFault.{LinkFault}
 use Rattle.link_names.specs.declared.fault.LinkFault.TheVariants as link
 use Rattle.unit_link.specs.Linked.{LinksBadly}
@@ -56,37 +56,14 @@ module _ (number : ℕ) (text : NamedText) (tokens : Tokens) (tree : Tree) (pars
   row_refused : (kind : Kind) (node : ℕ) → FirstRow (source_of tokens tree) kind node → IsRefusedText number text (refusal_at kind node)
   unfolding refusal_at FirstRow
   row_refused kind node h =
-      inr (inl (record { tokens = tokens; tree = tree; parsed = parsed; tag_number = h.0; dense = h.1; kind = kind; node = node; refused = h.2; answer_is = refl }))
-
-  unbuilt_refused : (node : ℕ) → UnfinishedIn (source_of tokens tree) text.0 tree.root (check.Unsupported NotBuilt node) → IsRefusedText number text (refusal_at NotBuilt node)
-  unfolding refusal_at
-  unbuilt_refused node h =
-      inr (inr (record { tokens = tokens; tree = tree; parsed = parsed; tag_number = h.0; dense = h.1; none = h.2.1; answer_is = ap (λ (n : ℕ). kind_refusal text.0 tokens tree NotBuilt n) h.2.0 }))
-
-  kind_refused : (kind : Kind) (node : ℕ) → IsNotLowered (source_of tokens tree) text.0 tree.root (check.Unsupported kind node) → IsRefusedText number text (refusal_at kind node)
-  unfolding FirstRow
-  kind_refused kind node (inl h) = row_refused kind node h
-  kind_refused NotBuilt node (inr h) = unbuilt_refused node h
-  kind_refused kind node (inr h) = absurd h.2
-
-  operand_refused : (node : ℕ) → IsNotLowered (source_of tokens tree) text.0 tree.root (check.BadOperand node) → IsRefusedText number text (refusal_at Operand node)
-  unfolding FirstRow
-  operand_refused node (inl h) = row_refused Operand node h
-  operand_refused node (inr h) = absurd h.2
+      inr (record { tokens = tokens; tree = tree; parsed = parsed; tag_number = h.0; dense = h.1; kind = kind; node = node; refused = h.2; answer_is = refl })
 
   -- the fault of a node refuses a text
-  node_refused : (cause : CheckFault) (fault : UnitsFault) → IsNotLowered (source_of tokens tree) text.0 tree.root cause
-      → IsKindRefusal text.0 tokens tree cause fault → IsFaultIn number text fault
-  unfolding refusal_at
-  node_refused (check.BadOperand node) fault h is = refused_in number text (refusal_at Operand node) fault is refl (operand_refused node h)
-  node_refused (check.Unsupported kind node) fault h is =
-      refused_in number text (refusal_at kind node) fault is refl (kind_refused kind node h)
+  pub node_refused : (cause : CheckFault) (fault : UnitsFault) → RefusedIn (source_of tokens tree) cause → IsKindRefusal text.0 tokens tree cause fault → IsFaultIn number text fault
+  unfolding refusal_at FirstRow
+  node_refused (check.BadOperand node) fault h is = refused_in number text (refusal_at Operand node) fault is refl (row_refused Operand node h)
+  node_refused (check.Unsupported kind node) fault h is = refused_in number text (refusal_at kind node) fault is refl (row_refused kind node h)
   node_refused check.OutOfMemory fault h is = memory_in number text fault is
-
-  -- the same under a name that is the text's
-  pub named_refused : (name : List ℕ) (cause : CheckFault) (fault : UnitsFault) → name ≡ text.0 → IsNotLowered (source_of tokens tree) name tree.root cause
-      → IsKindRefusal text.0 tokens tree cause fault → IsFaultIn number text fault
-  named_refused name cause fault is h said = let P : List ℕ → Type 0 = λ n. IsNotLowered (source_of tokens tree) n tree.root cause in node_refused cause fault (subst P is h) said
 
   -- its tokens are those of the text that they hold
   pub cut_tokens : IsTokens tokens.text.now tokens.list.items

@@ -2,7 +2,6 @@
 use Rattle.std.proofs.Common.{◌≡◌, ◌⊎◌, ℕ, ◌+◌, ◌++◌, inl, inr, List, [], ◌∷◌, sym, ◌∙◌, ap, subst, codes}
 use Rattle.pta_base.specs.Kind.{name_of}
 use Rattle.pta_base.specs.declared.kind.Kind.{Kind}
-use Rattle.pta_base.specs.declared.kind.Kind.TheVariants.{NotBuilt}
 use Rattle.c_lexer.specs.declared.Tokens.{Tokens}
 use Rattle.c_grammar.specs.declared.trees.Tree.{Tree}
 use Rattle.core_tree.specs.declared.node.Unit.{Unit}
@@ -11,7 +10,7 @@ use Rattle.c_senses.specs.Tree.{Source}
 use Rattle.c_senses.specs.Names.{source_of, numbered}
 use Rattle.c_senses.specs.Places.{own_place}
 use Rattle.c_senses.specs.Rows.{RefusedAt}
-use Rattle.source_laws.proofs.Reading.{one_refusal, not_right, not_whole}
+use Rattle.source_laws.proofs.Reading.{one_refusal, not_right}
 use Rattle.tag_numbers.specs.Ordered.{AreInOrder}
 use Rattle.unit_walk.specs.Walked.{AreDense}
 use Rattle.reading_laws.specs.Reading.{IsRead, AreOne}
@@ -19,10 +18,9 @@ use Rattle.reading_laws.proofs.Reading.{one_tree}
 use Rattle.report_cli.specs.Answers.{NamedText, Answer, refusal, place_text}
 use Rattle.report_cli.specs.Alone.{IsReadAs}
 use Rattle.report_cli.specs.Lowered.{IsParsed, IsRightText, AreRightTexts, IsRefusedRow, kind_refusal}
-use Rattle.report_cli.specs.Unbuilt.{IsUnbuilt}
 use Rattle.report_cli.specs.Told.{Told}
-use Rattle.report_cli.specs.Outcome.{Denotes, IsRefusedText, FirstRefused, IsFaultyText, HaveRightUnits, AreRefusedTogether, Refuses, RefusesRight, RefusesTold, RefusesToldRight}
-use Rattle.report_cli.specs.Laws.{FirstFaulty, FirstUnbuilt, OneOutcome}
+use Rattle.report_cli.specs.Outcome.{Denotes, IsRefusedText, FirstRefused, HaveRightUnits, AreRefusedTogether, Refuses, RefusesTold, RefusesToldRight}
+use Rattle.report_cli.specs.Laws.{OneOutcome}
 use Rattle.report_cli.proofs.Exclusion.{one_alone, alone_or_read, alone_or_right}
 
 -- numbers in the order of first specifiers are one numbering
@@ -67,69 +65,34 @@ module _ (number : ℕ) (text : NamedText) where
       ∙ (sym (in_source k.tokens k.tree k.kind k.node) ∙ sym k.answer_is)))))
 
   -- a text that isn't built is refused at its root, and by no row
-  one_unbuilt : (one other : Answer) → IsUnbuilt number text one → IsUnbuilt number text other → one ≡ other
-  one_unbuilt one other h k =
-      let both : AreOne h.tokens k.tokens h.tree k.tree = one_tree text.1 number h.tokens k.tokens h.tree k.tree (as_read h.tokens h.tree h.parsed) (as_read k.tokens k.tree k.parsed) in
-      h.answer_is
-      ∙ (in_source h.tokens h.tree NotBuilt h.tree.root
-      ∙ (ap (λ (s : Source). refusal_in s NotBuilt h.tree.root) both.source_same
-      ∙ (ap (refusal_in (source_of k.tokens k.tree) NotBuilt) both.root_same
-      ∙ (sym (in_source k.tokens k.tree NotBuilt k.tree.root) ∙ sym k.answer_is))))
-
-  row_or_unbuilt : (one other : Answer) → IsRefusedRow number text one → IsUnbuilt number text other → ⊥
-  row_or_unbuilt one other h k =
-      let same : numbered h.tag_number (source_of h.tokens h.tree) ≡ numbered k.tag_number (source_of k.tokens k.tree) = same_numbered h.tokens k.tokens h.tree k.tree h.tag_number k.tag_number h.parsed k.parsed h.dense k.dense in
-      let P : Source → Type 0 = λ s. RefusedAt s h.kind h.node in
-      let parts = k.none.parts in
-      not_whole (numbered k.tag_number (source_of k.tokens k.tree)) parts.senses h.kind h.node parts.made.are_senses parts.made.whole (subst P same h.refused)
-
   row_or_right : (answer : Answer) (u : Unit) → IsRefusedRow number text answer → IsRightText number text u → ⊥
   row_or_right answer u h k =
       let same : numbered h.tag_number (source_of h.tokens h.tree) ≡ numbered k.tag_number (source_of k.tokens k.tree) = same_numbered h.tokens k.tokens h.tree k.tree h.tag_number k.tag_number h.parsed k.parsed h.dense k.dense in
       let P : Source → Type 0 = λ s. RefusedAt s h.kind h.node in
       not_right (numbered k.tag_number (source_of k.tokens k.tree)) text.0 u h.kind h.node k.right (subst P same h.refused)
 
-  one_faulty : (one other : Answer) → IsFaultyText number text one → IsFaultyText number text other → one ≡ other
-  one_faulty one other (inl h) (inl k) = one_alone text one other h k
-  one_faulty one other (inl h) (inr k) = absurd (alone_or_read text one k.tokens.list.items h k.parsed.read)
-  one_faulty one other (inr h) (inl k) = absurd (alone_or_read text other h.tokens.list.items k h.parsed.read)
-  one_faulty one other (inr h) (inr k) = one_row one other h k
-
   -- a text is refused with one answer
   one_text : (one other : Answer) → IsRefusedText number text one → IsRefusedText number text other → one ≡ other
   one_text one other (inl h) (inl k) = one_alone text one other h k
-  one_text one other (inl h) (inr (inl k)) = absurd (alone_or_read text one k.tokens.list.items h k.parsed.read)
-  one_text one other (inl h) (inr (inr k)) = absurd (alone_or_read text one k.tokens.list.items h k.parsed.read)
-  one_text one other (inr (inl h)) (inl k) = absurd (alone_or_read text other h.tokens.list.items k h.parsed.read)
-  one_text one other (inr (inr h)) (inl k) = absurd (alone_or_read text other h.tokens.list.items k h.parsed.read)
-  one_text one other (inr (inl h)) (inr (inl k)) = one_row one other h k
-  one_text one other (inr (inl h)) (inr (inr k)) = absurd (row_or_unbuilt one other h k)
-  one_text one other (inr (inr h)) (inr (inl k)) = absurd (row_or_unbuilt other one k h)
-  one_text one other (inr (inr h)) (inr (inr k)) = one_unbuilt one other h k
+  one_text one other (inl h) (inr k) = absurd (alone_or_read text one k.tokens.list.items h k.parsed.read)
+  one_text one other (inr h) (inl k) = absurd (alone_or_read text other h.tokens.list.items k h.parsed.read)
+  one_text one other (inr h) (inr k) = one_row one other h k
 
-  faulty_or_right : (answer : Answer) (u : Unit) → IsFaultyText number text answer → IsRightText number text u → ⊥
-  faulty_or_right answer u (inl h) k = alone_or_right number text u answer h k
-  faulty_or_right answer u (inr h) k = row_or_right answer u h k
+  text_or_right : (answer : Answer) (u : Unit) → IsRefusedText number text answer → IsRightText number text u → ⊥
+  text_or_right answer u (inl h) k = alone_or_right number text u answer h k
+  text_or_right answer u (inr h) k = row_or_right answer u h k
 
-one_first : (number : ℕ) (texts : List NamedText) (one other : Answer) → FirstFaulty number texts one → FirstFaulty number texts other → one ≡ other
+one_first : (number : ℕ) (texts : List NamedText) (one other : Answer) → FirstRefused IsRefusedText number texts one → FirstRefused IsRefusedText number texts other → one ≡ other
 one_first number [] one other h k = absurd h
-one_first number (text ∷ texts) one other (inl h) (inl k) = one_faulty number text one other h k
-one_first number (text ∷ texts) one other (inl h) (inr k) = absurd (faulty_or_right number text one k.0 h k.1)
-one_first number (text ∷ texts) one other (inr h) (inl k) = absurd (faulty_or_right number text other h.0 k h.1)
+one_first number (text ∷ texts) one other (inl h) (inl k) = one_text number text one other h k
+one_first number (text ∷ texts) one other (inl h) (inr k) = absurd (text_or_right number text one k.0 h k.1)
+one_first number (text ∷ texts) one other (inr h) (inl k) = absurd (text_or_right number text other h.0 k h.1)
 one_first number (text ∷ texts) one other (inr h) (inr k) = one_first (number + 1) texts one other h.2 k.2
 
-none_right : (number : ℕ) (texts : List NamedText) (answer : Answer) → FirstFaulty number texts answer → HaveRightUnits number texts → ⊥
+none_right : (number : ℕ) (texts : List NamedText) (answer : Answer) → FirstRefused IsRefusedText number texts answer → HaveRightUnits number texts → ⊥
 none_right number [] answer h k = h
-none_right number (text ∷ texts) answer (inl h) k = faulty_or_right number text answer k.0.0 h k.0.1
+none_right number (text ∷ texts) answer (inl h) k = text_or_right number text answer k.0.0 h k.0.1
 none_right number (text ∷ texts) answer (inr h) k = none_right (number + 1) texts answer h.2 k.1
-
-faulty_or_unbuilt : (number : ℕ) (texts : List NamedText) (answer : Answer) → FirstRefused IsRefusedText number texts answer → FirstFaulty number texts answer ⊎ FirstUnbuilt number texts answer
-faulty_or_unbuilt number [] answer h = absurd h
-faulty_or_unbuilt number (text ∷ texts) answer (inl (inl h)) = inl (inl (inl h))
-faulty_or_unbuilt number (text ∷ texts) answer (inl (inr (inl h))) = inl (inl (inr h))
-faulty_or_unbuilt number (text ∷ texts) answer (inl (inr (inr h))) = inr (inl h)
-faulty_or_unbuilt number (text ∷ texts) answer (inr h) =
-    elim (faulty_or_unbuilt (number + 1) texts answer h.2) [ inl x ↦ inl (inr (h.0, h.1, x)) | inr x ↦ inr (inr (h.0, h.1, x)) ]
 
 -- texts with their units are right
 each_right : (number : ℕ) (texts : List NamedText) (units : List Unit) → AreRightTexts number texts units → HaveRightUnits number texts
@@ -147,51 +110,29 @@ together_right texts answer (inl h) = each_right 0 texts h.units h.right
 together_right texts answer (inr (inl h)) = each_right 0 texts h.units h.right
 together_right texts answer (inr (inr h)) = each_right 0 texts h.units h.right
 
--- what refuses texts that each have a right unit
-first_right : (texts : List NamedText) (answer : Answer) → HaveRightUnits 0 texts → FirstFaulty 0 texts answer ⊎ FirstUnbuilt 0 texts answer → RefusesRight texts answer
-first_right texts answer right (inl h) = absurd (none_right 0 texts answer h right)
-first_right texts answer right (inr h) = inl h
-
-refuses_right : (texts : List NamedText) (answer : Answer) → HaveRightUnits 0 texts → Refuses texts answer → RefusesRight texts answer
+-- what refuses texts that each have a right unit refuses them together
+refuses_right : (texts : List NamedText) (answer : Answer) → HaveRightUnits 0 texts → Refuses texts answer → AreRefusedTogether texts answer
 unfolding Refuses
-refuses_right texts answer right (inl h) = first_right texts answer right (faulty_or_unbuilt 0 texts answer h)
-refuses_right texts answer right (inr h) = inr h
+refuses_right texts answer right (inl h) = absurd (none_right 0 texts answer h right)
+refuses_right texts answer right (inr h) = h
 
 pub told_right : (told : Told) (answer : Answer) → HaveRightUnits 0 told.units → RefusesTold told answer → RefusesToldRight told answer
 told_right told answer right (inl h) = inl (refuses_right told.units answer right h)
 told_right told answer right (inr h) = inr h
 
 -- two refusals
-module _ (texts : List NamedText) (one other : Answer) where
-  abbrev Both : Type 0
-  Both = (one ≡ other) ⊎ ((FirstUnbuilt 0 texts one ⊎ FirstUnbuilt 0 texts other) ⊎ (AreRefusedTogether texts one × AreRefusedTogether texts other))
-
-  both_first : FirstFaulty 0 texts one ⊎ FirstUnbuilt 0 texts one → FirstFaulty 0 texts other ⊎ FirstUnbuilt 0 texts other → Both
-  both_first (inl h) (inl k) = inl (one_first 0 texts one other h k)
-  both_first (inr h) k = inr (inl (inl h))
-  both_first (inl h) (inr k) = inr (inl (inr k))
-
-  first_and_together : FirstFaulty 0 texts one ⊎ FirstUnbuilt 0 texts one → AreRefusedTogether texts other → Both
-  first_and_together (inl h) k = absurd (none_right 0 texts one h (together_right texts other k))
-  first_and_together (inr h) k = inr (inl (inl h))
-
-  together_and_first : AreRefusedTogether texts one → FirstFaulty 0 texts other ⊎ FirstUnbuilt 0 texts other → Both
-  together_and_first h (inl k) = absurd (none_right 0 texts other k (together_right texts one h))
-  together_and_first h (inr k) = inr (inl (inr k))
-
-  both_refused : Refuses texts one → Refuses texts other → Both
-  unfolding Refuses
-  both_refused (inl h) (inl k) = both_first (faulty_or_unbuilt 0 texts one h) (faulty_or_unbuilt 0 texts other k)
-  both_refused (inl h) (inr k) = first_and_together (faulty_or_unbuilt 0 texts one h) k
-  both_refused (inr h) (inl k) = together_and_first h (faulty_or_unbuilt 0 texts other k)
-  both_refused (inr h) (inr k) = inr (inr (h, k))
+both_refused : (texts : List NamedText) (one other : Answer) → Refuses texts one → Refuses texts other → (one ≡ other) ⊎ (AreRefusedTogether texts one × AreRefusedTogether texts other)
+unfolding Refuses
+both_refused texts one other (inl h) (inl k) = inl (one_first 0 texts one other h k)
+both_refused texts one other (inl h) (inr k) = absurd (none_right 0 texts one h (together_right texts other k))
+both_refused texts one other (inr h) (inl k) = absurd (none_right 0 texts other k (together_right texts one h))
+both_refused texts one other (inr h) (inr k) = inr (h, k)
 
 pub one_outcome : OneOutcome
 one_outcome = record {
   text = one_text;
   one = one_first;
   right = none_right;
-  either = faulty_or_unbuilt;
   denoted = λ texts program answer h k. refuses_right texts answer (denoted_right texts program h) k;
   refused = both_refused;
 }

@@ -7,8 +7,7 @@ use Rattle.report_cli.specs.Alone.{IsRefusedAlone, AreReadAlone}
 use Rattle.right_laws.specs.Alike.{AreAlike}
 use Rattle.report_cli.specs.Lowered.{IsRightText}
 use Rattle.report_cli.specs.Linking.{HaveManyNodes}
-use Rattle.report_cli.specs.Unbuilt.{IsUnbuilt}
-use Rattle.report_cli.specs.Outcome.{Denotes, FirstRefused, IsFaultyText, IsRefusedText, HaveRightUnits, AreRefusedTogether, Refuses, RefusesRight}
+use Rattle.report_cli.specs.Outcome.{Denotes, FirstRefused, IsRefusedText, HaveRightUnits, AreRefusedTogether, Refuses}
 
 -- the first text that isn't right is refused alone in one way at most, and not at all where each text is read alone
 pub record OneAlone : Type 0 where
@@ -16,28 +15,17 @@ pub record OneAlone : Type 0 where
       → FirstRefused (λ _ text answer. IsRefusedAlone text answer) number texts one → FirstRefused (λ _ text answer. IsRefusedAlone text answer) number texts other → one ≡ other
   pub none : (number : ℕ) (texts : List NamedText) (answer : Answer) → FirstRefused (λ _ text answer. IsRefusedAlone text answer) number texts answer → AreReadAlone texts → ⊥
 
--- the first of some texts that doesn't fit, with its refusal
-abbrev pub FirstFaulty : ℕ → List NamedText → Answer → Type 0
-FirstFaulty number texts answer = FirstRefused IsFaultyText number texts answer
-
--- the first of some texts of which it is said that it isn't built
-abbrev pub FirstUnbuilt : ℕ → List NamedText → Answer → Type 0
-FirstUnbuilt number texts answer = FirstRefused IsUnbuilt number texts answer
-
 pub record OneOutcome : Type 0 where
   -- a text is refused with one answer
   pub text : (number : ℕ) (text : NamedText) (one other : Answer) → IsRefusedText number text one → IsRefusedText number text other → one ≡ other
-  -- the first text that doesn't fit, by its tokens, its syntax, its names or its rows, is refused with one answer
-  pub one : (number : ℕ) (texts : List NamedText) (one other : Answer) → FirstFaulty number texts one → FirstFaulty number texts other → one ≡ other
+  -- the first text that isn't right, by its tokens, its syntax, its names or its rows, is refused with one answer
+  pub one : (number : ℕ) (texts : List NamedText) (one other : Answer) → FirstRefused IsRefusedText number texts one → FirstRefused IsRefusedText number texts other → one ≡ other
   -- and there is none where each text has a right unit
-  pub right : (number : ℕ) (texts : List NamedText) (answer : Answer) → FirstFaulty number texts answer → HaveRightUnits number texts → ⊥
-  -- a text is refused so, or it is said that it isn't built
-  pub either : (number : ℕ) (texts : List NamedText) (answer : Answer) → FirstRefused IsRefusedText number texts answer → FirstFaulty number texts answer ⊎ FirstUnbuilt number texts answer
-  -- texts that denote a program are refused together alone, or as not built
-  pub denoted : (texts : List NamedText) (program : Program) (answer : Answer) → Denotes texts program → Refuses texts answer → RefusesRight texts answer
-  -- two refusals of the same texts are one answer, but where a text is said not to be built, or where they are refused together
-  pub refused : (texts : List NamedText) (one other : Answer) → Refuses texts one → Refuses texts other
-      → (one ≡ other) ⊎ ((FirstUnbuilt 0 texts one ⊎ FirstUnbuilt 0 texts other) ⊎ (AreRefusedTogether texts one × AreRefusedTogether texts other))
+  pub right : (number : ℕ) (texts : List NamedText) (answer : Answer) → FirstRefused IsRefusedText number texts answer → HaveRightUnits number texts → ⊥
+  -- texts that denote a program are refused together alone
+  pub denoted : (texts : List NamedText) (program : Program) (answer : Answer) → Denotes texts program → Refuses texts answer → AreRefusedTogether texts answer
+  -- two refusals of the same texts are one answer, but where they are refused together
+  pub refused : (texts : List NamedText) (one other : Answer) → Refuses texts one → Refuses texts other → (one ≡ other) ⊎ (AreRefusedTogether texts one × AreRefusedTogether texts other)
 
 -- The right units of a text are alike, but for the numbers of entities and nodes; so the programs that texts denote have as many nodes.
 pub record OneProgramSize : Type 0 where

@@ -3,7 +3,6 @@ pub mod Answers
 pub mod Alone
 pub mod Lowered
 pub mod Linking
-pub mod Unbuilt
 pub mod Told
 pub mod Printed
 pub mod Outcome

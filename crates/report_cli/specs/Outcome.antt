@@ -11,7 +11,6 @@ use Rattle.report_cli.specs.Answers.{NamedText, Answer, refusal}
 use Rattle.report_cli.specs.Alone.{IsRefusedAlone}
 use Rattle.report_cli.specs.Lowered.{IsRightText, AreRightTexts, IsRefusedRow}
 use Rattle.report_cli.specs.Linking.{IsLinkRefusal, HaveManyNodes, HaveManyWords}
-use Rattle.report_cli.specs.Unbuilt.{IsUnbuilt}
 use Rattle.report_cli.specs.Told.{Told}
 use Rattle.report_cli.specs.Printed.{IsPrinted, IsRefusedScript}
 
@@ -19,13 +18,9 @@ use Rattle.report_cli.specs.Printed.{IsPrinted, IsRefusedScript}
 unfoldable pub Denotes : List NamedText → Program → Type 0
 Denotes texts program = (units : List Unit) × AreRightTexts 0 texts units × Linked units program
 
--- the refusal of a text that is read alone, as unit of that number: for its first row that doesn't fit, or for what isn't built
-abbrev pub IsRefusedRead : ℕ → NamedText → Answer → Type 0
-IsRefusedRead number text answer = IsRefusedRow number text answer ⊎ IsUnbuilt number text answer
-
--- the refusal of a text, as unit of that number
+-- the refusal of a text, as unit of that number: for its tokens, its syntax or its names, or for its first row that doesn't fit
 abbrev pub IsRefusedText : ℕ → NamedText → Answer → Type 0
-IsRefusedText number text answer = IsRefusedAlone text answer ⊎ IsRefusedRead number text answer
+IsRefusedText number text answer = IsRefusedAlone text answer ⊎ IsRefusedRow number text answer
 
 -- the refusal of the first text that isn't right, where those before it are; the first text is the unit of that number
 abbrev pub FirstRefused : (ℕ → NamedText → Answer → Type 0) → ℕ → List NamedText → Answer → Type 0
@@ -43,20 +38,12 @@ Refuses texts answer = FirstRefused IsRefusedText 0 texts answer ⊎ AreRefusedT
 
 -- the same of texts that are read alone
 abbrev pub RefusesRead : List NamedText → Answer → Type 0
-RefusesRead texts answer = FirstRefused IsRefusedRead 0 texts answer ⊎ AreRefusedTogether texts answer
-
--- the refusal of a text for its tokens, its syntax or its names, or for its first row that doesn't fit
-abbrev pub IsFaultyText : ℕ → NamedText → Answer → Type 0
-IsFaultyText number text answer = IsRefusedAlone text answer ⊎ IsRefusedRow number text answer
+RefusesRead texts answer = FirstRefused IsRefusedRow 0 texts answer ⊎ AreRefusedTogether texts answer
 
 -- each text has a right unit, the first of them as unit of that number
 abbrev pub HaveRightUnits : ℕ → List NamedText → Type 0
 HaveRightUnits number [] = ⊤
 HaveRightUnits number (text ∷ texts) = ((u : Unit) × IsRightText number text u) × HaveRightUnits (number + 1) texts
-
--- what refuses texts that each have a right unit: a text is said not to be built, or they are refused together
-abbrev pub RefusesRight : List NamedText → Answer → Type 0
-RefusesRight texts answer = FirstRefused IsUnbuilt 0 texts answer ⊎ AreRefusedTogether texts answer
 
 -- a script is refused on the program that texts denote
 pub record IsScriptRefusal (texts : List NamedText) (script : NamedText) (answer : Answer) : Type 0 where
@@ -81,7 +68,7 @@ RefusesToldRead told answer = RefusesRead told.units answer ⊎ RefusesScript to
 
 -- the same of units whose texts each have a right unit
 abbrev pub RefusesToldRight : Told → Answer → Type 0
-RefusesToldRight told answer = RefusesRight told.units answer ⊎ RefusesScript told.units told.script answer
+RefusesToldRight told answer = AreRefusedTogether told.units answer ⊎ RefusesScript told.units told.script answer
 
 -- the answer of what is told: what is printed of the program that the units denote, or the first refusal
 abbrev pub OutcomeOf : Told → Answer → Type 0

@@ -8,8 +8,8 @@ pub fn one_alone()
 {}
 
 /// Units have one first refusal at most by their tokens, their syntax, their names and their rows (C11 6.4 to 6.9): its status and its
-/// line; and none where each has a right unit, so that a report and such a refusal exclude each other. What else refuses units is that one
-/// is said not to be built, or that they are refused together, for a fault of linking or for a limit.
+/// line; and none where each has a right unit, so that a report and such a refusal exclude each other. What else refuses units refuses all
+/// of them together, for a fault of linking or for a limit.
 #[tactic(auto, using(crate::proofs::OneOutcome::one_outcome))]
 pub fn one_outcome()
     ensures { OneOutcome }

@@ -172,10 +172,10 @@ fn answer_units<R: Threads + Sync, O: Sink, E: Sink, G: Gate + Sync>(
 /// refusal to `err`, and answers the status. The words are `--workers N`, `--ask UNIT` and units, in any order (`command_line`). With
 /// `--ask` the UNIT is a script of questions, and the answers to them are written in place of the report. The statuses are 0 for a text
 /// that was written whole, 2 for words that aren't right, 3 for a text that has no tokens (C11 6.4) or whose tokens are no unit (C11
-/// 6.9), 4 for a construct that isn't accepted or a form of text that isn't built, 5 for units that don't link, 6 for a text or a script
-/// of more than 2^24 bytes, more than 256 constructs that nest, or a program of more than 2^24 nodes or words of rows, 7 for a unit or a
-/// script that could not be read, 8 for a text that could not be written, 9 for want of memory and 10 for a script's first line that
-/// isn't in the grammar or names nothing of the right sort (`alias_query`). The units are read in order and then the script; its length
+/// 6.9), 4 for a construct that isn't accepted, 5 for units that don't link, 6 for a text or a script of more than 2^24 bytes, more than
+/// 256 constructs that nest, or a program of more than 2^24 nodes or words of rows, 7 for a unit or a script that could not be read, 8 for
+/// a text that could not be written, 9 for want of memory and 10 for a script's first line that isn't in the grammar or names nothing of
+/// the right sort (`alias_query`). The units are read in order and then the script; its length
 /// is looked at when the units are linked and within the limits, and then its lines. All memory is taken before the first byte is
 /// written. The system is solved on shared rows by as many workers as the words say, 1 where they don't; each passes the gate before each
 /// of its pieces. With `--ask` an asker beside the workers tries each question up to 16 times, and passes the gate before each try t from
@@ -225,9 +225,8 @@ pub fn analyse<R: Threads + Sync, U: Units, O: Sink, E: Sink, G: Gate + Sync>(
         → IsSteady (O.faults out.old) (O.faults out.new)
         → (result ≡ 0) ⊎ ((result ≡ 9) ⊎ ((answer : Answer) × RefusesToldRead told answer × (result ≡ answer.status)))) }
 
-    // Where the words are right, each text has a right unit, and the outside doesn't fail, the answer is a report or answers, or that a text
-    // isn't built, or the refusal of all texts together, by linking or by a limit, or that of the script; no token, no syntax, no name and
-    // no row is refused.
+    // Where the words are right, each text has a right unit, and the outside doesn't fail, the answer is a report or answers, or the refusal
+    // of all texts together, by linking or by a limit, or that of the script; no text is refused for itself.
     ensures right { IfSome (told_for (U.text units.old) (texts_of words.now)) (λ told. AreRight (texts_of words.now)
         → HaveRightUnits 0 told.units
         → ((name : List ℕ) → Contains (names_read (texts_of words.now)) name → IsSteady (U.faults units.old name) (U.faults units.new name))

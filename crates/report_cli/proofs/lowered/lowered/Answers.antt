@@ -1,7 +1,7 @@
 use Rattle.std.proofs.Common.{refl}
 use Rattle.c_senses.specs.Names.{source_of}
 use Rattle.report_cli.proofs.Refused.{alone_in}
-use Rattle.report_cli.proofs.Linked.{named_refused, lowered_right, cut_tokens}
+use Rattle.report_cli.proofs.Linked.{node_refused, lowered_right, cut_tokens}
 use Rattle.report_cli.proofs.lowered.lowered.Goals as goal
 
 pub returns-in-Err-clause-refused : goal.returns-in-Err-clause-refused
@@ -19,7 +19,7 @@ returns-in-Ok-lower_unit c = record {
 
 pub returns-clause-refused : goal.returns-clause-refused
 returns-clause-refused c =
-    named_refused c.args.number (c.args.name.now, c.args.text.now) c.in-Ok.read.tokens c.in-Ok.read.tree c.in-Ok.ensures.parsed c.in_ok-title.title c.in-Err-lower_unit.fault _ c.in_ok-title.ensures c.in-Err-lower_unit.ensures
+    node_refused c.args.number (c.args.name.now, c.args.text.now) c.in-Ok.read.tokens c.in-Ok.read.tree c.in-Ok.ensures.parsed c.in-Err-lower_unit.fault _ c.in-Err-lower_unit.ensures
     c.in_ok-row_refusal-in-Err-lower_unit.ensures
 
 pub lower_unit-requires-clause-tokens : goal.lower_unit-requires-clause-tokens

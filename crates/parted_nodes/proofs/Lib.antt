@@ -1,0 +1,4 @@
+pub mod Inits
+pub mod Initialised
+pub mod Rows
+pub mod All
