@@ -301,6 +301,27 @@ fn type_of(sheet: &Sheet, node: Option<u32>) -> TypeId {
     }
 }
 
+// The kind of a word's node.
+fn kind_of(word: Word) -> NodeKind {
+    match word {
+        Word::Int(n) => NodeKind::Number(Number::of(n)),
+        Word::Unsigned(n) => NodeKind::Number(Number::of(n)),
+        Word::Variable => NodeKind::Fetch,
+        Word::One(op) => NodeKind::Arith(op),
+        Word::Two(op) => NodeKind::Arith(op),
+        Word::Choice => NodeKind::Choose,
+    }
+}
+
+// The type of a word's node over a first operand of a type.
+fn type_over(sheet: &Sheet, word: Word, first: TypeId) -> TypeId {
+    match word {
+        Word::Unsigned(_) => sheet.unsigned,
+        Word::Int(_) | Word::Variable | Word::Choice | Word::Two(Op::Less) => sheet.int,
+        Word::One(_) | Word::Two(_) => first,
+    }
+}
+
 // One word.
 fn read(alloc: Global, sheet: &mut Sheet, stack: &mut Vec<u32>, word: Word) -> Result<(), Fail>
     requires { AreRows sheet.old.types sheet.old.nodes.items }
@@ -314,17 +335,8 @@ fn read(alloc: Global, sheet: &mut Sheet, stack: &mut Vec<u32>, word: Word) -> R
     };
     let children = Children::of(alloc, take(alloc, stack, operands)?)?;
     let first = type_of(sheet, children.as_slice().first().copied());
-    let int = sheet.int;
-    let unsigned = sheet.unsigned;
-    let number = match word {
-        Word::Int(n) => push(sheet, NodeKind::Number(Number::of(n)), int, children)?,
-        Word::Unsigned(n) => push(sheet, NodeKind::Number(Number::of(n)), unsigned, children)?,
-        Word::Variable => push(sheet, NodeKind::Fetch, int, children)?,
-        Word::One(op) => push(sheet, NodeKind::Arith(op), first, children)?,
-        Word::Two(Op::Less) => push(sheet, NodeKind::Arith(Op::Less), int, children)?,
-        Word::Two(op) => push(sheet, NodeKind::Arith(op), first, children)?,
-        Word::Choice => push(sheet, NodeKind::Choose, int, children)?,
-    };
+    let ty = type_over(sheet, word, first);
+    let number = push(sheet, kind_of(word), ty, children)?;
     stack.push(number)?;
     Ok(())
 }
