@@ -19,7 +19,7 @@ use Rattle.own_initialisers.proofs.Parts.{IsRestList, Begins, rest_list}
 use Rattle.own_initialisers.proofs.Searching.{apart, Reads}
 use Rattle.own_initialisers.proofs.Standing.{parts}
 use Rattle.earlier_initialisers.specs.Earlier.{StandsDeclaring}
-use Rattle.settled_types.proofs.Initial.{plain_list, rest_init}
+use Rattle.declared_once.proofs.PassedOn.{plain_list, rest_init}
 
 module _ (s : Source) (tree : Grown s) (nested : Nested s) (families : Families s) (standing : (k : ℕ) (t : Token) → slice_get s.tokens k ≡ Some t → Stands s.text t) (brought : IsBrought s) (sense : ℕ → Sense) where
   abbrev T : ℕ → TokenKind → ℕ → Type 0

@@ -3,3 +3,4 @@ pub mod Found
 pub mod Lists
 pub mod Entities
 pub mod Agreeing
+pub mod PassedOn

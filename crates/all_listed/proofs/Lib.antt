@@ -2,3 +2,4 @@ pub mod Path
 pub mod Literals
 pub mod Tops
 pub mod Whole
+pub mod PassedOn

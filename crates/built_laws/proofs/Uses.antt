@@ -10,7 +10,7 @@ use Rattle.core_tree.specs.declared.node.NodeKind.TheVariants.{Named, FunctionNa
 use Rattle.core_tree.specs.Typed.{trees_of}
 use Rattle.core_tree.specs.Valid.{PlaceAtMost, IsUseOf, IsUsed, UsesRight}
 use Rattle.c_senses.specs.Tree.{Source}
-use Rattle.unit_parts.specs.Uses.{used_by, is_use, is_before, earlier, least_use}
+use Rattle.built_units.specs.PassedOn.{used_by, is_use, is_before, earlier, least_use}
 use Rattle.built_units.specs.Built.{IsBuilt}
 
 some_one : {X : Type 0} → {x y : X} → ◌≡◌ {A = Option X} (Some x) (Some y) → x ≡ y

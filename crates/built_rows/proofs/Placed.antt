@@ -26,7 +26,7 @@ use Rattle.sense_laws.specs.Laws.{Backs}
 use Rattle.align_laws.proofs.Fitting.{aligns_fit, asked_aligns_fit}
 use Rattle.sense_laws.proofs.All.{senses_sound, asked_sound}
 use Rattle.sense_laws.proofs.Standing.{node_stands}
-use Rattle.built_units.specs.Built.{IsBuilt}
+use Rattle.built_laws.specs.PassedOn.{IsBuilt}
 use Rattle.built_laws.specs.Placed.{IsInBody, Stands}
 use Rattle.built_laws.proofs.Placed.{nodes_stand}
 use Rattle.built_rows.specs.Rows.{type_by, types_declared, literal_type, RowsAreRight, RowsAreAsked}

@@ -14,7 +14,7 @@ use Rattle.c_senses.specs.Right.{Numbering}
 use Rattle.c_senses.specs.Right as right
 use Rattle.sense_laws.specs.Senses.{ChildrenFirst, ConstantsFit, StatementGrammar}
 use Rattle.align_laws.specs.Aligns.{AllElseFits, AskedElseFit}
-use Rattle.built_units.specs.Built.{IsBuilt}
+use Rattle.built_laws.specs.PassedOn.{IsBuilt}
 
 -- the type of the entity of each leaf
 abbrev pub type_by : Unit → Numbering → ℕ → Option Ctype

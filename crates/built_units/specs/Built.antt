@@ -10,11 +10,11 @@ use Rattle.core_tree.specs.declared.node.Storage.TheVariants.{FunctionBody}
 use Rattle.core_tree.specs.Range.{IsChild, ChildOnce, EachNode, EachEntity, Has, entity_at}
 use Rattle.core_tree.specs.Valid.{OnlyBody}
 use Rattle.core_nodes.specs.Standing.{IsReady, Knows}
-use Rattle.c_senses.specs.Tree.{Source}
-use Rattle.c_senses.specs.Tags.{completed_from, members_under}
-use Rattle.c_senses.specs.Rows.{AreSenses, world_at}
-use Rattle.c_senses.specs.Sense.{Sense, sense_in}
-use Rattle.c_senses.specs.Right.{Numbering, Declared, IsDeclaredAt, IsEntityOf, TagsDiffer, KeysRight, InitialisesOnce, IsBody, is_tag}
+use Rattle.core_nodes.specs.PassedOn.{Source}
+use Rattle.core_nodes.specs.PassedOn.{completed_from, members_under}
+use Rattle.core_nodes.specs.PassedOn.{AreSenses, world_at}
+use Rattle.core_nodes.specs.PassedOn.{Sense, sense_in}
+use Rattle.core_nodes.specs.PassedOn.{Numbering, Declared, IsDeclaredAt, IsEntityOf, TagsDiffer, KeysRight, InitialisesOnce, IsBody, is_tag}
 use Rattle.unit_parts.specs.Uses.{least_use}
 
 -- each entity has a type of the table, and the least place of its uses

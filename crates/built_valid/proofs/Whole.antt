@@ -63,7 +63,7 @@ use Rattle.owners_known.specs.Known.{OwnersRight}
 use Rattle.owners_known.proofs.Known.{owners_known}
 use Rattle.all_listed.proofs.Whole.{units_list}
 use Rattle.owner_laws.specs.Owners.{Forward}
-use Rattle.owned_initialisers.proofs.Whole.{initialisers_owned}
+use Rattle.all_listed.proofs.PassedOn.{initialisers_owned}
 use Rattle.function_bodies.specs.Bodies.{FunctionFits}
 use Rattle.function_bodies.proofs.Reading.{functions_stand}
 use Rattle.named_definitions.proofs.Naming.{definitions_named}

@@ -1,6 +1,6 @@
 -- Worked expressions as trees, against C11 and gcc: the definition computes their values.
 use Rattle.std.proofs.Common.{◌≡◌, ℤ, pos, negsuc, true, false, [], ◌∷◌, refl}
-use Rattle.pta_base.specs.declared.place.Place.{Place}
+use Rattle.core_tree.specs.PassedOn.{Place}
 use Rattle.c_types.specs.Trees.{Ctype, BoolType, IntegerType, PointerTo}
 use Rattle.core_tree.specs.declared.node.NodeKind.TheVariants.{Named, Number, NullValue, Fetch, Choose, Convert, Arith}
 use Rattle.core_tree.specs.declared.node.Op.TheVariants.{Divide, Remainder, Plus, Minus, ShiftLeft, ShiftRight, And, Xor, Or, Complement}

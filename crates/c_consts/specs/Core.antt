@@ -1,6 +1,6 @@
 -- A core node with all that is under it, as a tree, whatever the nodes' numbers.
 use Rattle.std.specs.Prelude.{ℕ, zero, suc, ◌≡◌, ◌+◌, ◌<◌, length, List, [], ◌∷◌, Option, Some, None, slice_get, slice_index, All}
-use Rattle.pta_base.specs.declared.place.Place.{Place}
+use Rattle.core_tree.specs.PassedOn.{Place}
 use Rattle.c_types.specs.Trees.{Ctype}
 use Rattle.c_types.specs.Table.{Table, type_of}
 use Rattle.core_tree.specs.declared.node.NodeKind.{NodeKind}

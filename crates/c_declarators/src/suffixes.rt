@@ -9,7 +9,7 @@ ghost use Rattle.c_senses.specs.Constants.{is_whole};
 ghost use Rattle.c_senses.specs.World.{World};
 ghost use Rattle.c_senses.specs.Sense.{Sense, sense_in};
 ghost use Rattle.c_senses.specs.Declarators as spec;
-ghost use Rattle.c_conversions.specs.Constants.{HasRows};
+ghost use Rattle.constant_values.specs.PassedOn.{HasRows};
 ghost use Rattle.constant_values.specs.Constants.{HasConstants};
 ghost use Rattle.core_nodes.specs.Standing.{core_at, IsReady};
 ghost use Rattle.c_results.specs.Standing.{senses_made, IsWithin, Rowed};

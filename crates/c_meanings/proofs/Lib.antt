@@ -4,4 +4,7 @@ pub mod Lists
 pub mod Fronts
 pub mod Values
 pub mod Keeping
+pub mod Thinning
 pub mod Onward
+pub mod SameMade
+pub mod Before

@@ -107,7 +107,7 @@ module _ (s : Source) (sense : ℕ → Sense) where
       ∙ (first_behind leaf front (keep s sense test rest) x ∙ (sym (first_behind leaf front [] x) ∙ sym (ap (first_of s sense leaf) some)))
 
   -- those of a symbol that are kept
-  of-symbol : (symbol : ℕ) (test : Declared → Bool) (ds : List Declared)
+  pub of-symbol : (symbol : ℕ) (test : Declared → Bool) (ds : List Declared)
       → keep s sense (λ d. eqb d.symbol symbol && test d) ds ≡ keep s sense test (of_symbol symbol ds)
   of-symbol symbol test [] = refl
   of-symbol symbol test (x ∷ ds) = symbol_by s sense (eqb x.symbol symbol) test x ds (of_symbol symbol ds) (keep s sense (λ d. eqb d.symbol symbol && test d) ds) (of-symbol symbol test ds)

@@ -22,8 +22,10 @@ use Rattle.name_chains.proofs.Linked.{no_link, listed-none, listed-step}
 use Rattle.c_meanings.specs.declared.names.Names.{Names}
 use Rattle.c_meanings.specs.declared.kept.Linkages.{Linkages}
 use Rattle.c_meanings.specs.Statics.{some_static}
-use Rattle.c_meanings.specs.Linkages.{AreLinkages, AreBelow, StaysStatic, StaysOne, internal_with, specs_at, later}
+use Rattle.c_meanings.specs.Linkages.{AreLinkages, AreBelow, StaysStatic, StaysOne, internal_with, specs_at}
+use Rattle.c_meanings.specs.Later.{later}
 use Rattle.c_meanings.proofs.Lists.{some_here, some_earlier}
+use Rattle.c_meanings.proofs.Thinning.{thinned_more}
 
 -- what has been made stays
 pub still : (u : Unit) (results more : List Made) (i : ℕ) → i < length results → later u results more i ≡ sense_in (senses_made u results) i
@@ -183,4 +185,7 @@ linkages_more syntax results m names k h = record {
   scopes = λ place b e u w uses more.
       let ds = listed names.chains.own.items (Some place) in
       ap (λ (l : List Made). same_internal w (source_in syntax uses) (sense_in (senses_made u l)) b ds) (append_assoc results (m ∷ []) more) ∙ h.scopes place b e u w uses (m ∷ more);
+  own = thinned_more syntax results m false names.chains.own.items k.own h.own;
+  typing = thinned_more syntax results m false names.chains.links.items k.typing h.typing;
+  internal = thinned_more syntax results m true names.symbols.items k.internal h.internal;
 }

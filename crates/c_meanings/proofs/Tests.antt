@@ -1,5 +1,5 @@
 -- Tests that are asked in turn.
-use Rattle.std.proofs.Common.{◌≡◌, Bool, true, false, ◌&&◌, ◌||◌, not, cond, refl, sym, ap, ◌∙◌}
+use Rattle.std.proofs.Common.{◌≡◌, Bool, true, false, ◌&&◌, ◌||◌, not, cond, Option, Some, None, IfSome, refl, sym, ap, subst, ◌∙◌}
 
 pub and_then : (A B x y : Bool) → x ≡ A → x ≡ true → y ≡ B → y ≡ (A && B)
 and_then A B x y e t f = f ∙ ap (λ (a : Bool). a && B) (sym t ∙ e)
@@ -46,3 +46,15 @@ and_turned false false = refl
 pub or_none : (A B : Bool) → false ≡ (A || B) → false ≡ A
 or_none true B e = e
 or_none false B e = refl
+
+-- what holds of a value, if there is one
+pub some_weaker : {X : Type 0} (P Q : X → Type 0) (o : Option X) → ((x : X) → P x → Q x) → IfSome o P → IfSome o Q
+some_weaker P Q None f h = tt
+some_weaker P Q (Some x) f h = f x h
+
+-- the value that is there
+pub some_of : {X : Type 0} (P : X → Type 0) (o : Option X) (x : X) → o ≡ Some x → IfSome o P → P x
+some_of P o x e h = subst (λ (y : Option _). IfSome y P) e h
+
+pub some_one : {X : Type 0} → {x y : X} → ◌≡◌ {A = Option X} (Some x) (Some y) → x ≡ y
+some_one h = cc

@@ -4,4 +4,6 @@ pub mod Internal
 pub mod Statics
 pub mod Joined
 pub mod Meanings
+pub mod Later
+pub mod Thinned
 pub mod Linkages

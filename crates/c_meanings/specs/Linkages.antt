@@ -1,20 +1,21 @@
 -- What is kept of the linkage of earlier declarations while more is made.
-use Rattle.std.specs.Prelude.{ℕ, ◌≡◌, ◌<◌, Bool, true, ◌&&◌, ◌||◌, List, ◌++◌, length, Option, Some, None, get_or, option_and_then}
+use Rattle.std.specs.Prelude.{ℕ, ◌≡◌, ◌<◌, Bool, true, false, ◌&&◌, ◌||◌, List, length, Option, Some, None, get_or, option_and_then}
 use Rattle.core_tree.specs.declared.node.Unit.{Unit}
 use Rattle.c_scope.specs.declared.kinds.Declared.{Declared}
 use Rattle.c_senses.specs.Tree.{Source}
 use Rattle.c_senses.specs.World.{World}
-use Rattle.c_senses.specs.Sense.{Sense, sense_in}
+use Rattle.c_senses.specs.Sense.{Sense}
 use Rattle.c_senses.specs.Declarators.{outermost_of, specs_of}
 use Rattle.c_senses.specs.Entities.{is_linked, is_static_at_file, takes_over, is_internal, same_internal}
 use Rattle.c_results.specs.declared.made.Made.{Made}
-use Rattle.c_results.specs.Standing.{senses_made}
 use Rattle.tree_reads.specs.declared.syntax.Syntax.{Syntax}
 use Rattle.tree_reads.specs.Sources.{source_in}
 use Rattle.name_chains.specs.Links.{listed}
 use Rattle.c_meanings.specs.declared.names.Names.{Names}
 use Rattle.c_meanings.specs.declared.kept.Linkages.{Linkages}
 use Rattle.c_meanings.specs.Statics.{some_static}
+use Rattle.c_meanings.specs.Later.{later}
+use Rattle.c_meanings.specs.Thinned.{AreThinned}
 
 -- the specifiers of a declaration, by its leaf
 abbrev pub specs_at : Source → ℕ → Option ℕ
@@ -29,10 +30,6 @@ pub record AreBelow (s : Source) (count leaf : ℕ) : Type 0 where
 -- internal linkage, by whether a declaration that is seen there is `static` at file scope
 abbrev pub internal_with : Source → (ℕ → Sense) → Bool → ℕ → Bool
 internal_with s sense seen leaf = is_linked s sense leaf && (is_static_at_file s sense leaf || (takes_over s sense leaf && seen))
-
--- the senses of nodes when more has been made
-abbrev pub later : Unit → List Made → List Made → ℕ → Sense
-later u results more = sense_in (senses_made u (results ++ more))
 
 -- whatever more is made, one of some declarations is `static` at file scope, or none is
 abbrev pub StaysStatic : Syntax → List Made → List Declared → Bool → Type 0
@@ -52,3 +49,6 @@ pub record AreLinkages (syntax : Syntax) (results : List Made) (names : Names) (
   pub many_own : length k.scopes.items ≡ length names.chains.own.items
   pub statics : (place : ℕ) (b : Bool) → get_or k.statics.items place None ≡ Some b → StaysStatic syntax results (listed names.chains.links.items (Some place)) b
   pub scopes : (place : ℕ) (b : Bool) → get_or k.scopes.items place None ≡ Some b → StaysOne syntax results (listed names.chains.own.items (Some place)) b
+  pub own : AreThinned syntax results false names.chains.own.items k.own
+  pub typing : AreThinned syntax results false names.chains.links.items k.typing
+  pub internal : AreThinned syntax results true names.symbols.items k.internal

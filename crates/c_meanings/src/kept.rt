@@ -13,11 +13,13 @@ ghost use Rattle.tree_reads.specs.Sources.{source_read, source_in};
 ghost use Rattle.name_chains.specs.Links.{listed, IsLinkOf};
 ghost use Rattle.c_meanings.specs.Known.{AreNamed};
 ghost use Rattle.c_meanings.specs.Statics.{some_static};
-ghost use Rattle.c_meanings.specs.Linkages.{AreLinkages, AreBelow, StaysStatic, StaysInternal, StaysOne, internal_with, later};
+ghost use Rattle.c_meanings.specs.Linkages.{AreLinkages, AreBelow, StaysStatic, StaysInternal, StaysOne, internal_with};
+ghost use Rattle.c_meanings.specs.Later.{later};
 
 use crate::linkage::takes_over;
 use crate::names::{Names, is_linked, link_at};
 use crate::statics::{has_static, is_static_at_file, nothing_seen};
+use crate::thinned::Thinned;
 use c_declarators::specs_of;
 use c_results::Results;
 use core_nodes::CheckFault;
@@ -26,18 +28,23 @@ use std::alloc::Global;
 use tree_reads::{Above, Syntax, nearest_above};
 
 /// What is kept of earlier declarations (C11 6.2.2), by the last links of their lists: whether one of those that are seen where a name is
-/// declared is `static` at file scope, and whether all those in a scope give their name internal linkage, or none does.
+/// declared is `static` at file scope, and whether all those in a scope give their name internal linkage, or none does; and the lists of those in
+/// a scope, of those that together give a type, and of those of a symbol that give it internal linkage, without those that give their name no
+/// more than the one before them.
 #[derive(Drop)]
 pub struct Linkages {
     pub(crate) statics: Vec<Option<bool>>,
     pub(crate) scopes: Vec<Option<bool>>,
+    pub(crate) own: Thinned,
+    pub(crate) typing: Thinned,
+    pub(crate) internal: Thinned,
 }
 
 // An answer, and whether it stays whatever more is made.
 #[derive(Clone, Copy, Debug)]
-struct Kept {
-    flag: bool,
-    stays: bool,
+pub(crate) struct Kept {
+    pub(crate) flag: bool,
+    pub(crate) stays: bool,
 }
 
 // So many answers of which none is known.
@@ -60,7 +67,16 @@ impl Linkages {
     {
         let statics = unknown(alloc, names.chains.links.len())?;
         let scopes = unknown(alloc, names.chains.own.len())?;
-        Ok(Linkages { statics, scopes })
+        let own = Thinned::new(alloc, names.chains.own.len())?;
+        let typing = Thinned::new(alloc, names.chains.links.len())?;
+        let internal = Thinned::new(alloc, names.symbols.len())?;
+        Ok(Linkages {
+            statics,
+            scopes,
+            own,
+            typing,
+            internal,
+        })
     }
 }
 
@@ -72,8 +88,8 @@ fn kept_at(flags: &[Option<bool>], place: u32) -> Option<bool>
     flags[place as usize]
 }
 
-// A link of the lists of declarations in a scope.
-fn own_link_at(names: &Names, place: u32) -> Link
+/// A link of the lists of declarations in a scope.
+pub(crate) fn own_link_at(names: &Names, place: u32) -> Link
     requires { place < length names.now.chains.own.items }
     ensures { slice_get names.now.chains.own.items place ≡ Some result }
 {
@@ -210,8 +226,8 @@ fn internal_with(names: &Names, syntax: &Syntax, results: &Results, seen: bool, 
     linked && (is_static || (over && seen))
 }
 
-// Whether a leaf declares a name with internal linkage.
-fn internal_asked(
+/// Whether a leaf declares a name with internal linkage, and whether that stays so whatever more is made.
+pub(crate) fn internal_asked(
     names: &Names,
     syntax: &Syntax,
     results: &Results,
@@ -226,6 +242,12 @@ fn internal_asked(
         result.flag ≡ spec.is_internal (source_in syntax.now uses) (sense_in (senses_made u results.now)) leaf }
     ensures stays { result.stays ≡ true → StaysInternal syntax.now results.now leaf result.flag }
 {
+    if !is_linked(names, syntax, leaf) {
+        return Kept {
+            flag: false,
+            stays: true,
+        };
+    }
     let last = linked_link(&names.chains, leaf);
     let seen = static_at(names, syntax, results, linkages, last);
     let settled = is_settled(syntax, results, leaf);

@@ -10,13 +10,15 @@ ghost use Rattle.core_nodes.specs.Standing.{IsReady, Builds};
 ghost use Rattle.c_results.specs.Standing.{senses_made, IsWithin};
 ghost use Rattle.tree_reads.specs.Sources.{source_in};
 ghost use Rattle.c_meanings.specs.Known.{AreChained, AreNames, ArePaired};
+ghost use Rattle.c_meanings.specs.Linkages.{AreLinkages};
 ghost use Rattle.c_meanings.specs.Meanings.{meaning_seen, IsMeaningWithin};
 ghost use Rattle.c_senses.specs.Names.{linked_before, ordinary_at};
 
-use crate::linkage::entity_of;
+use crate::earlier::entity_kept;
+use crate::kept::Linkages;
 use crate::names::{Names, is_typedef, link_at};
 use crate::storage::has_initialiser;
-use crate::types::{is_open, type_behind};
+use crate::types::{is_open, type_thinned};
 use c_entities::own_type;
 use c_results::{Results, value_at};
 use c_types::table::TypeTable;
@@ -46,12 +48,15 @@ fn has_earlier_length(
     syntax: &Syntax,
     names: &Names,
     results: &Results,
+    linkages: &mut Linkages,
     leaf: u32,
 ) -> Result<bool, CheckFault>
     requires ready { IsReady unit.old }
     requires results { All (IsWithin unit.old) results.now }
     requires names { AreNames syntax.now unit.old results.now names.now }
+    requires linkages { AreLinkages syntax.now results.now names.now linkages.old }
     requires leaf { leaf < length syntax.now.tree.now.nodes.items }
+    ensures linkages { AreLinkages syntax.now results.now names.now linkages.new }
     ensures ready { IsReady unit.new }
     ensures builds { Builds unit.old unit.new }
     ensures made { IfOk result (λ b. (uses : List (ℕ × ℕ)) →
@@ -61,7 +66,7 @@ fn has_earlier_length(
     if !has_initialiser(syntax, leaf) {
         return Ok(false);
     }
-    let behind = type_behind(alloc, unit, syntax, names, results, leaf)?;
+    let behind = type_thinned(alloc, unit, syntax, names, results, linkages, leaf)?;
     if is_open(&unit.types, behind) {
         return Ok(false);
     }
@@ -84,20 +89,23 @@ fn last_seen(names: &Names, syntax: &Syntax, leaf: u32) -> u32
     }
 }
 
-/// The declaration by whose entity a name is known: its own, but for an array that waits for its initialiser to give it a length
-/// and has one by the declarations before it, the last one of these (C11 6.2.1p7, 6.7.9p22).
-pub fn named_by(
+// The declaration by whose entity a name is known: its own, but for an array that waits for its initialiser to give it a length
+// and has one by the declarations before it, the last one of these (C11 6.2.1p7, 6.7.9p22).
+fn named_by(
     alloc: Global,
     unit: &mut Unit,
     syntax: &Syntax,
     names: &Names,
     results: &Results,
+    linkages: &mut Linkages,
     leaf: u32,
 ) -> Result<u32, CheckFault>
     requires ready { IsReady unit.old }
     requires results { All (IsWithin unit.old) results.now }
     requires names { AreNames syntax.now unit.old results.now names.now }
+    requires linkages { AreLinkages syntax.now results.now names.now linkages.old }
     requires leaf { leaf < length syntax.now.tree.now.nodes.items }
+    ensures linkages { AreLinkages syntax.now results.now names.now linkages.new }
     ensures ready { IsReady unit.new }
     ensures builds { Builds unit.old unit.new }
     ensures made { IfOk result (λ n. (uses : List (ℕ × ℕ)) →
@@ -105,7 +113,7 @@ pub fn named_by(
     ensures within { IfOk result (λ n. n < length syntax.now.tree.now.nodes.items) }
     ensures memory { IsOkUnless result CheckFault.OutOfMemory }
 {
-    let earlier = has_earlier_length(alloc, unit, syntax, names, results, leaf)?;
+    let earlier = has_earlier_length(alloc, unit, syntax, names, results, linkages, leaf)?;
     if earlier {
         Ok(last_seen(names, syntax, leaf))
     } else {
@@ -158,12 +166,15 @@ fn entity_named(
     syntax: &Syntax,
     names: &Names,
     results: &Results,
+    linkages: &mut Linkages,
     leaf: u32,
 ) -> Result<Option<Meaning>, CheckFault>
     requires ready { IsReady unit.old }
     requires results { All (IsWithin unit.old) results.now }
     requires names { AreNames syntax.now unit.old results.now names.now }
+    requires linkages { AreLinkages syntax.now results.now names.now linkages.old }
     requires leaf { leaf < length syntax.now.tree.now.nodes.items }
+    ensures linkages { AreLinkages syntax.now results.now names.now linkages.new }
     ensures ready { IsReady unit.new }
     ensures builds { Builds unit.old unit.new }
     ensures made { IfOk result (λ m. (uses : List (ℕ × ℕ)) →
@@ -174,28 +185,31 @@ fn entity_named(
     ensures within { IfOk result (IsMeaningWithin unit.new) }
     ensures memory { IsOkUnless result CheckFault.OutOfMemory }
 {
-    let named = named_by(alloc, unit, syntax, names, results, leaf)?;
-    let entity = entity_of(names, syntax, results, named);
-    let found = type_behind(alloc, unit, syntax, names, results, leaf)?;
+    let named = named_by(alloc, unit, syntax, names, results, linkages, leaf)?;
+    let entity = entity_kept(alloc, names, syntax, results, linkages, named)?;
+    let found = type_thinned(alloc, unit, syntax, names, results, linkages, leaf)?;
     match found {
         Some(ty) => Ok(Some(object_or_function(&unit.types, entity, ty))),
         None => Ok(None),
     }
 }
 
-/// What the declarator of a leaf makes its name mean (C11 6.2.7, 6.7.8); None where that has no type yet. Only memory may want.
-pub fn declared_meaning(
+// What the declarator of a leaf makes its name mean (C11 6.2.7, 6.7.8); None where that has no type yet. Only memory may want.
+fn declared_meaning(
     alloc: Global,
     unit: &mut Unit,
     syntax: &Syntax,
     names: &Names,
     results: &Results,
+    linkages: &mut Linkages,
     leaf: u32,
 ) -> Result<Option<Meaning>, CheckFault>
     requires ready { IsReady unit.old }
     requires results { All (IsWithin unit.old) results.now }
     requires names { AreNames syntax.now unit.old results.now names.now }
+    requires linkages { AreLinkages syntax.now results.now names.now linkages.old }
     requires leaf { leaf < length syntax.now.tree.now.nodes.items }
+    ensures linkages { AreLinkages syntax.now results.now names.now linkages.new }
     ensures ready { IsReady unit.new }
     ensures builds { Builds unit.old unit.new }
     ensures made { IfOk result (λ m. (uses : List (ℕ × ℕ)) →
@@ -207,7 +221,7 @@ pub fn declared_meaning(
     if is_typedef(names, syntax, leaf) {
         type_named(alloc, unit, syntax, results, leaf)
     } else {
-        entity_named(alloc, unit, syntax, names, results, leaf)
+        entity_named(alloc, unit, syntax, names, results, linkages, leaf)
     }
 }
 
@@ -223,19 +237,22 @@ fn enumerated(results: &Results, node: u32) -> Option<Meaning>
     }
 }
 
-/// What the declaration that a leaf makes makes its name mean (C11 6.2.3, 6.7.2.2p3). Only memory may want.
-pub fn meaning_of(
+// What the declaration that a leaf makes makes its name mean (C11 6.2.3, 6.7.2.2p3). Only memory may want.
+fn meaning_of(
     alloc: Global,
     unit: &mut Unit,
     syntax: &Syntax,
     names: &Names,
     results: &Results,
+    linkages: &mut Linkages,
     leaf: u32,
 ) -> Result<Option<Meaning>, CheckFault>
     requires ready { IsReady unit.old }
     requires results { All (IsWithin unit.old) results.now }
     requires names { AreNames syntax.now unit.old results.now names.now }
+    requires linkages { AreLinkages syntax.now results.now names.now linkages.old }
     requires leaf { leaf < length syntax.now.tree.now.nodes.items }
+    ensures linkages { AreLinkages syntax.now results.now names.now linkages.new }
     ensures ready { IsReady unit.new }
     ensures builds { Builds unit.old unit.new }
     ensures made { IfOk result (λ m. (uses : List (ℕ × ℕ)) →
@@ -250,7 +267,7 @@ pub fn meaning_of(
     if is_a(syntax, P_ENUMERATOR, parent) {
         return Ok(enumerated(results, parent));
     }
-    declared_meaning(alloc, unit, syntax, names, results, leaf)
+    declared_meaning(alloc, unit, syntax, names, results, linkages, leaf)
 }
 
 /// What the use of a name means, by its leaf (C11 6.2.1, 6.5.1): what the declaration means that it is paired with; None where it is
@@ -261,11 +278,14 @@ pub fn meaning_at(
     syntax: &Syntax,
     names: &Names,
     results: &Results,
+    linkages: &mut Linkages,
     leaf: u32,
 ) -> Result<Option<Meaning>, CheckFault>
     requires ready { IsReady unit.old }
     requires results { All (IsWithin unit.old) results.now }
     requires names { AreNames syntax.now unit.old results.now names.now }
+    requires linkages { AreLinkages syntax.now results.now names.now linkages.old }
+    ensures linkages { AreLinkages syntax.now results.now names.now linkages.new }
     ensures ready { IsReady unit.new }
     ensures builds { Builds unit.old unit.new }
     ensures made { IfOk result (λ m. (uses : List (ℕ × ℕ)) →
@@ -276,7 +296,7 @@ pub fn meaning_at(
     ensures memory { IsOkUnless result CheckFault.OutOfMemory }
 {
     match names.uses.get(leaf) {
-        Some(declaring) => meaning_of(alloc, unit, syntax, names, results, declaring),
+        Some(declaring) => meaning_of(alloc, unit, syntax, names, results, linkages, declaring),
         None => Ok(None),
     }
 }

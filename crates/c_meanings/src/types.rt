@@ -8,8 +8,11 @@ ghost use Rattle.c_results.specs.Standing.{senses_made, IsWithin};
 ghost use Rattle.tree_reads.specs.Sources.{source_in};
 ghost use Rattle.c_entities.specs.Types.{type_in};
 ghost use Rattle.c_meanings.specs.Known.{AreChained, AreNames};
+ghost use Rattle.c_meanings.specs.Linkages.{AreLinkages};
 ghost use Rattle.c_meanings.specs.Joined as joined;
 
+use crate::earlier::typing_thinned;
+use crate::kept::Linkages;
 use crate::names::Names;
 use c_entities::{own_type, together};
 use c_results::Results;
@@ -95,7 +98,7 @@ fn all_of(
 
 /// The type of a declared name behind its declaration (C11 6.2.7p4): of one with linkage the type that the declarations of it that are
 /// seen there give together. None where none of them has one yet. Only memory may want.
-pub fn type_behind(
+pub(crate) fn type_behind(
     alloc: Global,
     unit: &mut Unit,
     syntax: &Syntax,
@@ -118,6 +121,35 @@ pub fn type_behind(
         return Err(CheckFault::OutOfMemory);
     };
     all_of(alloc, unit, syntax, results, None, list.as_slice())
+}
+
+/// The same with what is kept of earlier declarations: asked of the declarations of a name one after another, in order, or again and again of
+/// one of them, it looks at each once, where those that stand behind one another are made alike.
+pub(crate) fn type_thinned(
+    alloc: Global,
+    unit: &mut Unit,
+    syntax: &Syntax,
+    names: &Names,
+    results: &Results,
+    linkages: &mut Linkages,
+    leaf: u32,
+) -> Result<Option<TypeId>, CheckFault>
+    requires ready { IsReady unit.old }
+    requires results { All (IsWithin unit.old) results.now }
+    requires names { AreNames syntax.now unit.old results.now names.now }
+    requires linkages { AreLinkages syntax.now results.now names.now linkages.old }
+    ensures linkages { AreLinkages syntax.now results.now names.now linkages.new }
+    ensures ready { IsReady unit.new }
+    ensures builds { Builds unit.old unit.new }
+    ensures made { IfOk result (λ t. (uses : List (ℕ × ℕ)) →
+        type_in unit.new.types t ≡ spec.type_behind (source_in syntax.now uses) (sense_in (senses_made unit.old results.now)) leaf) }
+    ensures within { IfOk result (λ t. IfSome t (λ id. id.0 < length unit.new.types.terms)) }
+    ensures memory { IsOkUnless result CheckFault.OutOfMemory }
+{
+    match typing_thinned(alloc, names, syntax, results, linkages, leaf)? {
+        Some(list) => all_of(alloc, unit, syntax, results, None, list.as_slice()),
+        None => type_behind(alloc, unit, syntax, names, results, leaf),
+    }
 }
 
 /// Whether a type is that of an array without a length, if there is one (C11 6.7.6.2p4).

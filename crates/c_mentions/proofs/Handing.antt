@@ -1,5 +1,5 @@
 -- The settings that a node gives to its children, and those of all nodes behind a node.
-use Rattle.std.proofs.Common.{◌≡◌, ℕ, zero, suc, ◌+◌, ◌<◌, ◌≤◌, Bool, true, false, ◌||◌, eqb, List, [], ◌∷◌, ◌++◌, length, take, drop, get_or, cond, refl, sym, ap, subst, ◌∙◌, arith}
+use Rattle.std.proofs.Common.{◌≡◌, ℕ, zero, suc, ◌+◌, ◌<◌, ◌≤◌, Bool, true, false, ◌&&◌, ◌||◌, eqb, None, List, [], ◌∷◌, ◌++◌, length, take, drop, get_or, cond, refl, sym, ap, subst, ◌∙◌, arith}
 use Rattle.std.proofs.lemmas.List.{take_more}
 use Rattle.std.proofs.Math.Seq.{drop-cons}
 use Rattle.c_lexer.specs.declared.Token.{Token}
@@ -7,8 +7,28 @@ use Rattle.c_grammar.specs.Reads.{Node}
 use Rattle.c_grammar.specs.Terminals.{contains}
 use Rattle.c_mentions.specs.declared.settings.Scope.{Scope}
 use Rattle.c_mentions.specs.declared.settings.Setting.{Setting}
-use Rattle.c_mentions.specs.Settings.{Standing, Stands, Hands, Extends, handed_down, standing, standings, outermost}
+use Rattle.c_grammar.specs.Productions.{p_block}
+use Rattle.c_mentions.specs.declared.roles.Role.TheVariants.{Elsewhere}
+use Rattle.c_mentions.specs.Syntax.{is_of}
+use Rattle.c_mentions.specs.Roles.{handed, opened, is_body}
+use Rattle.c_mentions.specs.Settings.{Standing, Stands, Hands, Extends, IsChain, with_scope, handed_down, standing, standings, outermost}
 use Rattle.c_mentions.proofs.Chains.{stands_extends}
+
+no_body : (b : Bool) → b && false ≡ false
+no_body true = refl
+no_body false = refl
+
+-- the children of a node that stands elsewhere stand as it does, where it opens no scope and hands on its role
+pub stays : (tokens : List Token) (nodes : List Node) (n : ℕ) (scopes : List Scope) (setting : Setting) (s : Standing) → setting.role ≡ Elsewhere
+    → handed tokens nodes n Elsewhere ≡ Elsewhere → opened tokens nodes n Elsewhere ≡ None → Stands scopes setting s → Stands scopes setting (handed_down tokens nodes n s)
+unfolding is_body
+stays tokens nodes n scopes setting s e h o stands =
+    let same : Elsewhere ≡ s.role = sym e ∙ stands.role in
+    record {
+      chain = subst (λ r. IsChain scopes setting.scope (with_scope (opened tokens nodes n r) s.scopes)) same (subst (λ q. IsChain scopes setting.scope (with_scope q s.scopes)) (sym o) stands.chain);
+      body = subst (λ r. setting.body ≡ cond (is_body nodes n r) n s.body) same (stands.body ∙ ap (λ b. cond b n s.body) (sym (no_body (is_of nodes p_block n))));
+      role = subst (λ r. setting.role ≡ handed tokens nodes n r) same (e ∙ sym h);
+    }
 
 or-assoc : (a b c : Bool) → a || (b || c) ≡ (a || b) || c
 or-assoc true b c = refl

@@ -67,6 +67,13 @@ pub record Hands {X : Type 0} (children : List ℕ) (node : ℕ) (x : X) (old ne
   pub before : (i : ℕ) (d : X) → i < node → slice_index_or new i d ≡ (if contains children i then x else slice_index_or old i d)
   pub behind : (i : ℕ) (d : X) → node ≤ i → slice_index_or new i d ≡ slice_index_or old i d
 
+-- the children of a node with a setting, as far as they have smaller numbers, got a setting that says where they stand
+pub record HandsDown (tokens : List Token) (nodes : List Node) (scopes now : List Scope) (children : List ℕ) (node : ℕ) (setting : Setting) (old new : List Setting) : Type 0 where
+  pub within : Setting
+  pub extends : Extends scopes now
+  pub stands : (s : Standing) → Stands scopes setting s → Stands now within (handed_down tokens nodes node s)
+  pub hands : Hands children node within old new
+
 -- settings say where all nodes stand
 pub record AreSettings (tokens : List Token) (nodes : List Node) (settings : Settings) : Type 0 where
   pub count : length settings.list ≡ length nodes

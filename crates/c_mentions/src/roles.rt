@@ -1,7 +1,9 @@
 //! How a node stands below its parent, as far as names ask for it.
 ghost use Rattle.c_mentions.specs.Roles as spec;
 ghost use Rattle.c_mentions.specs.Syntax.{nodes_of};
-ghost use Rattle.std.specs.Prelude.{◌≡◌};
+ghost use Rattle.c_mentions.specs.declared.roles.Role.TheVariants.{Elsewhere};
+ghost use Rattle.c_lexer.specs.declared.Token.{Token};
+ghost use Rattle.std.specs.Prelude.{◌≡◌, true, None, List};
 
 use crate::declarators::{declarator_at, is_list};
 use crate::syntax::{
@@ -341,4 +343,17 @@ pub(crate) fn is_body(nodes: &[SyntaxNode], node: u32, role: Role) -> bool
     ensures { result ≡ spec.is_body (nodes_of nodes.now) node role }
 {
     is_of(nodes, BLOCK, node) && is_function(role)
+}
+
+/// Whether the children of a node that stands elsewhere stand as it does: it opens no scope and hands on its role (C11 6.2.1).
+#[tactic(auto, unfolding(crate::specs::Roles::handed, crate::specs::Roles::opened))]
+pub(crate) fn hands_on(nodes: &[SyntaxNode], node: u32) -> bool
+    ensures role { result ≡ true → (tokens : List Token) → spec.handed tokens (nodes_of nodes.now) node Elsewhere ≡ Elsewhere }
+    ensures scope { result ≡ true → (tokens : List Token) → spec.opened tokens (nodes_of nodes.now) node Elsewhere ≡ None }
+{
+    match production_at(nodes, node) {
+        EXTERNAL | DECLARATION | PARAMETER | TYPE | PRIMARY | STRUCT | ENUM | STATEMENT => false,
+        BLOCK | SUFFIX => false,
+        _ => true,
+    }
 }

@@ -1,12 +1,13 @@
 //! In which scopes each node stands.
 ghost use Rattle.c_mentions.specs.Settings.{handed_down, with_scope};
-ghost use Rattle.c_mentions.specs.Settings.{AreSettings, Extends, Hands, IsChain, Standing, Stands};
+ghost use Rattle.c_mentions.specs.Settings.{AreSettings, Extends, Hands, HandsDown, IsChain, Standing, Stands};
 ghost use Rattle.c_mentions.specs.declared.settings.Setting.{Setting};
+ghost use Rattle.c_mentions.specs.declared.roles.Role.TheVariants.{Elsewhere};
 ghost use Rattle.c_mentions.specs.Kept.{Keeps, kind_at};
 ghost use Rattle.c_mentions.specs.Syntax.{nodes_of};
 ghost use Rattle.std.specs.Prelude.{true, ◌≡◌, ◌==◌, ◌<◌, ◌≤◌, ◌^◌, ℕ, List, length, slice_get, slice_index_or, replicate, if◌then◌else◌, IfOk};
 
-use crate::roles::{Role, handed, is_body, opened};
+use crate::roles::{Role, handed, hands_on, is_body, opened};
 use c_grammar::SyntaxNode;
 use c_lexer::Token;
 use pta_base::OutOfMemory;
@@ -167,6 +168,26 @@ impl SettingList {
         hand_all(&mut self.places, children, node, place);
         Ok(())
     }
+
+    // Whether a node stands elsewhere, so that nothing follows for a name.
+    fn is_elsewhere(&self, node: usize) -> bool
+        requires { node < length self.now }
+        ensures { result ≡ true → (d : Setting) → (slice_index_or self.now node d).role ≡ Elsewhere }
+    {
+        match &self.kinds[self.places[node] as usize].role {
+            Role::Elsewhere => true,
+            _ => false,
+        }
+    }
+
+    // Gives a node's own setting to those of its children that have smaller numbers.
+    fn hand_same(&mut self, children: &[u32], node: usize)
+        requires { node < length self.old }
+        ensures { (d : Setting) → Hands children.now node (slice_index_or self.old node d) self.old self.new }
+    {
+        let place = self.places[node];
+        hand_all(&mut self.places, children, node, place);
+    }
 }
 
 /// The place of the scope of what stands in a node that opens a scope or doesn't.
@@ -213,6 +234,27 @@ fn setting_within(
     })
 }
 
+/// Hands down to those of a node's children that have smaller numbers where they stand.
+fn hand_down(
+    tokens: &[Token],
+    nodes: &[SyntaxNode],
+    scopes: &mut Vec<Scope>,
+    list: &mut SettingList,
+    children: &[u32],
+    node: u32,
+) -> Result<(), OutOfMemory>
+    requires { node < length list.old }
+    ensures { IfOk result (λ done. (d : Setting) → HandsDown tokens.now (nodes_of nodes.now) scopes.old.items scopes.new.items children.now node (slice_index_or list.old node d) list.old list.new) }
+{
+    let place = node as usize;
+    if list.is_elsewhere(place) && hands_on(nodes, node) {
+        list.hand_same(children, place);
+        return Ok(());
+    }
+    let within = setting_within(tokens, nodes, scopes, node, list.at(place))?;
+    list.hand(children, place, within)
+}
+
 /// Where all nodes stand. A parent stands behind its children, so the nodes are gone through from the last one on.
 pub fn settings_of(
     alloc: Global,
@@ -239,8 +281,7 @@ pub fn settings_of(
         node -= 1;
         let children = nodes[node].children.as_slice();
         if !children.is_empty() {
-            let within = setting_within(tokens, nodes, &mut scopes, node as u32, list.at(node))?;
-            list.hand(children, node, within)?;
+            hand_down(tokens, nodes, &mut scopes, &mut list, children, node as u32)?;
         }
     }
     Ok(Settings { scopes, list })

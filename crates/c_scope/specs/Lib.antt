@@ -3,3 +3,4 @@ pub mod Places
 pub mod Binding
 pub mod Happens
 pub mod Resolves
+pub mod PassedOn

@@ -21,3 +21,4 @@ pub mod Statements
 pub mod Rows
 pub mod Keys
 pub mod Right
+pub mod PassedOn

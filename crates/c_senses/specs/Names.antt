@@ -5,8 +5,8 @@ use Rattle.c_lexer.specs.declared.Token.{Token}
 use Rattle.c_lexer.specs.declared.Tokens.{Tokens}
 use Rattle.c_grammar.specs.declared.trees.SyntaxNode.{SyntaxNode}
 use Rattle.c_grammar.specs.declared.trees.Tree.{Tree}
-use Rattle.c_mentions.specs.Syntax.{nodes_of}
-use Rattle.c_mentions.specs.Settings.{standings}
+use Rattle.c_scope.specs.PassedOn.{nodes_of}
+use Rattle.c_scope.specs.PassedOn.{standings}
 use Rattle.c_scope.specs.declared.kinds.Kind.{Kind}
 use Rattle.c_scope.specs.declared.kinds.Kind.TheVariants.{Linked, Typedef}
 use Rattle.c_scope.specs.declared.kinds.Declared.{Declared}

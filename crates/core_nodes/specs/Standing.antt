@@ -8,7 +8,7 @@ use Rattle.core_tree.specs.declared.node.NodeKind.TheVariants.{Skip}
 use Rattle.core_tree.specs.declared.node.Node.{Node}
 use Rattle.core_tree.specs.declared.node.Unit.{Unit}
 use Rattle.c_consts.specs.Core.{Core, Cores, Of, NoCores, MoreCores, InOrder}
-pub use Rattle.c_inits.specs.Tables.{part_with, part_of, parts_in}
+pub use Rattle.c_senses.specs.PassedOn.{part_with, part_of, parts_in}
 use Rattle.c_senses.specs.World.{World, extent}
 use Rattle.c_senses.specs.Given.{Given, Fits, Refuses}
 use Rattle.core_nodes.specs.declared.fault.CheckFault.{CheckFault}

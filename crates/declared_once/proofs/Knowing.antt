@@ -42,7 +42,7 @@ use Rattle.internal_laws.proofs.Same as same
 use Rattle.internal_laws.proofs.Reading.{only}
 use Rattle.declared_leaves.specs.Leaves.{IsDeclaredBy}
 use Rattle.declared_leaves.proofs.Climbing.{leaves_declared}
-use Rattle.earlier_initialisers.specs.Earlier.{StandsDeclaring}
+use Rattle.settled_types.specs.PassedOn.{StandsDeclaring}
 use Rattle.settled_types.specs.Settled.{AreSettled}
 use Rattle.settled_types.proofs.Settling.{types_settled}
 use Rattle.declared_once.specs.Once.{DeclaredOnce, IsDeclaredOnce}

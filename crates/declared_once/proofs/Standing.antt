@@ -19,7 +19,7 @@ use Rattle.name_order.specs.Order.{declaring, linking, IsNameOf, Declares, Enume
 use Rattle.name_order.specs.Order as order
 use Rattle.declared_leaves.specs.Leaves.{IsNamed, Own, Inner}
 use Rattle.declared_leaves.proofs.Climbing.{outermost_is}
-use Rattle.earlier_initialisers.specs.Earlier.{StandsDeclaring}
+use Rattle.settled_types.specs.PassedOn.{StandsDeclaring}
 
 some_one : {X : Type 0} → {x y : X} → ◌≡◌ {A = Option X} (Some x) (Some y) → x ≡ y
 some_one h = cc

@@ -12,7 +12,7 @@ use Rattle.c_senses.specs.Entities.{with_length, length_given_by, initialiser_of
 use Rattle.c_senses.specs.Sense.{Sense, sense_in}
 use Rattle.c_senses.specs.Rows.{AreSenses}
 use Rattle.declared_leaves.specs.Leaves.{IsDeclaredBy}
-use Rattle.earlier_initialisers.specs.Earlier.{StandsDeclaring}
+use Rattle.settled_types.specs.PassedOn.{StandsDeclaring}
 
 -- a name with linkage has a declarator; from there on it is known whether the name is internal, which declarations before it are internal
 -- ones of that name, and which types they give it

@@ -9,8 +9,8 @@ use Rattle.c_senses.specs.Sense.{Sense, sense_in}
 use Rattle.c_senses.specs.Entities.{declaration_of}
 use Rattle.c_senses.specs.Right.{stands_in_declaration, is_defined_parameter}
 use Rattle.c_senses.specs.Rows.{world_at}
-use Rattle.family_laws.specs.Families.{Families}
-use Rattle.family_laws.proofs.Reading.{units_families}
+use Rattle.member_names.specs.PassedOn.{Families}
+use Rattle.member_names.proofs.PassedOn.{units_families}
 use Rattle.member_names.specs.Differ.{InOrder}
 use Rattle.member_names.proofs.Order.{units_in_order}
 use Rattle.definition_laws.specs.Definitions.{is_definition, InDefinition, itself, below, HasDefinition, LocalsAreDefined}

@@ -10,7 +10,7 @@ use Rattle.c_senses.specs.Tree.{Source, is_a, child_of, nearest_above}
 use Rattle.c_senses.specs.Sense.{Sense, sense_in}
 use Rattle.c_senses.specs.Entities.{declaration_of}
 use Rattle.c_senses.specs.Right.{stands_in_declaration}
-use Rattle.family_laws.specs.Families.{IsChild}
+use Rattle.member_names.specs.PassedOn.{IsChild}
 
 -- an external declaration with a block: the definition of a function
 abbrev pub is_definition : Source → ℕ → Bool

@@ -26,8 +26,8 @@ use Rattle.name_order.specs.Order.{Rises}
 use Rattle.declared_leaves.specs.Leaves.{IsDeclaredBy}
 use Rattle.joined_types.specs.Joined.{AllAgree, AllBelow}
 use Rattle.joined_types.proofs.Joining.{types_joined}
-use Rattle.object_sizes.specs.Sized.{TypeSized, Sized, Complete, Open}
-use Rattle.object_sizes.proofs.Sizes.{has_type}
+use Rattle.parameter_sizes.specs.PassedOn.{TypeSized, Sized, Complete, Open}
+use Rattle.parameter_sizes.proofs.PassedOn.{has_type}
 use Rattle.function_types.specs.Typed.{FunctionsTyped, IsNamedType}
 use Rattle.entity_sizes.proofs.Lists.{In, along_in, made_in, such_in, kept_in, in_kept, earlier_first, entry_is, found_entry}
 use Rattle.entity_sizes.proofs.Known.{LinkedKnown}

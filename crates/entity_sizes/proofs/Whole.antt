@@ -58,8 +58,8 @@ use Rattle.function_bodies.proofs.Reading.{parts_of, declarators_of, functions_s
 use Rattle.value_laws.proofs.Shapes.{structure_complete, union_complete}
 use Rattle.function_bodies.proofs.Standing.{named_by}
 use Rattle.declared_leaves.proofs.Climbing.{leaves_declared}
-use Rattle.object_sizes.specs.Sized.{TypeSized, Sized, Complete, Open, IsSizedType}
-use Rattle.object_sizes.proofs.Sizes.{objects_sized, found_above}
+use Rattle.parameter_sizes.specs.PassedOn.{TypeSized, Sized, Complete, Open, IsSizedType}
+use Rattle.parameter_sizes.proofs.PassedOn.{objects_sized, found_above}
 use Rattle.parameter_sizes.proofs.Sizes.{parameters_sized, named_at, sense_within}
 use Rattle.literal_sizes.proofs.Sizes.{literals_sized}
 use Rattle.function_types.specs.Typed.{FunctionsTyped, IsNamedType}

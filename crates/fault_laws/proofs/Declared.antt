@@ -12,7 +12,7 @@ use Rattle.link_model.specs.Units.{item}
 use Rattle.link_model.specs.Renamed.{renamed}
 use Rattle.link_model.specs.Merged.{Numbering, IsMerged}
 use Rattle.link_names.specs.declared.declared.Declared.{Declared}
-use Rattle.link_names.specs.Externals.{item_of, name_at, has_body, is_defined, is_placed, is_function_type, is_declared_only, type_in, IsDeclaration, Before, AreDeclarations}
+use Rattle.link_names.specs.Externals.{entity_at, item_of, name_at, has_body, is_defined, is_placed, is_function_type, is_declared_only, type_in, IsDeclaration, Before, AreDeclarations}
 use Rattle.unit_link.specs.Linked.{joined}
 use Rattle.fault_laws.specs.Twins.{PlacesDiffer, AreAllTwins}
 use Rattle.fault_laws.proofs.Images.{function_kept}
@@ -81,10 +81,10 @@ pairs_more P Q f (d ∷ ds) [] h = absurd h
 pairs_more P Q f (d ∷ ds) (e ∷ es) h = (f d e h.0, pairs_more P Q f ds es h.1)
 
 module _ (us vs : List Unit) (n m : Numbering) (table other : Table) (all : AreAllTwins us vs) (one : IsMerged us n table) (two : IsMerged vs m other) where
-  pub to : ℕ → ℕ
+  abbrev pub to : ℕ → ℕ
   to = there us vs n m table other all one two
 
-  pub back : ℕ → ℕ
+  abbrev pub back : ℕ → ℕ
   back = there vs us m n other table (turned_all us vs all) two one
 
   -- a like of the second units has the first one as its like
@@ -95,6 +95,7 @@ module _ (us vs : List Unit) (n m : Numbering) (table other : Table) (all : AreA
     here = h.there;
     there = h.here;
     name = sym h.name;
+    unit_is = sym h.unit_is;
     place = sym h.place;
     linkage = sym h.linkage;
     storage = sym h.storage;
@@ -110,11 +111,10 @@ module _ (us vs : List Unit) (n m : Numbering) (table other : Table) (all : AreA
       turned_at r = record { unit = r.other; other = r.unit; first = r.second; second = r.first; twins = turned_twins r.unit r.other r.twins }
 
   forth : (a : Item) (x : Entity) (h : Like us vs a x) → type_in (joined vs m other) (item a.unit h.number) ≡ renamed to (type_in (joined us n table) a)
-  unfolding to
   forth a x h = type_there us vs n m table other all one two a x h
 
   returned : (a : Item) (x : Entity) (h : Like us vs a x) → type_in (joined us n table) a ≡ renamed back (type_in (joined vs m other) (item a.unit h.number))
-  unfolding back like_back
+  unfolding like_back
   returned a x h = type_there vs us m n other table (turned_all us vs all) two one (item a.unit h.number) h.entity (like_back a x h)
 
   -- an entity and its like are both defined, or neither is
@@ -135,6 +135,13 @@ module _ (us vs : List Unit) (n m : Numbering) (table other : Table) (all : AreA
       let h = t.like in
       let e_is : item_of e ≡ item d.unit h.number = t.other_is in
       record {
+        items = record {
+          entity = t.entity;
+          other = h.entity;
+          here = h.here;
+          there = ap (entity_at vs) e_is ∙ h.there;
+          words = record { name = sym h.name; unit_is = sym h.unit_is; place = sym h.place; linkage = sym h.linkage; storage = sym h.storage };
+        };
         unit = t.key.unit;
         name = ap (option_map (λ (x : Entity). x.name)) h.here ∙ (ap Some h.name ∙ sym (ap (λ (a : Item). name_at vs a) e_is ∙ ap (option_map (λ (x : Entity). x.name)) h.there));
         body = ap (λ (o : Option Entity). option_map_or (λ x. is_some x.body) o false) h.here ∙ (h.body ∙ sym (ap (λ (a : Item). has_body vs a) e_is ∙ ap (λ (o : Option Entity). option_map_or (λ x. is_some x.body) o false) h.there));

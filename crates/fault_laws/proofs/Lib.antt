@@ -1,9 +1,9 @@
-mod Images
-mod Pairing
-mod Firsts
-mod Tags
-mod Sorting
-mod Twinned
-mod Merging
-mod Declared
+pub mod Images
+pub mod Pairing
+pub mod Firsts
+pub mod Tags
+pub mod Sorting
+pub mod Twinned
+pub mod Merging
+pub mod Declared
 pub mod Faults

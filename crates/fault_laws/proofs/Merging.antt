@@ -38,7 +38,7 @@ module _ (us vs : List Unit) (n m : Numbering) (table other : Table) (all : AreA
   pub there : ℕ → ℕ
   there tag = there_by tag (known_or tag)
 
-  tag_there : (a : Item) → IsTag us a → IsTag vs a
+  pub tag_there : (a : Item) → IsTag us a → IsTag vs a
   tag_there a is = let c : Carries us vs = carries us vs all in subst (λ (k : ℕ). a.number < k) (c.tags a.unit) is
 
   there_one : (a : Item) → IsTag us a → (o : (tag_of n a < table.tags) ⊎ (table.tags ≤ tag_of n a)) → there_by (tag_of n a) o ≡ tag_of m a

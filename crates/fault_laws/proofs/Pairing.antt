@@ -6,16 +6,36 @@ use Rattle.std.specs.Option.{option_map_or, option_or}
 use Rattle.std.specs.Str.{bytes_eq}
 use Rattle.c_types.specs.Trees.{Ctype}
 use Rattle.type_rules.specs.Conversions.{Agree}
+use Rattle.core_tree.specs.declared.node.Entity.{Entity}
+use Rattle.core_tree.specs.declared.node.Unit.{Unit}
+use Rattle.link_model.specs.declared.item.Item.{Item}
 use Rattle.link_model.specs.Renamed.{renamed}
 use Rattle.link_names.specs.declared.declared.Declared.{Declared}
 use Rattle.link_names.specs.Shape.{HasShape}
-use Rattle.link_names.specs.Externals.{Joined, item_of, name_at, has_body, is_defined, is_named, declared_type}
+use Rattle.link_names.specs.Externals.{Joined, entity_at, item_of, name_at, has_body, is_defined, is_named, declared_type}
 use Rattle.link_names.specs.Together.{composite, together, of_name, type_together, is_own, is_made, is_listed, has_list, first_body, first_defined, maker_of, type_made, linked_type}
 use Rattle.link_names.specs.Faults.{LacksShape, Disagrees, Conflicts, IsSecond, IsMissing, HasMain, IsMainType, main_name}
 use Rattle.fault_laws.proofs.Images.{composite_kept, listed_kept, linked_kept, agree_kept, shape_kept, main_kept}
 
+-- entities that are the same, but for numbers and types
+pub record SameWords (x y : Entity) : Type 0 where
+  pub name : y.name ≡ x.name
+  pub unit_is : y.unit ≡ x.unit
+  pub place : y.place ≡ x.place
+  pub linkage : y.linkage ≡ x.linkage
+  pub storage : y.storage ≡ x.storage
+
+-- what stands at two items is the same
+pub record SameItems (us vs : List Unit) (a b : Item) : Type 0 where
+  pub entity : Entity
+  pub other : Entity
+  pub here : entity_at us a ≡ Some entity
+  pub there : entity_at vs b ≡ Some other
+  pub words : SameWords entity other
+
 -- declarations of two lists of units that say the same, where tags have other numbers
 pub record SameDeclared (j k : Joined) (to back : ℕ → ℕ) (d e : Declared) : Type 0 where
+  pub items : SameItems j.units k.units (item_of d) (item_of e)
   pub unit : d.unit ≡ e.unit
   pub name : name_at j.units (item_of d) ≡ name_at k.units (item_of e)
   pub body : has_body j.units (item_of d) ≡ has_body k.units (item_of e)
@@ -109,7 +129,7 @@ or_same P None (Some e) c d h k = absurd h
 or_same P (Some x) None c d h k = absurd h
 or_same P (Some x) (Some e) c d h k = h
 
-some_pair : (P : Declared → Declared → Type 0) (a b : Option Declared) (d : Declared) → SomePair P a b → a ≡ Some d → (e : Declared) × (b ≡ Some e) × P d e
+pub some_pair : (P : Declared → Declared → Type 0) (a b : Option Declared) (d : Declared) → SomePair P a b → a ≡ Some d → (e : Declared) × (b ≡ Some e) × P d e
 some_pair P None b d h at = absurd (none_some at)
 some_pair P (Some x) None d h at = absurd h
 some_pair P (Some x) (Some e) d h at = (e, refl, subst (λ (y : Declared). P y e) (some_one at) h)
@@ -125,7 +145,23 @@ module _ (j k : Joined) (to back : ℕ → ℕ) where
   Same d e = SameDeclared j k to back d e
 
   pub turned : (d e : Declared) → Same d e → SameDeclared k j back to e d
-  turned d e h = record { unit = sym h.unit; name = sym h.name; body = sym h.body; defined = sym h.defined; forth = h.returned; returned = h.forth }
+  turned d e h =
+      let w = h.items.words in
+      record {
+        items = record {
+          entity = h.items.other;
+          other = h.items.entity;
+          here = h.items.there;
+          there = h.items.here;
+          words = record { name = sym w.name; unit_is = sym w.unit_is; place = sym w.place; linkage = sym w.linkage; storage = sym w.storage };
+        };
+        unit = sym h.unit;
+        name = sym h.name;
+        body = sym h.body;
+        defined = sym h.defined;
+        forth = h.returned;
+        returned = h.forth;
+      }
 
   named_same : (name : List ℕ) (d e : Declared) → Same d e → is_named j.units name d ≡ is_named k.units name e
   named_same name d e h = ap (λ (o : Option (List ℕ)). option_map_or (λ other. bytes_eq other name) o false) h.name
@@ -189,7 +225,7 @@ module _ (j k : Joined) (to back : ℕ → ℕ) where
     not_given = λ g. h.not_given (record { row = g.row; in_library = g.in_library; listed = λ f. listed_same name ds es all ∙ g.listed f });
   }
 
-  maker_pair : (name : List ℕ) (ds es : List Declared) → Pairs Same ds es → SomePair Same (maker_of j ds name) (maker_of k es name)
+  pub maker_pair : (name : List ℕ) (ds es : List Declared) → Pairs Same ds es → SomePair Same (maker_of j ds name) (maker_of k es name)
   maker_pair name ds es all =
       let a = of_name j.units name ds in
       let b = of_name k.units name es in
@@ -200,7 +236,7 @@ module _ (j k : Joined) (to back : ℕ → ℕ) where
       (find_same Same (λ d. is_defined j (item_of d)) (λ e. is_defined k (item_of e)) (λ d e p. p.defined) a b pairs)
       (find_same Same (λ d. true) (λ e. true) (λ d e p. refl) a b pairs))
 
-  made_type : (name : List ℕ) (ds es : List Declared) (d e : Declared) → Pairs Same ds es → Same d e → type_made k es name e ≡ renamed to (type_made j ds name d)
+  pub made_type : (name : List ℕ) (ds es : List Declared) (d e : Declared) → Pairs Same ds es → Same d e → type_made k es name e ≡ renamed to (type_made j ds name d)
   made_type name ds es d e all p =
       ap (λ b. linked_type b (is_defined k (item_of e)) (declared_type k e) (type_together k name es)) (sym p.body)
       ∙ (ap (λ b. linked_type (has_body j.units (item_of d)) b (declared_type k e) (type_together k name es)) (sym p.defined)

@@ -99,25 +99,22 @@ parts_more R S more u v [] (n ∷ ns) h = absurd h
 parts_more R S more u v (m ∷ ms) [] h = absurd h
 parts_more R S more u v (m ∷ ms) (n ∷ ns) h = (h.0, h.1, matches_more R S more u v m.type n.type h.2, parts_more R S more u v ms ns h.3)
 
-parts : List Unit → ℕ → List MemberTerm → List Part
+abbrev pub parts : List Unit → ℕ → List MemberTerm → List Part
 parts units u list = map (part_of (types_in units u)) list
 
 match_parts : (units : List Unit) (R : Item → Item → Type 0) (u v : ℕ) (ms ns : List MemberTerm) → ListsMatch units R u v ms ns → PartsMatch R u v (parts units u ms) (parts units v ns)
-unfolding parts
 match_parts units R u v [] [] h = tt
 match_parts units R u v [] (n ∷ ns) h = absurd h
 match_parts units R u v (m ∷ ms) [] h = absurd h
 match_parts units R u v (m ∷ ms) (n ∷ ns) h = (h.0, h.1, h.2, match_parts units R u v ms ns h.3)
 
 parts_match : (units : List Unit) (R : Item → Item → Type 0) (u v : ℕ) (ms ns : List MemberTerm) → PartsMatch R u v (parts units u ms) (parts units v ns) → ListsMatch units R u v ms ns
-unfolding parts
 parts_match units R u v [] [] h = tt
 parts_match units R u v [] (n ∷ ns) h = absurd h
 parts_match units R u v (m ∷ ms) [] h = absurd h
 parts_match units R u v (m ∷ ms) (n ∷ ns) h = (h.0, h.1, h.2, parts_match units R u v ms ns h.3)
 
 mention_parts : (units : List Unit) (u v : ℕ) (c d : Item) (ms ns : List MemberTerm) → ListsMention units u v c d ms ns → PartsMention u v c d (parts units u ms) (parts units v ns)
-unfolding parts
 mention_parts units u v c d [] [] h = absurd h
 mention_parts units u v c d [] (n ∷ ns) h = absurd h
 mention_parts units u v c d (m ∷ ms) [] h = absurd h
@@ -125,7 +122,6 @@ mention_parts units u v c d (m ∷ ms) (n ∷ ns) (inl h) = inl h
 mention_parts units u v c d (m ∷ ms) (n ∷ ns) (inr h) = inr (mention_parts units u v c d ms ns h)
 
 parts_mention : (units : List Unit) (u v : ℕ) (c d : Item) (ms ns : List MemberTerm) → PartsMention u v c d (parts units u ms) (parts units v ns) → ListsMention units u v c d ms ns
-unfolding parts
 parts_mention units u v c d [] [] h = absurd h
 parts_mention units u v c d [] (n ∷ ns) h = absurd h
 parts_mention units u v c d (m ∷ ms) [] h = absurd h
@@ -153,17 +149,17 @@ record HasParts (us vs : List Unit) (a : Item) (k : List MemberTerm) : Type 0 wh
   list_is : list_at vs a ≡ Some list
   same : parts us a.unit k ≡ parts vs a.unit list
 
-record CountsThere (us vs : List Unit) (a p : Item) (k : List MemberTerm) : Type 0 where
-  list : List MemberTerm
-  counts : CountsAs vs a p list
-  same : parts us p.unit k ≡ parts vs p.unit list
+-- the list that counts for a tag in the second units
+pub record CountsThere (us vs : List Unit) (a p : Item) (k : List MemberTerm) : Type 0 where
+  pub list : List MemberTerm
+  pub counts : CountsAs vs a p list
+  pub same : parts us p.unit k ≡ parts vs p.unit list
 
 module _ (us vs : List Unit) (c : Carries us vs) where
   key_there : (a b : Item) → SameKey us a b → SameKey vs a b
   key_there a b h = (h.0, sym (c.labels a) ∙ h.1, sym (c.labels b) ∙ h.2)
 
   parts_there : (a : Item) (k : List MemberTerm) → IsTag us a → list_at us a ≡ Some k → HasParts us vs a k
-  unfolding parts
   parts_there a k is at = by (list_at vs a) refl (sym (ap (parts_in (types_in us a.unit)) at) ∙ c.lists a is)
     where
       by : (o : Option (List MemberTerm)) → list_at vs a ≡ o → ◌≡◌ {A = Option (List Part)} (Some (map (part_of (types_in us a.unit)) k)) (parts_in (types_in vs a.unit) o) → HasParts us vs a k
@@ -200,7 +196,7 @@ module _ (us vs : List Unit) (c : Carries us vs) (d : Carries vs us) where
   which_there a p (inl same) = inl same
   which_there a p (inr first) = inr (first_there a p first)
 
-  counts_there : (a p : Item) (k : List MemberTerm) → IsTag us a → CountsAs us a p k → CountsThere us vs a p k
+  pub counts_there : (a p : Item) (k : List MemberTerm) → IsTag us a → CountsAs us a p k → CountsThere us vs a p k
   counts_there a p k is h =
       let there : HasParts us vs p k = parts_there us vs c p k (tag_of_which a p is h.which) h.list_is in
       record { list = there.list; counts = record { list_is = there.list_is; which = which_there a p h.which }; same = there.same }

@@ -148,6 +148,7 @@ pub record Like (us vs : List Unit) (a : Item) (x : Entity) : Type 0 where
   pub here : entity_in us a ≡ Some x
   pub there : entity_in vs (item a.unit number) ≡ Some entity
   pub name : x.name ≡ entity.name
+  pub unit_is : x.unit ≡ entity.unit
   pub place : x.place ≡ entity.place
   pub linkage : x.linkage ≡ entity.linkage
   pub storage : x.storage ≡ entity.storage
@@ -191,6 +192,7 @@ like us vs all a x h =
       here = h;
       there = ap (λ (o : Option Unit). slice_get (entities_if o) found.number) both.second ∙ found.stands;
       name = same.name;
+      unit_is = same.unit_is;
       place = same.place;
       linkage = same.linkage;
       storage = same.storage;

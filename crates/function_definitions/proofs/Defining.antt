@@ -35,7 +35,7 @@ use Rattle.c_senses.specs.Entities.{declaration_of, is_linked, is_parameter, is_
 use Rattle.c_senses.specs.Rows.{AreSenses, world_at}
 use Rattle.c_senses.specs.Right.{is_declaring}
 use Rattle.c_senses.specs.Sense.{Sense, IsSpecified, IsDeclarator, Specified, Derivation, sense_in}
-use Rattle.definition_laws.specs.Definitions.{is_definition}
+use Rattle.linkage_laws.specs.PassedOn.{is_definition}
 use Rattle.placed_laws.proofs.Climbing.{Grown}
 use Rattle.linkage_laws.proofs.Origins.{HasOrigin, origin, mentioned}
 use Rattle.linkage_laws.proofs.Standings.{HasParent, parents}

@@ -7,3 +7,4 @@ pub mod Found
 pub mod Declaring
 pub mod Defining
 pub mod Reading
+pub mod PassedOn

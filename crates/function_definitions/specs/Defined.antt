@@ -12,7 +12,7 @@ use Rattle.c_senses.specs.Sense.{Sense, sense_in}
 use Rattle.c_senses.specs.Rows.{AreSenses}
 use Rattle.c_senses.specs.Entities.{declaration_of, declares_function, is_linked, own_type, defined_name}
 use Rattle.c_senses.specs.Right.{is_declaring}
-use Rattle.definition_laws.specs.Definitions.{is_definition}
+use Rattle.linkage_laws.specs.PassedOn.{is_definition}
 
 -- the definition has a name, which it declares as a function, with linkage and of a function's type
 pub record Defines (s : Source) (senses : List Sense) (d : ℕ) : Type 0 where

@@ -4,6 +4,7 @@ use Rattle.c_senses.specs.Tree.{Source, spelling_at, parent_of}
 use Rattle.c_senses.specs.Tags.{tag_leaf}
 use Rattle.c_senses.specs.Keys.{word_of_key, has_members, position_in, list_around, key_of}
 use Rattle.c_senses.specs.Sense.{Sense}
+use Rattle.node_roles.specs.Roles.{AreRoles}
 use Rattle.unit_keys.specs.Free.{AreFree}
 use Rattle.unit_keys.specs.Placed.{AreInner, ArePositions}
 use Rattle.given_keys.specs.declared.placed.Known.{Known}
@@ -29,6 +30,7 @@ key_by s sense i free around =
 
 -- what is known before the keys
 pub record IsKnown (s : Source) (sense : ℕ → Sense) (known : Known) : Type 0 where
+  pub roles : AreRoles s known.roles.now
   pub inner : AreInner s sense known.inner.now (length s.nodes)
   pub free : AreFree s sense known.free.now (length s.nodes)
   pub positions : ArePositions s sense known.positions.now (length s.nodes)

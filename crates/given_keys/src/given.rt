@@ -12,6 +12,7 @@ ghost use Rattle.c_senses.specs.Sense.{Sense, sense_in};
 ghost use Rattle.c_results.specs.Standing.{senses_made};
 ghost use Rattle.sense_laws.specs.Senses.{ChildrenFirst};
 ghost use Rattle.tree_reads.specs.Sources.{source_in, source_read};
+ghost use Rattle.node_roles.specs.Roles.{AreRoles};
 ghost use Rattle.tag_numbers.specs.Known.{AreTags};
 ghost use Rattle.unit_keys.specs.Words as words;
 ghost use Rattle.given_keys.specs.Flags.{AreFlags};
@@ -24,6 +25,7 @@ use crate::kept::KeptKeys;
 use crate::placed::{Known, keys_of_specifiers};
 use c_results::Results;
 use c_scope::Bound;
+use node_roles::{Role, roles_of};
 use pta_base::{OutOfMemory, Text};
 use std::alloc::Global;
 use std::collections::BTreeMap;
@@ -150,20 +152,27 @@ fn given_keys(
     Ok(list)
 }
 
-// The key of each specifier. It is known of each node whether it stands in a block; if it weren't, that would count as want of memory.
-fn all_keys(alloc: Global, syntax: &Syntax, results: &Results) -> Result<KeptKeys, OutOfMemory>
+// The key of each specifier, by what each node is. It is known of each node whether it stands in a block; if it weren't, that would count as
+// want of memory.
+fn all_keys(
+    alloc: Global,
+    syntax: &Syntax,
+    roles: &[Role],
+    results: &Results,
+) -> Result<KeptKeys, OutOfMemory>
     requires count { length syntax.now.tree.now.nodes.items < 2 ^ 32 }
     requires first { ChildrenFirst (source_read syntax.now) }
     ensures { IfOk result (λ list. (u : UnitSpec) (uses : List (ℕ × ℕ)) →
-        let s = source_in syntax.now uses in AreKeys s (sense_in (senses_made u results.now)) list 0) }
+        let s = source_in syntax.now uses in AreRoles s roles.now → AreKeys s (sense_in (senses_made u results.now)) list 0) }
 {
-    let inner = inner_flags(alloc, syntax)?;
-    let free = free_names(alloc, syntax, results)?;
-    let positions = positions_of(alloc, syntax, results)?;
+    let inner = inner_flags(alloc, syntax, roles)?;
+    let free = free_names(alloc, syntax, roles, results)?;
+    let positions = positions_of(alloc, syntax, roles, results)?;
     if inner.len() != syntax.tree.nodes.len() {
         return Err(OutOfMemory);
     }
     let known = Known {
+        roles,
         inner: inner.as_slice(),
         free: &free,
         positions: &positions,
@@ -193,8 +202,9 @@ pub fn keys_of(
         return Err(OutOfMemory);
     }
     let declaring = meanings(alloc, bound)?;
-    let flags = tag_flags(alloc, syntax, &declaring)?;
-    let keys = all_keys(alloc, syntax, results)?;
+    let roles = roles_of(alloc, syntax)?;
+    let flags = tag_flags(alloc, syntax, roles.as_slice(), &declaring)?;
+    let keys = all_keys(alloc, syntax, roles.as_slice(), results)?;
     let list = given_keys(alloc, syntax, &keys, flags.as_slice(), numbered.tags.count)?;
     Ok(list)
 }

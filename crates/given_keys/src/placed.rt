@@ -16,16 +16,18 @@ ghost use Rattle.given_keys.specs.Keyed.{IsKnown, inherited, key_around};
 use crate::kept::KeptKeys;
 use c_results::Results;
 use leaf_maps::LeafMap;
+use node_roles::{Role, is_specifier_at};
 use pta_base::{OutOfMemory, Text};
 use std::alloc::Global;
 use tag_keys::{has_members, member_key, named_key, position_in, structure_around, tagged_key};
 use tree_reads::{Syntax, Test, children_of, first_where};
 use unit_keys::is_specifier;
 
-/// What is known before the keys: whether each node stands in a block or a parameter list, the last node first; the free name of each
-/// specifier; and the position of each declaration of members among the parts of the list that has it.
+/// What is known before the keys: what each node is; whether it stands in a block or a parameter list, the last node first; the free name
+/// of each specifier; and the position of each declaration of members among the parts of the list that has it.
 #[derive(Clone, Copy)]
 pub(crate) struct Known<'a> {
+    pub(crate) roles: &'a [Role],
     pub(crate) inner: &'a [bool],
     pub(crate) free: &'a LeafMap,
     pub(crate) positions: &'a LeafMap,
@@ -118,7 +120,7 @@ fn keep_key(
         let sense = sense_in (senses_made u results.now) in
         IsKnown s sense known.entry → AreKeys s sense keys.old (node + 1) → AreKeys s sense keys.new node) }
 {
-    if !is_specifier(syntax, node) {
+    if !is_specifier_at(known.roles, node) {
         return Ok(());
     }
     let own = key_of(alloc, syntax, results, known, keys, node)?;

@@ -9,8 +9,8 @@ use Rattle.c_grammar.specs.Table.{table, row, item_of}
 use Rattle.c_grammar.specs.Tree.{makes_node}
 use Rattle.c_grammar.specs.Reads.{State, Fault, Node, node_of, leaf, first, second, taken, scoped, opened, closed, Walks, Opens, at_end, token, no_token, use_of, no_use, choice, no_choice, no_alternative, again, no_again, scope, enough, deep, refused, whole, broken}
 use Rattle.c_parser.specs.Parse.{begin}
-use Rattle.c_senses.specs.Names.{source_of}
-use Rattle.c_senses.specs.Tree.{production_of, children_of}
+use Rattle.placed_laws.specs.PassedOn.{source_of}
+use Rattle.placed_laws.specs.PassedOn.{production_of, children_of}
 use Rattle.placed_laws.proofs.Once.{Extends}
 use Rattle.placed_laws.proofs.Once as once
 use Rattle.placed_laws.proofs.Rows.{one_chosen}

@@ -8,8 +8,8 @@ use Rattle.c_grammar.specs.Table.{item_of}
 use Rattle.c_grammar.specs.Tree.{makes_node}
 use Rattle.c_grammar.specs.Reads.{leaf}
 use Rattle.c_units.specs.Units.{IsUnit}
-use Rattle.c_senses.specs.Tree.{Source, production_at, children_at}
-use Rattle.c_senses.specs.Names.{source_of, numbered}
+use Rattle.placed_laws.specs.PassedOn.{Source, production_at, children_at}
+use Rattle.placed_laws.specs.PassedOn.{source_of, numbered}
 
 -- what the row of production p brings from an item on
 mutual

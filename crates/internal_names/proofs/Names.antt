@@ -25,8 +25,8 @@ use Rattle.whole_types.specs.Whole.{IsOneOf, AllOneOf}
 use Rattle.whole_types.proofs.Wholes.{types_whole}
 use Rattle.declared_once.specs.Once.{IsDeclaredOnce}
 use Rattle.declared_once.proofs.Knowing.{In}
-use Rattle.agreed_internals.specs.Agreeing.{AreAgreed}
-use Rattle.agreed_internals.proofs.Entities.{OfInternal, entry_at}
+use Rattle.internal_types.specs.PassedOn.{AreAgreed}
+use Rattle.internal_types.proofs.PassedOn.{OfInternal, entry_at}
 use Rattle.linked_scopes.specs.Scoped.{AreScoped}
 use Rattle.internal_types.specs.Internal.{IsEntityType}
 use Rattle.internal_types.proofs.Belows.{picked_one, below_at, one_below}

@@ -12,7 +12,7 @@ use Rattle.name_order.specs.Order.{Declares, Rises, IsOrdered}
 use Rattle.declared_leaves.proofs.Climbing.{outermost_is}
 use Rattle.declared_once.proofs.Knowing.{In}
 use Rattle.declared_once.proofs.Standing.{HasDeclarator, has_declarator, declares_once}
-use Rattle.agreed_internals.proofs.Lists.{found_at}
+use Rattle.internal_types.proofs.PassedOn.{found_at}
 
 some_one : {X : Type 0} → {x y : X} → ◌≡◌ {A = Option X} (Some x) (Some y) → x ≡ y
 some_one h = cc

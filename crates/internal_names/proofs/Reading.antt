@@ -31,9 +31,9 @@ use Rattle.settled_types.specs.Settled.{AreSettled}
 use Rattle.settled_types.proofs.Settling.{types_settled}
 use Rattle.declared_once.specs.Once.{IsDeclaredOnce}
 use Rattle.declared_once.proofs.Knowing.{In, declared_once}
-use Rattle.agreed_internals.specs.Agreeing.{AreAgreed}
-use Rattle.agreed_internals.proofs.Agreeing.{internals_agree}
-use Rattle.agreed_internals.proofs.Lists.{found_at, behind_front}
+use Rattle.internal_types.specs.PassedOn.{AreAgreed}
+use Rattle.internal_types.proofs.PassedOn.{internals_agree}
+use Rattle.internal_types.proofs.PassedOn.{found_at, behind_front}
 use Rattle.linked_scopes.specs.Scoped.{AreScoped}
 use Rattle.linked_scopes.proofs.Reading.{linked_scoped}
 use Rattle.internal_types.specs.Internal.{IsEntityType}

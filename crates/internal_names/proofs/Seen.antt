@@ -23,7 +23,7 @@ use Rattle.seen_onward.specs.Seen as spec
 use Rattle.seen_onward.proofs.Lists.{in_those, to_those, seen_first, IsSeen, seen, all_have}
 use Rattle.declared_once.specs.Once.{IsDeclaredOnce}
 use Rattle.declared_once.proofs.Knowing.{In, kept_in}
-use Rattle.agreed_internals.proofs.Lists.{SplitAt, split_at, behind_front, in_kept}
+use Rattle.internal_types.proofs.PassedOn.{SplitAt, split_at, behind_front, in_kept}
 use Rattle.linked_scopes.specs.Scoped.{AreScoped}
 use Rattle.internal_types.proofs.Asked.{declarator_asked}
 use Rattle.internal_names.proofs.Lists.{to_seen, from_seen, in_at, finds, either_side, append_behind, such, such_true, same_linkage}

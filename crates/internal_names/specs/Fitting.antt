@@ -7,7 +7,7 @@ use Rattle.c_units.specs.Units.{IsUnit}
 use Rattle.c_senses.specs.Names.{source_of, numbered}
 use Rattle.c_senses.specs.Sense.{Sense}
 use Rattle.c_senses.specs.Rows.{AreSenses}
-use Rattle.initialised_rows.specs.Rows.{InternalFit}
+use Rattle.internal_types.specs.PassedOn.{InternalFit}
 
 -- internal names fit in each unit that is read, whose rows all fit
 abbrev pub InternalsFit : Type 0

@@ -14,8 +14,8 @@ use Rattle.c_senses.specs.Right as right
 use Rattle.c_senses.specs.Sense.{Sense, sense_in}
 use Rattle.built_rows.specs.Rows.{types_declared, literal_type}
 use Rattle.object_types.proofs.Typing.{is_named}
-use Rattle.declared_once.specs.Once.{IsDeclaredOnce}
-use Rattle.declared_once.proofs.Knowing.{In, kept_in}
+use Rattle.agreed_internals.specs.PassedOn.{IsDeclaredOnce}
+use Rattle.agreed_internals.proofs.PassedOn.{In, kept_in}
 use Rattle.agreed_internals.specs.Agreeing.{AreAgreed}
 use Rattle.agreed_internals.proofs.Lists.{split_at}
 use Rattle.agreed_internals.proofs.Entities.{both, OfInternal, entry_at}

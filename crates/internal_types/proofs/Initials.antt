@@ -34,7 +34,7 @@ use Rattle.earlier_initialisers.specs.Earlier.{StandsDeclaring}
 use Rattle.initialiser_laws.specs.Initialisers.{InitialisersAreOf}
 use Rattle.joined_types.proofs.Joining.{types_joined}
 use Rattle.whole_types.proofs.Wholes.{types_whole}
-use Rattle.declared_once.specs.Once.{IsDeclaredOnce}
+use Rattle.agreed_internals.specs.PassedOn.{IsDeclaredOnce}
 use Rattle.agreed_internals.specs.Agreeing.{AreAgreed}
 use Rattle.agreed_internals.proofs.Entities.{both}
 use Rattle.internal_types.specs.Internal.{IsEntityType}

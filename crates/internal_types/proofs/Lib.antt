@@ -4,3 +4,4 @@ pub mod Functions
 pub mod Entities
 pub mod Initials
 pub mod Reading
+pub mod PassedOn

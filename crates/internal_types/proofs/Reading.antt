@@ -9,7 +9,7 @@ use Rattle.grown_parts.proofs.Reading.{units_bring}
 use Rattle.initialiser_laws.proofs.Found.{initialisers_found}
 use Rattle.own_initialisers.proofs.Standing.{initialisers_stand}
 use Rattle.initialised_rows.proofs.Owning.{initialiser_owned}
-use Rattle.declared_once.proofs.Knowing.{declared_once}
+use Rattle.agreed_internals.proofs.PassedOn.{declared_once}
 use Rattle.agreed_internals.proofs.Agreeing.{internals_agree}
 use Rattle.internal_types.specs.Internal.{EntityTypesKnown, InitialisedInternals}
 use Rattle.internal_types.proofs.Functions.{function_name}

@@ -14,8 +14,8 @@ use Rattle.c_mentions.specs.Roles.{in_declaration, specified, opened}
 use Rattle.c_mentions.specs.Settings.{Standing, standings, with_scope, handed_down, outermost}
 use Rattle.c_senses.specs.Tree.{Source, children_at, is_a, is_name, parent_of, above_within}
 use Rattle.c_senses.specs.Declarators.{is_declarator, is_outermost, outermost_of}
-use Rattle.placed_laws.proofs.Climbing.{Grown}
-use Rattle.placed_laws.proofs.Names.{found}
+use Rattle.nesting_laws.proofs.PassedOn.{Grown}
+use Rattle.nesting_laws.proofs.PassedOn.{found}
 use Rattle.linkage_laws.proofs.Standings.{HasParent, parents}
 use Rattle.linkage_laws.proofs.Seen.{nodes, none_some, no_both, production_is, production_same, children_are, child_is, name_is, parent_is}
 use Rattle.linkage_laws.proofs.Roles.{role_handed, declared_specs, open_by, opens}

@@ -3,7 +3,7 @@ use Rattle.std.proofs.Common.{◌≡◌, ◌+◌, ℕ, zero, suc, Bool, true, fa
 use Rattle.c_lexer.specs.declared.Token.{Token}
 use Rattle.c_grammar.specs.Tree.{makes_node}
 use Rattle.c_grammar.specs.Reads.{State, Fault, Node, leaf, taken, scoped, opened, closed, Walks, Opens, at_end, token, no_token, use_of, no_use, choice, no_choice, no_alternative, again, no_again, scope, enough, deep, refused, whole, broken}
-use Rattle.placed_laws.proofs.Once.{Extends}
+use Rattle.nesting_laws.proofs.PassedOn.{Extends}
 
 module _
     (text : List ℕ) (tokens : List Token) (Good : List Node → Node → Type 0)

@@ -19,7 +19,7 @@ use Rattle.c_senses.specs.World.{World}
 use Rattle.c_senses.specs.Sense.{Sense, IsSpecified, Specified, sense_in}
 use Rattle.c_senses.specs.Specifiers.{words_at, with_word, storage_words, specs_row, words_fit, function_words, specified_type, first_type}
 use Rattle.c_senses.specs.Rows.{AreSenses, row_of, world_at}
-use Rattle.placed_laws.proofs.Climbing.{Grown, row_at}
+use Rattle.nesting_laws.proofs.PassedOn.{Grown, row_at}
 use Rattle.linkage_laws.proofs.Seen.{nodes, some_same, none_some, production_is, children_are}
 use Rattle.linkage_laws.proofs.Words.{leaf_at}
 

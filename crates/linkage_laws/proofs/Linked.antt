@@ -27,7 +27,7 @@ use Rattle.c_senses.specs.Rows.{AreSenses}
 use Rattle.c_senses.specs.Sense.{Sense, IsSpecified, Specified, sense_in}
 use Rattle.definition_laws.specs.Definitions.{InDefinition}
 use Rattle.nesting_laws.specs.Nested.{Nested}
-use Rattle.placed_laws.proofs.Climbing.{Grown}
+use Rattle.nesting_laws.proofs.PassedOn.{Grown}
 use Rattle.linkage_laws.specs.Linked.{StandsLinked}
 use Rattle.linkage_laws.proofs.Origins.{HasOrigin, origin}
 use Rattle.linkage_laws.proofs.Seen.{nodes, some_same, none_some, children_are, node_within, apart, parent_is}

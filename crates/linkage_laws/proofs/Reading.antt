@@ -14,9 +14,9 @@ use Rattle.c_parser.specs.Parse.{begin}
 use Rattle.c_units.specs.Units.{IsUnit}
 use Rattle.c_senses.specs.Names.{source_of, names_of, numbered}
 use Rattle.c_senses.specs.Tree.{production_of, children_of, is_a}
-use Rattle.placed_laws.proofs.Once.{Extends}
-use Rattle.placed_laws.proofs.Adding.{All, all_on}
-use Rattle.placed_laws.proofs.Growing.{grown_read}
+use Rattle.nesting_laws.proofs.PassedOn.{Extends}
+use Rattle.nesting_laws.proofs.PassedOn.{All, all_on}
+use Rattle.nesting_laws.proofs.PassedOn.{grown_read}
 use Rattle.nesting_laws.proofs.Nesting.{units_nest}
 use Rattle.definition_laws.proofs.Reading.{block_parts}
 use Rattle.linkage_laws.specs.Linked.{LinkedNamesStand}

@@ -14,7 +14,7 @@ use Rattle.c_scope.specs.Known.{first_scope}
 use Rattle.c_senses.specs.Tree.{Source, children_at, is_a, child_of}
 use Rattle.definition_laws.specs.Definitions.{InDefinition, itself, below}
 use Rattle.nesting_laws.specs.Nested.{Nested}
-use Rattle.placed_laws.proofs.Climbing.{Grown}
+use Rattle.nesting_laws.proofs.PassedOn.{Grown}
 use Rattle.linkage_laws.proofs.Standings.{HasParent, parents}
 use Rattle.linkage_laws.proofs.Seen.{list_in, nodes, no_both, production_is, production_same, child_is, node_has, node_within, apart}
 use Rattle.linkage_laws.proofs.Roles.{opens, list_is}

@@ -8,8 +8,8 @@ use Rattle.c_grammar.specs.Table.{table, row, item_of}
 use Rattle.c_grammar.specs.Terminals.{contains}
 use Rattle.c_grammar.specs.Tree.{makes_node, nests}
 use Rattle.c_grammar.specs.Reads.{State, Node, leaf, first, second, taken, opened, Walks, Opens}
-use Rattle.placed_laws.proofs.Rows.{left, right, all_bring, rows_bring, row_brings, one_chosen}
-use Rattle.placed_laws.proofs.Adding.{All, row_adds}
+use Rattle.nesting_laws.proofs.PassedOn.{left, right, all_bring, rows_bring, row_brings, one_chosen}
+use Rattle.nesting_laws.proofs.PassedOn.{All, row_adds}
 use Rattle.linkage_laws.proofs.Inverting.{tokened, chose, ended, read, plain_opened, plain_closed}
 
 -- by a production: one of three

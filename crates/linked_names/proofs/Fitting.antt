@@ -23,8 +23,8 @@ use Rattle.run_laws.proofs.Times.{known_at, known}
 use Rattle.run_laws.proofs.Automatic.{specified_later}
 use Rattle.name_order.specs.Order.{declaring, linking, IsNameOf, Declares, Enumerates, Names, Links, IsOrdered}
 use Rattle.name_order.specs.Order as order
-use Rattle.plain_names.proofs.Later.{Later, Grown as Grew, known_later, own_later, initialiser_for_same, derived_later}
-use Rattle.plain_names.proofs.Fitting.{SomeFits, no_value, meaning_fits, found_node}
+use Rattle.object_types.proofs.PassedOn.{Later, Grown as Grew, known_later, own_later, initialiser_for_same, derived_later}
+use Rattle.object_types.proofs.PassedOn.{SomeFits, no_value, meaning_fits, found_node}
 use Rattle.joined_types.proofs.Joining.{types_joined}
 use Rattle.declared_leaves.specs.Leaves.{IsNamed, Own, Inner, IsDeclaredBy}
 use Rattle.declared_leaves.proofs.Climbing.{leaves_declared, outermost_is}

@@ -1,1 +1,1 @@
-pub mod Never
+pub mod Complete

@@ -1,4 +1,4 @@
-//! The law of texts that are not built: a function that does nothing, whose contract it is.
+//! The law of texts that have a unit: a function that does nothing, whose contract it is.
 #![tactic(auto)]
 
 pub mod laws;

@@ -4,3 +4,4 @@ mod Counted
 mod Among
 pub mod Members
 pub mod Few
+pub mod PassedOn

@@ -8,7 +8,7 @@ ghost use Rattle.c_senses.specs.Declarators as spec;
 ghost use Rattle.c_senses.specs.Entities.{defined_parameter};
 ghost use Rattle.c_results.specs.Standing.{derivations_seen, senses_made};
 ghost use Rattle.tree_reads.specs.Sources.{source_read};
-ghost use Rattle.c_declarators.specs.Parameters.{is_definition_of, no_steps};
+ghost use Rattle.c_entities.specs.PassedOn.{is_definition_of, no_steps};
 
 use crate::levels::is_definition;
 use crate::names::inner;

@@ -8,7 +8,7 @@ ghost use Rattle.c_results.specs.Standing.{sense_made, senses_made, sense_read};
 ghost use Rattle.std.specs.Option.{option_copied};
 ghost use Rattle.tree_reads.specs.Sources.{source_read};
 ghost use Rattle.c_results.specs.Parts.{DeclaratorSeen, declarator_in};
-ghost use Rattle.c_declarators.specs.Parts.{first_declarator};
+ghost use Rattle.c_entities.specs.PassedOn.{first_declarator};
 ghost use Rattle.name_places.specs.Named.{name_within, IsNamedIn};
 
 use c_results::{Derivation, Made, Results};

@@ -7,10 +7,12 @@ ghost use Rattle.c_senses.specs.Entities as spec;
 ghost use Rattle.c_results.specs.Standing.{senses_made};
 ghost use Rattle.tree_reads.specs.Sources.{source_in};
 ghost use Rattle.c_meanings.specs.Known.{AreNamed};
+ghost use Rattle.c_meanings.specs.Linkages.{AreLinkages};
 ghost use Rattle.c_named.specs.Lists.{leaves_of};
-ghost use Rattle.name_sayings.specs.Listed.{AreListed, leaf_if, internal_of};
+ghost use Rattle.name_sayings.specs.Listed.{AreListed, GiveInternal, leaf_if, internal_of};
 
-use c_meanings::{Names, declared_at, is_internal_after, nothing_seen};
+use crate::leaves::leaves_of;
+use c_meanings::{Linkages, Names, declared_at, internal_thinned, is_internal_after, nothing_seen};
 use c_results::Results;
 use core_nodes::CheckFault;
 use std::alloc::Global;
@@ -61,30 +63,55 @@ fn internal_of(
     Err(CheckFault::OutOfMemory)
 }
 
-/// The leaves of the declarations before one of a name that give it internal linkage, in order, where it has that itself: none are
-/// asked for otherwise. It takes as long as there are declarations of the symbol before it.
+// The leaves of all declarations before one of a name that give it internal linkage, in order. It takes as long as there are declarations of
+// the symbol before it.
+fn all_before(
+    alloc: Global,
+    names: &Names,
+    lists: &SymbolLists,
+    syntax: &Syntax,
+    results: &Results,
+    leaf: u32,
+) -> Result<Vec<u32>, CheckFault>
+    requires names { AreNamed syntax.now results.now names.now }
+    requires lists { AreListed syntax.now lists.now }
+    ensures leaves { IfOk result (λ list. (u : UnitSpec) (w : World) (uses : List (ℕ × ℕ)) →
+        list.items ≡ leaves_of (spec.internal_before w (source_in syntax.now uses) (sense_in (senses_made u results.now)) leaf)) }
+    ensures within { IfOk result (λ list. All (λ other. other < length syntax.now.tree.now.nodes.items) list.items) }
+    ensures memory { IsOkUnless result CheckFault.OutOfMemory }
+{
+    match declared_at(names, syntax, leaf) {
+        Some(declared) => internal_of(alloc, names, lists, syntax, results, declared.symbol, leaf),
+        None => Ok(Vec::new(alloc)),
+    }
+}
+
+/// The leaves of declarations before one of a name that give it internal linkage, in order, where it has that itself: they give what all
+/// these give. None are asked for otherwise.
 pub(crate) fn internal_before(
     alloc: Global,
     names: &Names,
     lists: &SymbolLists,
     syntax: &Syntax,
     results: &Results,
+    linkages: &mut Linkages,
     internal: bool,
     leaf: u32,
 ) -> Result<Vec<u32>, CheckFault>
     requires names { AreNamed syntax.now results.now names.now }
     requires lists { AreListed syntax.now lists.now }
-    ensures leaves { IfOk result (λ list. (u : UnitSpec) (w : World) (uses : List (ℕ × ℕ)) →
-        internal ≡ true →
-        list.items ≡ leaves_of (spec.internal_before w (source_in syntax.now uses) (sense_in (senses_made u results.now)) leaf)) }
+    requires linkages { AreLinkages syntax.now results.now names.now linkages.old }
+    ensures linkages { AreLinkages syntax.now results.now names.now linkages.new }
+    ensures gives { IfOk result (λ list. (u : UnitSpec) (w : World) (uses : List (ℕ × ℕ)) →
+        internal ≡ true → GiveInternal w (source_in syntax.now uses) (sense_in (senses_made u results.now)) leaf list.items) }
     ensures within { IfOk result (λ list. All (λ other. other < length syntax.now.tree.now.nodes.items) list.items) }
     ensures memory { IsOkUnless result CheckFault.OutOfMemory }
 {
     if !internal {
         return Ok(Vec::new(alloc));
     }
-    match declared_at(names, syntax, leaf) {
-        Some(declared) => internal_of(alloc, names, lists, syntax, results, declared.symbol, leaf),
-        None => Ok(Vec::new(alloc)),
+    match internal_thinned(alloc, names, syntax, results, linkages, leaf)? {
+        Some(list) => leaves_of(alloc, list.as_slice()),
+        None => all_before(alloc, names, lists, syntax, results, leaf),
     }
 }

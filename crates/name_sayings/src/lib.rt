@@ -2,6 +2,7 @@
 #![tactic(auto)]
 
 mod internal;
+mod leaves;
 mod opening;
 mod sayings;
 

@@ -11,12 +11,13 @@ ghost use Rattle.c_meanings.specs.Known.{AreNamed};
 ghost use Rattle.c_meanings.specs.Linkages.{AreLinkages};
 ghost use Rattle.c_named.specs.Lists.{leaves_of};
 ghost use Rattle.c_named.specs.Said.{IsSaid, IsSaidIn};
-ghost use Rattle.name_sayings.specs.Listed.{AreListed};
+ghost use Rattle.name_sayings.specs.Listed.{AreListed, GiveSame};
 
 use crate::internal::internal_before;
+use crate::leaves::leaves_of;
 use c_meanings::{
     Linkages, Names, before_in_scope, declares_function, internal_kept, is_internal_after,
-    is_linked, is_typedef, nothing_seen, same_internal_kept,
+    is_linked, is_typedef, nothing_seen, same_internal_kept, scope_thinned,
 };
 use c_named::Said;
 use c_results::Results;
@@ -25,18 +26,6 @@ use core_nodes::CheckFault;
 use std::alloc::Global;
 use symbol_lists::SymbolLists;
 use tree_reads::Syntax;
-
-// The leaves of some declarations.
-fn leaves_of(alloc: Global, declarations: &[Declared]) -> Result<Vec<u32>, CheckFault>
-    ensures leaves { IfOk result (λ list. list.items ≡ leaves_of declarations.now) }
-    ensures memory { IsOkUnless result CheckFault.OutOfMemory }
-{
-    let mut list = Vec::new(alloc);
-    for declared in declarations {
-        list.push(declared.node)?;
-    }
-    Ok(list)
-}
 
 // Whether each of some declarations gives its name internal linkage, or none does.
 fn same_internal(
@@ -80,27 +69,50 @@ fn in_scope(
     }
 }
 
-// The leaves of the declarations of a typedef name before one in its scope: none are asked for otherwise.
+// The leaves of the declarations of a name before one in its scope.
+fn leaves_before(
+    alloc: Global,
+    names: &Names,
+    syntax: &Syntax,
+    results: &Results,
+    leaf: u32,
+) -> Result<Vec<u32>, CheckFault>
+    requires names { AreNamed syntax.now results.now names.now }
+    ensures leaves { IfOk result (λ list. (uses : List (ℕ × ℕ)) →
+        let s = source_in syntax.now uses in list.items ≡ leaves_of (senses.before_in_scope s (senses.ordinary_at s leaf))) }
+    ensures within { IfOk result (λ list. All (λ other. other < length syntax.now.tree.now.nodes.items) list.items) }
+    ensures memory { IsOkUnless result CheckFault.OutOfMemory }
+{
+    let before = in_scope(alloc, names, syntax, results, leaf)?;
+    leaves_of(alloc, before.as_slice())
+}
+
+// The leaves of declarations of a typedef name before one in its scope that have each type that all of these have: none are asked for
+// otherwise.
 fn typedefs_before(
     alloc: Global,
     names: &Names,
     syntax: &Syntax,
     results: &Results,
+    linkages: &mut Linkages,
     typedef: bool,
     leaf: u32,
 ) -> Result<Vec<u32>, CheckFault>
     requires names { AreNamed syntax.now results.now names.now }
-    ensures leaves { IfOk result (λ list. (uses : List (ℕ × ℕ)) →
-        let s = source_in syntax.now uses in
-        typedef ≡ true → list.items ≡ leaves_of (senses.before_in_scope s (senses.ordinary_at s leaf))) }
+    requires linkages { AreLinkages syntax.now results.now names.now linkages.old }
+    ensures linkages { AreLinkages syntax.now results.now names.now linkages.new }
+    ensures same { IfOk result (λ list. (u : UnitSpec) (w : World) (uses : List (ℕ × ℕ)) →
+        typedef ≡ true → GiveSame w (source_in syntax.now uses) (sense_in (senses_made u results.now)) leaf list.items) }
     ensures within { IfOk result (λ list. All (λ other. other < length syntax.now.tree.now.nodes.items) list.items) }
     ensures memory { IsOkUnless result CheckFault.OutOfMemory }
 {
     if !typedef {
         return Ok(Vec::new(alloc));
     }
-    let before = in_scope(alloc, names, syntax, results, leaf)?;
-    leaves_of(alloc, before.as_slice())
+    match scope_thinned(alloc, names, syntax, results, linkages, leaf)? {
+        Some(list) => leaves_of(alloc, list.as_slice()),
+        None => leaves_before(alloc, names, syntax, results, leaf),
+    }
 }
 
 // Whether the declarations of a name before one in its scope all have a linkage, internal or not: by what is kept, or else by each of them.
@@ -154,8 +166,8 @@ fn has_one_linkage(
 }
 
 /// What the declarations of a unit say of the name that a leaf declares (C11 6.2.1, 6.2.2, 6.7p3), with what is kept of those before it.
-/// Only memory may want. It takes as long as there are declarations before it of a typedef name in its scope, and of a name with internal
-/// linkage in the unit.
+/// Only memory may want. Asked of the declarations of a unit in order, it looks at each of them once, where those of one name that stand
+/// behind one another are made alike.
 pub fn said_of(
     alloc: Global,
     names: &Names,
@@ -178,8 +190,10 @@ pub fn said_of(
     let internal = internal_kept(names, syntax, results, linkages, leaf);
     let one_linkage = has_one_linkage(alloc, names, syntax, results, linkages, internal, leaf)?;
     let typedef = is_typedef(names, syntax, leaf);
-    let in_scope = typedefs_before(alloc, names, syntax, results, typedef, leaf)?;
-    let earlier = internal_before(alloc, names, lists, syntax, results, internal, leaf)?;
+    let in_scope = typedefs_before(alloc, names, syntax, results, linkages, typedef, leaf)?;
+    let earlier = internal_before(
+        alloc, names, lists, syntax, results, linkages, internal, leaf,
+    )?;
     Ok(Said {
         is_typedef: typedef,
         is_linked: is_linked(names, syntax, leaf),

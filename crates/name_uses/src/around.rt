@@ -11,6 +11,7 @@ ghost use Rattle.c_senses.specs.Entities as entities;
 ghost use Rattle.c_rows.specs.Named.{NameFits, IsNamedWithin};
 ghost use Rattle.tree_reads.specs.Sources.{source_in};
 ghost use Rattle.c_meanings.specs.Known.{AreNames, ArePaired};
+ghost use Rattle.c_meanings.specs.Linkages.{AreLinkages};
 ghost use Rattle.c_meanings.specs.Meanings.{meaning_seen};
 ghost use Rattle.name_places.specs.Named.{IsNamedIn};
 ghost use Rattle.expression_rows.specs.Fitting.{FirstFits, FitsAround};
@@ -21,7 +22,7 @@ ghost use Rattle.name_uses.specs.Looked.{Looked};
 use crate::named::named_of;
 use crate::uses::may_call;
 use c_lexer::TokenKind;
-use c_meanings::{Meaning, Names, meaning_at};
+use c_meanings::{Linkages, Meaning, Names, meaning_at};
 use c_results::Results;
 use core_nodes::CheckFault;
 use core_tree::node::Unit;
@@ -74,6 +75,7 @@ fn around_name<'a>(
     syntax: &Syntax<'a>,
     names: &Names,
     results: &Results,
+    linkages: &mut Linkages,
     at: u32,
     leaf: u32,
 ) -> Result<Around<'a>, CheckFault>
@@ -81,7 +83,9 @@ fn around_name<'a>(
     requires results { All (IsWithin unit.old) results.now }
     requires named { All (IsNamedIn (length syntax.now.tree.now.nodes.items)) results.now }
     requires names { AreNames syntax.now unit.old results.now names.now }
+    requires linkages { AreLinkages syntax.now results.now names.now linkages.old }
     requires at { at < length syntax.now.tree.now.nodes.items }
+    ensures linkages { AreLinkages syntax.now results.now names.now linkages.new }
     ensures ready { IsReady unit.new }
     ensures builds { Builds unit.old unit.new }
     ensures within { IfOk result (λ around. IsNamedWithin unit.new around.first) }
@@ -92,7 +96,7 @@ fn around_name<'a>(
         Looked (λ around. NameFits w unit.new around.first (option_copied around.own_name) (w.meaning leaf))
         (is_strange (length s.nodes) (w.meaning leaf)) at result }
 {
-    let Ok(meaning) = meaning_at(alloc, unit, syntax, names, results, leaf) else {
+    let Ok(meaning) = meaning_at(alloc, unit, syntax, names, results, linkages, leaf) else {
         return Err(CheckFault::OutOfMemory);
     };
     let own_name = own_name_unless(syntax, results, at, meaning);
@@ -113,6 +117,7 @@ fn around_primary<'a>(
     syntax: &Syntax<'a>,
     names: &Names,
     results: &Results,
+    linkages: &mut Linkages,
     at: u32,
     children: &[u32],
 ) -> Result<Around<'a>, CheckFault>
@@ -120,7 +125,9 @@ fn around_primary<'a>(
     requires results { All (IsWithin unit.old) results.now }
     requires named { All (IsNamedIn (length syntax.now.tree.now.nodes.items)) results.now }
     requires names { AreNames syntax.now unit.old results.now names.now }
+    requires linkages { AreLinkages syntax.now results.now names.now linkages.old }
     requires at { at < length syntax.now.tree.now.nodes.items }
+    ensures linkages { AreLinkages syntax.now results.now names.now linkages.new }
     ensures ready { IsReady unit.new }
     ensures builds { Builds unit.old unit.new }
     ensures within { IfOk result (λ around. IsNamedWithin unit.new around.first) }
@@ -135,7 +142,9 @@ fn around_primary<'a>(
     }
     let first = children[0];
     match kind_of(syntax, first) {
-        TokenKind::Identifier => around_name(alloc, unit, syntax, names, results, at, first),
+        TokenKind::Identifier => around_name(
+            alloc, unit, syntax, names, results, linkages, at, first,
+        ),
         TokenKind::Keyword(_) | TokenKind::Punctuator(_) | TokenKind::Integer => {
             Ok(nothing(false))
         }
@@ -156,13 +165,16 @@ pub fn around_of<'a>(
     syntax: &Syntax<'a>,
     names: &Names,
     results: &Results,
+    linkages: &mut Linkages,
     at: u32,
 ) -> Result<Around<'a>, CheckFault>
     requires ready { IsReady unit.old }
     requires results { All (IsWithin unit.old) results.now }
     requires named { All (IsNamedIn (length syntax.now.tree.now.nodes.items)) results.now }
     requires names { AreNames syntax.now unit.old results.now names.now }
+    requires linkages { AreLinkages syntax.now results.now names.now linkages.old }
     requires at { at < length syntax.now.tree.now.nodes.items }
+    ensures linkages { AreLinkages syntax.now results.now names.now linkages.new }
     ensures ready { IsReady unit.new }
     ensures builds { Builds unit.old unit.new }
     ensures within { IfOk result (λ around. IsNamedWithin unit.new around.first) }
@@ -176,7 +188,7 @@ pub fn around_of<'a>(
     let production = production_of(syntax, at);
     if production == P_PRIMARY {
         let children = children_of(syntax, at);
-        return around_primary(alloc, unit, syntax, names, results, at, children);
+        return around_primary(alloc, unit, syntax, names, results, linkages, at, children);
     }
     if production == P_POST {
         return Ok(nothing(may_call(syntax, results, at)));

@@ -8,6 +8,7 @@ ghost use Rattle.c_senses.specs.Rows.{world_at, AreSenses};
 ghost use Rattle.tree_reads.specs.Sources.{source_in};
 ghost use Rattle.whole_rows.specs.Constants.{SenseHasRows, HaveRowsMade};
 ghost use Rattle.c_meanings.specs.Known.{AreNames, ArePaired};
+ghost use Rattle.c_meanings.specs.Linkages.{AreLinkages};
 ghost use Rattle.name_places.specs.Named.{IsNamedIn};
 ghost use Rattle.c_senses.specs.Expressions.{expression_row};
 ghost use Rattle.expression_rows.specs.Built.{built_row};
@@ -15,7 +16,7 @@ ghost use Rattle.expression_rows.specs.Readable.{IsReadable};
 ghost use Rattle.name_uses.specs.Built.{named_row};
 
 use crate::around::around_of;
-use c_meanings::Names;
+use c_meanings::{Linkages, Names};
 use c_results::{Made, Results};
 use core_nodes::CheckFault;
 use core_tree::node::Unit;
@@ -24,7 +25,7 @@ use std::alloc::Global;
 use tree_reads::Syntax;
 
 /// The row of a node of an expression (C11 6.5.1 to 6.5.17), over what was made for the nodes before it and what the declarations
-/// before it give. `BadOperand` and `Unsupported` hold the kind and the node that the row refuses with; a node of another production
+/// before it give, with what is kept of these. `BadOperand` and `Unsupported` hold the kind and the node that the row refuses with; a node of another production
 /// is `BadOperand`. `NotBuilt`, at the node: an integer constant of 2^64 or more, strings with an escape of 256 or more, and a name
 /// that means a number which int doesn't hold or an object that no node of the tree declares. No reading of a text takes such
 /// constants and strings, and where the rows before fit no name means that.
@@ -34,6 +35,7 @@ pub fn expression(
     syntax: &Syntax,
     names: &Names,
     results: &Results,
+    linkages: &mut Linkages,
     at: u32,
 ) -> Result<Made, CheckFault>
     requires ready { IsReady unit.old }
@@ -41,7 +43,9 @@ pub fn expression(
     requires rows { HaveRowsMade unit.old results.now }
     requires named { All (IsNamedIn (length syntax.now.tree.now.nodes.items)) results.now }
     requires names { AreNames syntax.now unit.old results.now names.now }
+    requires linkages { AreLinkages syntax.now results.now names.now linkages.old }
     requires at { at < length syntax.now.tree.now.nodes.items }
+    ensures linkages { AreLinkages syntax.now results.now names.now linkages.new }
     ensures ready { IsReady unit.new }
     ensures builds { Builds unit.old unit.new }
     ensures within { IfOk result (IsWithin unit.new) }
@@ -72,7 +76,7 @@ pub fn expression(
         Rowed unit.new result
         (expression_row (world_at s senses at) s (sense_in senses) (production_at s at) at (children_at s at)) }
 {
-    match around_of(alloc, unit, syntax, names, results, at) {
+    match around_of(alloc, unit, syntax, names, results, linkages, at) {
         Ok(around) => row(alloc, unit, syntax, results, &around, at),
         Err(fault) => Err(fault),
     }

@@ -1,3 +1,4 @@
 pub mod Nesting
 pub mod Parts
 pub mod Rows
+pub mod PassedOn

@@ -9,9 +9,9 @@ use Rattle.c_grammar.specs.Productions.{p_unit}
 use Rattle.c_grammar.specs.Terminals.{contains}
 use Rattle.c_grammar.specs.Reads.{Node, node_of}
 use Rattle.c_parser.specs.Parse.{begin}
-use Rattle.c_units.specs.Units.{IsUnit}
-use Rattle.c_senses.specs.Names.{source_of}
-use Rattle.c_senses.specs.Tree.{production_of, children_of}
+use Rattle.placed_laws.specs.PassedOn.{IsUnit}
+use Rattle.placed_laws.specs.PassedOn.{source_of}
+use Rattle.placed_laws.specs.PassedOn.{production_of, children_of}
 use Rattle.placed_laws.proofs.Adding.{All}
 use Rattle.nesting_laws.specs.Nested.{UnitsNest}
 use Rattle.nesting_laws.proofs.Rows.{barred, free}

@@ -4,9 +4,9 @@ use Rattle.c_lexer.specs.declared.Tokens.{Tokens}
 use Rattle.c_grammar.specs.declared.trees.Tree.{Tree}
 use Rattle.c_grammar.specs.Productions.{p_unit, p_external, p_rest, p_declaration, p_block, p_statement}
 use Rattle.c_grammar.specs.Terminals.{contains}
-use Rattle.c_units.specs.Units.{IsUnit}
-use Rattle.c_senses.specs.Names.{source_of, numbered}
-use Rattle.c_senses.specs.Tree.{Source, is_a, children_at}
+use Rattle.placed_laws.specs.PassedOn.{IsUnit}
+use Rattle.placed_laws.specs.PassedOn.{source_of, numbered}
+use Rattle.placed_laws.specs.PassedOn.{Source, is_a, children_at}
 
 -- an external declaration is a part of the root alone, which is a part of nothing; the rest of a declaration is one of an external
 -- declaration or of a declaration; a block is one of an external declaration or of a statement; and a declaration and a statement are

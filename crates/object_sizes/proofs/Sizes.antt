@@ -34,7 +34,7 @@ use Rattle.member_laws.proofs.Growing.{sized_stays}
 use Rattle.value_laws.proofs.Shapes.{structure_complete, union_complete}
 use Rattle.initialiser_laws.specs.Initialisers.{InitialisersAreOf}
 use Rattle.initialiser_laws.proofs.Found.{initialisers_found}
-use Rattle.object_bodies.specs.Objects.{InitialisersPlaced}
+use Rattle.placed_initialisers.specs.PassedOn.{InitialisersPlaced}
 use Rattle.placed_initialisers.proofs.Whole.{units_place}
 use Rattle.object_sizes.specs.Sized.{TypeSized, Sized, Complete, Open, ObjectsSized}
 use Rattle.object_sizes.proofs.Growing.{grows_between, array_sized, one_sized}

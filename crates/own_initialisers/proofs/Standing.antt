@@ -23,7 +23,7 @@ use Rattle.nesting_laws.specs.Nested.{Nested}
 use Rattle.nesting_laws.proofs.Nesting.{units_nest}
 use Rattle.placed_laws.proofs.Climbing.{Grown, exists_at}
 use Rattle.placed_laws.proofs.Growing.{grown_read}
-use Rattle.linkage_laws.proofs.Seen.{parent_is, parent_holds}
+use Rattle.function_definitions.proofs.PassedOn.{parent_is, parent_holds}
 use Rattle.sign_parts.specs.Parts.{Mark, mark_of, mark_at, Brings, Takes, IsBrought}
 use Rattle.sign_parts.proofs.Reading.{units_bring}
 use Rattle.own_initialisers.specs.Own.{InitialisersStand}

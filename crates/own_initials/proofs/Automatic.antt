@@ -32,7 +32,7 @@ use Rattle.linkage_laws.proofs.Reading.{tree_is}
 use Rattle.linkage_laws.proofs.Unlinked.{lives, local}
 use Rattle.owner_laws.proofs.Whole.{grown_of}
 use Rattle.initialiser_laws.proofs.Found.{initialisers_found}
-use Rattle.object_bodies.specs.Objects.{IsPlaced}
+use Rattle.placed_initialisers.specs.PassedOn.{IsPlaced}
 use Rattle.placed_initialisers.proofs.Whole.{units_place}
 use Rattle.initial_entities.specs.Own.{IsOwnInitial}
 use Rattle.initial_entities.proofs.Rows.{initialisers_own}

@@ -6,3 +6,4 @@ pub mod Kept
 pub mod Lasting
 pub mod Literals
 pub mod Once
+pub mod PassedOn

@@ -49,7 +49,7 @@ use Rattle.representative_names.proofs.Standing.{representatives_known}
 use Rattle.initialiser_laws.proofs.Found.{initialisers_found}
 use Rattle.initial_entities.specs.Own.{IsOwnInitial}
 use Rattle.initial_entities.proofs.Rows.{initialisers_own}
-use Rattle.object_bodies.specs.Objects.{IsPlaced}
+use Rattle.placed_initialisers.specs.PassedOn.{IsPlaced}
 use Rattle.placed_initialisers.proofs.Whole.{units_place}
 use Rattle.grown_parts.proofs.Reading.{units_bring}
 use Rattle.declared_leaves.proofs.Climbing.{leaves_declared}

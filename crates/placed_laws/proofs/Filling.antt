@@ -19,7 +19,7 @@ use Rattle.core_tree.specs.declared.node.Storage.{Storage}
 use Rattle.core_tree.specs.declared.node.Storage.TheVariants.{Static, Automatic, FunctionBody, Parameter, Declared}
 use Rattle.core_tree.specs.Typed.{trees_of}
 use Rattle.core_tree.specs.Rows.{Initialises, InitialisesEntity, InitialisesIn}
-use Rattle.c_consts.specs.Core.{Core, Of, kind_of}
+use Rattle.c_senses.specs.PassedOn.{Core, Of, kind_of}
 use Rattle.c_senses.specs.Names.{ordinary_at, names_type}
 use Rattle.c_senses.specs.Tree.{Source, production_of, children_at, is_a, child_of, place_at}
 use Rattle.c_senses.specs.World.{World}

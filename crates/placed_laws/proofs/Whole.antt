@@ -3,7 +3,7 @@ use Rattle.std.proofs.Common.{ℕ, [], refl}
 use Rattle.c_lexer.specs.declared.Tokens.{Tokens}
 use Rattle.c_grammar.specs.declared.trees.Tree.{Tree}
 use Rattle.c_grammar.specs.Names.{no_names}
-use Rattle.c_parser.specs.Parse.{begin}
+use Rattle.c_units.specs.PassedOn.{begin}
 use Rattle.c_units.specs.Units.{IsUnit}
 use Rattle.c_senses.specs.Names.{source_of, numbered}
 use Rattle.placed_laws.specs.Placed.{UnitsAreFilled}

@@ -50,11 +50,11 @@ use Rattle.automatic_runs.proofs.Whole.{automatic_runs}
 use Rattle.count_laws.specs.Counting.{sum_below, bodies}
 use Rattle.once_initialised.specs.Once.{initialises}
 use Rattle.once_initialised.proofs.Whole.{initialised_once}
-use Rattle.own_initials.proofs.Names.{both}
-use Rattle.own_initials.proofs.Trees.{stands, one_in}
-use Rattle.own_initials.proofs.Functions.{child}
-use Rattle.own_initials.proofs.Automatic.{IsAutomatic, automatic, OwnBody, body_of}
-use Rattle.own_initials.proofs.Roots.{IsBlock, IsRoot, root_counts, root_within, two_below}
+use Rattle.parts_initialise.proofs.PassedOn.{both}
+use Rattle.parts_initialise.proofs.PassedOn.{stands, one_in}
+use Rattle.parts_initialise.proofs.PassedOn.{child}
+use Rattle.parts_initialise.proofs.PassedOn.{IsAutomatic, automatic, OwnBody, body_of}
+use Rattle.parts_initialise.proofs.PassedOn.{IsBlock, IsRoot, root_counts, root_within, two_below}
 use Rattle.unit_finish.proofs.Lists.{map_back}
 use Rattle.parts_initialise.proofs.Stored.{BlockAt, StaysAt, lasting_root}
 use Rattle.raised_parts.specs.Raised.{HoldersFirst}

@@ -46,7 +46,7 @@ use Rattle.unit_finish.proofs.Standing.{at_within, number_same, marked_node, kep
 use Rattle.once_nodes.proofs.Rooted.{found_where}
 use Rattle.run_laws.proofs.Times.{known_at, world_of, row_as}
 use Rattle.linkage_laws.proofs.Seen.{node_within}
-use Rattle.own_initials.proofs.Roots.{IsBlock}
+use Rattle.parts_initialise.proofs.PassedOn.{IsBlock}
 use Rattle.built_parts.specs.Parts.{ArePut}
 use Rattle.built_parts.proofs.Building as building
 use Rattle.parts_initialise.specs.Initialise.{IsRaised, IsLasting}

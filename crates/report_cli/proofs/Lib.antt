@@ -9,6 +9,9 @@ pub mod Pieces
 pub mod Exclusion
 pub mod OneOutcome
 pub mod ProgramSize
+pub mod Twins
+pub mod Taken
+pub mod Together
 pub mod Linked
 pub mod Linkable
 pub mod Scripted

@@ -4,6 +4,7 @@ use Rattle.pta_base.specs.declared.kind.Kind.{Kind}
 use Rattle.pta_base.specs.declared.kind.Kind.TheVariants.{Operand}
 use Rattle.c_lexer.specs.declared.Tokens.{Tokens}
 use Rattle.c_lexer.specs.Cut.{IsTokens}
+use Rattle.c_types.specs.Made.{IsMade, AreNamed}
 use Rattle.c_grammar.specs.declared.trees.Tree.{Tree}
 use Rattle.core_nodes.specs.declared.fault.CheckFault.{CheckFault}
 use Rattle.core_nodes.specs.declared.fault.CheckFault.TheVariants as check
@@ -15,7 +16,7 @@ use Rattle.c_senses.specs.Names.{source_of, numbered}
 use Rattle.c_senses.specs.Rows.{RefusedAt}
 use Rattle.c_senses.specs.Right.{Right}
 use Rattle.unit_walk.specs.Walked.{AreDense, RefusedIn}
-use Rattle.unit_lowering.specs.Lowered.{IsLowered}
+use Rattle.c_lower.specs.PassedOn.{IsLowered}
 use Rattle.link_names.specs.declared.fault.LinkFault.{LinkFault}
 use Rattle.link_names.specs.declared.fault.LinkFault.TheVariants as link
 use Rattle.unit_link.specs.Linked.{LinksBadly}
@@ -74,7 +75,7 @@ module _ (number : ℕ) (text : NamedText) (tokens : Tokens) (tree : Tree) (pars
   pub lowered_right : (name : List ℕ) (u : Unit) → name ≡ text.0 → IsLowered (source_of tokens tree) name u → IsRightText number text u
   lowered_right name u is h =
       let P : List ℕ → Type 0 = λ n. Right (numbered h.tag_number (source_of tokens tree)) n u in
-      record { tokens = tokens; tree = tree; parsed = parsed; tag_number = h.tag_number; dense = h.dense; right = subst P is h.right }
+      record { tokens = tokens; tree = tree; parsed = parsed; tag_number = h.tag_number; dense = h.dense; right = subst P is h.right; tags = h.tags }
 
 -- a refusal of texts that are right
 refused_so : (texts : List NamedText) (answer : Answer) (fault : UnitsFault) → fault ≡ fault_of answer → answer.out ≡ [] → AreRefusedTogether texts answer → IsFaultOf texts fault
@@ -103,9 +104,9 @@ module _ (texts : List NamedText) (units : List Unit) (right : AreRightTexts 0 t
   all_refused (unit.Link link.NoMain) fault h is = badly_refused link.NoMain fault h is refl
   all_refused (unit.Link link.OutOfMemory) fault h is = memory_so texts fault is
   all_refused (unit.Nodes nodes) fault h is =
-      refused_so texts _ fault is refl (inr (inl (record { units = units; right = right; program = h.0; linked = h.1; nodes = nodes; many = h.2; answer_is = refl })))
+      refused_so texts _ fault is refl (inr (inl (record { units = units; right = right; program = h.0; own = h.1; nodes = nodes; many = h.2; answer_is = refl })))
   all_refused (unit.Words words) fault h is =
-      refused_so texts _ fault is refl (inr (inr (record { units = units; right = right; program = h.0; linked = h.1; words = words; many = h.2; answer_is = refl })))
+      refused_so texts _ fault is refl (inr (inr (record { units = units; right = right; program = h.0; own = h.1; words = words; many = h.2; answer_is = refl })))
   all_refused unit.OutOfMemory fault h is = memory_so texts fault is
 
   -- the same under names that are the texts'
@@ -113,9 +114,9 @@ module _ (texts : List NamedText) (units : List Unit) (right : AreRightTexts 0 t
   system_refused given cause fault named h is = let P : List (List ℕ) → Type 0 = λ n. IsSystemRefusal n cause fault in all_refused cause fault h (subst P named is)
 
   -- the program of the units is that which their texts denote
-  pub denoted : (program : Program) (space : List Location) (system : System) → AreLinkedAs units program space system → Denotes texts program × IsSystemOf program space system
+  pub denoted : (program : Program) (space : List Location) (system : System) → AreLinkedAs units program space system → IsMade program.types → AreNamed program.types → Denotes texts program × IsSystemOf program space system
   unfolding Denotes
-  denoted program space system h = ((units, right, h.linked), h.system_of)
+  denoted program space system h made named = ((units, right, record { linked = h.linked; made = made; named = named }), h.system_of)
 
 -- the report of a program's system
 pub reported : (program : Program) (space : List Location) (system : System) (report : List ℕ) → IsSystemOf program space system → IsProgramReport program space system report → IsReport program system report

@@ -10,7 +10,6 @@ use Rattle.core_tree.specs.declared.node.Program.{Program}
 use Rattle.sol_model.specs.declared.system.System.{System}
 use Rattle.obj_space.specs.declared.location.Location.{Location}
 use Rattle.obj_space.specs.Space.{DistinctNames}
-use Rattle.link_merge.specs.Tags.{AreMade}
 use Rattle.unit_link.specs.Needs.{AreLinkable}
 use Rattle.unit_system.specs.Of.{AreLinkedAs}
 use Rattle.name_shapes.specs.Bytes.{is_unit_byte, IsMadeOf}
@@ -47,18 +46,18 @@ pub unit_names : (names : List (List ℕ)) → All IsUnitWord names → AreUnitN
 unit_names names h k d within = made_of _ (h k d within).bytes
 
 -- a unit that is right for a text
-named_of : (number : ℕ) (text : NamedText) (u : Unit) → IsRightText number text u → IsMadeOf is_unit_byte text.0 → IsMade u.types → AreNamed u.types → IsNamedUnit u
-named_of number text u h bytes made named = named_whole h.tokens number h.tree h.tag_number text.0 u (cut_tokens number text h.tokens h.tree h.parsed) h.parsed.tree_is h.right bytes made named
+named_of : (number : ℕ) (text : NamedText) (u : Unit) → IsRightText number text u → IsMadeOf is_unit_byte text.0 → IsNamedUnit u
+named_of number text u h bytes = named_whole h.tokens number h.tree h.tag_number text.0 u (cut_tokens number text h.tokens h.tree h.parsed) h.parsed.tree_is h.right bytes h.tags.made h.tags.named
 
 -- each of the units
-pub are_named : (texts : List NamedText) (units : List Unit) → AreUnitNames (map (λ (text : NamedText). text.0) texts) → AreRightTexts 0 texts units → AreMade units → AreNamedUnits units
-are_named texts units bytes right made u x at =
+pub are_named : (texts : List NamedText) (units : List Unit) → AreUnitNames (map (λ (text : NamedText). text.0) texts) → AreRightTexts 0 texts units → AreNamedUnits units
+are_named texts units bytes right u x at =
     let own : IsUnitOf 0 texts u x = unit_of 0 texts units u x right at in
     let names = map (λ (text : NamedText). text.0) texts in
     let within : u < length names = slice_get_within names u own.text.0 own.stands in
     let same : get_or names u own.text.0 ≡ own.text.0 = some_same _ _ (sym (slice_get-get_or names u own.text.0 within) ∙ own.stands) in
     let P : List ℕ → Type 0 = λ name. IsMadeOf is_unit_byte name in
-    named_of (0 + u) own.text x own.right (subst P same (bytes u own.text.0 within)) (made.made u x at) (made.named u x at)
+    named_of (0 + u) own.text x own.right (subst P same (bytes u own.text.0 within))
 
 -- and the locations of their program
 pub are_distinct : (units : List Unit) (program : Program) (space : List Location) (system : System) → AreLinkable units → AreNamedUnits units → AreLinkedAs units program space system → IsMade program.types → AreNamed program.types

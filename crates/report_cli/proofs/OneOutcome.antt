@@ -20,7 +20,6 @@ use Rattle.report_cli.specs.Alone.{IsReadAs}
 use Rattle.report_cli.specs.Lowered.{IsParsed, IsRightText, AreRightTexts, IsRefusedRow, kind_refusal}
 use Rattle.report_cli.specs.Told.{Told}
 use Rattle.report_cli.specs.Outcome.{Denotes, IsRefusedText, FirstRefused, HaveRightUnits, AreRefusedTogether, Refuses, RefusesTold, RefusesToldRight}
-use Rattle.report_cli.specs.Laws.{OneOutcome}
 use Rattle.report_cli.proofs.Exclusion.{one_alone, alone_or_read, alone_or_right}
 
 -- numbers in the order of first specifiers are one numbering
@@ -72,7 +71,7 @@ module _ (number : ℕ) (text : NamedText) where
       not_right (numbered k.tag_number (source_of k.tokens k.tree)) text.0 u h.kind h.node k.right (subst P same h.refused)
 
   -- a text is refused with one answer
-  one_text : (one other : Answer) → IsRefusedText number text one → IsRefusedText number text other → one ≡ other
+  pub one_text : (one other : Answer) → IsRefusedText number text one → IsRefusedText number text other → one ≡ other
   one_text one other (inl h) (inl k) = one_alone text one other h k
   one_text one other (inl h) (inr k) = absurd (alone_or_read text one k.tokens.list.items h k.parsed.read)
   one_text one other (inr h) (inl k) = absurd (alone_or_read text other h.tokens.list.items k h.parsed.read)
@@ -82,14 +81,14 @@ module _ (number : ℕ) (text : NamedText) where
   text_or_right answer u (inl h) k = alone_or_right number text u answer h k
   text_or_right answer u (inr h) k = row_or_right answer u h k
 
-one_first : (number : ℕ) (texts : List NamedText) (one other : Answer) → FirstRefused IsRefusedText number texts one → FirstRefused IsRefusedText number texts other → one ≡ other
+pub one_first : (number : ℕ) (texts : List NamedText) (one other : Answer) → FirstRefused IsRefusedText number texts one → FirstRefused IsRefusedText number texts other → one ≡ other
 one_first number [] one other h k = absurd h
 one_first number (text ∷ texts) one other (inl h) (inl k) = one_text number text one other h k
 one_first number (text ∷ texts) one other (inl h) (inr k) = absurd (text_or_right number text one k.0 h k.1)
 one_first number (text ∷ texts) one other (inr h) (inl k) = absurd (text_or_right number text other h.0 k h.1)
 one_first number (text ∷ texts) one other (inr h) (inr k) = one_first (number + 1) texts one other h.2 k.2
 
-none_right : (number : ℕ) (texts : List NamedText) (answer : Answer) → FirstRefused IsRefusedText number texts answer → HaveRightUnits number texts → ⊥
+pub none_right : (number : ℕ) (texts : List NamedText) (answer : Answer) → FirstRefused IsRefusedText number texts answer → HaveRightUnits number texts → ⊥
 none_right number [] answer h k = h
 none_right number (text ∷ texts) answer (inl h) k = text_or_right number text answer k.0.0 h k.0.1
 none_right number (text ∷ texts) answer (inr h) k = none_right (number + 1) texts answer h.2 k.1
@@ -101,17 +100,17 @@ each_right number [] (u ∷ us) h = absurd h
 each_right number (text ∷ texts) [] h = absurd h
 each_right number (text ∷ texts) (u ∷ us) h = ((u, h.0), each_right (number + 1) texts us h.1)
 
-denoted_right : (texts : List NamedText) (program : Program) → Denotes texts program → HaveRightUnits 0 texts
+pub denoted_right : (texts : List NamedText) (program : Program) → Denotes texts program → HaveRightUnits 0 texts
 unfolding Denotes
 denoted_right texts program h = each_right 0 texts h.0 h.1
 
-together_right : (texts : List NamedText) (answer : Answer) → AreRefusedTogether texts answer → HaveRightUnits 0 texts
+pub together_right : (texts : List NamedText) (answer : Answer) → AreRefusedTogether texts answer → HaveRightUnits 0 texts
 together_right texts answer (inl h) = each_right 0 texts h.units h.right
 together_right texts answer (inr (inl h)) = each_right 0 texts h.units h.right
 together_right texts answer (inr (inr h)) = each_right 0 texts h.units h.right
 
 -- what refuses texts that each have a right unit refuses them together
-refuses_right : (texts : List NamedText) (answer : Answer) → HaveRightUnits 0 texts → Refuses texts answer → AreRefusedTogether texts answer
+pub refuses_right : (texts : List NamedText) (answer : Answer) → HaveRightUnits 0 texts → Refuses texts answer → AreRefusedTogether texts answer
 unfolding Refuses
 refuses_right texts answer right (inl h) = absurd (none_right 0 texts answer h right)
 refuses_right texts answer right (inr h) = h
@@ -119,20 +118,3 @@ refuses_right texts answer right (inr h) = h
 pub told_right : (told : Told) (answer : Answer) → HaveRightUnits 0 told.units → RefusesTold told answer → RefusesToldRight told answer
 told_right told answer right (inl h) = inl (refuses_right told.units answer right h)
 told_right told answer right (inr h) = inr h
-
--- two refusals
-both_refused : (texts : List NamedText) (one other : Answer) → Refuses texts one → Refuses texts other → (one ≡ other) ⊎ (AreRefusedTogether texts one × AreRefusedTogether texts other)
-unfolding Refuses
-both_refused texts one other (inl h) (inl k) = inl (one_first 0 texts one other h k)
-both_refused texts one other (inl h) (inr k) = absurd (none_right 0 texts one h (together_right texts other k))
-both_refused texts one other (inr h) (inl k) = absurd (none_right 0 texts other k (together_right texts one h))
-both_refused texts one other (inr h) (inr k) = inr (h, k)
-
-pub one_outcome : OneOutcome
-one_outcome = record {
-  text = one_text;
-  one = one_first;
-  right = none_right;
-  denoted = λ texts program answer h k. refuses_right texts answer (denoted_right texts program h) k;
-  refused = both_refused;
-}

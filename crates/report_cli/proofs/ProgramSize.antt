@@ -1,27 +1,32 @@
--- The programs that texts denote have as many nodes.
-use Rattle.std.proofs.Common.{arith, ◌≡◌, ◌<◌, ◌≤◌, ◌^◌, ◌+◌, ℕ, List, [], ◌∷◌, length, refl, sym, ap, ◌∙◌, subst}
+-- The programs that texts denote have as many nodes, and as many words of rows.
+use Rattle.std.proofs.Common.{arith, ◌≡◌, ◌<◌, ◌≤◌, ◌^◌, ◌+◌, ◌⊎◌, inl, inr, ℕ, List, [], ◌∷◌, length, refl, sym, ap, ◌∙◌}
 use Rattle.std.specs.List.{fold}
 use Rattle.core_tree.specs.declared.node.Unit.{Unit}
 use Rattle.core_tree.specs.declared.node.Program.{Program}
-use Rattle.c_senses.specs.Tree.{Source}
 use Rattle.c_senses.specs.Names.{source_of, numbered}
-use Rattle.c_senses.specs.Right.{Right}
 use Rattle.unit_link.specs.Linked.{Linked}
 use Rattle.right_laws.specs.Alike.{AreAlike}
 use Rattle.right_laws.proofs.RightAlike.{right_alike}
 use Rattle.report_cli.specs.Answers.{NamedText, Answer}
 use Rattle.report_cli.specs.Lowered.{IsRightText, AreRightTexts}
-use Rattle.report_cli.specs.Linking.{HaveManyNodes, nodes_refusal}
+use Rattle.report_cli.specs.Linking.{HaveManyNodes, HaveManyWords, nodes_refusal, words_refusal}
 use Rattle.report_cli.specs.Outcome.{Denotes}
 use Rattle.report_cli.specs.Laws.{OneProgramSize}
-use Rattle.report_cli.proofs.OneOutcome.{same_numbered}
+use Rattle.obj_space.specs.Space.{locations_in}
+use Rattle.obj_space.specs.View.{view_of}
+use Rattle.constraints.specs.System.{IsWithin, word_total}
+use Rattle.unit_system.specs.Of.{IsProgramOf}
+use Rattle.text_faults.specs.Texts.{AreOfOneText}
+use Rattle.text_faults.proofs.Texts.{right_twins}
+use Rattle.twin_programs.specs.One.{IsRooted, AreAllRooted}
+use Rattle.twin_words.proofs.Whole.{one_word_total}
+use Rattle.report_cli.proofs.Twins.{one_text_units, same_texts}
+use Rattle.report_cli.proofs.Linkable.{IsUnitOf, unit_of}
 
 alike : (number : ℕ) (text : NamedText) (u v : Unit) → IsRightText number text u → IsRightText number text v → AreAlike u v
 alike number text u v h k =
-    let same : numbered h.tag_number (source_of h.tokens h.tree) ≡ numbered k.tag_number (source_of k.tokens k.tree) =
-    same_numbered number text h.tokens k.tokens h.tree k.tree h.tag_number k.tag_number h.parsed k.parsed h.dense k.dense in
-    let P : Source → Type 0 = λ s. Right s text.0 u in
-    right_alike (numbered k.tag_number (source_of k.tokens k.tree)) text.0 u v (subst P same h.right) k.right
+    let same : AreOfOneText number u v = one_text_units number text u v h k in
+    right_alike (numbered same.tag_number (source_of same.tokens same.tree)) same.name u v same.right same.other_right
 
 same_sum : (number a b : ℕ) (texts : List NamedText) (us vs : List Unit) → a ≡ b → AreRightTexts number texts us → AreRightTexts number texts vs
     → fold (λ (before : ℕ) (x : Unit). before + length x.nodes.items) a us ≡ fold (λ (before : ℕ) (x : Unit). before + length x.nodes.items) b vs
@@ -36,25 +41,56 @@ same_sum number a b (text ∷ texts) (u ∷ us) (v ∷ vs) same h k =
     let more : a + length u.nodes.items ≡ b + length v.nodes.items = omega (arith, here, same) in
     same_sum (number + 1) (a + length u.nodes.items) (b + length v.nodes.items) texts us vs more h.1 k.1
 
-linked_count : (texts : List NamedText) (us vs : List Unit) (p q : Program) → AreRightTexts 0 texts us → AreRightTexts 0 texts vs → Linked us p → Linked vs q → length p.nodes.items ≡ length q.nodes.items
+pub linked_count : (texts : List NamedText) (us vs : List Unit) (p q : Program) → AreRightTexts 0 texts us → AreRightTexts 0 texts vs → Linked us p → Linked vs q → length p.nodes.items ≡ length q.nodes.items
 linked_count texts us vs p q h k one other = one.nodes.count ∙ (same_sum 0 0 0 texts us vs refl h k ∙ sym other.nodes.count)
 
 count : (texts : List NamedText) (p q : Program) → Denotes texts p → Denotes texts q → length p.nodes.items ≡ length q.nodes.items
 unfolding Denotes
-count texts p q h k = linked_count texts h.0 k.0 p q h.1 k.1 h.2 k.2
+count texts p q h k = linked_count texts h.0 k.0 p q h.1 k.1 h.2.linked k.2.linked
 
-many : (texts : List NamedText) (one other : Answer) → HaveManyNodes texts one → HaveManyNodes texts other → one ≡ other
+pub many : (texts : List NamedText) (one other : Answer) → HaveManyNodes texts one → HaveManyNodes texts other → one ≡ other
 many texts one other h k =
-    let same : length h.program.nodes.items ≡ length k.program.nodes.items = linked_count texts h.units k.units h.program k.program h.right k.right h.linked k.linked in
+    let same : length h.program.nodes.items ≡ length k.program.nodes.items = linked_count texts h.units k.units h.program k.program h.right k.right h.own.linked k.own.linked in
     let number : h.nodes ≡ k.nodes = h.many.nodes_are ∙ (same ∙ sym k.many.nodes_are) in
     h.answer_is ∙ (ap nodes_refusal number ∙ sym k.answer_is)
 
-few : (texts : List NamedText) (p : Program) (answer : Answer) → Denotes texts p → length p.nodes.items ≤ 2 ^ 24 → HaveManyNodes texts answer → ⊥
+-- each node of a right unit is a body or a child, and each initialiser its entity's body
+rooted : (texts : List NamedText) (units : List Unit) → AreRightTexts 0 texts units → AreAllRooted units
+rooted texts units right = record {
+  each = λ k u at.
+      let own : IsUnitOf 0 texts k u = unit_of 0 texts units k u right at in
+      record { nodes = own.right.right.no_other_node; initialisers = own.right.right.initialises_once };
+}
+
+word_count : (texts : List NamedText) (us vs : List Unit) (p q : Program) → AreRightTexts 0 texts us → AreRightTexts 0 texts vs → IsProgramOf us p → IsProgramOf vs q
+    → word_total p (view_of (locations_in p)) ≡ word_total q (view_of (locations_in q))
+word_count texts us vs p q h k one other =
+    one_word_total us vs p q (right_twins.all us vs (same_texts 0 texts us vs h k)) (rooted texts us h) (rooted texts vs k) one.linked other.linked
+    (record { made = one.made; named = one.named }) (record { made = other.made; named = other.named })
+
+words : (texts : List NamedText) (p q : Program) → Denotes texts p → Denotes texts q → word_total p (view_of (locations_in p)) ≡ word_total q (view_of (locations_in q))
 unfolding Denotes
-few texts p answer h within k =
-    let same : length p.nodes.items ≡ length k.program.nodes.items = linked_count texts h.0 k.units p k.program h.1 k.right h.2 k.linked in
+words texts p q h k = word_count texts h.0 k.0 p q h.1 k.1 h.2 k.2
+
+pub many_words : (texts : List NamedText) (one other : Answer) → HaveManyWords texts one → HaveManyWords texts other → one ≡ other
+many_words texts one other h k =
+    let same : word_total h.program (view_of (locations_in h.program)) ≡ word_total k.program (view_of (locations_in k.program)) =
+    word_count texts h.units k.units h.program k.program h.right k.right h.own k.own in
+    let number : h.words ≡ k.words = h.many.words_are ∙ (same ∙ sym k.many.words_are) in
+    h.answer_is ∙ (ap words_refusal number ∙ sym k.answer_is)
+
+pub few : (texts : List NamedText) (p : Program) (answer : Answer) → Denotes texts p → IsWithin p (view_of (locations_in p)) → HaveManyNodes texts answer ⊎ HaveManyWords texts answer → ⊥
+unfolding Denotes
+few texts p answer h within (inl k) =
+    let same : length p.nodes.items ≡ length k.program.nodes.items = linked_count texts h.0 k.units p k.program h.1 k.right h.2.linked k.own.linked in
     let over : 2 ^ 24 < length k.program.nodes.items = k.many.many in
+    let below : length p.nodes.items ≤ 2 ^ 24 = within.nodes in
+    omega arith
+few texts p answer h within (inr k) =
+    let same : word_total p (view_of (locations_in p)) ≡ word_total k.program (view_of (locations_in k.program)) = word_count texts h.0 k.units p k.program h.1 k.right h.2 k.own in
+    let over : 2 ^ 24 < word_total k.program (view_of (locations_in k.program)) = k.many.many in
+    let below : word_total p (view_of (locations_in p)) ≤ 2 ^ 24 = within.words in
     omega arith
 
 pub one_program_size : OneProgramSize
-one_program_size = record { alike = alike; count = count; many = many; few = few }
+one_program_size = record { alike = alike; count = count; words = words; many = many; many_words = many_words; few = few }

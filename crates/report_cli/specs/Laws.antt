@@ -1,36 +1,60 @@
--- Texts have one outcome: one refusal at most by their tokens, syntax, names and rows, and none where they are right.
-use Rattle.std.specs.Prelude.{◌≡◌, ◌≤◌, ◌^◌, ◌⊎◌, ℕ, List, length}
+-- Texts have one refusal at most, and none where they are accepted.
+use Rattle.std.specs.Prelude.{◌≡◌, ◌⊎◌, ℕ, List, length}
 use Rattle.core_tree.specs.declared.node.Unit.{Unit}
 use Rattle.core_tree.specs.declared.node.Program.{Program}
 use Rattle.report_cli.specs.Answers.{NamedText, Answer}
 use Rattle.report_cli.specs.Alone.{IsRefusedAlone, AreReadAlone}
 use Rattle.right_laws.specs.Alike.{AreAlike}
+use Rattle.obj_space.specs.Space.{locations_in}
+use Rattle.obj_space.specs.View.{view_of}
+use Rattle.constraints.specs.System.{IsWithin, word_total}
 use Rattle.report_cli.specs.Lowered.{IsRightText}
-use Rattle.report_cli.specs.Linking.{HaveManyNodes}
-use Rattle.report_cli.specs.Outcome.{Denotes, FirstRefused, IsRefusedText, HaveRightUnits, AreRefusedTogether, Refuses}
+use Rattle.report_cli.specs.Linking.{IsLinkRefusal, HaveManyNodes, HaveManyWords}
+use Rattle.report_cli.specs.Outcome.{Denotes, FirstRefused, IsRefusedText, HaveRightUnits, Refuses, RefusesTold}
+use Rattle.report_cli.specs.Told.{Told}
+use Rattle.report_cli.specs.Accepted.{AreAccepted}
 
 -- the first text that isn't right is refused alone in one way at most, and not at all where each text is read alone
 pub record OneAlone : Type 0 where
   pub one : (number : ℕ) (texts : List NamedText) (one other : Answer)
-      → FirstRefused (λ _ text answer. IsRefusedAlone text answer) number texts one → FirstRefused (λ _ text answer. IsRefusedAlone text answer) number texts other → one ≡ other
-  pub none : (number : ℕ) (texts : List NamedText) (answer : Answer) → FirstRefused (λ _ text answer. IsRefusedAlone text answer) number texts answer → AreReadAlone texts → ⊥
+      → FirstRefused (λ _ text answer. IsRefusedAlone text answer) number texts one
+      → FirstRefused (λ _ text answer. IsRefusedAlone text answer) number texts other → one ≡ other
+  pub none : (number : ℕ) (texts : List NamedText) (answer : Answer)
+      → FirstRefused (λ _ text answer. IsRefusedAlone text answer) number texts answer → AreReadAlone texts → ⊥
 
 pub record OneOutcome : Type 0 where
   -- a text is refused with one answer
-  pub text : (number : ℕ) (text : NamedText) (one other : Answer) → IsRefusedText number text one → IsRefusedText number text other → one ≡ other
+  pub text : (number : ℕ) (text : NamedText) (one other : Answer) → IsRefusedText number text one → IsRefusedText number text other
+      → one ≡ other
   -- the first text that isn't right, by its tokens, its syntax, its names or its rows, is refused with one answer
-  pub one : (number : ℕ) (texts : List NamedText) (one other : Answer) → FirstRefused IsRefusedText number texts one → FirstRefused IsRefusedText number texts other → one ≡ other
+  pub one : (number : ℕ) (texts : List NamedText) (one other : Answer) → FirstRefused IsRefusedText number texts one
+      → FirstRefused IsRefusedText number texts other → one ≡ other
   -- and there is none where each text has a right unit
-  pub right : (number : ℕ) (texts : List NamedText) (answer : Answer) → FirstRefused IsRefusedText number texts answer → HaveRightUnits number texts → ⊥
-  -- texts that denote a program are refused together alone
-  pub denoted : (texts : List NamedText) (program : Program) (answer : Answer) → Denotes texts program → Refuses texts answer → AreRefusedTogether texts answer
-  -- two refusals of the same texts are one answer, but where they are refused together
-  pub refused : (texts : List NamedText) (one other : Answer) → Refuses texts one → Refuses texts other → (one ≡ other) ⊎ (AreRefusedTogether texts one × AreRefusedTogether texts other)
+  pub right : (number : ℕ) (texts : List NamedText) (answer : Answer) → FirstRefused IsRefusedText number texts answer
+      → HaveRightUnits number texts → ⊥
+  -- texts that denote a program are refused for a limit alone that their program passes
+  pub denoted : (texts : List NamedText) (program : Program) (answer : Answer) → Denotes texts program → Refuses texts answer
+      → HaveManyNodes texts answer ⊎ HaveManyWords texts answer
+  -- and not at all where it is within the limits
+  pub within : (texts : List NamedText) (program : Program) (answer : Answer) → Denotes texts program
+      → IsWithin program (view_of (locations_in program)) → Refuses texts answer → ⊥
+  -- for a fault of linking texts are refused with one answer
+  pub linking : (texts : List NamedText) (one other : Answer) → IsLinkRefusal texts one → IsLinkRefusal texts other → one ≡ other
+  -- two refusals of the same texts are one answer
+  pub refused : (texts : List NamedText) (one other : Answer) → Refuses texts one → Refuses texts other → one ≡ other
+  -- what is accepted isn't refused
+  pub accepted : (told : Told) (answer : Answer) → AreAccepted told → RefusesTold told answer → ⊥
 
--- The right units of a text are alike, but for the numbers of entities and nodes; so the programs that texts denote have as many nodes.
+-- The right units of a text are alike, but for the numbers of entities and nodes; so the programs that texts denote have as many nodes, and
+-- as many words of rows.
 pub record OneProgramSize : Type 0 where
   pub alike : (number : ℕ) (text : NamedText) (u v : Unit) → IsRightText number text u → IsRightText number text v → AreAlike u v
-  pub count : (texts : List NamedText) (program other : Program) → Denotes texts program → Denotes texts other → length program.nodes.items ≡ length other.nodes.items
-  -- texts are over the limit of nodes with one answer, and not where they denote a program that is within it
+  pub count : (texts : List NamedText) (program other : Program) → Denotes texts program → Denotes texts other
+      → length program.nodes.items ≡ length other.nodes.items
+  pub words : (texts : List NamedText) (program other : Program) → Denotes texts program → Denotes texts other
+      → word_total program (view_of (locations_in program)) ≡ word_total other (view_of (locations_in other))
+  -- texts are over a limit with one answer, and not where they denote a program that is within it
   pub many : (texts : List NamedText) (one other : Answer) → HaveManyNodes texts one → HaveManyNodes texts other → one ≡ other
-  pub few : (texts : List NamedText) (program : Program) (answer : Answer) → Denotes texts program → length program.nodes.items ≤ 2 ^ 24 → HaveManyNodes texts answer → ⊥
+  pub many_words : (texts : List NamedText) (one other : Answer) → HaveManyWords texts one → HaveManyWords texts other → one ≡ other
+  pub few : (texts : List NamedText) (program : Program) (answer : Answer) → Denotes texts program
+      → IsWithin program (view_of (locations_in program)) → HaveManyNodes texts answer ⊎ HaveManyWords texts answer → ⊥

@@ -6,6 +6,7 @@ pub mod Linking
 pub mod Told
 pub mod Printed
 pub mod Outcome
+pub mod Accepted
 pub mod Outside
 pub mod Faults
 pub mod Scripts

@@ -5,7 +5,8 @@ use Rattle.core_tree.specs.declared.node.Unit.{Unit}
 use Rattle.core_tree.specs.declared.node.Program.{Program}
 use Rattle.link_names.specs.declared.fault.LinkFault.{LinkFault}
 use Rattle.link_names.specs.declared.fault.LinkFault.TheVariants.{Conflict, Twice, Undefined, NoMain, OutOfMemory}
-use Rattle.unit_link.specs.Linked.{Linked, LinksBadly}
+use Rattle.unit_link.specs.Linked.{LinksBadly}
+use Rattle.unit_system.specs.Of.{IsProgramOf}
 use Rattle.unit_system.specs.Faults.{HasNodes, HasWords}
 use Rattle.report_cli.specs.Answers.{NamedText, Answer, refusal, place_text}
 use Rattle.report_cli.specs.Lowered.{AreRightTexts}
@@ -42,7 +43,7 @@ pub record HaveManyNodes (texts : List NamedText) (answer : Answer) : Type 0 whe
   pub units : List Unit
   pub right : AreRightTexts 0 texts units
   pub program : Program
-  pub linked : Linked units program
+  pub own : IsProgramOf units program
   pub nodes : ℕ
   pub many : HasNodes program nodes
   pub answer_is : answer ≡ nodes_refusal nodes
@@ -51,7 +52,7 @@ pub record HaveManyWords (texts : List NamedText) (answer : Answer) : Type 0 whe
   pub units : List Unit
   pub right : AreRightTexts 0 texts units
   pub program : Program
-  pub linked : Linked units program
+  pub own : IsProgramOf units program
   pub words : ℕ
   pub many : HasWords program words
   pub answer_is : answer ≡ words_refusal words

@@ -11,6 +11,7 @@ use Rattle.c_senses.specs.Places.{own_place}
 use Rattle.c_senses.specs.Rows.{RefusedAt}
 use Rattle.c_senses.specs.Right.{Right}
 use Rattle.unit_walk.specs.Walked.{AreDense}
+use Rattle.c_lower.specs.PassedOn.{HasTags}
 use Rattle.report_cli.specs.Answers.{NamedText, Answer, refusal, place_text}
 use Rattle.report_cli.specs.Alone.{IsReadAs}
 
@@ -20,7 +21,8 @@ pub record IsParsed (number : ℕ) (named : NamedText) (tokens : Tokens) (tree :
   pub read : IsReadAs named tokens.list.items
   pub tree_is : IsUnit tokens number tree
 
--- the core unit is what the rows give for the text's tree, under the text's name, where the numbers of its tags are those below their count
+-- the core unit is what the rows give for the text's tree, under the text's name, where the numbers of its tags are those below their
+-- count; its table has the type of each tag, with the keyword of the tag's first specifier
 pub record IsRightText (number : ℕ) (named : NamedText) (u : Unit) : Type 0 where
   pub tokens : Tokens
   pub tree : Tree
@@ -28,6 +30,7 @@ pub record IsRightText (number : ℕ) (named : NamedText) (u : Unit) : Type 0 wh
   pub tag_number : ℕ → ℕ
   pub dense : AreDense (numbered tag_number (source_of tokens tree))
   pub right : Right (numbered tag_number (source_of tokens tree)) named.0 u
+  pub tags : HasTags (numbered tag_number (source_of tokens tree)) u
 
 -- the texts, the first of them as unit of that number, each as its core unit
 abbrev pub AreRightTexts : ℕ → List NamedText → List Unit → Type 0

@@ -4,8 +4,7 @@ use Rattle.core_tree.specs.declared.node.Unit.{Unit}
 use Rattle.core_tree.specs.declared.node.Program.{Program}
 use Rattle.sol_model.specs.declared.system.System.{System}
 use Rattle.obj_space.specs.declared.location.Location.{Location}
-use Rattle.unit_link.specs.Linked.{Linked}
-use Rattle.unit_system.specs.Of.{IsSystemOf}
+use Rattle.unit_system.specs.Of.{IsProgramOf, IsSystemOf}
 use Rattle.command_line.specs.Rules.{AreRight}
 use Rattle.report_cli.specs.Answers.{NamedText, Answer, refusal}
 use Rattle.report_cli.specs.Alone.{IsRefusedAlone}
@@ -14,9 +13,9 @@ use Rattle.report_cli.specs.Linking.{IsLinkRefusal, HaveManyNodes, HaveManyWords
 use Rattle.report_cli.specs.Told.{Told}
 use Rattle.report_cli.specs.Printed.{IsPrinted, IsRefusedScript}
 
--- a program that texts denote: each is right, as a core unit, and the program is linked from these
+-- a program that texts denote: each is right, as a core unit, and the program is linked from these, on a table that its own functions made
 unfoldable pub Denotes : List NamedText → Program → Type 0
-Denotes texts program = (units : List Unit) × AreRightTexts 0 texts units × Linked units program
+Denotes texts program = (units : List Unit) × AreRightTexts 0 texts units × IsProgramOf units program
 
 -- the refusal of a text, as unit of that number: for its tokens, its syntax or its names, or for its first row that doesn't fit
 abbrev pub IsRefusedText : ℕ → NamedText → Answer → Type 0

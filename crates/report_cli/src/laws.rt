@@ -7,16 +7,17 @@ pub fn one_alone()
     ensures { OneAlone }
 {}
 
-/// Units have one first refusal at most by their tokens, their syntax, their names and their rows (C11 6.4 to 6.9): its status and its
-/// line; and none where each has a right unit, so that a report and such a refusal exclude each other. What else refuses units refuses all
-/// of them together, for a fault of linking or for a limit.
-#[tactic(auto, using(crate::proofs::OneOutcome::one_outcome))]
+/// Units have one refusal at most (C11 6.4 to 6.9): its status and its line. It is that of the first text which isn't right by its tokens,
+/// its syntax, its names or its rows, else that of all texts together for a fault of linking, for their nodes or for their words. Texts
+/// that denote a program are refused for a limit alone, and what is accepted, units within the limits with a script whose lines ask
+/// questions, isn't refused.
+#[tactic(auto, using(crate::proofs::Together::one_outcome))]
 pub fn one_outcome()
     ensures { OneOutcome }
 {}
 
 /// The right units of a text are alike, but for the numbers of entities and nodes (`right_laws`). So all programs that texts denote have as
-/// many nodes, and whether they pass the limit of 2^24 nodes, and with which number, is one.
+/// many nodes, and as many words of rows (`twin_words`); and whether they pass a limit of 2^24, and with which number, is one.
 #[tactic(auto, using(crate::proofs::ProgramSize::one_program_size))]
 pub fn one_program_size()
     ensures { OneProgramSize }

@@ -22,7 +22,6 @@ use crate::fault::UnitsFault;
 use crate::lowered::lower_each;
 use crate::refusals::{answers_refusal, system_refusal};
 use core_tree::Unit;
-use link_merge::tags::tables_told;
 use pta_base::{Gate, Listing};
 use std::alloc::Global;
 use std::thread::Threads;
@@ -107,7 +106,6 @@ pub(crate) fn text_of_units<R: Threads + Sync, G: Gate + Sync>(
     ensures refused { IfErr result (IsFaultOfTold (told_with (zip (names_of names.now) texts.now) (named_script script.entry))) }
 {
     let units = lower_each(alloc, names, texts)?;
-    tables_told(units.as_slice());
     let made = match linked(alloc, names, units) {
         Ok(made) => made,
         Err(fault) => return Err(fault),

@@ -11,6 +11,7 @@ ghost use Rattle.report_cli.specs.Told.{names_for, told_as, told_for};
 ghost use Rattle.report_cli.specs.Printed.{IsPrinted};
 ghost use Rattle.report_cli.specs.Alone.{AreReadAlone};
 ghost use Rattle.report_cli.specs.Scripts.{named_script};
+ghost use Rattle.report_cli.specs.Accepted.{AreAccepted};
 ghost use Rattle.report_cli.specs.Outcome.{Denotes, HaveRightUnits, IsRefusedBy, RefusesToldRead, RefusesToldRight, Outcome};
 ghost use Rattle.report_text.specs.Outside.{Grows, GrowsInPart};
 ghost use Rattle.report_cli.specs.Outside.{Receives, source_fault, sink_fault, out_of_memory, usage_line};
@@ -232,6 +233,14 @@ pub fn analyse<R: Threads + Sync, U: Units, O: Sink, E: Sink, G: Gate + Sync>(
         → ((name : List ℕ) → Contains (names_read (texts_of words.now)) name → IsSteady (U.faults units.old name) (U.faults units.new name))
         → IsSteady (O.faults out.old) (O.faults out.new)
         → (result ≡ 0) ⊎ ((result ≡ 9) ⊎ ((answer : Answer) × RefusesToldRight told answer × (result ≡ answer.status)))) }
+
+    // Where the words are right, what is told is accepted, and the outside doesn't fail, the answer is a report or answers, but for want of
+    // memory: nothing is refused.
+    ensures accepted { IfSome (told_for (U.text units.old) (texts_of words.now)) (λ told. AreRight (texts_of words.now)
+        → AreAccepted told
+        → ((name : List ℕ) → Contains (names_read (texts_of words.now)) name → IsSteady (U.faults units.old name) (U.faults units.new name))
+        → IsSteady (O.faults out.old) (O.faults out.new)
+        → (result ≡ 0) ⊎ (result ≡ 9)) }
 
     // The outside: each of its statuses has its cause, and each of its faults its status.
     ensures source { result ≡ 7 → (name : List ℕ) × Contains (names_read (texts_of words.now)) name × HasRisen (U.faults units.old name) (U.faults units.new name)

@@ -19,9 +19,9 @@ use Rattle.c_senses.specs.Initialised.{name_of_declarator, initialised_object, o
 use Rattle.c_senses.specs.Statements.{is_automatic_object, automatic_name, objects_among, objects_in_rest, objects_declared, runs_initialiser, initials_among, run_in}
 use Rattle.c_senses.specs.Sense.{Sense, Nothing, IsDeclarator, IsRun, IsInitial, Derivation, Specified, sense_in}
 use Rattle.c_senses.specs.Rows.{AreSenses, row_of}
-use Rattle.sense_laws.specs.Sound.{Gives}
-use Rattle.sense_laws.specs.Senses.{AllInitialise, RunsIn}
-use Rattle.sense_laws.proofs.Giving.{if_holds, and_left}
+use Rattle.standing_laws.specs.PassedOn.{Gives}
+use Rattle.standing_laws.specs.PassedOn.{AllInitialise, RunsIn}
+use Rattle.standing_laws.proofs.PassedOn.{if_holds, and_left}
 use Rattle.standing_laws.specs.Standing.{IsGrown}
 use Rattle.standing_laws.proofs.Climbing.{in_list, found_where, parent_is}
 use Rattle.grown_parts.specs.Parts.{IsBrought, Brings}

@@ -24,9 +24,9 @@ use Rattle.c_senses.specs.Places.{own_place}
 use Rattle.c_senses.specs.Statements.{assert_row}
 use Rattle.c_senses.specs.Sense.{Sense, Nothing, IsDeclarator, IsSpecified, IsRun, IsInitial}
 use Rattle.c_senses.specs.Rows.{at_its_name, declarator_row, row_of}
-use Rattle.sense_laws.specs.Sound.{Gives}
-use Rattle.sense_laws.proofs.Giving.{then_gives, if_given, some_given, if_holds}
-use Rattle.sense_laws.proofs.Types.{anything}
+use Rattle.standing_laws.specs.PassedOn.{Gives}
+use Rattle.standing_laws.proofs.PassedOn.{then_gives, if_given, some_given, if_holds}
+use Rattle.standing_laws.proofs.PassedOn.{anything}
 
 -- a declarator at its name, where it fits, gives what it gave before
 module _ (P : Sense → Type 0) (w : World) (s : Source) (sense : ℕ → Sense) where

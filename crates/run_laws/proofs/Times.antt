@@ -9,7 +9,7 @@ use Rattle.c_senses.specs.Given.{Given, Fits}
 use Rattle.c_senses.specs.World.{World}
 use Rattle.c_senses.specs.Sense.{Sense, Nothing, sense_in}
 use Rattle.c_senses.specs.Rows.{AreSenses, world_at, row_of}
-use Rattle.sense_laws.specs.Sound.{Gives}
+use Rattle.standing_laws.specs.PassedOn.{Gives}
 
 none_past : {A : Type 0} (xs : List A) (n : ℕ) → slice_get xs n ≡ None → n < length xs → ⊥
 none_past [] n e lt = omega arith

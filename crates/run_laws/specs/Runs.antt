@@ -5,7 +5,7 @@ use Rattle.c_senses.specs.Tree.{Source, is_a}
 use Rattle.c_senses.specs.Statements.{objects_declared}
 use Rattle.c_senses.specs.Sense.{Sense, sense_in}
 use Rattle.c_senses.specs.Rows.{AreSenses, world_at}
-use Rattle.sense_laws.specs.Senses.{RunsIn}
+use Rattle.standing_laws.specs.PassedOn.{RunsIn}
 use Rattle.standing_laws.specs.Standing.{IsGrown}
 use Rattle.grown_parts.specs.Parts.{IsBrought}
 

@@ -6,7 +6,7 @@ use Rattle.c_types.specs.Trees.{Ctype, ArrayOf, FunctionFrom}
 use Rattle.core_tree.specs.Rows.{int}
 use Rattle.core_tree.specs.Typed.{Holds}
 use Rattle.c_grammar.specs.Productions.{p_enumerator, p_conditional}
-use Rattle.c_scope.specs.declared.kinds.Declared.{Declared as Declaration}
+use Rattle.c_senses.specs.PassedOn.{Declared as Declaration}
 use Rattle.c_senses.specs.Tree.{Source, is_a, child_of, parent_of, paired}
 use Rattle.c_senses.specs.Names.{typing_declarations, ordinary_at}
 use Rattle.c_senses.specs.World.{World, Meaning, Object, Function, TypeName, Tag, Value}

@@ -6,3 +6,4 @@ pub mod Kept
 pub mod Rows
 pub mod Walking
 pub mod Whole
+pub mod PassedOn

@@ -5,16 +5,16 @@ ghost use Rattle.c_senses.specs.Tree as tree;
 ghost use Rattle.c_senses.specs.Tree.{Source};
 ghost use Rattle.c_senses.specs.Tags as spec;
 ghost use Rattle.tree_reads.specs.Sources.{source_in};
+ghost use Rattle.node_roles.specs.Roles.{AreRoles};
 ghost use Rattle.tag_numbers.specs.Firsts.{Declares};
 ghost use Rattle.tag_numbers.specs.Numbers.{AreNumbers};
 
 use crate::declaring::{Declaring, tag_declared};
 use leaf_maps::LeafMap;
+use node_roles::{Role, is_structure_at};
 use pta_base::OutOfMemory;
 use std::alloc::Global;
-use tree_reads::{Syntax, is_a};
-
-pub(crate) const P_STRUCT: u32 = 12;
+use tree_reads::Syntax;
 
 /// Numbers by the node of a tag's first declaration, and the first specifier of each number.
 #[derive(Drop)]
@@ -46,32 +46,35 @@ fn number_one(numbering: &mut Numbering, node: u32, declared: u32) -> Result<(),
 fn number_node(
     numbering: &mut Numbering,
     syntax: &Syntax,
+    roles: &[Role],
     declaring: &Declaring,
     node: u32,
 ) -> Result<(), OutOfMemory>
     ensures { OnOk result ((uses : List (ℕ × ℕ)) →
         let s = source_in syntax.now uses in
-        Declares s declaring.now → AreNumbers s numbering.old node → AreNumbers s numbering.new (node + 1)) }
+        AreRoles s roles.now → Declares s declaring.now → AreNumbers s numbering.old node → AreNumbers s numbering.new (node + 1)) }
 {
-    if !is_a(syntax, P_STRUCT, node) {
+    if !is_structure_at(roles, node) {
         return Ok(());
     }
     let declared = tag_declared(syntax, declaring, node);
     if declared as usize >= syntax.tree.nodes.len() {
         return Err(OutOfMemory);
     }
-    number_one(numbering, node, declared)
+    number_one(numbering, node, declared)?;
+    Ok(())
 }
 
-/// Numbers for the structures and unions of a tree, in the order of their first specifiers. A tag that is known by a node past the
-/// tree, which no bound unit has, counts as want of memory.
+/// Numbers for the structures and unions of a tree, in the order of their first specifiers, by what each node is. A tag that is known by a
+/// node past the tree, which no bound unit has, counts as want of memory.
 pub(crate) fn number_all(
     alloc: Global,
     syntax: &Syntax,
+    roles: &[Role],
     declaring: &Declaring,
 ) -> Result<Numbering, OutOfMemory>
     ensures { IfOk result (λ n. (uses : List (ℕ × ℕ)) →
-        let s = source_in syntax.now uses in Declares s declaring.now → AreNumbers s n (length s.nodes)) }
+        let s = source_in syntax.now uses in AreRoles s roles.now → Declares s declaring.now → AreNumbers s n (length s.nodes)) }
 {
     let mut numbering = Numbering {
         numbers: LeafMap::new(alloc),
@@ -81,7 +84,7 @@ pub(crate) fn number_all(
         return Err(OutOfMemory);
     }
     for node in 0..syntax.tree.nodes.len() {
-        number_node(&mut numbering, syntax, declaring, node as u32)?;
+        number_node(&mut numbering, syntax, roles, declaring, node as u32)?;
     }
     Ok(numbering)
 }

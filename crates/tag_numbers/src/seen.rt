@@ -7,22 +7,21 @@ ghost use Rattle.c_senses.specs.World.{same_length};
 ghost use Rattle.c_senses.specs.Tags as spec;
 ghost use Rattle.c_tags.specs.Seen.{IsSeen};
 ghost use Rattle.tree_reads.specs.Sources.{source_in};
+ghost use Rattle.node_roles.specs.Roles.{AreRoles};
 ghost use Rattle.tag_numbers.specs.Firsts.{Declares};
 ghost use Rattle.tag_numbers.specs.Numbers.{ListedBefore};
 ghost use Rattle.tag_numbers.specs.Numbers.{AreSeen, MarkedBefore, completes, seen_in};
 ghost use Rattle.leaf_maps.specs.Numbers.{number_at};
 
 use crate::declaring::{Declaring, tag_declared};
-use crate::numbers::P_STRUCT;
 use c_tags::SeenTag;
 use leaf_maps::LeafMap;
+use node_roles::{Role, is_specifier_at, is_structure_at};
 use pta_base::OutOfMemory;
 use std::alloc::Global;
-use tree_reads::{Syntax, child_of, is_a, is_leaf, word_of};
+use tree_reads::{Syntax, child_of, is_leaf, word_of};
 
 const P_MEMBERS: u32 = 13;
-
-const P_ENUM: u32 = 16;
 
 const P_ENUMERATORS: u32 = 17;
 
@@ -43,13 +42,6 @@ impl SeenTags {
             fits: self.unfit.get(node).is_none(),
         }
     }
-}
-
-// Whether a node is the specifier of a structure, union or enumeration.
-fn is_tag_specifier(syntax: &Syntax, node: u32) -> bool
-    ensures { (uses : List (ℕ × ℕ)) → result ≡ spec.is_tag_specifier (source_in syntax.now uses) node }
-{
-    is_a(syntax, P_STRUCT, node) || is_a(syntax, P_ENUM, node)
 }
 
 // Whether a specifier has a list of members or enumerators.
@@ -163,6 +155,7 @@ fn mark_if(flags: &mut Vec<bool>, number: usize, asked: bool)
 // What is known of the tag of one more node, if it is a specifier.
 fn see_node(
     syntax: &Syntax,
+    roles: &[Role],
     declaring: &Declaring,
     listed: &mut Vec<bool>,
     node: u32,
@@ -171,13 +164,15 @@ fn see_node(
     ensures long { OnOk result (length listed.new.items ≡ length listed.old.items) }
     ensures seen { IfOk result (λ tag. (uses : List (ℕ × ℕ)) →
         let s = source_in syntax.now uses in
+        AreRoles s roles.now →
         Declares s declaring.now →
         ListedBefore s node listed.old.items → spec.is_tag_specifier s node ≡ true → IsSeen s node tag) }
     ensures listed { OnOk result ((uses : List (ℕ × ℕ)) →
         let s = source_in syntax.now uses in
+        AreRoles s roles.now →
         Declares s declaring.now → ListedBefore s node listed.old.items → ListedBefore s (node + 1) listed.new.items) }
 {
-    if !is_tag_specifier(syntax, node) {
+    if !is_specifier_at(roles, node) {
         return Ok(SeenTag {
             number: 0,
             fits: false,
@@ -210,32 +205,33 @@ fn add_seen(seen: &mut SeenTags, node: u32, tag: SeenTag) -> Result<(), OutOfMem
 
 // Keeps what is known of the tag of one node more, if it is a specifier.
 fn keep_seen(
-    syntax: &Syntax,
+    roles: &[Role],
     seen: &mut SeenTags,
     node: u32,
     tag: SeenTag,
 ) -> Result<(), OutOfMemory>
-    ensures { OnOk result ((uses : List (ℕ × ℕ)) →
-        let s = source_in syntax.now uses in
+    ensures { OnOk result ((s : Source) →
+        AreRoles s roles.now →
         AreSeen s seen.old node →
         (spec.is_tag_specifier s node ≡ true → IsSeen s node tag) → AreSeen s seen.new (node + 1)) }
 {
-    if !is_tag_specifier(syntax, node) {
+    if !is_specifier_at(roles, node) {
         return Ok(());
     }
     add_seen(seen, node, tag)?;
     Ok(())
 }
 
-/// What is known of each specifier's tag. A tag that is known by a node past the tree, which no bound unit has, counts as
-/// want of memory.
+/// What is known of each specifier's tag, by what each node is. A tag that is known by a node past the tree, which no bound unit has, counts
+/// as want of memory.
 pub(crate) fn seen_tags(
     alloc: Global,
     syntax: &Syntax,
+    roles: &[Role],
     declaring: &Declaring,
 ) -> Result<SeenTags, OutOfMemory>
     ensures { IfOk result (λ seen. (uses : List (ℕ × ℕ)) →
-        let s = source_in syntax.now uses in Declares s declaring.now → AreSeen s seen (length s.nodes)) }
+        let s = source_in syntax.now uses in AreRoles s roles.now → Declares s declaring.now → AreSeen s seen (length s.nodes)) }
 {
     let count = syntax.tree.nodes.len();
     if count > u32::MAX as usize {
@@ -247,31 +243,34 @@ pub(crate) fn seen_tags(
         unfit: LeafMap::new(alloc),
     };
     for node in 0..count {
-        let tag = see_node(syntax, declaring, &mut listed, node as u32)?;
-        keep_seen(syntax, &mut seen, node as u32, tag)?;
+        let tag = see_node(syntax, roles, declaring, &mut listed, node as u32)?;
+        keep_seen(roles, &mut seen, node as u32, tag)?;
     }
     Ok(seen)
 }
 
 // Whether a node is a specifier of a structure or union with a list of members.
-fn completes(syntax: &Syntax, node: u32) -> bool
-    ensures { (uses : List (ℕ × ℕ)) → result ≡ completes (source_in syntax.now uses) node }
+fn completes(syntax: &Syntax, roles: &[Role], node: u32) -> bool
+    ensures { (uses : List (ℕ × ℕ)) →
+        let s = source_in syntax.now uses in AreRoles s roles.now → result ≡ completes s node }
 {
-    is_a(syntax, P_STRUCT, node) && child_of(syntax, P_MEMBERS, node).is_some()
+    is_structure_at(roles, node) && child_of(syntax, P_MEMBERS, node).is_some()
 }
 
 // Marks the tag of one more node, if it is a specifier with a list of members.
 fn mark_node(
     syntax: &Syntax,
+    roles: &[Role],
     declaring: &Declaring,
     flags: &mut Vec<bool>,
     node: u32,
 ) -> Result<(), OutOfMemory>
     ensures { OnOk result ((uses : List (ℕ × ℕ)) →
         let s = source_in syntax.now uses in
+        AreRoles s roles.now →
         Declares s declaring.now → MarkedBefore s node flags.old.items → MarkedBefore s (node + 1) flags.new.items) }
 {
-    if !completes(syntax, node) {
+    if !completes(syntax, roles, node) {
         return Ok(());
     }
     let number = syntax.tag_number(tag_declared(syntax, declaring, node));
@@ -282,22 +281,23 @@ fn mark_node(
     Ok(())
 }
 
-/// Which of so many tags have a list of members somewhere.
+/// Which of so many tags have a list of members somewhere, by what each node is.
 pub(crate) fn completed_tags(
     alloc: Global,
     syntax: &Syntax,
+    roles: &[Role],
     declaring: &Declaring,
     count: usize,
 ) -> Result<Vec<bool>, OutOfMemory>
     ensures { IfOk result (λ flags. (uses : List (ℕ × ℕ)) →
-        let s = source_in syntax.now uses in Declares s declaring.now → MarkedBefore s (length s.nodes) flags.items) }
+        let s = source_in syntax.now uses in AreRoles s roles.now → Declares s declaring.now → MarkedBefore s (length s.nodes) flags.items) }
 {
     if syntax.tree.nodes.len() > u32::MAX as usize {
         return Err(OutOfMemory);
     }
     let mut flags: Vec<bool> = vec![in alloc; false; count]?;
     for node in 0..syntax.tree.nodes.len() {
-        mark_node(syntax, declaring, &mut flags, node as u32)?;
+        mark_node(syntax, roles, declaring, &mut flags, node as u32)?;
     }
     Ok(flags)
 }

@@ -8,6 +8,7 @@ ghost use Rattle.c_senses.specs.Entities as entities;
 ghost use Rattle.c_scope.specs.Resolves.{IsBound};
 ghost use Rattle.c_tags.specs.Seen.{IsSeen};
 ghost use Rattle.tree_reads.specs.Sources.{source_in};
+ghost use Rattle.node_roles.specs.Roles.{AreRoles};
 ghost use Rattle.tag_numbers.specs.Known.{AreTagNumbers, AreTags};
 ghost use Rattle.tag_numbers.specs.Firsts.{Declares};
 ghost use Rattle.tag_numbers.specs.Ordered.{AreInOrder};
@@ -17,6 +18,7 @@ use crate::numbers::number_all;
 use crate::seen::{SeenTags, completed_tags, flag_at, seen_tags};
 use c_scope::Bound;
 use c_tags::SeenTag;
+use node_roles::{Role, roles_of};
 use pta_base::OutOfMemory;
 use std::alloc::Global;
 use tree_reads::{Syntax, TagNumbers};
@@ -60,18 +62,19 @@ impl Tags {
 fn with_numbers<'a>(
     alloc: Global,
     syntax: Syntax<'a>,
+    roles: &[Role],
     declaring: &Declaring,
 ) -> Result<(Syntax<'a>, Vec<u32>), OutOfMemory>
     ensures tokens { IfOk result (λ n. n.0.tokens.now ≡ syntax.entry.tokens.now) }
     ensures tree { IfOk result (λ n. n.0.tree.now ≡ syntax.entry.tree.now) }
     ensures numbers { IfOk result (λ n. (uses : List (ℕ × ℕ)) →
-        let s = source_in n.0 uses in Declares s declaring.now → AreTagNumbers s n.1.items) }
+        let s = source_in n.0 uses in AreRoles s roles.now → Declares s declaring.now → AreTagNumbers s n.1.items) }
 {
     let nodes = syntax.tree.nodes.as_slice().len();
     if nodes > u32::MAX as usize {
         return Err(OutOfMemory);
     }
-    let numbering = number_all(alloc, &syntax, declaring)?;
+    let numbering = number_all(alloc, &syntax, roles, declaring)?;
     let tag_numbers = TagNumbers {
         numbers: numbering.numbers,
         count: nodes as u32,
@@ -83,18 +86,19 @@ fn with_numbers<'a>(
 fn tags_by(
     alloc: Global,
     syntax: &Syntax,
+    roles: &[Role],
     declaring: &Declaring,
     firsts: Vec<u32>,
 ) -> Result<Tags, OutOfMemory>
     ensures { IfOk result (λ t. (uses : List (ℕ × ℕ)) →
-        let s = source_in syntax.now uses in Declares s declaring.now → AreTagNumbers s firsts.items → AreTags s t) }
+        let s = source_in syntax.now uses in AreRoles s roles.now → Declares s declaring.now → AreTagNumbers s firsts.items → AreTags s t) }
 {
     let count = firsts.as_slice().len();
     if count > u32::MAX as usize {
         return Err(OutOfMemory);
     }
-    let seen = seen_tags(alloc, syntax, declaring)?;
-    let completed = completed_tags(alloc, syntax, declaring, count)?;
+    let seen = seen_tags(alloc, syntax, roles, declaring)?;
+    let completed = completed_tags(alloc, syntax, roles, declaring, count)?;
     Ok(Tags {
         count: count as u32,
         seen,
@@ -117,7 +121,8 @@ pub fn number_tags<'a>(
     ensures ordered { IfOk result (λ n. AreInOrder (source_in n.syntax bound.now.uses.items)) }
 {
     let declaring = meanings(alloc, bound)?;
-    let (syntax, firsts) = with_numbers(alloc, syntax, &declaring)?;
-    let tags = tags_by(alloc, &syntax, &declaring, firsts)?;
+    let roles = roles_of(alloc, &syntax)?;
+    let (syntax, firsts) = with_numbers(alloc, syntax, roles.as_slice(), &declaring)?;
+    let tags = tags_by(alloc, &syntax, roles.as_slice(), &declaring, firsts)?;
     Ok(Numbered { syntax, tags })
 }

@@ -5,6 +5,7 @@ use Rattle.std.proofs.lemmas.Bool.{cases_Bool, ltb-true, eqb-true, eq-eqb}
 use Rattle.c_types.specs.declared.term.Term.{Term}
 use Rattle.c_types.specs.declared.term.Term.TheVariants.{Void, Bool as BoolTerm, Integer, Floating, VaList, Pointer, Array, Function, Structure, Union}
 use Rattle.c_types.specs.Table.{type_of}
+use Rattle.c_types.specs.Made.{IsMade}
 use Rattle.c_inits.specs.Tables.{tagged}
 use Rattle.c_grammar.specs.Productions.{p_struct}
 use Rattle.core_tree.specs.declared.node.Unit.{Unit}
@@ -13,13 +14,12 @@ use Rattle.c_senses.specs.World.{same_type}
 use Rattle.c_senses.specs.Tags.{tag_of, tag_declared}
 use Rattle.c_senses.specs.Right.{Right}
 use Rattle.core_nodes.proofs.SameTypes.{type_sound}
-use Rattle.struct_rows.specs.Built.{first_is_union}
+use Rattle.struct_rows.specs.Built.{first_is_union, HasTagTypes}
 use Rattle.tag_numbers.proofs.Listing.{any_found}
 use Rattle.link_model.specs.Units.{is_union_of}
 use Rattle.link_merge.proofs.Keywords.{any_at, any_some}
 use Rattle.merged_laws.proofs.Terms.{union_term, structure_term}
 use Rattle.fault_laws.specs.Twins.{has_union}
-use Rattle.text_faults.specs.Texts.{HasTags}
 
 and_first : (a b : Bool) → (a && b) ≡ true → a ≡ true
 and_first true b h = refl
@@ -41,7 +41,7 @@ stands_union tag (Array of n) h = cc
 stands_union tag (Function result parameters form) h = cc
 stands_union tag (Structure other) h = cc
 
-module _ (s : Source) (u : Unit) (has : HasTags s u) where
+module _ (s : Source) (u : Unit) (has : HasTagTypes s u.types) (made : IsMade u.types) where
   -- a tag that stands under its number with a keyword has that keyword alone
   keyword_by : (tag : ℕ) (b : Bool) → tag < length u.types.terms → type_of u.types tag ≡ tagged b tag → has_union u.types tag ≡ b
   keyword_by tag true within is = any_at (is_union_of tag) u.types.terms tag (Union tag) (union_term u.types tag tag within is) (eq-eqb tag tag refl)
@@ -50,14 +50,14 @@ module _ (s : Source) (u : Unit) (has : HasTags s u) where
     | inl some ↦
         let found = any_some (is_union_of tag) u.types.terms some in
         let union : slice_get u.types.terms found.0 ≡ Some (Union tag) = found.2 ∙ ap Some (stands_union tag found.1 found.3) in
-        absurd (has.made.apart.each tag found.0 tag (structure_term u.types tag tag within is) union)
+        absurd (made.apart.each tag found.0 tag (structure_term u.types tag tag within is) union)
   ]
 
   keyword_of : (i : ℕ) → is_a s p_struct i ≡ true → has_union u.types (tag_of s i) ≡ first_is_union s (tag_of s i)
   keyword_of i is =
       let tag = tag_of s i in
       let b = first_is_union s tag in
-      let stands : (nat_lt tag (length u.types.terms) && same_type (type_of u.types tag) (tagged b tag)) ≡ true = has.types.each i is in
+      let stands : (nat_lt tag (length u.types.terms) && same_type (type_of u.types tag) (tagged b tag)) ≡ true = has.each i is in
       let within : nat_lt tag (length u.types.terms) ≡ true = and_first (nat_lt tag (length u.types.terms)) (same_type (type_of u.types tag) (tagged b tag)) stands in
       let same : same_type (type_of u.types tag) (tagged b tag) ≡ true = and_second (nat_lt tag (length u.types.terms)) (same_type (type_of u.types tag) (tagged b tag)) stands in
       keyword_by tag b (ltb-true tag (length u.types.terms) within) (type_sound (type_of u.types tag) (tagged b tag) same)

@@ -1,5 +1,5 @@
--- Texts whose units are right, and their faults of linking.
-use Rattle.std.specs.Prelude.{ℕ, ◌≡◌, ◌+◌, ◌⊎◌, ⊤, List, [], ◌∷◌}
+-- Units that are right for the same texts, and their faults of linking.
+use Rattle.std.specs.Prelude.{ℕ, ◌≡◌, ◌+◌, ⊤, List, [], ◌∷◌}
 use Rattle.c_types.specs.Made.{IsMade, AreNamed}
 use Rattle.c_lexer.specs.declared.Tokens.{Tokens}
 use Rattle.c_lexer.specs.Cut.{IsTokens}
@@ -7,43 +7,44 @@ use Rattle.c_grammar.specs.declared.trees.Tree.{Tree}
 use Rattle.c_units.specs.Units.{IsUnit}
 use Rattle.core_tree.specs.declared.node.Unit.{Unit}
 use Rattle.core_tree.specs.declared.node.Program.{Program}
-use Rattle.c_senses.specs.Tree.{Source}
 use Rattle.c_senses.specs.Names.{source_of, numbered}
 use Rattle.c_senses.specs.Right.{Right}
-use Rattle.struct_rows.specs.Built.{HasTagTypes}
 use Rattle.link_names.specs.declared.fault.LinkFault.{LinkFault}
 use Rattle.unit_link.specs.Linked.{Linked, LinksBadly}
-use Rattle.report_cli.specs.Answers.{NamedText}
-use Rattle.report_cli.specs.Lowered.{IsRightText}
-use Rattle.fault_laws.specs.Twins.{AreTwins, AreOneUse}
+use Rattle.struct_rows.specs.Built.{HasTagTypes}
+use Rattle.fault_laws.specs.Twins.{AreTwins, AreAllTwins}
 
--- a unit's table is one that was made, and has the type of each tag of its source, with the keyword of the tag's first specifier
-pub record HasTags (s : Source) (u : Unit) : Type 0 where
-  pub types : HasTagTypes s u.types
+-- two units that are both right for one text, which is cut and read as unit of that number, on tables that were made and have the type of
+-- each tag of the text, with the keyword of the tag's first specifier
+pub record AreOfOneText (number : ℕ) (u v : Unit) : Type 0 where
+  pub tokens : Tokens
+  pub tree : Tree
+  pub tag_number : ℕ → ℕ
+  pub name : List ℕ
+  pub cut : IsTokens tokens.text.now tokens.list.items
+  pub read : IsUnit tokens number tree
+  pub right : Right (numbered tag_number (source_of tokens tree)) name u
+  pub other_right : Right (numbered tag_number (source_of tokens tree)) name v
+  pub types : HasTagTypes (numbered tag_number (source_of tokens tree)) u.types
+  pub other_types : HasTagTypes (numbered tag_number (source_of tokens tree)) v.types
   pub made : IsMade u.types
+  pub other_made : IsMade v.types
   pub named : AreNamed u.types
+  pub other_named : AreNamed v.types
 
-abbrev pub RightTwins : Type 0
-RightTwins =
-    (tokens : Tokens) (unit : ℕ) (tree : Tree) (tag_number : ℕ → ℕ) (name : List ℕ) (u v : Unit)
-    → IsTokens tokens.text.now tokens.list.items → IsUnit tokens unit tree
-    → Right (numbered tag_number (source_of tokens tree)) name u → Right (numbered tag_number (source_of tokens tree)) name v
-    → HasTags (numbered tag_number (source_of tokens tree)) u → HasTags (numbered tag_number (source_of tokens tree)) v → AreTwins u v
+-- as many units, one by one right for the same texts, the first of them for the text of that number
+abbrev pub AreOfOneTexts : ℕ → List Unit → List Unit → Type 0
+AreOfOneTexts number [] [] = ⊤
+AreOfOneTexts number (u ∷ us) (v ∷ vs) = AreOfOneText number u v × AreOfOneTexts (number + 1) us vs
+AreOfOneTexts number us vs = ⊥
 
--- a right unit of a text, with the types of its tags
-pub record IsTypedText (number : ℕ) (named : NamedText) (u : Unit) : Type 0 where
-  pub right : IsRightText number named u
-  pub tags : HasTags (numbered right.tag_number (source_of right.tokens right.tree)) u
+-- Units that are right for one text are twins; so are those for the same texts, one by one.
+pub record RightTwins : Type 0 where
+  pub one : (number : ℕ) (u v : Unit) → AreOfOneText number u v → AreTwins u v
+  pub all : (us vs : List Unit) → AreOfOneTexts 0 us vs → AreAllTwins us vs
 
--- the texts, the first of them as unit of that number, each as such a unit
-abbrev pub AreTypedTexts : ℕ → List NamedText → List Unit → Type 0
-AreTypedTexts number [] [] = ⊤
-AreTypedTexts number (text ∷ texts) (u ∷ us) = IsTypedText number text u × AreTypedTexts (number + 1) texts us
-AreTypedTexts number texts us = ⊥
-
--- Texts have one fault of linking, or none.
+-- They have one fault of linking, or none.
 pub record OneTextFault : Type 0 where
-  pub one : (texts : List NamedText) (us vs : List Unit) (fault other : LinkFault) → AreTypedTexts 0 texts us
-      → AreTypedTexts 0 texts vs → LinksBadly us fault → LinksBadly vs other → (fault ≡ other) ⊎ AreOneUse fault other
-  pub none : (texts : List NamedText) (us vs : List Unit) (p : Program) (fault : LinkFault) → AreTypedTexts 0 texts us
-      → AreTypedTexts 0 texts vs → Linked us p → LinksBadly vs fault → ⊥
+  pub one : (us vs : List Unit) (fault other : LinkFault) → AreOfOneTexts 0 us vs → LinksBadly us fault → LinksBadly vs other
+      → fault ≡ other
+  pub none : (us vs : List Unit) (p : Program) (fault : LinkFault) → AreOfOneTexts 0 us vs → Linked us p → LinksBadly vs fault → ⊥

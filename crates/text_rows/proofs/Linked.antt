@@ -25,8 +25,8 @@ use Rattle.grown_parts.specs.Parts.{IsBrought}
 use Rattle.grown_parts.proofs.Reading.{units_bring}
 use Rattle.name_order.specs.Order.{IsNameOf, Own, Inner, Declares, Enumerates, Names, IsOrdered}
 use Rattle.name_order.proofs.Ordered.{units_ordered}
-use Rattle.plain_names.proofs.Fitting.{SomeFits, no_value, plain_names_fit}
-use Rattle.object_types.proofs.Typing.{objects_typed}
+use Rattle.linked_names.proofs.PassedOn.{SomeFits, no_value, plain_names_fit}
+use Rattle.linked_names.proofs.PassedOn.{objects_typed}
 use Rattle.linked_names.proofs.Fitting.{external_names_fit}
 use Rattle.built_rows.specs.Rows.{types_declared}
 use Rattle.text_rows.specs.Texts.{TypesFit}

@@ -1,12 +1,9 @@
 -- What it is to complete a unit out of nodes and of what is declared.
-use Rattle.std.specs.Prelude.{ℕ, ◌≡◌, ⊤, IsTrue, Bool, List, Option, map, All}
-use Rattle.pta_base.specs.declared.kind.Kind.TheVariants.{NotBuilt}
+use Rattle.std.specs.Prelude.{ℕ, ◌≡◌, IsTrue, Bool, List, Option, map, All}
 use Rattle.c_types.specs.Table.{Table}
 use Rattle.core_tree.specs.declared.node.Node.{Node}
 use Rattle.core_tree.specs.declared.node.Unit.{Unit}
 use Rattle.core_tree.specs.Valid.{ValidUnit}
-use Rattle.core_nodes.specs.declared.fault.CheckFault.{CheckFault}
-use Rattle.core_nodes.specs.declared.fault.CheckFault.TheVariants.{Unsupported, OutOfMemory}
 use Rattle.c_senses.specs.Right.{InitialisesOnce}
 use Rattle.unit_parts.specs.declared.declared.Declared.{Declared}
 use Rattle.unit_parts.specs.Marked.{AreMarked}
@@ -45,31 +42,20 @@ pub record IsUnitOf (name : List ℕ) (number : ℕ) (types : Table) (keys : Lis
   pub initialises_once : InitialisesOnce u
   pub valid : ValidUnit u
 
--- no unit is one of these, but where their names are whole some unit is made of them
-pub record HasNoUnit (name : List ℕ) (number : ℕ) (types : Table) (keys : List (Option (List ℕ))) (nodes : List Node) (list : List Declared) : Type 0 where
-  pub none : (u : Unit) → IsUnitOf name number types keys nodes list u → ⊥
-  pub made : IsNamedWhole nodes list → (u : Unit) × IsMadeOf name number types keys nodes list u
+-- whatever unit is made of these nodes and entities is one of them: their names are whole, and in each such unit each Initialise is its
+-- entity's body, and all that a unit is asked holds
+pub record MakesUnits (name : List ℕ) (number : ℕ) (types : Table) (keys : List (Option (List ℕ))) (nodes : List Node) (list : List Declared) : Type 0 where
+  pub names_whole : IsNamedWhole nodes list
+  pub initialises_once : (u : Unit) → IsMadeOf name number types keys nodes list u → InitialisesOnce u
+  pub valid : (u : Unit) → IsMadeOf name number types keys nodes list u → ValidUnit u
 
--- so it is, or memory wants
-abbrev pub NoUnitOf : List ℕ → ℕ → Table → List (Option (List ℕ)) → List Node → List Declared → ℕ → CheckFault → Type 0
-NoUnitOf name number types keys nodes list root (Unsupported NotBuilt at) = (at ≡ root) × HasNoUnit name number types keys nodes list
-NoUnitOf name number types keys nodes list root OutOfMemory = ⊤
-NoUnitOf name number types keys nodes list root fault = ⊥
+-- so it is of all nodes that are made anew from these
+abbrev pub AlwaysCompletes : List ℕ → ℕ → Table → List (Option (List ℕ)) → List Node → List Declared → Type 0
+AlwaysCompletes name number types keys nodes list =
+    (planted : Planted) → IsPlanted nodes list planted → MakesUnits name number types keys planted.nodes.items planted.list.items
 
 -- a unit of nodes that are made anew from these
 pub record Completes (name : List ℕ) (number : ℕ) (types : Table) (keys : List (Option (List ℕ))) (nodes : List Node) (list : List Declared) (u : Unit) : Type 0 where
   pub planted : Planted
   pub are_planted : IsPlanted nodes list planted
   pub is_unit : IsUnitOf name number types keys planted.nodes.items planted.list.items u
-
--- nodes that are made anew, of which there is no unit
-pub record IsIncomplete (name : List ℕ) (number : ℕ) (types : Table) (keys : List (Option (List ℕ))) (nodes : List Node) (list : List Declared) : Type 0 where
-  pub planted : Planted
-  pub are_planted : IsPlanted nodes list planted
-  pub none : HasNoUnit name number types keys planted.nodes.items planted.list.items
-
--- no unit completes them, or memory wants
-abbrev pub NoneCompletes : List ℕ → ℕ → Table → List (Option (List ℕ)) → List Node → List Declared → ℕ → CheckFault → Type 0
-NoneCompletes name number types keys nodes list root (Unsupported NotBuilt at) = (at ≡ root) × IsIncomplete name number types keys nodes list
-NoneCompletes name number types keys nodes list root OutOfMemory = ⊤
-NoneCompletes name number types keys nodes list root fault = ⊥

@@ -3,13 +3,14 @@
 
 ghost use Rattle.std.specs.Prelude.{◌≡◌, ◌++◌, List, map, IfOk, MatchResult};
 ghost use Rattle.core_tree.specs.declared.node.Unit.{Unit as UnitSpec};
+ghost use Rattle.core_nodes.specs.declared.fault.CheckFault.TheVariants.{OutOfMemory};
 ghost use Rattle.core_nodes.specs.Standing.{IsReady};
 ghost use Rattle.c_senses.specs.Tree.{Source};
 ghost use Rattle.c_senses.specs.Sense.{Sense};
 ghost use Rattle.c_senses.specs.Right.{Right};
 ghost use Rattle.unit_parts.specs.declared.declared.Declared.{Declared as DeclaredSpec};
 ghost use Rattle.unit_parts.specs.Renamed.{literals_in};
-ghost use Rattle.unit_finish.specs.Complete.{IsKept, Completes, NoneCompletes};
+ghost use Rattle.unit_finish.specs.Complete.{IsKept, Completes, AlwaysCompletes};
 ghost use Rattle.unit_finish.specs.Walked.{IsWalked, literal_entry};
 
 use crate::completing::{Heading, complete};
@@ -23,8 +24,9 @@ use std::alloc::Global;
 use unit_parts::Declared;
 
 /// The unit of what was kept of the walk's nodes and names, and of what is declared at the compound literals among these nodes: its nodes
-/// are made anew, as `plant` says, and the unit of those is as `complete` says. Where these are what the senses of a whole tree say, it is
-/// what the tree says (`Right`).
+/// are made anew, as `plant` says, and the unit of those is as `complete` says. It is asked that all nodes which may be so made have such a
+/// unit, and nothing of it is tested: only memory may want. Where these are what the senses of a whole tree say, it is what the tree says
+/// (`Right`).
 pub fn finish(
     alloc: Global,
     heading: Heading,
@@ -33,10 +35,10 @@ pub fn finish(
     kept: Kept,
     literals: Vec<Declared>,
 ) -> Result<Unit, CheckFault>
+    requires { AlwaysCompletes heading.name heading.unit types keys.items kept.nodes.items (kept.names.items ++ literals.items) }
     ensures completes { MatchResult result
         (λ u. Completes heading.name heading.unit types keys.items kept.nodes.items (kept.names.items ++ literals.items) u)
-        (λ fault. NoneCompletes heading.name heading.unit types keys.items kept.nodes.items (kept.names.items ++ literals.items)
-        heading.root fault) }
+        (λ fault. fault ≡ OutOfMemory) }
     ensures right { (s : Source) (senses : List Sense) (walked : UnitSpec) (names : List DeclaredSpec) →
         IsReady walked → walked.types ≡ types → s.unit ≡ heading.unit →
         IsWalked s senses walked keys.items names →

@@ -3,3 +3,4 @@ pub mod Around
 pub mod Taking
 pub mod Naming
 pub mod Counting
+pub mod Noting

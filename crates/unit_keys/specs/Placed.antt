@@ -22,3 +22,8 @@ position_below s sense count c = option_map (λ p. parts_before s sense c (child
 
 abbrev pub ArePositions : Source → (ℕ → Sense) → List (ℕ × ℕ) → ℕ → Type 0
 ArePositions s sense positions count = (c : ℕ) → is_a s p_member c ≡ true → number_at positions c ≡ position_below s sense count c
+
+-- no declaration of members has another position than its own, and those before a node have theirs
+pub record AreNoted (s : Source) (sense : ℕ → Sense) (positions : List (ℕ × ℕ)) (count : ℕ) : Type 0 where
+  pub own : (c x : ℕ) → is_a s p_member c ≡ true → number_at positions c ≡ Some x → position_below s sense (length s.nodes) c ≡ Some x
+  pub each : (c : ℕ) → c < count → is_a s p_member c ≡ true → number_at positions c ≡ position_below s sense (length s.nodes) c

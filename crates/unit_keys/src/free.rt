@@ -8,14 +8,15 @@ ghost use Rattle.c_senses.specs.Keys as keys;
 ghost use Rattle.c_senses.specs.Sense.{Sense, sense_in};
 ghost use Rattle.c_results.specs.Standing.{senses_made};
 ghost use Rattle.tree_reads.specs.Sources.{source_in};
+ghost use Rattle.node_roles.specs.Roles.{AreRoles};
 ghost use Rattle.unit_keys.specs.Words as words;
 ghost use Rattle.unit_keys.specs.Free.{first_untaken, AreFree, TakenBelow};
 
 use crate::names::leaves_with;
-use crate::specifiers::is_specifier;
 use crate::words::{Words, add_word, has_word};
 use c_results::Results;
 use leaf_maps::LeafMap;
+use node_roles::{Role, is_specifier_at};
 use std::alloc::{AllocError, Global};
 use std::collections::BTreeMap;
 use tree_reads::{Syntax, Test, children_of, first_where, is_a, spelling_of};
@@ -86,6 +87,7 @@ fn take_untagged(
 fn free_more(
     alloc: Global,
     syntax: &Syntax,
+    roles: &[Role],
     results: &Results,
     taken: &mut Words,
     free: &mut LeafMap,
@@ -93,14 +95,16 @@ fn free_more(
 ) -> Result<(), AllocError>
     requires { node < length syntax.now.tree.now.nodes.items }
     ensures taken { OnOk result ((u : UnitSpec) (uses : List (ℕ × ℕ)) →
+        AreRoles (source_in syntax.now uses) roles.now →
         TakenBelow (source_in syntax.now uses) (sense_in (senses_made u results.now)) (words.has_word taken.old) node →
         TakenBelow (source_in syntax.now uses) (sense_in (senses_made u results.now)) (words.has_word taken.new) (node + 1)) }
     ensures free { OnOk result ((u : UnitSpec) (uses : List (ℕ × ℕ)) →
+        AreRoles (source_in syntax.now uses) roles.now →
         TakenBelow (source_in syntax.now uses) (sense_in (senses_made u results.now)) (words.has_word taken.old) node →
         AreFree (source_in syntax.now uses) (sense_in (senses_made u results.now)) free.old node →
         AreFree (source_in syntax.now uses) (sense_in (senses_made u results.now)) free.new (node + 1)) }
 {
-    if !is_specifier(syntax, node) {
+    if !is_specifier_at(roles, node) {
         return Ok(());
     }
     let leaves = leaves_with(alloc, syntax, results, node)?;
@@ -115,16 +119,23 @@ fn free_more(
     }
 }
 
-/// For each specifier the leaf of the first name that is declared with it at file scope and with no specifier before that has no tag.
-pub fn free_names(alloc: Global, syntax: &Syntax, results: &Results) -> Result<LeafMap, AllocError>
+/// For each specifier the leaf of the first name that is declared with it at file scope and with no specifier before that has no tag. The
+/// specifiers are known by what each node is.
+pub fn free_names(
+    alloc: Global,
+    syntax: &Syntax,
+    roles: &[Role],
+    results: &Results,
+) -> Result<LeafMap, AllocError>
     requires { length syntax.now.tree.now.nodes.items < 2 ^ 32 }
     ensures { IfOk result (λ free. (u : UnitSpec) (uses : List (ℕ × ℕ)) →
+        AreRoles (source_in syntax.now uses) roles.now →
         AreFree (source_in syntax.now uses) (sense_in (senses_made u results.now)) free (length syntax.now.tree.now.nodes.items)) }
 {
     let mut taken = BTreeMap::new(alloc);
     let mut free = LeafMap::new(alloc);
     for node in 0..syntax.tree.nodes.len() as u32 {
-        free_more(alloc, syntax, results, &mut taken, &mut free, node)?;
+        free_more(alloc, syntax, roles, results, &mut taken, &mut free, node)?;
     }
     Ok(free)
 }

@@ -1,31 +1,42 @@
 -- From what the walk has made to a unit.
-use Rattle.std.proofs.Common.{◌≡◌, ℕ, ◌<◌, List, All, Ok, Err, length, inl, inr, sym, ◌∙◌, subst}
+use Rattle.std.proofs.Common.{◌≡◌, ℕ, ◌<◌, List, Option, All, Ok, Err, length, sym, ◌∙◌, subst}
 use Rattle.std.specs.Prelude.{Result, IfOk, MatchResult}
 use Rattle.std.proofs.lemmas.List.Elements.{All-weaker}
 use Rattle.std.proofs.lemmas.List.{length-map}
-use Rattle.pta_base.specs.declared.kind.Kind.TheVariants.{NotBuilt}
+use Rattle.c_types.specs.Table.{Table}
+use Rattle.c_types.specs.Made.{IsMade, AreNamed}
+use Rattle.core_tree.specs.declared.node.Node.{Node}
 use Rattle.core_tree.specs.declared.node.Unit.{Unit}
-use Rattle.core_nodes.specs.Standing.{Builds, Knows}
+use Rattle.core_nodes.specs.Standing.{Builds, IsReady, Knows}
 use Rattle.core_nodes.specs.declared.fault.CheckFault.{CheckFault}
-use Rattle.core_nodes.specs.declared.fault.CheckFault.TheVariants.{BadOperand, Unsupported, OutOfMemory}
+use Rattle.core_nodes.specs.declared.fault.CheckFault.TheVariants.{OutOfMemory}
 use Rattle.c_results.specs.declared.made.Made.{Made}
 use Rattle.c_results.specs.declared.made.Made.TheVariants as made
-use Rattle.c_senses.specs.Sense.{Sense}
+use Rattle.c_senses.specs.Sense.{Sense, sense_in}
 use Rattle.c_results.specs.Standing.{sense_made, senses_made}
 use Rattle.c_senses.specs.Tree.{Source}
 use Rattle.c_senses.specs.Names.{numbered}
 use Rattle.c_senses.specs.Rows.{world_at}
-use Rattle.c_senses.specs.Right.{Right}
+use Rattle.c_senses.specs.Right.{Right, KeysRight}
 use Rattle.name_places.specs.Named.{IsNamedIn, IsNamedSense}
 use Rattle.row_shapes.specs.Kept.{Keeps}
 use Rattle.tag_numbers.specs.declared.tags.Tags.{Tags}
 use Rattle.tag_numbers.specs.Known as known
 use Rattle.tag_numbers.specs.Ordered.{AreInOrder}
-use Rattle.unit_finish.specs.Complete as finish
-use Rattle.unit_finish.specs.Walked.{AreTags}
+use Rattle.struct_rows.specs.Built.{HasTagTypes}
+use Rattle.struct_rows.proofs.Building.{tag_types_on}
+use Rattle.own_initials.specs.Own.{InitialisesOwn}
+use Rattle.unit_parts.specs.declared.declared.Declared.{Declared}
+use Rattle.own_bodies.specs.Own.{HaveOwnBodies}
+use Rattle.unit_finish.specs.declared.keeping.Kept.{Kept}
+use Rattle.unit_finish.specs.Complete.{IsKept, Completes}
+use Rattle.unit_finish.specs.Walked as finish
+use Rattle.unit_finish.specs.Walked.{AreNames, AreTags}
 use Rattle.unit_rows.specs.Standing.{AreKept, AreMade}
 use Rattle.unit_walk.specs.Walked.{IsWalked, AreDense, RefusedIn}
-use Rattle.unit_lowering.specs.Lowered.{IsLowered, IsNotLowered, IsUnfinished, AreParts, declared_in}
+use Rattle.lowered_laws.specs.Parts.{AreParts}
+use Rattle.unit_lowering.specs.Lowered.{IsLowered, HasTags}
+use Rattle.unit_lowering.proofs.Owning.{names_owned}
 
 -- the name of a declarator is a node
 named_of : (count : ℕ) (u : Unit) (m : Made) → IsNamedSense count (sense_made u m) → IsNamedIn count m
@@ -77,23 +88,52 @@ knows_kept s u new rs b h =
 pub whole_walked : (s : Source) (u : Unit) (rs : List Made) → IsWalked s u rs → length (senses_made u rs) ≡ length s.nodes
 whole_walked s u rs h = length-map rs (sense_made u) ∙ h.whole
 
--- refusals of the whole
-module _ (s : Source) (name : List ℕ) (parts : AreParts s) (root : ℕ) where
-  unfinished_none : (fault : CheckFault) → finish.NoneCompletes name s.unit parts.walked.types parts.keys parts.kept.nodes.items (declared_in s parts) root fault → IsUnfinished s name root fault
-  unfinished_none (BadOperand named) h = h
-  unfinished_none (Unsupported NotBuilt named) h = (h.0, record { parts = parts; none = h.1 })
-  unfinished_none (Unsupported kind named) h = h
-  unfinished_none OutOfMemory h = tt
+-- what the walk has made, with the keys of its tags and the list of what is declared, in which automatic objects have bodies of their own
+module _ (s : Source) (u new : Unit) (rs : List Made) (t : Tags) (keys : List (Option (List ℕ))) (list owned : List Declared) (walked : IsWalked s u rs) (tags : known.AreTags s t) (builds : Builds u new) (ready : IsReady new) (right : KeysRight s (sense_in (senses_made u rs)) keys) (count : length keys ≡ t.count) (names : AreNames s (senses_made u rs) new list) (own : HaveOwnBodies new.nodes.items list owned) (initials : InitialisesOwn s (senses_made u rs)) where
+  pub walked_so : finish.IsWalked s (senses_made u rs) new keys owned
+  walked_so = record {
+    are_senses = walked.made.senses;
+    whole = whole_walked s u rs walked;
+    tags = tags_kept s (senses_made u rs) u new builds (tags_walked s u rs t tags walked.made);
+    keys_right = right;
+    one_key_each = count ∙ (tags.count ∙ (walked.made.knows.tags ∙ sym builds.tags));
+    knows = knows_kept s u new rs builds walked.made;
+    are_names = names_owned s (senses_made u rs) new list owned names ready own initials;
+  }
 
-  -- a unit that is right, or none that the parts complete
-  pub finished_so : (r : Result Unit CheckFault) → IfOk r (Right s name)
-      → MatchResult r (finish.Completes name s.unit parts.walked.types parts.keys parts.kept.nodes.items (declared_in s parts)) (finish.NoneCompletes name s.unit parts.walked.types parts.keys parts.kept.nodes.items (declared_in s parts) root)
-      → MatchResult r (Right s name) (IsUnfinished s name root)
-  finished_so (Ok u) right h = right
-  finished_so (Err fault) right h = unfinished_none fault h
+  pub tag_types_so : HasTagTypes s u.types → HasTagTypes s new.types
+  tag_types_so h = tag_types_on s u.types new.types builds.types builds.terms h
 
-pub memory_unfinished : (s : Source) (name : List ℕ) (root : ℕ) (fault : CheckFault) → fault ≡ OutOfMemory → IsUnfinished s name root fault
-memory_unfinished s name root fault e = subst (IsUnfinished s name root) (sym e) tt
+  -- they are parts
+  abbrev pub parts_so : (kept : Kept) → HasTagTypes s u.types → IsMade new.types → AreNamed new.types → IsKept new.nodes.items owned kept → AreParts s
+  parts_so kept types made terms stay = record {
+    senses = senses_made u rs;
+    walked = new;
+    keys = keys;
+    names = owned;
+    kept = kept;
+    ready = ready;
+    made = walked_so;
+    owned = (list, own);
+    tag_types = tag_types_so types;
+    table = made;
+    terms = terms;
+    stay = stay;
+  }
+
+-- what is completed has the table that it is given
+pub completed_types : (name : List ℕ) (number : ℕ) (types : Table) (keys : List (Option (List ℕ))) (nodes : List Node) (list : List Declared) (r : Result Unit CheckFault)
+    → MatchResult r (λ u. Completes name number types keys nodes list u) (λ fault. fault ≡ OutOfMemory) → MatchResult r (λ u. u.types ≡ types) (λ fault. fault ≡ OutOfMemory)
+completed_types name number types keys nodes list (Ok u) h = h.is_unit.made.types_are
+completed_types name number types keys nodes list (Err fault) h = h
+
+-- a right unit with that table has the types of the tags
+pub with_tags : (s : Source) (name : List ℕ) (types : Table) → HasTagTypes s types → IsMade types → AreNamed types → (r : Result Unit CheckFault) → IfOk r (Right s name) → MatchResult r (λ u. u.types ≡ types) (λ fault. fault ≡ OutOfMemory)
+    → MatchResult r (λ u. Right s name u × HasTags s u) (λ fault. fault ≡ OutOfMemory)
+with_tags s name types has made named (Ok u) right is =
+    let tags : HasTags s u = record { types = subst (HasTagTypes s) (sym is) has; made = subst IsMade (sym is) made; named = subst AreNamed (sym is) named } in
+    (right, tags)
+with_tags s name types has made named (Err fault) right is = is
 
 -- the numbers of the tags
 dense_of : (s : Source) (t : Tags) → known.AreTags s t → AreInOrder s → AreDense s
@@ -105,14 +145,11 @@ dense_of s t h ordered = record {
 }
 
 -- in the source with those numbers
-pub lowered : (s plain : Source) (f : ℕ → ℕ) (t : Tags) (name : List ℕ) (at root : ℕ) → s ≡ numbered f plain → at ≡ root → known.AreTags s t → AreInOrder s → (r : Result Unit CheckFault) → MatchResult r (Right s name) (IsUnfinished s name at) → MatchResult r (IsLowered plain name) (IsNotLowered plain name root)
-lowered s plain f t name at root same there tags ordered (Ok u) h = record {
+pub lowered : (s plain : Source) (f : ℕ → ℕ) (t : Tags) (name : List ℕ) → s ≡ numbered f plain → known.AreTags s t → AreInOrder s → (r : Result Unit CheckFault) → MatchResult r (λ u. Right s name u × HasTags s u) (λ fault. fault ≡ OutOfMemory) → MatchResult r (IsLowered plain name) (RefusedIn plain)
+lowered s plain f t name same tags ordered (Ok u) h = record {
   tag_number = f;
   dense = subst AreDense same (dense_of s t tags ordered);
-  right = subst (λ (x : Source). Right x name u) same h;
+  right = subst (λ (x : Source). Right x name u) same h.0;
+  tags = subst (λ (x : Source). HasTags x u) same h.1;
 }
-lowered s plain f t name at root same there tags ordered (Err fault) h =
-    inr (f, subst AreDense same (dense_of s t tags ordered), subst (λ (n : ℕ). IsUnfinished (numbered f plain) name n fault) there (subst (λ (x : Source). IsUnfinished x name at fault) same h))
-
-pub refused_first : (s : Source) (name : List ℕ) (root : ℕ) (fault : CheckFault) → RefusedIn s fault → IsNotLowered s name root fault
-refused_first s name root fault h = inl h
+lowered s plain f t name same tags ordered (Err fault) h = subst (RefusedIn plain) (sym h) tt

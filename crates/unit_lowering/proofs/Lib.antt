@@ -1,2 +1,2 @@
+pub mod Owning
 pub mod Ending
-mod Owning

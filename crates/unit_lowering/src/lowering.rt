@@ -1,7 +1,7 @@
 // From the walk over a unit's tree to the unit.
-ghost use Rattle.std.specs.Prelude.{◌≡◌, ℕ, List, All, length, MatchResult};
-ghost use Rattle.c_types.specs.Made.{IsMade, AreNamed as AreTermsNamed};
+ghost use Rattle.std.specs.Prelude.{◌≡◌, ◌++◌, ℕ, List, All, length, map, IfOk, MatchResult};
 ghost use Rattle.core_tree.specs.declared.node.Unit.{Unit as UnitSpec};
+ghost use Rattle.core_nodes.specs.declared.fault.CheckFault.TheVariants.{OutOfMemory};
 ghost use Rattle.core_nodes.specs.Standing.{IsReady};
 ghost use Rattle.c_lexer.specs.Cut.{IsTokens};
 ghost use Rattle.c_units.specs.Units.{IsUnit};
@@ -15,14 +15,17 @@ ghost use Rattle.tree_reads.specs.Sources.{source_read, source_in};
 ghost use Rattle.name_places.specs.Named.{IsNamedIn};
 ghost use Rattle.c_meanings.specs.Known.{AreNamed};
 ghost use Rattle.unit_parts.specs.declared.declared.Declared.{Declared as DeclaredSpec};
-ghost use Rattle.unit_finish.specs.Complete.{IsKept};
+ghost use Rattle.unit_parts.specs.Renamed.{literals_in};
+ghost use Rattle.unit_finish.specs.Complete.{IsKept, AlwaysCompletes};
 ghost use Rattle.unit_finish.specs.Walked as finish;
+ghost use Rattle.unit_finish.specs.Walked.{literal_entry};
 ghost use Rattle.struct_rows.specs.Built.{HasTagTypes};
 ghost use Rattle.own_initials.specs.Own.{InitialisesOwn};
 ghost use Rattle.unit_rows.specs.Standing.{Stand};
 ghost use Rattle.unit_walk.specs.Ground.{IsGround, source_ground, nodes_ground};
-ghost use Rattle.unit_walk.specs.Walked.{IsWalked};
-ghost use Rattle.unit_lowering.specs.Lowered.{IsLowered, IsNotLowered, IsUnfinished, AreOwned};
+ghost use Rattle.unit_walk.specs.Walked.{IsWalked, RefusedIn};
+ghost use Rattle.lowered_laws.specs.Complete.{PartsComplete};
+ghost use Rattle.unit_lowering.specs.Lowered.{IsLowered, HasTags};
 
 use c_grammar::Tree;
 use c_lexer::Tokens;
@@ -55,14 +58,16 @@ fn finished(
     requires names { AreNamed syntax.now results names.now }
     requires named { All (IsNamedIn (length syntax.now.tree.now.nodes.items)) results }
     requires first { ChildrenFirst (source_read syntax.now) }
-    ensures { (u walked : UnitSpec) (uses : List (ℕ × ℕ)) (list : List DeclaredSpec) →
+    requires completes { (u : UnitSpec) × (uses : List (ℕ × ℕ)) ×
+        (let entries = map (literal_entry (source_in syntax.now uses) (senses_made u results)) (literals_in kept.nodes.items) in
+        AlwaysCompletes heading.name heading.unit types keys.items kept.nodes.items (kept.names.items ++ entries)) }
+    ensures types { MatchResult result (λ done. done.types ≡ types) (λ fault. fault ≡ OutOfMemory) }
+    ensures right { (u walked : UnitSpec) (uses : List (ℕ × ℕ)) (list : List DeclaredSpec) →
         let s = source_in syntax.now uses in
         IsReady walked → walked.types ≡ types → s.unit ≡ heading.unit →
-        HasTagTypes s types → IsMade types → AreTermsNamed types →
         finish.IsWalked s (senses_made u results) walked keys.items list →
-        AreOwned walked.nodes.items list →
         IsKept walked.nodes.items list kept →
-        MatchResult result (Right s heading.name) (IsUnfinished s heading.name heading.root) }
+        IfOk result (Right s heading.name) }
 {
     let nodes = kept.nodes.as_slice();
     let literals = match declared_literals(alloc, names, syntax, &results, nodes) {
@@ -83,9 +88,9 @@ fn completed(alloc: Global, bound: &Bound, name: Text, walked: Walked) -> Result
     requires walked { IsWalked (source_ground walked.ground bound.now) walked.unit walked.results }
     requires types { HasTagTypes (source_ground walked.ground bound.now) walked.unit.types }
     requires initials { InitialisesOwn (source_ground walked.ground bound.now) (senses_made walked.unit walked.results) }
-    ensures { let told = walked.entry.ground in
-        let s = source_ground told bound.now in
-        MatchResult result (Right s name) (IsUnfinished s name told.numbered.syntax.tree.now.root) }
+    requires completes { PartsComplete (source_ground walked.ground bound.now) name }
+    ensures { let s = source_ground walked.entry.ground bound.now in
+        MatchResult result (λ u. Right s name u × HasTags s u) (λ fault. fault ≡ OutOfMemory) }
 {
     let Walked {
         ground,
@@ -105,7 +110,6 @@ fn completed(alloc: Global, bound: &Bound, name: Text, walked: Walked) -> Result
     let heading = Heading {
         name,
         unit: syntax.tree.unit,
-        root: syntax.tree.root,
     };
     let kept = keep(alloc, unit.nodes, list)?;
     finished(
@@ -126,9 +130,10 @@ fn are_bytes(text: &[u8])
 {}
 
 /// The unit that a text stands for, where its tokens and its tree are those of a text whose names are bound, and each node stands behind
-/// its children. The text is refused at its first node, in order, whose row doesn't fit: `BadOperand` and `Unsupported` hold the kind and
-/// the node that the row names. Where the rows of all nodes fit, `NotBuilt` comes at the root, where no valid unit is made of what they stand
-/// for. Beside that only memory may want. Tags have the numbers of the order of their first specifiers (C11 6.7.2.3).
+/// its children. The text is refused only at its first node, in order, whose row doesn't fit: `BadOperand` and `Unsupported` hold the kind
+/// and the node that the row names. Where the rows of all nodes fit, only memory may want: of what they stand for a valid unit is made
+/// always (`lowered_laws`), and its table has the types of the text's tags. Tags have the numbers of the order of their first specifiers
+/// (C11 6.7.2.3).
 pub fn lower(
     alloc: Global,
     tokens: &Tokens,
@@ -140,8 +145,7 @@ pub fn lower(
     requires read { IsUnit tokens.now tree.now.unit tree.now }
     requires bound { IsBound tokens.now tree.now bound.now }
     requires first { ChildrenFirst (source_of tokens.now tree.now) }
-    ensures { MatchResult result (IsLowered (source_of tokens.now tree.now) name)
-        (IsNotLowered (source_of tokens.now tree.now) name tree.now.root) }
+    ensures { MatchResult result (IsLowered (source_of tokens.now tree.now) name) (RefusedIn (source_of tokens.now tree.now)) }
 {
     are_bytes(tokens.text);
     match walk(alloc, tokens, tree, bound) {

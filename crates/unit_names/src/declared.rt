@@ -1,5 +1,5 @@
 // What the leaf of a name declares (C11 6.7, 6.9).
-ghost use Rattle.std.specs.Prelude.{◌≡◌, ◌<◌, ◌==◌, ℕ, List, All, length, IfOk, IfSome, IsOkUnless};
+ghost use Rattle.std.specs.Prelude.{◌≡◌, ◌<◌, ◌==◌, true, ℕ, List, All, length, IfOk, IfSome, IsOkUnless};
 ghost use Rattle.std.specs.Option.{option_map};
 ghost use Rattle.c_types.specs.Table.{type_of};
 ghost use Rattle.core_tree.specs.declared.node.Unit.{Unit as UnitSpec};
@@ -70,9 +70,9 @@ fn is_declared_there(names: &Names, syntax: &Syntax, results: &Results, leaf: u3
     stands_in_declaration(syntax, results, leaf) && !is_typedef(names, syntax, leaf)
 }
 
-// Whether a leaf may declare an object or a function: it is the name of a declarator, in a declaration or as a parameter of a definition,
-// and no typedef name (C11 6.7, 6.9).
-fn may_declare(names: &Names, syntax: &Syntax, results: &Results, leaf: u32) -> bool
+/// Whether a leaf may declare an object or a function: it is the name of a declarator, in a declaration or as a parameter of a definition,
+/// and no typedef name (C11 6.7, 6.9).
+pub(crate) fn may_declare(names: &Names, syntax: &Syntax, results: &Results, leaf: u32) -> bool
     requires names { AreNamed syntax.now results.now names.now }
     requires leaf { leaf < length syntax.now.tree.now.nodes.items }
     ensures { (u : UnitSpec) (uses : List (ℕ × ℕ)) →
@@ -180,7 +180,7 @@ fn declared_as(
     })
 }
 
-/// What a leaf declares as the name of an object or a function: its name and linkage, the type that its declarations give, its
+/// What a leaf that may declare something declares as the name of an object or a function: its name and linkage, the type that its declarations give, its
 /// storage, the function that owns it, and its body (C11 6.2.2, 6.2.4, 6.2.7, 6.9); None where it declares none, where another
 /// declaration of an internal name stands before it, and where no type is made. The types that are asked for may be added to the
 /// unit. `asked` is what is kept of the names before. Only memory may want; a name that is no text counts as that too.
@@ -201,6 +201,8 @@ pub(crate) fn declared_at(
     requires lists { AreOf (source_read syntax.now).declared.ordinary lists.now }
     requires asked { AreAsked syntax.now results.now names.now asked.old }
     requires leaf { leaf < length syntax.now.tree.now.nodes.items }
+    requires may { (u : UnitSpec) (uses : List (ℕ × ℕ)) →
+        may_declare (source_in syntax.now uses) (senses_made u results.now) leaf ≡ true }
     ensures asked { IfOk result (λ found. AreAsked syntax.now results.now names.now asked.new) }
     ensures ready { IsReady unit.new }
     ensures builds { Builds unit.old unit.new }
@@ -211,9 +213,6 @@ pub(crate) fn declared_at(
     ensures within { IfOk result (λ found. IfSome found (IsDeclaredIn unit.new)) }
     ensures memory { IsOkUnless result CheckFault.OutOfMemory }
 {
-    if !may_declare(names, syntax, results, leaf) {
-        return Ok(None);
-    }
     let internal = internal_kept(names, syntax, results, &mut asked.linkages, leaf);
     let known = is_known_here(names, syntax, results, &mut asked.firsts, internal, leaf)?;
     if !known {

@@ -11,7 +11,7 @@ ghost use Rattle.c_meanings.specs.Known.{AreNamed};
 ghost use Rattle.unit_parts.specs.Entities.{bodies_of};
 ghost use Rattle.unit_finish.specs.Walked.{AreNames};
 
-use crate::declared::{Asked, declared_at};
+use crate::declared::{Asked, declared_at, may_declare};
 use c_meanings::Names;
 use c_mentions::settings::place_of;
 use c_results::Results;
@@ -63,6 +63,9 @@ pub fn declared_names(
     let mut asked = Asked::new(alloc, names)?;
     let mut list = Vec::new(alloc);
     for leaf in 0..count {
+        if !may_declare(names, syntax, results, leaf) {
+            continue;
+        }
         let found = declared_at(alloc, unit, names, lists, syntax, results, &mut asked, leaf)?;
         add_some(&mut list, found)?;
     }

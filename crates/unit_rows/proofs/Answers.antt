@@ -24,6 +24,7 @@ use Rattle.unit_limits.specs.Unions.{AreUnions}
 use Rattle.unit_limits.proofs.Flags.{unions_built}
 use Rattle.unit_rows.specs.declared.along.Along.{Along}
 use Rattle.c_meanings.specs.declared.names.Names.{Names}
+use Rattle.c_meanings.specs.declared.kept.Linkages.{Linkages}
 use Rattle.c_meanings.specs.Linkages.{AreLinkages}
 use Rattle.unit_rows.specs.Along.{AreAlong}
 use Rattle.unit_rows.specs.Standing.{AreKept}
@@ -215,8 +216,9 @@ pub row_at : (w : World) (s : Source) (sense : ℕ → Sense) (p q at : ℕ) (xs
 row_at w s sense p q at xs ys e f h = ap (λ (r : ℕ). declaring_row w s sense r at xs) e ∙ (ap (declaring_row w s sense q at) f ∙ sym (row_declaring w s sense q at ys h))
 
 -- what is kept beside a unit, once it is built on
-pub along_on : (syntax : Syntax) (names : Names) (u v : Unit) (rs : List Made) (a : Along) → AreAlong syntax names u rs a → Builds u v → AreAlong syntax names v rs a
-along_on syntax names u v rs a h b = record { lists = h.lists; unions = unions_built u v a.unions.items b h.unions; linkages = h.linkages }
+pub along_on : (syntax : Syntax) (names : Names) (u v : Unit) (rs : List Made) (a : Along) (k : Linkages) → AreAlong syntax names u rs a → Builds u v → AreLinkages syntax rs names k
+    → AreAlong syntax names v rs (record { lists = a.lists; unions = a.unions; linkages = k })
+along_on syntax names u v rs a k h b l = record { lists = h.lists; unions = unions_built u v a.unions.items b h.unions; linkages = l }
 
 pub along_by : (syntax : Syntax) (names : Names) (u : Unit) (rs : List Made) (a : Along) (r : Result Made CheckFault) → AreLists syntax rs a.lists → IfOk r (λ m. AreUnions u.types a.unions.items) → AreLinkages syntax rs names a.linkages
     → IfOk r (λ m. AreAlong syntax names u rs a)

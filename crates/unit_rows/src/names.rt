@@ -10,10 +10,11 @@ ghost use Rattle.c_results.specs.Standing.{senses_made, IsWithin, Rowed};
 ghost use Rattle.tree_reads.specs.Sources.{source_in};
 ghost use Rattle.c_declarators.specs.Named.{IsNamed, IsNamedWithin};
 ghost use Rattle.c_meanings.specs.Known.{AreNames, ArePaired};
+ghost use Rattle.c_meanings.specs.Linkages.{AreLinkages};
 ghost use Rattle.c_meanings.specs.Meanings.{meaning_seen, IsMeaningWithin};
 
 use c_declarators::{NamedType, type_row};
-use c_meanings::{Meaning, Names, meaning_at};
+use c_meanings::{Linkages, Meaning, Names, meaning_at};
 use c_results::{Made, Results};
 use core_nodes::CheckFault;
 use core_tree::node::Unit;
@@ -41,12 +42,15 @@ pub(crate) fn type_specifier(
     syntax: &Syntax,
     names: &Names,
     results: &Results,
+    linkages: &mut Linkages,
     at: u32,
     children: &[u32],
 ) -> Result<Made, CheckFault>
     requires ready { IsReady unit.old }
     requires results { All (IsWithin unit.old) results.now }
     requires names { AreNames syntax.now unit.old results.now names.now }
+    requires linkages { AreLinkages syntax.now results.now names.now linkages.old }
+    ensures linkages { AreLinkages syntax.now results.now names.now linkages.new }
     ensures ready { IsReady unit.new }
     ensures builds { Builds unit.old unit.new }
     ensures within { IfOk result (IsWithin unit.new) }
@@ -60,7 +64,7 @@ pub(crate) fn type_specifier(
     if children.is_empty() {
         return Err(CheckFault::BadOperand(at));
     }
-    let meaning = meaning_at(alloc, unit, syntax, names, results, children[0])?;
+    let meaning = meaning_at(alloc, unit, syntax, names, results, linkages, children[0])?;
     type_row(
         alloc,
         unit,

@@ -7,6 +7,7 @@ ghost use Rattle.c_senses.specs.Sense.{sense_in};
 ghost use Rattle.c_senses.specs.Rows as spec;
 ghost use Rattle.constant_values.specs.Constants.{HasConstants};
 ghost use Rattle.core_nodes.specs.Standing.{IsReady, Builds, Knows};
+ghost use Rattle.c_meanings.specs.Linkages.{AreLinkages};
 ghost use Rattle.c_results.specs.Standing.{senses_made, IsWithin, Rowed};
 ghost use Rattle.tree_reads.specs.Sources.{source_read, source_in};
 ghost use Rattle.unit_rows.specs.Standing.{IsKnown, AreKept, source_known, nodes_known};
@@ -15,6 +16,7 @@ ghost use Rattle.unit_rows.specs.Built.{is_part, is_derivation};
 use crate::known::Known;
 use crate::names::type_specifier;
 use c_declarators::{parameter_row, specs_row, suffix_row, type_name_row};
+use c_meanings::Linkages;
 use c_results::{Made, Results};
 use c_tags::{align_specifier, assert_row, enum_row, enumerator_row};
 use core_nodes::CheckFault;
@@ -42,17 +44,20 @@ pub(crate) fn specifier(
     unit: &mut Unit,
     known: &Known,
     results: &Results,
+    linkages: &mut Linkages,
     production: u32,
     at: u32,
     children: &[u32],
 ) -> Result<Made, CheckFault>
     requires known { IsKnown known.now }
+    requires linkages { AreLinkages known.now.numbered.now.syntax results.now known.now.names.now linkages.old }
     requires ready { IsReady unit.old }
     requires results { All (IsWithin unit.old) results.now }
     requires kept { AreKept (nodes_known known.now) unit.old results.now }
     requires at { at < nodes_known known.now }
     requires production { production ≡ production_at (source_known known.now) at }
     requires part { is_part production ≡ true }
+    ensures linkages { AreLinkages known.now.numbered.now.syntax results.now known.now.names.now linkages.new }
     ensures ready { IsReady unit.new }
     ensures builds { Builds unit.old unit.new }
     ensures within { IfOk result (IsWithin unit.new) }
@@ -74,7 +79,8 @@ pub(crate) fn specifier(
         return align_specifier(unit, syntax, results, at, children);
     }
     if production == P_TYPE {
-        return type_specifier(alloc, unit, syntax, known.names, results, at, children);
+        let names = known.names;
+        return type_specifier(alloc, unit, syntax, names, results, linkages, at, children);
     }
     if production == P_ENUM {
         return enum_row(unit, syntax, known.numbered.tags.seen_at(at), at);

@@ -231,14 +231,17 @@ fn declared(
     known: &Known,
     results: &Results,
     choices: &Choices,
+    linkages: &mut Linkages,
     at: u32,
 ) -> Result<Made, CheckFault>
     requires known { IsKnown known.now }
     requires stand { Stand (nodes_known known.now) unit.old results.now }
     requires knows { Knows (world_there known.now unit.old results.now at) unit.old }
     requires choices { ChoicesFit known.now unit.old results.now at choices.now }
+    requires linkages { AreLinkages known.now.numbered.now.syntax results.now known.now.names.now linkages.old }
     requires at { at < nodes_known known.now }
     requires plain { is_plain (production_at (source_known known.now) at) ≡ true }
+    ensures linkages { AreLinkages known.now.numbered.now.syntax results.now known.now.names.now linkages.new }
     ensures ready { IsReady unit.new }
     ensures builds { Builds unit.old unit.new }
     ensures within { IfOk result (IsWithin unit.new) }
@@ -248,7 +251,9 @@ fn declared(
     let production = production_of(syntax, at);
     let children = children_of(syntax, at);
     if is_part(production) {
-        return specifier(alloc, unit, known, results, production, at, children);
+        return specifier(
+            alloc, unit, known, results, linkages, production, at, children,
+        );
     }
     if is_derivation(production) {
         return derivation(alloc, unit, syntax, results, production, at, children);
@@ -296,10 +301,20 @@ pub fn row(
         return Ok(Made::Nothing);
     }
     if is_expression(production) {
-        return expression(alloc, unit, syntax, known.names, results, at);
+        let names = known.names;
+        let linkages = &mut along.linkages;
+        return expression(alloc, unit, syntax, names, results, linkages, at);
     }
     if is_plain(production) {
-        return declared(alloc, unit, known, results, choices, at);
+        return declared(
+            alloc,
+            unit,
+            known,
+            results,
+            choices,
+            &mut along.linkages,
+            at,
+        );
     }
     limited(
         alloc,

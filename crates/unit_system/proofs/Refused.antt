@@ -2,13 +2,13 @@
 use Rattle.std.proofs.Common.{List}
 use Rattle.core_tree.specs.declared.node.Unit.{Unit}
 use Rattle.core_tree.specs.declared.node.Program.{Program}
-use Rattle.unit_link.specs.Linked.{Linked}
 use Rattle.unit_system.specs.declared.fault.UnitFault.{UnitFault}
 use Rattle.unit_system.specs.declared.fault.UnitFault.TheVariants.{Link, Nodes, Words, OutOfMemory}
+use Rattle.unit_system.specs.Of.{IsProgramOf}
 use Rattle.unit_system.specs.Faults.{IsProgramFault, IsFaultOf}
 
-pub program_refused : (units : List Unit) (p : Program) (fault : UnitFault) → Linked units p → IsProgramFault p fault → IsFaultOf units fault
-program_refused units p (Link fault) linked h = absurd h
-program_refused units p (Nodes nodes) linked h = (p, linked, h)
-program_refused units p (Words words) linked h = (p, linked, h)
-program_refused units p OutOfMemory linked h = tt
+pub program_refused : (units : List Unit) (p : Program) (fault : UnitFault) → IsProgramOf units p → IsProgramFault p fault → IsFaultOf units fault
+program_refused units p (Link fault) own h = absurd h
+program_refused units p (Nodes nodes) own h = (p, own, h)
+program_refused units p (Words words) own h = (p, own, h)
+program_refused units p OutOfMemory own h = tt

@@ -2,10 +2,11 @@
 use Rattle.std.specs.Prelude.{◌≡◌, ◌<◌, ◌≤◌, ◌^◌, ℕ, ⊤, List, length}
 use Rattle.core_tree.specs.declared.node.Unit.{Unit}
 use Rattle.core_tree.specs.declared.node.Program.{Program}
-use Rattle.unit_link.specs.Linked.{Linked, LinksBadly}
+use Rattle.unit_link.specs.Linked.{LinksBadly}
 use Rattle.obj_space.specs.Space.{locations_in}
 use Rattle.obj_space.specs.View.{view_of}
 use Rattle.constraints.specs.System.{word_total}
+use Rattle.unit_system.specs.Of.{IsProgramOf}
 use Rattle.unit_system.specs.declared.fault.UnitFault.{UnitFault}
 use Rattle.unit_system.specs.declared.fault.UnitFault.TheVariants.{Link, Nodes, Words, OutOfMemory}
 
@@ -27,9 +28,9 @@ IsProgramFault p (Words words) = HasWords p words
 IsProgramFault p OutOfMemory = ⊤
 IsProgramFault p fault = ⊥
 
--- the first fault of linking units, or the limit that the program passes first that is linked from them
+-- the first fault of linking units, or the limit that their program passes first
 abbrev pub IsFaultOf : List Unit → UnitFault → Type 0
 IsFaultOf units (Link fault) = LinksBadly units fault
-IsFaultOf units (Nodes nodes) = (p : Program) × Linked units p × HasNodes p nodes
-IsFaultOf units (Words words) = (p : Program) × Linked units p × HasWords p words
+IsFaultOf units (Nodes nodes) = (p : Program) × IsProgramOf units p × HasNodes p nodes
+IsFaultOf units (Words words) = (p : Program) × IsProgramOf units p × HasWords p words
 IsFaultOf units OutOfMemory = ⊤

@@ -1,5 +1,6 @@
--- The system of a program, and that of units.
+-- The program of units, the system of a program, and that of units.
 use Rattle.std.specs.Prelude.{◌≡◌, List, length}
+use Rattle.c_types.specs.Made.{IsMade, AreNamed}
 use Rattle.core_tree.specs.declared.node.Unit.{Unit}
 use Rattle.core_tree.specs.declared.node.Program.{Program}
 use Rattle.sol_model.specs.declared.system.System.{System}
@@ -9,6 +10,12 @@ use Rattle.obj_space.specs.declared.location.Location.{Location}
 use Rattle.obj_space.specs.Space.{locations_in}
 use Rattle.obj_space.specs.View.{view_of}
 use Rattle.normal_form.specs.SystemOf.{SystemOf}
+
+-- a program that is linked from units, on a table that its own functions made
+pub record IsProgramOf (units : List Unit) (p : Program) : Type 0 where
+  pub linked : Linked units p
+  pub made : IsMade p.types
+  pub named : AreNamed p.types
 
 -- a program's locations, and its system over these
 pub record IsSystemOf (p : Program) (space : List Location) (system : System) : Type 0 where

@@ -8,7 +8,7 @@ use Rattle.c_senses.specs.Declarators.{positive}
 use Rattle.c_declarators.specs.Suffixes.{LengthMade}
 use Rattle.c_consts.specs.Core.{Stands}
 use Rattle.core_nodes.specs.Standing.{core_at}
-use Rattle.c_conversions.proofs.Constants.{core_stands, rows_under}
+use Rattle.constant_values.proofs.PassedOn.{core_stands, rows_under}
 use Rattle.c_consts.specs.Nodes.{RowsUnder}
 use Rattle.constant_values.proofs.Valuing.{holds_below, holds_fits}
 use Rattle.c_declarators.proofs.Lengths.{value_made, form_made, range_made, zero_made}

@@ -1,10 +1,12 @@
-use Rattle.std.proofs.Common.{Bool, ap, ◌∙◌}
+use Rattle.std.proofs.Common.{Bool, ap, sym, ◌∙◌}
 use Rattle.c_senses.specs.Sense.{sense_in}
 use Rattle.c_results.specs.Standing.{senses_made}
 use Rattle.tree_reads.specs.Sources.{source_read, source_in}
 use Rattle.c_meanings.specs.Known.{nodes_in}
 use Rattle.c_meanings.specs.Statics.{some_static}
-use Rattle.c_meanings.specs.Linkages.{internal_with, later}
+use Rattle.c_meanings.specs.Linkages.{internal_with}
+use Rattle.c_meanings.specs.Later.{later}
+use Rattle.c_meanings.proofs.Tests.{and_else}
 use Rattle.c_meanings.proofs.Onward.{internal_stays}
 use Rattle.c_meanings.proofs.kept.internal_asked.Goals as goal
 
@@ -35,3 +37,11 @@ returns-else-seen-clause-now c = λ u uses.
     c.internal_with.ensures u uses
     ∙ ap (λ (b : Bool). internal_with s sense b c.args.leaf)
     (c.static_at-seen.ensures.now u uses ∙ ap (some_static s sense) (c.linked_link-last.ensures.list s (nodes_in c.args.syntax.now) c.requires.names.chained.chains))
+
+pub returns-then-not-is_linked-clause-now : goal.returns-then-not-is_linked-clause-now
+returns-then-not-is_linked-clause-now c = λ u uses.
+    let sense = sense_in (senses_made u c.args.results.now) in
+    sym c.if-not-is_linked.true ∙ and_else _ _ _ (c.is_linked.ensures uses sense) c.if-not-is_linked.true
+
+pub returns-then-not-is_linked-clause-stays : goal.returns-then-not-is_linked-clause-stays
+returns-then-not-is_linked-clause-stays c = λ t u uses more. sym c.if-not-is_linked.true ∙ and_else _ _ _ (c.is_linked.ensures uses (later u c.args.results.now more)) c.if-not-is_linked.true

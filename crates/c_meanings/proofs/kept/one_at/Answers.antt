@@ -2,7 +2,8 @@ use Rattle.std.proofs.Common.{◌≡◌, ℕ, Bool, true, List, Option, Some, No
 use Rattle.c_senses.specs.Entities.{same_internal}
 use Rattle.tree_reads.specs.Sources.{source_in}
 use Rattle.name_chains.specs.Links.{listed}
-use Rattle.c_meanings.specs.Linkages.{StaysOne, later}
+use Rattle.c_meanings.specs.Linkages.{StaysOne}
+use Rattle.c_meanings.specs.Later.{later}
 use Rattle.c_meanings.proofs.Lists.{ends}
 use Rattle.c_meanings.proofs.Onward.{one_push, one_before, not_false}
 use Rattle.c_meanings.proofs.kept.one_at.Goals as goal
@@ -39,6 +40,9 @@ returns-clause-linkages c =
                 subst (λ (n : ℕ). StaysOne c.args.syntax.now c.args.results.now (listed xs (Some n)) x) (sym new.0)
                 (subst (λ (y : Bool). StaysOne c.args.syntax.now c.args.results.now (listed xs (Some c.args.place)) y) new.1 whole)
           ];
+      own = h.own;
+      typing = h.typing;
+      internal = h.internal;
     }
 
 pub returns-clause-one : goal.returns-clause-one

@@ -5,7 +5,8 @@ use Rattle.tree_reads.specs.Sources.{source_in}
 use Rattle.name_chains.specs.Links.{listed}
 use Rattle.name_chains.proofs.Linked.{listed-none}
 use Rattle.c_meanings.specs.Statics.{some_static}
-use Rattle.c_meanings.specs.Linkages.{StaysStatic, later}
+use Rattle.c_meanings.specs.Linkages.{StaysStatic}
+use Rattle.c_meanings.specs.Later.{later}
 use Rattle.c_meanings.proofs.Lists.{ends}
 use Rattle.c_meanings.proofs.Onward.{static_now, static_push, both_left, both_right}
 use Rattle.c_meanings.proofs.kept.static_at.Goals as goal
@@ -69,6 +70,9 @@ returns-clause-linkages c =
                 (subst (λ (y : Bool). StaysStatic c.args.syntax.now c.args.results.now (listed xs (Some place)) y) new.1 (whole new.2))
           ];
       scopes = c.requires.linkages.scopes;
+      own = c.requires.linkages.own;
+      typing = c.requires.linkages.typing;
+      internal = c.requires.linkages.internal;
     }
 
 pub returns-clause-now : goal.returns-clause-now

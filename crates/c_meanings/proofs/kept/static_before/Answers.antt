@@ -5,7 +5,7 @@ use Rattle.tree_reads.specs.Sources.{source_in}
 use Rattle.name_chains.specs.Links.{listed}
 use Rattle.name_chains.proofs.Linked.{listed-none}
 use Rattle.c_meanings.specs.Statics.{some_static}
-use Rattle.c_meanings.specs.Linkages.{later}
+use Rattle.c_meanings.specs.Later.{later}
 use Rattle.c_meanings.proofs.Onward.{static_now}
 use Rattle.c_meanings.proofs.kept.static_before.Goals as goal
 

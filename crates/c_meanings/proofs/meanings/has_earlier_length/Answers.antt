@@ -16,16 +16,16 @@ returns-then-is_open-clause-made c = λ uses.
     with_third _ _ _ (ap (is_open s sense) (sym (c.in_ok-behind.ensures.made uses)) ∙ (sym (c.is_open.ensures s sense) ∙ c.if-is_open.true))
 
 pub returns-in_err-own-clause-builds : goal.returns-in_err-own-clause-builds
-returns-in_err-own-clause-builds c = builds_on c.args.unit.now c.type_behind.new.unit c.own_type.new.unit c.in_ok-behind.ensures.builds c.in_err-own.ensures.builds
+returns-in_err-own-clause-builds c = builds_on c.args.unit.now c.type_thinned.new.unit c.own_type.new.unit c.in_ok-behind.ensures.builds c.in_err-own.ensures.builds
 
 pub returns-clause-builds : goal.returns-clause-builds
-returns-clause-builds c = builds_on c.args.unit.now c.type_behind.new.unit c.own_type.new.unit c.in_ok-behind.ensures.builds c.in_ok-own.ensures.builds
+returns-clause-builds c = builds_on c.args.unit.now c.type_thinned.new.unit c.own_type.new.unit c.in_ok-behind.ensures.builds c.in_ok-own.ensures.builds
 
 pub returns-clause-made : goal.returns-clause-made
 returns-clause-made c = λ uses.
     let s = source_in c.args.syntax.now uses in
     let u0 = c.args.unit.now in
-    let u1 = c.type_behind.new.unit in
+    let u1 = c.type_thinned.new.unit in
     let rs = c.args.results.now in
     let sense = sense_in (senses_made u0 rs) in
     let begun : c.has_initialiser.result ≡ true = cc in

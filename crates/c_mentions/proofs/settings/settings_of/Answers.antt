@@ -2,7 +2,9 @@ use Rattle.std.proofs.Common.{◌≡◌, ◌<◌, ◌≤◌, ◌+◌, ◌-◌, �
 use Rattle.std.proofs.lemmas.List.{nil_from_length}
 use Rattle.c_grammar.specs.Reads.{Node, node_of}
 use Rattle.c_mentions.specs.Syntax.{nodes_of}
-use Rattle.c_mentions.specs.Settings.{Standing, Stands, Hands, handed_down, standings, outermost}
+use Rattle.c_mentions.specs.declared.settings.Setting.{Setting}
+use Rattle.c_mentions.specs.Kept.{nowhere}
+use Rattle.c_mentions.specs.Settings.{Stands, Hands, standings, outermost}
 use Rattle.c_mentions.proofs.Nodes.{length-nodes_of, get_or-nodes_of}
 use Rattle.c_mentions.proofs.Handing.{Behind, behind_more, behind_leaf}
 use Rattle.c_mentions.proofs.settings.settings_of.Goals as goal
@@ -25,8 +27,8 @@ loop-node-preserved c =
     let behind : Behind tokens nodes scopes c.loop-node.list (m + 1) = subst (λ n. Behind tokens nodes scopes c.loop-node.list n) next c.loop-node.invariant.2 in
     let within : m < length nodes = omega arith in (omega arith, c.loop-node.invariant.1, behind_leaf tokens nodes m scopes c.loop-node.list node within at (nil_from_length node.children (eqb-true (length node.children) 0 empty)) behind)
 
-pub loop-node-preserved-in-Continue-branch-4 : goal.loop-node-preserved-in-Continue-branch-4
-loop-node-preserved-in-Continue-branch-4 c =
+pub loop-node-preserved-in-Continue-branch-3 : goal.loop-node-preserved-in-Continue-branch-3
+loop-node-preserved-in-Continue-branch-3 c =
     let tokens = c.args.tokens.now in
     let nodes : List Node = nodes_of c.args.nodes.now in
     let count : length nodes ≡ length c.args.nodes.now = length-nodes_of c.args.nodes.now in
@@ -34,20 +36,19 @@ loop-node-preserved-in-Continue-branch-4 c =
     let above : 0 < c.loop-node.node = c.loop-node-test.true in
     let within_nodes : c.loop-node.node ≤ length c.args.nodes.now = c.loop-node.invariant.0 in
     let next : c.loop-node.node ≡ m + 1 = omega arith in
-    let here = c.at.result in
     let node : Node = node_of c.index-nodes-node.result in
+    let d : Setting = nowhere in
     let scopes = c.loop-node.scopes.items in
-    let newer = c.setting_within.new.scopes.items in
+    let newer = c.hand_down.new.scopes.items in
     let at : node ≡ get_or nodes m node = ap node_of c.index-nodes-node.is ∙ sym (get_or-nodes_of c.args.nodes.now m c.index-nodes-node.result) in
     let children = c.as_slice-children.ensures.value ∙ ap (λ n. n.children.items) (sym c.index-nodes-node.is) in
-    let given : Hands node.children m c.in_ok-within.within c.loop-node.list c.hand.new.self = subst (λ l. Hands l m c.in_ok-within.within c.loop-node.list c.hand.new.self) children c.in_ok-hand.ensures in
-    let stands : (s : Standing) → Stands scopes (get_or c.loop-node.list m here) s → Stands newer c.in_ok-within.within (handed_down tokens nodes m s)
-    = λ s h. c.in_ok-within.ensures.stands s (subst (λ x. Stands scopes x s) (c.at.ensures c.at.result) h) in
+    let down = c.in_ok-hand_down.ensures d in
+    let given : Hands node.children m down.within c.loop-node.list c.hand_down.new.list = subst (λ l. Hands l m down.within c.loop-node.list c.hand_down.new.list) children down.hands in
     let behind : Behind tokens nodes scopes c.loop-node.list (m + 1) = subst (λ n. Behind tokens nodes scopes c.loop-node.list n) next c.loop-node.invariant.2 in
     let within : m < length nodes = omega arith in (
       omega arith,
-      c.in_ok-hand.ensures.count ∙ c.loop-node.invariant.1,
-      behind_more tokens nodes m scopes newer c.loop-node.list c.hand.new.self c.in_ok-within.within here node within at c.in_ok-within.ensures.extends stands given behind,
+      down.hands.count ∙ c.loop-node.invariant.1,
+      behind_more tokens nodes m scopes newer c.loop-node.list c.hand_down.new.list down.within d node within at down.extends down.stands given behind,
     )
 
 pub returns : goal.returns

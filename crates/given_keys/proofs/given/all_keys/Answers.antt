@@ -11,11 +11,12 @@ pub inner_flags-requires-clause-behind : goal.inner_flags-requires-clause-behind
 inner_flags-requires-clause-behind c = parents_behind (source_read c.args.syntax.now) c.requires.first
 
 pub returns : goal.returns
-returns c = λ u uses.
+returns c = λ u uses roles.
     let s : Source = source_in c.args.syntax.now uses in
     let sense : ℕ → Sense = sense_in (senses_made u c.args.results.now) in
     c.in_ok-list.ensures u uses (record {
-      inner = subst (λ (l : List Bool). AreInner s sense l (length s.nodes)) (sym c.as_slice.ensures.value) (c.in_ok-inner.ensures uses sense);
-      free = c.in_ok-free.ensures u uses;
-      positions = c.in_ok-positions.ensures u uses;
+      roles = roles;
+      inner = subst (λ (l : List Bool). AreInner s sense l (length s.nodes)) (sym c.as_slice.ensures.value) (c.in_ok-inner.ensures uses sense roles);
+      free = c.in_ok-free.ensures u uses roles;
+      positions = c.in_ok-positions.ensures u uses roles;
     })

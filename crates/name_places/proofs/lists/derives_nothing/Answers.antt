@@ -1,7 +1,7 @@
 use Rattle.std.proofs.Common.{◌∙◌}
 use Rattle.c_senses.specs.Sense.{sense_in}
 use Rattle.c_results.specs.Standing.{senses_made}
-use Rattle.c_declarators.proofs.Placing.{nothing_some, nothing_none}
+use Rattle.c_entities.proofs.PassedOn.{nothing_some, nothing_none}
 use Rattle.name_places.proofs.lists.derives_nothing.Goals as goal
 
 pub returns-in-Some : goal.returns-in-Some

@@ -2,7 +2,7 @@ use Rattle.std.proofs.Common.{refl}
 use Rattle.c_senses.specs.Sense.{sense_in}
 use Rattle.c_results.specs.Standing.{senses_made}
 use Rattle.tree_reads.specs.Sources.{source_read}
-use Rattle.c_declarators.proofs.Placing.{and_then, and_else, next_is}
+use Rattle.c_entities.proofs.PassedOn.{and_then, and_else, next_is}
 use Rattle.c_senses.specs.Tree.{children_at}
 use Rattle.name_places.proofs.lists.is_next_to_name.Goals as goal
 

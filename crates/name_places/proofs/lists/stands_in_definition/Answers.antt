@@ -1,6 +1,6 @@
 use Rattle.std.proofs.Common.{◌∙◌, ap}
 use Rattle.tree_reads.specs.Sources.{source_read}
-use Rattle.c_declarators.specs.Parameters.{is_definition_of}
+use Rattle.c_entities.specs.PassedOn.{is_definition_of}
 use Rattle.name_places.proofs.lists.stands_in_definition.Goals as goal
 
 pub returns-in-Some : goal.returns-in-Some

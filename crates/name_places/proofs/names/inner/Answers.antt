@@ -1,6 +1,6 @@
 use Rattle.c_senses.specs.Sense.{sense_in}
 use Rattle.c_results.specs.Standing.{senses_made}
-use Rattle.c_declarators.proofs.Stepping.{declarator_found, declarator_passed, declarator_none}
+use Rattle.c_entities.proofs.PassedOn.{declarator_found, declarator_passed, declarator_none}
 use Rattle.name_places.proofs.names.inner.Goals as goal
 
 pub returns-in-Some-clause-seen : goal.returns-in-Some-clause-seen

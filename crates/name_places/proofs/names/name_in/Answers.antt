@@ -3,7 +3,7 @@ use Rattle.name_places.proofs.Standing.{first_name_below}
 use Rattle.c_senses.specs.Sense.{sense_in}
 use Rattle.c_results.specs.Standing.{senses_made}
 use Rattle.tree_reads.specs.Sources.{source_read}
-use Rattle.c_declarators.proofs.Stepping.{name_is}
+use Rattle.c_entities.proofs.PassedOn.{name_is}
 use Rattle.name_places.proofs.names.name_in.Goals as goal
 
 pub returns-in-Some-inner-clause-name : goal.returns-in-Some-inner-clause-name

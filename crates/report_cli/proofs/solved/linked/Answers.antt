@@ -5,7 +5,9 @@ use Rattle.report_cli.proofs.solved.linked.Goals as goal
 
 pub returns-in-Ok-clause-linked : goal.returns-in-Ok-clause-linked
 returns-in-Ok-clause-linked c texts right =
-    let made = c.in-Ok.made in denoted texts c.args.units.items right made.program made.space made.system c.in-Ok.ensures
+    let made = c.in-Ok.made in
+    let told = c.type_count-types.ensures in
+    denoted texts c.args.units.items right made.program made.space made.system c.in-Ok.ensures told.made told.named
 
 pub returns-in_ok-system_refusal-in-Err-clause-refused : goal.returns-in_ok-system_refusal-in-Err-clause-refused
 returns-in_ok-system_refusal-in-Err-clause-refused c texts named right =

@@ -1,8 +1,6 @@
 use Rattle.std.specs.Prelude.{zip}
 use Rattle.std.proofs.Common.{List, ℕ, Option, sym, subst}
 use Rattle.command_line.specs.Distinct.{AreDistinct}
-use Rattle.core_tree.specs.declared.node.Unit.{Unit}
-use Rattle.link_merge.specs.Tags.{AreMade}
 use Rattle.report_cli.specs.Words.{names_of, AreUnitNames}
 use Rattle.report_cli.specs.declared.solved.Script.{Script}
 use Rattle.report_cli.specs.Printed.{IsPrinted}
@@ -28,8 +26,7 @@ pub linked-requires-clause-named : goal.linked-requires-clause-named
 linked-requires-clause-named g c =
     let texts = zip (names_of c.args.names.now) c.args.texts.now in
     let N : List (List ℕ) → Type 0 = AreUnitNames in
-    let M : List Unit → Type 0 = AreMade in
-    are_named texts c.in_ok-units.units.items (subst N (zip_names c.args.names.now c.args.texts.now c.requires.count) c.requires.bytes) c.in_ok-units.ensures.right (subst M c.as_slice.ensures.value c.tables_told.ensures)
+    are_named texts c.in_ok-units.units.items (subst N (zip_names c.args.names.now c.args.texts.now c.requires.count) c.requires.bytes) c.in_ok-units.ensures.right
 
 pub returns-in-Err-clause-refused : goal.returns-in-Err-clause-refused
 returns-in-Err-clause-refused g c =

@@ -10,6 +10,7 @@ use Rattle.report_cli.specs.Outside.{Receives, source_fault}
 use Rattle.report_cli.proofs.Lifted.{IsStatus, names_asked, with_told_for, told_denotes, told_prints, told_refuses}
 use Rattle.report_cli.proofs.Exclusion.{told_read}
 use Rattle.report_cli.proofs.OneOutcome.{told_right}
+use Rattle.report_cli.proofs.Together.{accepted_or_refused}
 use Rattle.report_cli.proofs.Naming.{unit_names}
 use Rattle.report_cli.proofs.Answered.{not_risen, grows_nothing, receives_nothing, always, same_name, number_of_workers, few_names}
 use Rattle.report_cli.proofs.top.analyse.Goals as goal
@@ -95,6 +96,21 @@ returns-in-Err-Source-clause-right g c =
           let C : List (List ℕ) → Type 0 = λ n. Contains n given.0 in
           inr (inl (absurd (not_risen _ _ (sources given.0 (subst C (names_asked (texts_of c.args.words.now) c.in-Ok.command c.in-Ok.ensures.ok.says) (Contains-at names c.in-Err-Source.number given.0 at))) given.2)))
       | inr nine ↦ inr (inl nine)
+    ])
+
+pub returns-in-Err-Source-clause-accepted : goal.returns-in-Err-Source-clause-accepted
+returns-in-Err-Source-clause-accepted g c =
+    always (told_for (g.U.Units.text c.args.units.now) (texts_of c.args.words.now)) _
+    (λ told words accepted sources sink. elim c.source_fault.ensures.status [
+      | inl seven ↦
+          let names : List (List ℕ) = names_for c.in-Ok.command in
+          let given = c.in-Err-Source.ensures.cause c.in-Err-Source.number (ap Err c.in-Err-Source.field-0-is) in
+          let sliced : names_of c.as_slice-all.result.now ≡ names = ap names_of c.as_slice-all.ensures.value ∙ c.in-Ok-names_for.ensures in
+          let A : List (List ℕ) → Type 0 = λ n. slice_get n c.in-Err-Source.number ≡ Some given.0 in
+          let at : slice_get names c.in-Err-Source.number ≡ Some given.0 = subst A sliced given.1 in
+          let C : List (List ℕ) → Type 0 = λ n. Contains n given.0 in
+          absurd (not_risen _ _ (sources given.0 (subst C (names_asked (texts_of c.args.words.now) c.in-Ok.command c.in-Ok.ensures.ok.says) (Contains-at names c.in-Err-Source.number given.0 at))) given.2)
+      | inr nine ↦ inr nine
     ])
 
 pub answer_units-requires-clause-workers : goal.answer_units-requires-clause-workers
@@ -205,6 +221,20 @@ returns-clause-right g c =
           inr (inr (answer, told_right told answer units (told_refuses _ told answer read given.1), refl))
       | inr (inr (inl eight)) ↦ absurd (not_risen _ _ sink (c.answer_units.ensures.cause eight))
       | inr (inr (inr nine)) ↦ inr (inl nine)
+    ])
+
+pub returns-clause-accepted : goal.returns-clause-accepted
+returns-clause-accepted g c =
+    with_told_for (g.U.Units.text c.args.units.now) (texts_of c.args.words.now) c.in-Ok.command _ _ c.as_slice.result.now _ c.in-Ok.ensures.ok.says
+    (ap names_of c.as_slice-all.ensures.value ∙ c.in-Ok-names_for.ensures) c.as_slice.ensures.value c.in-Ok-read_units.ensures.texts
+    (λ told read words accepted sources sink. elim c.answer_units.ensures.listed [
+      | inl zero ↦ inl zero
+      | inr (inl refused) ↦
+          let given = c.answer_units.ensures.refused (no_success _ refused) (no_eight _ refused) (no_nine _ refused) in
+          let answer : Answer = record { status = c.answer_units.result; out = []; err = given.0 } in
+          absurd (accepted_or_refused told answer accepted (told_refuses _ told answer read given.1))
+      | inr (inr (inl eight)) ↦ absurd (not_risen _ _ sink (c.answer_units.ensures.cause eight))
+      | inr (inr (inr nine)) ↦ inr nine
     ])
 
 pub returns-clause-solved : goal.returns-clause-solved

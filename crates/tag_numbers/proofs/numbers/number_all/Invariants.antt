@@ -1,8 +1,9 @@
 use Rattle.std.proofs.Common.{ℕ, List}
 use Rattle.tree_reads.specs.Sources.{source_in}
+use Rattle.node_roles.specs.Roles.{AreRoles}
 use Rattle.tag_numbers.specs.Firsts.{Declares}
 use Rattle.tag_numbers.specs.Numbers.{AreNumbers}
 use Rattle.tag_numbers.proofs.numbers.number_all.Given as goal
 
 abbrev pub invariant-loop-node : goal.invariant-loop-node
-invariant-loop-node l = (uses : List (ℕ × ℕ)) → Declares (source_in l.syntax uses) l.declaring → AreNumbers (source_in l.syntax uses) l.numbering l.node
+invariant-loop-node l = (uses : List (ℕ × ℕ)) → AreRoles (source_in l.syntax uses) l.roles → Declares (source_in l.syntax uses) l.declaring → AreNumbers (source_in l.syntax uses) l.numbering l.node

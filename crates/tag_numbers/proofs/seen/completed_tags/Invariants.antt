@@ -1,8 +1,9 @@
 use Rattle.std.proofs.Common.{ℕ, List}
 use Rattle.tree_reads.specs.Sources.{source_in}
+use Rattle.node_roles.specs.Roles.{AreRoles}
 use Rattle.tag_numbers.specs.Firsts.{Declares}
 use Rattle.tag_numbers.specs.Numbers.{MarkedBefore}
 use Rattle.tag_numbers.proofs.seen.completed_tags.Given as goal
 
 abbrev pub invariant-loop-node : goal.invariant-loop-node
-invariant-loop-node l = (uses : List (ℕ × ℕ)) → Declares (source_in l.syntax uses) l.declaring → MarkedBefore (source_in l.syntax uses) l.node l.flags.items
+invariant-loop-node l = (uses : List (ℕ × ℕ)) → AreRoles (source_in l.syntax uses) l.roles → Declares (source_in l.syntax uses) l.declaring → MarkedBefore (source_in l.syntax uses) l.node l.flags.items

@@ -10,21 +10,21 @@ or_false : (a : Bool) → a ≡ (a || false)
 or_false true = refl
 or_false false = refl
 
-pub returns-then-not-is_tag_specifier-clause-seen : goal.returns-then-not-is_tag_specifier-clause-seen
-returns-then-not-is_tag_specifier-clause-seen c = λ uses h listed is.
-    absurd (let e = c.if-not-is_tag_specifier.ensures uses in cc)
+pub returns-then-not-is_specifier_at-clause-seen : goal.returns-then-not-is_specifier_at-clause-seen
+returns-then-not-is_specifier_at-clause-seen c = λ uses roles h listed is.
+    absurd (let e = c.if-not-is_specifier_at.ensures (source_in c.args.syntax.now uses) roles in cc)
 
-pub returns-then-not-is_tag_specifier-clause-listed : goal.returns-then-not-is_tag_specifier-clause-listed
-returns-then-not-is_tag_specifier-clause-listed c = λ uses h listed d.
+pub returns-then-not-is_specifier_at-clause-listed : goal.returns-then-not-is_specifier_at-clause-listed
+returns-then-not-is_specifier_at-clause-listed c = λ uses roles h listed d.
     let s = source_in c.args.syntax.now uses in
     let test : ℕ → Bool = λ j. has_list s j && (tag_declared s j == d) in
     let before = any_where test (specifiers_before s c.args.node) in
     listed d
     ∙ (or_false before
-    ∙ (ap (λ (b : Bool). before || (b && test c.args.node)) (c.if-not-is_tag_specifier.ensures uses) ∙ sym (any_passing_next test (is_tag_specifier s) c.args.node)))
+    ∙ (ap (λ (b : Bool). before || (b && test c.args.node)) (c.if-not-is_specifier_at.ensures (source_in c.args.syntax.now uses) roles) ∙ sym (any_passing_next test (is_tag_specifier s) c.args.node)))
 
 pub returns-clause-listed : goal.returns-clause-listed
-returns-clause-listed c = λ uses h listed d.
+returns-clause-listed c = λ uses roles h listed d.
     let s = source_in c.args.syntax.now uses in
     let test : ℕ → Bool = λ j. has_list s j && (tag_declared s j == d) in
     let before = any_where test (specifiers_before s c.args.node) in
@@ -32,4 +32,4 @@ returns-clause-listed c = λ uses h listed d.
     c.mark_if.ensures.marked d
     ∙ (ap (λ (b : Bool). b || (c.has_list.result && (c.tag_declared-declared.result == d))) (listed d)
     ∙ (ap (λ (b : Bool). before || b) here
-    ∙ (ap (λ (b : Bool). before || (b && test c.args.node)) (sym c.if-not-is_tag_specifier.false ∙ c.is_tag_specifier.ensures uses) ∙ sym (any_passing_next test (is_tag_specifier s) c.args.node))))
+    ∙ (ap (λ (b : Bool). before || (b && test c.args.node)) (sym c.if-not-is_specifier_at.false ∙ c.is_specifier_at.ensures (source_in c.args.syntax.now uses) roles) ∙ sym (any_passing_next test (is_tag_specifier s) c.args.node))))

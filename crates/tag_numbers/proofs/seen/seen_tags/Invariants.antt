@@ -1,5 +1,6 @@
 use Rattle.std.proofs.Common.{◌≡◌, ℕ, List, length}
 use Rattle.tree_reads.specs.Sources.{source_in}
+use Rattle.node_roles.specs.Roles.{AreRoles}
 use Rattle.tag_numbers.specs.Firsts.{Declares}
 use Rattle.tag_numbers.specs.Numbers.{AreSeen, ListedBefore}
 use Rattle.tag_numbers.proofs.seen.seen_tags.Given as goal
@@ -7,6 +8,6 @@ use Rattle.tag_numbers.proofs.seen.seen_tags.Given as goal
 abbrev pub invariant-loop-node : goal.invariant-loop-node
 invariant-loop-node l = record {
   long : length l.listed.items ≡ length l.syntax.tree.now.nodes.items;
-  listed_are : (uses : List (ℕ × ℕ)) → Declares (source_in l.syntax uses) l.declaring → ListedBefore (source_in l.syntax uses) l.node l.listed.items;
-  seen_are : (uses : List (ℕ × ℕ)) → Declares (source_in l.syntax uses) l.declaring → AreSeen (source_in l.syntax uses) l.seen l.node;
+  listed_are : (uses : List (ℕ × ℕ)) → AreRoles (source_in l.syntax uses) l.roles → Declares (source_in l.syntax uses) l.declaring → ListedBefore (source_in l.syntax uses) l.node l.listed.items;
+  seen_are : (uses : List (ℕ × ℕ)) → AreRoles (source_in l.syntax uses) l.roles → Declares (source_in l.syntax uses) l.declaring → AreSeen (source_in l.syntax uses) l.seen l.node;
 }

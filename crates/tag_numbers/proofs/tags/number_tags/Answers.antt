@@ -1,10 +1,18 @@
-use Rattle.std.proofs.Common.{◌≡◌, refl, ap, sym, ◌∙◌}
+use Rattle.std.proofs.Common.{◌≡◌, ℕ, List, refl, ap, sym, ◌∙◌, subst}
 use Rattle.c_lexer.specs.declared.Tokens.{Tokens}
 use Rattle.c_grammar.specs.declared.trees.Tree.{Tree}
-use Rattle.c_senses.specs.Names.{names_of}
+use Rattle.c_senses.specs.Names.{names_of, source_with}
+use Rattle.tree_reads.specs.declared.syntax.Syntax.{Syntax}
 use Rattle.tree_reads.specs.Sources.{source_in}
+use Rattle.node_roles.specs.declared.roles.Role.{Role}
+use Rattle.node_roles.specs.Roles.{AreRoles}
 use Rattle.tag_numbers.specs.Firsts.{Declares}
 use Rattle.tag_numbers.proofs.tags.number_tags.Goals as goal
+
+-- the nodes are the same ones
+roles_there : (new old : Syntax) (uses : List (ℕ × ℕ)) (roles : List Role) → new.tokens.now ≡ old.tokens.now → new.tree.now ≡ old.tree.now → AreRoles (source_in old uses) roles → AreRoles (source_in new uses) roles
+roles_there new old uses roles tokens tree are =
+    subst (λ (t : Tokens). AreRoles (source_with t new.tree.now uses) roles) (sym tokens) (subst (λ (t : Tree). AreRoles (source_with old.tokens.now t uses) roles) (sym tree) are)
 
 pub returns-clause-tags : goal.returns-clause-tags
 unfolding names_of
@@ -16,7 +24,9 @@ returns-clause-tags c =
     ∙ (ap (λ (t : Tree). (names_of c.args.syntax.tokens.now.text.now c.args.syntax.tokens.now.list.items t.nodes.items).tags) c.in_ok-syntax.ensures.tree
     ∙ sym c.requires.tags) in
     let declares : Declares s c.in_ok-declaring.declaring = c.in_ok-declaring.ensures s refl tags in
-    c.in_ok-tags.ensures uses declares (c.in_ok-syntax.ensures.numbers uses declares)
+    let roles = roles_there c.in_ok-syntax.syntax c.args.syntax uses c.in_ok-roles.roles.items c.in_ok-syntax.ensures.tokens c.in_ok-syntax.ensures.tree (c.in_ok-roles.ensures uses) in
+    c.in_ok-tags.ensures uses (subst (AreRoles s) (sym c.as_slice-2.ensures.value) roles) declares
+    (c.in_ok-syntax.ensures.numbers uses (subst (AreRoles s) (sym c.as_slice.ensures.value) roles) declares)
 
 pub returns-clause-ordered : goal.returns-clause-ordered
 unfolding names_of
@@ -28,4 +38,5 @@ returns-clause-ordered c =
     ∙ (ap (λ (t : Tree). (names_of c.args.syntax.tokens.now.text.now c.args.syntax.tokens.now.list.items t.nodes.items).tags) c.in_ok-syntax.ensures.tree
     ∙ sym c.requires.tags) in
     let declares : Declares s c.in_ok-declaring.declaring = c.in_ok-declaring.ensures s refl tags in
-    (c.in_ok-syntax.ensures.numbers uses declares).ordered
+    let roles = roles_there c.in_ok-syntax.syntax c.args.syntax uses c.in_ok-roles.roles.items c.in_ok-syntax.ensures.tokens c.in_ok-syntax.ensures.tree (c.in_ok-roles.ensures uses) in
+    (c.in_ok-syntax.ensures.numbers uses (subst (AreRoles s) (sym c.as_slice.ensures.value) roles) declares).ordered

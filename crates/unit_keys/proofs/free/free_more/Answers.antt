@@ -9,16 +9,16 @@ use Rattle.unit_keys.specs.Free.{first_untaken}
 use Rattle.unit_keys.proofs.Taking.{free_is, taken_more, taken_same, free_same, free_none, free_some}
 use Rattle.unit_keys.proofs.free.free_more.Goals as goal
 
-pub returns-then-not-is_specifier-clause-taken : goal.returns-then-not-is_specifier-clause-taken
-returns-then-not-is_specifier-clause-taken c = λ u uses h.
-    taken_same (source_in c.args.syntax.now uses) (sense_in (senses_made u c.args.results.now)) c.args.node (has_word c.args.taken.now) (sym (c.is_specifier.ensures uses) ∙ c.if-not-is_specifier.true) h
+pub returns-then-not-is_specifier_at-clause-taken : goal.returns-then-not-is_specifier_at-clause-taken
+returns-then-not-is_specifier_at-clause-taken c = λ u uses roles h.
+    taken_same (source_in c.args.syntax.now uses) (sense_in (senses_made u c.args.results.now)) c.args.node (has_word c.args.taken.now) (sym (c.is_specifier_at.ensures (source_in c.args.syntax.now uses) roles) ∙ c.if-not-is_specifier_at.true) h
 
-pub returns-then-not-is_specifier-clause-free : goal.returns-then-not-is_specifier-clause-free
-returns-then-not-is_specifier-clause-free c = λ u uses h are.
-    free_same (source_in c.args.syntax.now uses) (sense_in (senses_made u c.args.results.now)) c.args.free.now c.args.node (sym (c.is_specifier.ensures uses) ∙ c.if-not-is_specifier.true) are
+pub returns-then-not-is_specifier_at-clause-free : goal.returns-then-not-is_specifier_at-clause-free
+returns-then-not-is_specifier_at-clause-free c = λ u uses roles h are.
+    free_same (source_in c.args.syntax.now uses) (sense_in (senses_made u c.args.results.now)) c.args.free.now c.args.node (sym (c.is_specifier_at.ensures (source_in c.args.syntax.now uses) roles) ∙ c.if-not-is_specifier_at.true) are
 
 pub returns-in-Some-clause-taken : goal.returns-in-Some-clause-taken
-returns-in-Some-clause-taken c = λ u uses h.
+returns-in-Some-clause-taken c = λ u uses roles h.
     let s : Source = source_in c.args.syntax.now uses in
     let sense : ℕ → Sense = sense_in (senses_made u c.args.results.now) in
     λ name.
@@ -26,7 +26,7 @@ returns-in-Some-clause-taken c = λ u uses h.
     (ap (map (spelling_at s)) c.as_slice-2.ensures.value ∙ c.in_ok-leaves.ensures u uses) (c.in_ok-take_untagged.ensures uses sense name)
 
 pub returns-clause-taken : goal.returns-clause-taken
-returns-clause-taken c = λ u uses h.
+returns-clause-taken c = λ u uses roles h.
     let s : Source = source_in c.args.syntax.now uses in
     let sense : ℕ → Sense = sense_in (senses_made u c.args.results.now) in
     λ name.
@@ -34,7 +34,7 @@ returns-clause-taken c = λ u uses h.
     (ap (map (spelling_at s)) c.as_slice-2.ensures.value ∙ c.in_ok-leaves.ensures u uses) (c.in_ok-take_untagged.ensures uses sense name)
 
 pub returns-in-Some-clause-free : goal.returns-in-Some-clause-free
-returns-in-Some-clause-free c = λ u uses h are.
+returns-in-Some-clause-free c = λ u uses roles h are.
     let s : Source = source_in c.args.syntax.now uses in
     let sense : ℕ → Sense = sense_in (senses_made u c.args.results.now) in
     let taken = c.args.taken.now in
@@ -45,7 +45,7 @@ returns-in-Some-clause-free c = λ u uses h are.
     c.in-Some.is c.in_ok-add-in-Some.ensures.here c.in_ok-add-in-Some.ensures.others are
 
 pub returns-clause-free : goal.returns-clause-free
-returns-clause-free c = λ u uses h are.
+returns-clause-free c = λ u uses roles h are.
     let s : Source = source_in c.args.syntax.now uses in
     let sense : ℕ → Sense = sense_in (senses_made u c.args.results.now) in
     let taken = c.args.taken.now in

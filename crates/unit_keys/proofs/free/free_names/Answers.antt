@@ -7,11 +7,11 @@ use Rattle.unit_keys.proofs.free.free_names.Goals as goal
 
 pub loop-node-preserved : goal.loop-node-preserved
 loop-node-preserved c = record {
-  taken = λ u uses. c.in_ok-free_more.ensures.taken u uses (c.loop-node.invariant.taken u uses);
-  free = λ u uses. c.in_ok-free_more.ensures.free u uses (c.loop-node.invariant.taken u uses) (c.loop-node.invariant.free u uses);
+  taken = λ u uses roles. c.in_ok-free_more.ensures.taken u uses roles (c.loop-node.invariant.taken u uses roles);
+  free = λ u uses roles. c.in_ok-free_more.ensures.free u uses roles (c.loop-node.invariant.taken u uses roles) (c.loop-node.invariant.free u uses roles);
 }
 
 pub returns : goal.returns
-returns c = λ u uses.
+returns c = λ u uses roles.
     let all : c.loop-node.node ≡ length c.args.syntax.now.tree.now.nodes.items = omega arith in
-    subst (λ (n : ℕ). AreFree (source_in c.args.syntax.now uses) (sense_in (senses_made u c.args.results.now)) c.loop-node.free n) all (c.loop-node.invariant.free u uses)
+    subst (λ (n : ℕ). AreFree (source_in c.args.syntax.now uses) (sense_in (senses_made u c.args.results.now)) c.loop-node.free n) all (c.loop-node.invariant.free u uses roles)

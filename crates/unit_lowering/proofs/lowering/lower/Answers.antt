@@ -1,5 +1,4 @@
 use Rattle.std.proofs.Common.{◌≡◌, ◌∙◌, length, ap, sym, subst}
-use Rattle.c_grammar.specs.declared.trees.Tree.{Tree}
 use Rattle.family_laws.specs.Families.{Families}
 use Rattle.family_laws.proofs.Reading.{units_families}
 use Rattle.limit_laws.proofs.Limited.{units_limited}
@@ -12,18 +11,27 @@ use Rattle.own_initials.specs.Own.{InitialisesOwn}
 use Rattle.own_initials.proofs.Own.{units_initialise_own}
 use Rattle.tree_reads.specs.Sources.{number_in}
 use Rattle.unit_walk.specs.Ground.{source_ground}
-use Rattle.unit_lowering.proofs.Ending.{lowered, refused_first, whole_walked}
+use Rattle.lowered_laws.specs.Complete.{PartsComplete}
+use Rattle.lowered_laws.proofs.Complete.{texts_complete}
+use Rattle.unit_lowering.proofs.Ending.{lowered, whole_walked}
 use Rattle.unit_lowering.proofs.lowering.lower.Goals as goal
 
 pub returns-in-Ok : goal.returns-in-Ok
 returns-in-Ok c =
     let g = c.in-Ok.walked.ground in
-    let tree = g.numbered.syntax.tree.now in
-    lowered (source_ground g c.args.bound.now) (source_of c.args.tokens.now c.args.tree.now) (number_in g.numbered.syntax.tag_numbers) g.numbered.tags c.args.name tree.root c.args.tree.now.root
-    c.in-Ok.ensures.source (ap (λ (t : Tree). t.root) c.in-Ok.ensures.tree) c.in-Ok.ensures.ground.tags c.in-Ok.ensures.ordered c.completed.result c.completed.ensures
+    lowered (source_ground g c.args.bound.now) (source_of c.args.tokens.now c.args.tree.now) (number_in g.numbered.syntax.tag_numbers) g.numbered.tags c.args.name
+    c.in-Ok.ensures.source c.in-Ok.ensures.ground.tags c.in-Ok.ensures.ordered c.completed.result c.completed.ensures
 
 pub returns-in-Err : goal.returns-in-Err
-returns-in-Err c = refused_first (source_of c.args.tokens.now c.args.tree.now) c.args.name c.args.tree.now.root c.in-Err.fault c.in-Err.ensures.walked
+returns-in-Err c = c.in-Err.ensures.walked
+
+pub completed-requires-clause-completes : goal.completed-requires-clause-completes
+completed-requires-clause-completes c =
+    let tokens = c.args.tokens.now in
+    let tree = c.args.tree.now in
+    let f = number_in c.in-Ok.walked.ground.numbered.syntax.tag_numbers in
+    subst (λ (s : Source). PartsComplete s c.args.name) (sym c.in-Ok.ensures.source)
+    (texts_complete tokens tree.unit tree f c.args.name c.args.bound.now c.requires.tokens c.requires.read c.requires.bound)
 
 pub walk-requires-clause-readable : goal.walk-requires-clause-readable
 walk-requires-clause-readable c = λ at. units_readable c.args.tokens.now c.args.tree.now.unit c.args.tree.now (λ n. n) c.are_bytes.ensures c.requires.tokens c.requires.read at

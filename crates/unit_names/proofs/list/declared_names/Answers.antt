@@ -1,13 +1,18 @@
 use Rattle.std.proofs.lemmas.List.Elements.{All-nil}
-use Rattle.std.proofs.Common.{rules, ◌≤◌, ◌+◌, List, All, length, arith, sym, ap, subst, ◌∙◌}
+use Rattle.std.proofs.Common.{rules, ◌≡◌, ◌≤◌, ◌+◌, false, List, All, None, append-nil, length, arith, sym, ap, subst, ◌∙◌}
 use Rattle.c_results.specs.Standing.{senses_made}
 use Rattle.tree_reads.specs.Sources.{source_in}
+use Rattle.core_tree.specs.declared.node.Unit.{Unit}
+use Rattle.core_nodes.specs.Standing.{Builds}
 use Rattle.core_nodes.proofs.Growing.{builds_on}
 use Rattle.c_senses.specs.Sense.{Sense}
 use Rattle.c_senses.specs.Right.{declared_name}
 use Rattle.c_results.proofs.Keeping.{mades_kept, withins_kept}
 use Rattle.unit_parts.specs.declared.declared.Declared.{Declared}
 use Rattle.unit_names.specs.Entries.{IsDeclaredIn}
+use Rattle.unit_names.specs.Firsts.{may_declare}
+use Rattle.unit_names.proofs.Known.{declares_none}
+use Rattle.unit_names.proofs.Parts.{named_none}
 use Rattle.unit_names.proofs.Listing.{ListsTo, lists_none, lists_more, inside_more, lists_all, bodies_within}
 use Rattle.unit_names.proofs.list.declared_names.Goals as goal
 
@@ -32,6 +37,34 @@ loop-leaf-init c =
           let senses = senses_made u c.args.results.now in
           subst (λ (l : List Declared). ListsTo s senses u 0 l) (sym none) (lists_none s senses u);
     }
+
+-- a leaf that declares nothing
+pub loop-leaf-preserved-then-not-may_declare : goal.loop-leaf-preserved-then-not-may_declare
+loop-leaf-preserved-then-not-may_declare c =
+    let first = c.args.unit.now in
+    let old = c.loop-leaf.unit in
+    let inv = c.loop-leaf.invariant in
+    let list = c.loop-leaf.list.items in
+    record {
+      ready = inv.ready;
+      asked = inv.asked;
+      builds = inv.builds;
+      results = inv.results;
+      inside = inv.inside;
+      lists = λ uses.
+          let s = source_in c.args.syntax.now uses in
+          let senses = senses_made first c.args.results.now in
+          let off : may_declare s senses c.loop-leaf.leaf ≡ false = sym (c.may_declare.ensures first uses) ∙ c.if-not-may_declare.true in
+          let none = named_none s senses c.loop-leaf.leaf (declares_none s senses c.loop-leaf.leaf (sym off)) in
+          subst (λ (l : List Declared). ListsTo s senses old (c.loop-leaf.leaf + 1) l) (append-nil list)
+          (lists_more s senses old old (builds_same old) c.loop-leaf.leaf list inv.inside (inv.lists uses) None none tt);
+    }
+  where
+    builds_same : (u : Unit) → Builds u u
+    builds_same u = search rules
+
+pub declared_at-requires-clause-may : goal.declared_at-requires-clause-may
+declared_at-requires-clause-may c = λ u uses. sym (c.may_declare.ensures u uses) ∙ c.if-not-may_declare.false
 
 pub loop-leaf-preserved : goal.loop-leaf-preserved
 loop-leaf-preserved c =

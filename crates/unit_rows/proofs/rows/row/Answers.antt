@@ -108,7 +108,8 @@ returns-then-is_expression-clause-along c =
     let q = production_at s at in
     let ys = children_at s at in
     let p = c.production_of-production.ensures in
-    anyway c.expression.result (AreAlong k.numbered.now.syntax k.names.now c.expression.new.unit rs c.args.along.now) (along_on k.numbered.now.syntax k.names.now u c.expression.new.unit rs c.args.along.now c.requires.along c.expression.ensures.builds)
+    anyway c.expression.result (AreAlong k.numbered.now.syntax k.names.now c.expression.new.unit rs (record { lists = c.args.along.now.lists; unions = c.args.along.now.unions; linkages = c.expression.new.linkages }))
+    (along_on k.numbered.now.syntax k.names.now u c.expression.new.unit rs c.args.along.now c.expression.new.linkages c.requires.along c.expression.ensures.builds c.expression.ensures.linkages)
 
 pub returns-then-is_plain-clause-row : goal.returns-then-is_plain-clause-row
 returns-then-is_plain-clause-row c =
@@ -170,7 +171,8 @@ returns-then-is_plain-clause-along c =
     let q = production_at s at in
     let ys = children_at s at in
     let p = c.production_of-production.ensures in
-    anyway c.declared.result (AreAlong k.numbered.now.syntax k.names.now c.declared.new.unit rs c.args.along.now) (along_on k.numbered.now.syntax k.names.now u c.declared.new.unit rs c.args.along.now c.requires.along c.declared.ensures.builds)
+    anyway c.declared.result (AreAlong k.numbered.now.syntax k.names.now c.declared.new.unit rs (record { lists = c.args.along.now.lists; unions = c.args.along.now.unions; linkages = c.declared.new.linkages }))
+    (along_on k.numbered.now.syntax k.names.now u c.declared.new.unit rs c.args.along.now c.declared.new.linkages c.requires.along c.declared.ensures.builds c.declared.ensures.linkages)
 
 pub limited-requires-clause-limited : goal.limited-requires-clause-limited
 limited-requires-clause-limited c =

@@ -12,4 +12,6 @@ pub system_of-requires-clause-placed : goal.system_of-requires-clause-placed
 system_of-requires-clause-placed c = linked_placed c.args.units.items c.in_ok-program.program c.requires.linkable c.requires.filled c.in_ok-program.ensures.linked
 
 pub returns-in-Err : goal.returns-in-Err
-returns-in-Err c = program_refused c.args.units.items c.in_ok-program.program c.in-Err.fault c.in_ok-program.ensures.linked c.in-Err.ensures
+returns-in-Err c =
+    let told = c.type_count-types.ensures in
+    program_refused c.args.units.items c.in_ok-program.program c.in-Err.fault (record { linked = c.in_ok-program.ensures.linked; made = told.made; named = told.named }) c.in-Err.ensures

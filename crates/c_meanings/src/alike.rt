@@ -1,0 +1,139 @@
+// Declarations that give their name the same as another one does.
+ghost use Rattle.std.specs.Prelude.{◌≡◌, ◌<◌, ◌||◌, ℕ, true, length, IfSome};
+ghost use Rattle.c_senses.specs.Sense.{Sense};
+ghost use Rattle.c_senses.specs.Entities as spec;
+ghost use Rattle.tree_reads.specs.Sources.{source_read};
+ghost use Rattle.c_meanings.specs.Thinned.{AreParts, AreMadeAlike, StaysAlike};
+
+use crate::storage::has_initialiser;
+use c_declarators::specs_of;
+use c_entities::{is_defined, is_parameter};
+use c_results::{Derivation, Results, declarator_at, specified_at};
+use c_types::term::TypeId;
+use tree_reads::{Above, Syntax, nearest_above};
+
+// The nodes that give a name its type: its specifiers and its declarator.
+#[derive(Clone, Copy, Debug)]
+struct Parts {
+    specifiers: u32,
+    declarator: u32,
+}
+
+// Whether two lists of types are the same.
+fn same_ids(one: &[TypeId], other: &[TypeId]) -> bool
+    ensures { result ≡ true → one.now ≡ other.now }
+{
+    if one.len() != other.len() {
+        return false;
+    }
+    for i in 0..one.len() {
+        if one[i].0 != other[i].0 {
+            return false;
+        }
+    }
+    true
+}
+
+// Whether two steps of declarators are the same.
+fn same_step(one: &Derivation, other: &Derivation) -> bool
+    ensures { result ≡ true → one.now ≡ other.now }
+{
+    match one {
+        Derivation::Pointing => matches!(other, Derivation::Pointing),
+        Derivation::Elements(length) =>
+            matches!(other, Derivation::Elements(there) if *there == *length),
+        Derivation::Returning { parameters, form } => match other {
+            Derivation::Returning {
+                parameters: others,
+                form: there,
+            } => *form == *there && same_ids(parameters.as_slice(), others.as_slice()),
+            _ => false,
+        },
+    }
+}
+
+// Whether the steps of two declarators are the same.
+fn same_steps(one: &[Derivation], other: &[Derivation]) -> bool
+    ensures { result ≡ true → one.now ≡ other.now }
+{
+    if one.len() != other.len() {
+        return false;
+    }
+    for i in 0..one.len() {
+        if !same_step(&one[i], &other[i]) {
+            return false;
+        }
+    }
+    true
+}
+
+// The nodes that give a name its type, of a declaration that is no parameter and has no initialiser; None too where they aren't made yet.
+fn parts_of(syntax: &Syntax, results: &Results, leaf: u32) -> Option<Parts>
+    requires { leaf < length syntax.now.tree.now.nodes.items }
+    ensures { IfSome result (AreParts (source_read syntax.now) (length results.now) leaf) }
+{
+    if is_parameter(syntax, leaf) {
+        return None;
+    }
+    if has_initialiser(syntax, leaf) {
+        return None;
+    }
+    let declarator = nearest_above(syntax, Above::Outermost, leaf)?;
+    let specifiers = specs_of(syntax, declarator)?;
+    if declarator as usize >= results.len() {
+        return None;
+    }
+    if specifiers as usize >= results.len() {
+        return None;
+    }
+    Some(Parts {
+        specifiers,
+        declarator,
+    })
+}
+
+// Whether the same type and the same steps have been made for two declarations.
+fn made_alike(results: &Results, one: Parts, other: Parts) -> bool
+    ensures { result ≡ true → AreMadeAlike results.now one other }
+{
+    let Some(base) = specified_at(results, one.specifiers) else {
+        return false;
+    };
+    let Some(second) = specified_at(results, other.specifiers) else {
+        return false;
+    };
+    let Some((_, steps)) = declarator_at(results, one.declarator) else {
+        return false;
+    };
+    let Some((_, others)) = declarator_at(results, other.declarator) else {
+        return false;
+    };
+    base.0 == second.0 && same_steps(steps, others)
+}
+
+// Whether a declaration defines its name only where another one does, both without an initialiser.
+fn defines_no_more(syntax: &Syntax, one: u32, other: u32) -> bool
+    requires one { one < length syntax.now.tree.now.nodes.items }
+    requires other { other < length syntax.now.tree.now.nodes.items }
+    ensures { result ≡ true → (sense : ℕ → Sense) →
+        let s = source_read syntax.now in
+        (spec.is_defined s sense one || spec.is_defined s sense other) ≡ spec.is_defined s sense one }
+{
+    is_defined(syntax, one) || !is_defined(syntax, other)
+}
+
+/// Whether a declaration gives its name for sure the type that another one gives it, whatever more is made, and defines it only where that
+/// does.
+pub(crate) fn is_alike(syntax: &Syntax, results: &Results, one: u32, other: u32) -> bool
+    requires one { one < length syntax.now.tree.now.nodes.items }
+    requires other { other < length syntax.now.tree.now.nodes.items }
+    ensures { result ≡ true → StaysAlike syntax.now results.now one other }
+{
+    let Some(first) = parts_of(syntax, results, one) else {
+        return false;
+    };
+    let Some(second) = parts_of(syntax, results, other) else {
+        return false;
+    };
+    defines_no_more(syntax, one, other) && made_alike(results, first, second)
+}

@@ -1,0 +1,17 @@
+//! That programs which are one, but for numbers, have rows of one size.
+ghost use Rattle.twin_words.specs.Words.{AsManyLocations, AsManyRows, OneWordTotal};
+
+/// Programs that are one, but for numbers, have as many locations.
+pub fn as_many_locations()
+    ensures { AsManyLocations }
+{}
+
+/// Programs that are one, but for numbers, have as many rows.
+pub fn as_many_rows()
+    ensures { AsManyRows }
+{}
+
+/// Two programs that are linked from units which are alike one by one have as many words of rows.
+pub fn one_word_total()
+    ensures { OneWordTotal }
+{}

@@ -1,0 +1,4 @@
+//! Where a unit's names are used, and what its nodes at one place name.
+#![tactic(auto)]
+
+pub mod laws;
