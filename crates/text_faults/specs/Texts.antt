@@ -14,8 +14,8 @@ use Rattle.unit_link.specs.Linked.{Linked, LinksBadly}
 use Rattle.struct_rows.specs.Built.{HasTagTypes}
 use Rattle.fault_laws.specs.Twins.{AreTwins, AreAllTwins}
 
--- two units that are both right for one text, which is cut and read as unit of that number, on tables that were made and have the type of
--- each tag of the text, with the keyword of the tag's first specifier
+-- two units that are both right for one text, which is cut and read as unit of that number, under one name and with the same numbers of its
+-- tags, on tables that were made and have the type of each tag of the text, with the keyword of the tag's first specifier
 pub record AreOfOneText (number : ℕ) (u v : Unit) : Type 0 where
   pub tokens : Tokens
   pub tree : Tree

@@ -80,7 +80,7 @@ pub record AreOne (p q : Program) : Type 0 where
   pub forth : LeadsTo p q to back
   pub returned : LeadsTo q p back to
 
--- Programs that are linked from units which are alike one by one are one.
+-- Programs that are linked from units which are alike one by one are one, where each node of the units is a body or stands under one.
 abbrev pub TwinPrograms : Type 0
 TwinPrograms =
     (us vs : List Unit) (p q : Program) → AreAllTwins us vs → AreAllRooted us → AreAllRooted vs → Linked us p → Linked vs q → AreOne p q

@@ -1,5 +1,5 @@
 -- The program of units, the system of a program, and that of units.
-use Rattle.std.specs.Prelude.{◌≡◌, List, length}
+use Rattle.std.specs.Prelude.{◌≡◌, ◌≤◌, ◌^◌, List, length}
 use Rattle.c_types.specs.Made.{IsMade, AreNamed}
 use Rattle.core_tree.specs.declared.node.Unit.{Unit}
 use Rattle.core_tree.specs.declared.node.Program.{Program}
@@ -11,14 +11,15 @@ use Rattle.obj_space.specs.Space.{locations_in}
 use Rattle.obj_space.specs.View.{view_of}
 use Rattle.normal_form.specs.SystemOf.{SystemOf}
 
--- a program that is linked from units, on a table that its own functions made
+-- a program that is linked from units, on a table that the table's own functions made, in which each term comes behind its types
 pub record IsProgramOf (units : List Unit) (p : Program) : Type 0 where
   pub linked : Linked units p
   pub made : IsMade p.types
   pub named : AreNamed p.types
 
--- a program's locations, and its system over these
+-- a program's locations, and its system over these: the program is within the limit of nodes, the system within that of words
 pub record IsSystemOf (p : Program) (space : List Location) (system : System) : Type 0 where
+  pub few : length p.nodes.items ≤ 2 ^ 24
   pub space_is : space ≡ locations_in p
   pub system_is : SystemOf p (view_of space) system
   pub valid : IsValid system

@@ -84,7 +84,7 @@ fn system_of(alloc: Global, program: &Program) -> Result<(Space, System), UnitFa
 }
 
 /// The program that valid units of distinct names are, which initialise only objects that they define, its locations and its system over
-/// these; or the first fault of linking them, or the limit that their program passes first: 2^24 nodes, then 2^24 words of rows.
+/// these, where it is within the limits; or the first fault of linking them, or the limit that their program passes first: 2^24 nodes, then 2^24 words of rows.
 pub fn linked_system(alloc: Global, units: Vec<Unit>) -> Result<UnitSystem, UnitFault>
     requires linkable { AreLinkable units.items }
     requires filled { AreFilled units.items }

@@ -23,6 +23,7 @@ returns c =
     let located = ensured.located c.requires.typed c.requires.trees in
     let count = c.count-locations.ensures in
     record {
+      few = c.requires.few;
       space_is = c.requires.space;
       system_is = ensured.system;
       valid = valid_of c.args.program.now c.args.space.now c.in-Ok.system c.requires.space ensured.system told.made told.named c.requires.wholes (omega arith) c.requires.right c.requires.placed ensured.sized located;
