@@ -15,9 +15,9 @@ use Rattle.nesting_laws.specs.Nested.{Nested}
 use Rattle.placed_laws.proofs.Climbing.{Grown}
 use Rattle.linkage_laws.proofs.Seen.{parent_is}
 use Rattle.sign_parts.specs.Parts.{Mark, mark_at, Brings, Takes, IsBrought}
-use Rattle.own_initialisers.proofs.Parts.{IsRestList, Begins, rest_list}
-use Rattle.own_initialisers.proofs.Searching.{apart, Reads}
-use Rattle.own_initialisers.proofs.Standing.{parts}
+use Rattle.earlier_initialisers.proofs.PassedOn.{IsRestList, Begins, rest_list}
+use Rattle.earlier_initialisers.proofs.PassedOn.{apart, Reads}
+use Rattle.earlier_initialisers.proofs.PassedOn.{parts}
 use Rattle.earlier_initialisers.specs.Earlier.{StandsDeclaring}
 use Rattle.declared_once.proofs.PassedOn.{plain_list, rest_init}
 

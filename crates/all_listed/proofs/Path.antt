@@ -15,7 +15,7 @@ use Rattle.c_consts.specs.Core.{Core, Cores, Of, NoCores, MoreCores, kind_of}
 use Rattle.c_senses.specs.Right.{Numbering, SameEntities, SameKind, StandsBy, AllStandBy}
 use Rattle.owner_laws.proofs.Walk.{named_is}
 use Rattle.once_nodes.proofs.Rooted.{same_initialise}
-use Rattle.block_trees.specs.Covered.{ListsIt, IsBare, Covered, AllCovered}
+use Rattle.listing_blocks.specs.PassedOn.{ListsIt, IsBare, Covered, AllCovered}
 
 some_same : {A : Type 0} → {x y : A} → ◌≡◌ {A = Option A} (Some x) (Some y) → x ≡ y
 some_same e = cc

@@ -37,7 +37,7 @@ use Rattle.linkage_laws.proofs.Reading.{tree_is}
 use Rattle.internal_laws.proofs.Reading as internal_laws
 use Rattle.owned_laws.proofs.Owners.{IsOwner, owner_is}
 use Rattle.owned_initialisers.proofs.Function.{TopOf, function_top}
-use Rattle.block_trees.proofs.Off.{Above, above_blocks}
+use Rattle.listing_blocks.proofs.PassedOn.{Above, above_blocks}
 
 found_above : (s : Source) (test : ℕ → Bool) (fuel d : ℕ) (o : Option ℕ) → above_within s test fuel o ≡ Some d → test d ≡ true
 found_above s test zero d o e = cc

@@ -42,8 +42,8 @@ use Rattle.held_parts.proofs.Whole.{units_hold_parts}
 use Rattle.held_runs.specs.Runs.{NodeOf}
 use Rattle.held_runs.proofs.Whole.{node_of}
 use Rattle.block_uses.specs.Uses.{OpensOwn}
-use Rattle.block_trees.specs.Covered.{ListsIt, Covered, IsBlockOf}
-use Rattle.block_trees.proofs.Chain.{on_blockish, blocks_cover}
+use Rattle.listing_blocks.specs.PassedOn.{ListsIt, Covered, IsBlockOf}
+use Rattle.listing_blocks.proofs.PassedOn.{on_blockish, blocks_cover}
 use Rattle.listing_blocks.specs.Listing.{IsListedBy}
 use Rattle.listing_blocks.proofs.Whole.{objects_are_listed}
 use Rattle.listed_once.proofs.Whole.{lists_once}

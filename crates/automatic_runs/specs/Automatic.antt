@@ -14,7 +14,7 @@ use Rattle.c_senses.specs.Entities.{declaration_of, storage_of, initialiser_for}
 use Rattle.c_senses.specs.Rows.{AreSenses}
 use Rattle.c_senses.specs.Right.{declares_entity}
 use Rattle.c_senses.specs.Sense.{Sense, IsInitial, sense_in}
-use Rattle.held_parts.specs.Held.{IsHeld}
+use Rattle.run_initialisers.specs.PassedOn.{IsHeld}
 
 -- the declaration of a name, with a tree among what it runs
 pub record RunsFor (s : Source) (senses : List Sense) (leaf : ℕ) (x : Core) : Type 0 where

@@ -25,9 +25,9 @@ use Rattle.placed_laws.proofs.Climbing.{Grown}
 use Rattle.name_order.proofs.Ordered.{units_ordered}
 use Rattle.built_units.specs.Built.{IsBuilt}
 use Rattle.built_rows.specs.Rows.{types_declared, literal_type}
-use Rattle.text_rows.specs.Texts.{TypesFit}
-use Rattle.text_rows.proofs.Fitting.{grown}
-use Rattle.text_rows.proofs.Linked.{types_fit, tree_grown}
+use Rattle.initialised_rows.specs.PassedOn.{TypesFit}
+use Rattle.initialised_rows.proofs.PassedOn.{grown}
+use Rattle.initialised_rows.proofs.PassedOn.{types_fit, tree_grown}
 use Rattle.own_initialisers.proofs.Standing.{initialisers_stand}
 use Rattle.initialised_rows.specs.Rows.{InternalFit}
 use Rattle.initialised_rows.proofs.Owning.{linked_fit}
@@ -36,8 +36,8 @@ use Rattle.linkage_laws.proofs.Unlinked.{made, Made}
 use Rattle.initialised_objects.specs.Initialised.{IsOwnLiteral, IsObject}
 use Rattle.initialised_objects.proofs.Literals.{literals_own}
 use Rattle.initialised_objects.proofs.Initials.{initials_are_objects}
-use Rattle.object_bodies.specs.Objects.{InitialisersPlaced}
-use Rattle.object_bodies.proofs.Bodies.{OwnBody, named_body, body_initialises}
+use Rattle.placed_initialisers.specs.PassedOn.{InitialisersPlaced}
+use Rattle.placed_initialisers.proofs.PassedOn.{OwnBody, named_body, body_initialises}
 use Rattle.placed_initialisers.proofs.Whole.{units_place}
 use Rattle.bodies_fit.specs.Bodies.{ObjectFits, BodiesFit}
 

@@ -15,7 +15,7 @@ use Rattle.c_senses.specs.Names.{source_of, numbered}
 use Rattle.c_senses.specs.Tree.{Source}
 use Rattle.c_senses.specs.World.{World}
 use Rattle.c_senses.specs.Sense.{Sense, IsRun, sense_in}
-use Rattle.sense_laws.specs.Senses.{SoundSense}
+use Rattle.parsed_laws.specs.PassedOn.{SoundSense}
 use Rattle.parsed_laws.proofs.InOrder.{children_first}
 use Rattle.statement_laws.proofs.Grammar.{statements_parsed}
 use Rattle.family_laws.proofs.Reading.{units_families}

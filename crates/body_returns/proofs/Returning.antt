@@ -30,7 +30,7 @@ use Rattle.c_senses.specs.Statements.{one, returned_type}
 use Rattle.c_senses.specs.Sense.{Sense, IsDeclarator, sense_in}
 use Rattle.c_senses.specs.Right.{Numbering, AllStandBy}
 use Rattle.family_laws.specs.Families.{IsChild as IsPart}
-use Rattle.sense_laws.specs.Sound.{Gives}
+use Rattle.parsed_laws.specs.PassedOn.{Gives}
 use Rattle.standing_laws.specs.Standing.{IsGrown, IsMade, RunsInitialise}
 use Rattle.standing_laws.proofs.Kept.{is_plain, block_part, RowGood, KeptSense}
 use Rattle.standing_laws.proofs.Rows.{acts, acts_in}

@@ -16,7 +16,7 @@ use Rattle.core_tree.specs.Valid.{InRows, Bodied, ReturnsRight}
 use Rattle.c_senses.specs.Names.{source_of, numbered}
 use Rattle.c_senses.specs.World.{World}
 use Rattle.c_senses.specs.Sense.{sense_in}
-use Rattle.sense_laws.specs.Senses.{SoundSense}
+use Rattle.parsed_laws.specs.PassedOn.{SoundSense}
 use Rattle.built_units.specs.Built.{IsBuilt}
 
 -- a return in that function

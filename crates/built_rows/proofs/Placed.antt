@@ -11,8 +11,8 @@ use Rattle.core_tree.specs.Typed.{trees_of}
 use Rattle.core_tree.specs.Rows.{entity_type}
 use Rattle.core_tree.specs.Valid.{InRows, entity_at}
 use Rattle.c_consts.specs.Core.{Core, Cores, Of, NoCores, MoreCores, kind_of, ctype_of, cores_under, core_in}
-use Rattle.core_nodes.specs.Standing.{core_at, cores_at, IsReady}
-use Rattle.core_nodes.proofs.Reading.{core_is}
+use Rattle.sense_laws.specs.PassedOn.{core_at, cores_at, IsReady}
+use Rattle.sense_laws.proofs.PassedOn.{core_is}
 use Rattle.c_senses.specs.Tree.{Source, is_name}
 use Rattle.c_senses.specs.World.{World}
 use Rattle.c_senses.specs.Sense.{Sense, IsCore, IsInitial, sense_in}

@@ -1,15 +1,2 @@
-pub mod Parts
-pub mod Productions
-pub mod Primaries
-pub mod Shapes
-pub mod Stopping
-pub mod Testing
-pub mod Meant
-pub mod Typing
-pub mod Unnamed
-pub mod Walking
-pub mod Expressing
-pub mod Found
-pub mod Keeping
-pub mod Judged
-pub mod Alone
+pub mod Knowing
+pub mod Answering

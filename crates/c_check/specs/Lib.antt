@@ -1,10 +1,3 @@
-pub mod Built
-pub mod Around
-pub mod Lookups
-pub mod Limits
-pub mod Runs
-pub mod Nothings
-pub mod Whole
-pub mod Begins
+pub mod Known
+pub mod Given
 pub mod Expressed
-pub mod Typed

@@ -1,16 +1,9 @@
-//! From expressions of C11, and the type names in them, to typed core trees.
+//! From expressions of C11, as they stand in a unit, to typed core trees in another unit.
 #![tactic(auto)]
 
-mod declarators;
 mod expression;
+mod given;
 mod known;
-pub mod laws;
-mod limits;
-mod lookups;
-mod names;
-mod rows;
-mod types;
-mod walk;
 
 pub use core_nodes::CheckFault;
 pub use expression::check_expression;

@@ -15,3 +15,4 @@ pub mod Reads
 pub mod Yield
 pub mod Order
 pub mod Numbers
+pub mod PassedOn

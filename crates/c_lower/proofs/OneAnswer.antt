@@ -8,7 +8,7 @@ use Rattle.c_senses.specs.Names.{numbered}
 use Rattle.c_senses.specs.Rows.{RefusedAt}
 use Rattle.source_laws.proofs.Reading.{one_refusal, not_right}
 use Rattle.tag_numbers.specs.Ordered.{AreInOrder}
-use Rattle.unit_walk.specs.Walked.{RefusedIn}
+use Rattle.unit_lowering.specs.PassedOn.{RefusedIn}
 use Rattle.c_lower.specs.Laws.{IsRefusal, OneAnswer}
 
 -- numbers in the order of first specifiers are one numbering

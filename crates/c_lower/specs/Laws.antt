@@ -6,7 +6,7 @@ use Rattle.core_tree.specs.declared.node.Unit.{Unit}
 use Rattle.core_nodes.specs.declared.fault.CheckFault.{CheckFault}
 use Rattle.core_nodes.specs.declared.fault.CheckFault.TheVariants.{BadOperand, Unsupported, OutOfMemory}
 use Rattle.c_senses.specs.Tree.{Source}
-use Rattle.unit_walk.specs.Walked.{RefusedIn}
+use Rattle.unit_lowering.specs.PassedOn.{RefusedIn}
 use Rattle.unit_lowering.specs.Lowered.{IsLowered}
 
 -- a refusal of a kind at a node; want of memory is none

@@ -5,7 +5,7 @@ ghost use Rattle.c_units.specs.Units.{IsUnit};
 ghost use Rattle.c_scope.specs.Resolves.{IsBound};
 ghost use Rattle.c_senses.specs.Names.{source_of};
 ghost use Rattle.sense_laws.specs.Senses.{ChildrenFirst};
-ghost use Rattle.unit_walk.specs.Walked.{RefusedIn};
+ghost use Rattle.unit_lowering.specs.PassedOn.{RefusedIn};
 ghost use Rattle.unit_lowering.specs.Lowered.{IsLowered};
 
 use c_grammar::Tree;

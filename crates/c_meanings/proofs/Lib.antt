@@ -5,6 +5,7 @@ pub mod Fronts
 pub mod Values
 pub mod Keeping
 pub mod Thinning
+pub mod Rounds
 pub mod Onward
 pub mod SameMade
 pub mod Before

@@ -40,7 +40,7 @@ keep_by : (b : Bool) (x : Declared) (xs ys all : List Declared) → all ≡ xs +
 keep_by true x xs ys all e = ap (λ (l : List Declared). x ∷ l) e
 keep_by false x xs ys all e = e
 
-types_by : (o : Option Ctype) (ts us all : List Ctype) → all ≡ ts ++ us → (elim o as (λ p. List Ctype) [ None ↦ all | Some t ↦ t ∷ all ]) ≡ (elim o as (λ p. List Ctype) [ None ↦ ts | Some t ↦ t ∷ ts ]) ++ us
+pub types_by : (o : Option Ctype) (ts us all : List Ctype) → all ≡ ts ++ us → (elim o as (λ p. List Ctype) [ None ↦ all | Some t ↦ t ∷ all ]) ≡ (elim o as (λ p. List Ctype) [ None ↦ ts | Some t ↦ t ∷ ts ]) ++ us
 types_by None ts us all e = e
 types_by (Some t) ts us all e = ap (λ (l : List Ctype). t ∷ l) e
 
@@ -122,7 +122,7 @@ module _ (s : Source) (sense : ℕ → Sense) where
   types-push [] d = refl
   types-push (x ∷ ds) d = types_by (own_type s sense x.node) (types_of s sense ds) _ (types_of s sense (ds ++ d ∷ [])) (types-push ds d)
 
-  together-append : (o : Option Ctype) (ts us : List Ctype) → all_together o (ts ++ us) ≡ all_together (all_together o ts) us
+  pub together-append : (o : Option Ctype) (ts us : List Ctype) → all_together o (ts ++ us) ≡ all_together (all_together o ts) us
   together-append None [] us = refl
   together-append (Some a) [] us = refl
   together-append None (t ∷ ts) us = together-append (Some t) ts us

@@ -1,4 +1,4 @@
--- Lists of declarations without those that give no more than the one before them.
+-- Lists of declarations that give what longer ones give.
 use Rattle.std.proofs.Common.{◌≡◌, ◌⊎◌, inl, inr, ℕ, ◌||◌, ◌&&◌, Bool, true, false, cond, Option, Some, None, List, [], ◌∷◌, ◌++◌, append-nil, append_assoc, length, get_or, slice_get, refl, sym, ap, subst, ◌∙◌}
 use Rattle.std.specs.Prelude.{if◌then◌else◌}
 use Rattle.core_tree.specs.declared.node.Unit.{Unit}
@@ -8,7 +8,7 @@ use Rattle.c_scope.specs.declared.kinds.Declared.{Declared}
 use Rattle.c_senses.specs.Tree.{Source}
 use Rattle.c_senses.specs.World.{World, same_type}
 use Rattle.c_senses.specs.Sense.{Sense, sense_in}
-use Rattle.c_senses.specs.Entities.{fuller, together, agree, all_together, all_same, own_type, types_of, some_such, keep, defines, is_internal}
+use Rattle.c_senses.specs.Entities.{fuller, together, agree, all_same, own_type, keep, defines, is_internal}
 use Rattle.c_results.specs.declared.made.Made.{Made}
 use Rattle.c_results.specs.Standing.{senses_made}
 use Rattle.tree_reads.specs.declared.syntax.Syntax.{Syntax}
@@ -21,7 +21,7 @@ use Rattle.c_meanings.specs.declared.thinned.Thinned.{Thinned}
 use Rattle.c_meanings.specs.Known.{nodes_in}
 use Rattle.c_meanings.specs.Later.{later}
 use Rattle.c_meanings.specs.Joined.{with_own}
-use Rattle.c_meanings.specs.Thinned.{IsAlike, IsRepeated, IsThin, GoesOn, AreThinned, StaysThin, StaysWanted, IsEndOf, one_if, passes, those}
+use Rattle.c_meanings.specs.Thinned.{IsThin, GoesOn, AreThinned, StaysThin, StaysWanted, IsEndOf, one_if, passes, those}
 use Rattle.c_meanings.proofs.Lists.{some-push, first_behind, kept-append, types_more}
 
 -- of two types that are given together one is given
@@ -31,7 +31,7 @@ fuller_is (FunctionFrom r ps Variadic) (FunctionFrom q qs Unspecified) = inl ref
 fuller_is (ArrayOf a (Some n)) (ArrayOf b None) = inl refl
 fuller_is a b = inr refl
 
-together_is : (a b : Ctype) → (together a b ≡ a) ⊎ (together a b ≡ b)
+pub together_is : (a b : Ctype) → (together a b ≡ a) ⊎ (together a b ≡ b)
 together_is a b = by (agree a b)
   where
     by : (d : Bool) → ((if d then fuller a b else b) ≡ a) ⊎ ((if d then fuller a b else b) ≡ b)
@@ -39,32 +39,15 @@ together_is a b = by (agree a b)
     by false = inr refl
 
 -- a type twice gives no more than once
-together_self : (t : Ctype) → together t t ≡ t
+pub together_self : (t : Ctype) → together t t ≡ t
 together_self t = elim (together_is t t) [ inl e ↦ e | inr e ↦ e ]
 
-together_twice : (a t : Ctype) → together (together a t) t ≡ together a t
-together_twice a t =
-    elim (together_is a t) [
-      | inl e ↦ ap (λ (x : Ctype). together x t) e
-      | inr e ↦ ap (λ (x : Ctype). together x t) e ∙ (together_self t ∙ sym e)
-    ]
-
-own_twice : (o own : Option Ctype) → with_own (with_own o own) own ≡ with_own o own
-own_twice None None = refl
-own_twice (Some a) None = refl
-own_twice None (Some t) = ap Some (together_self t)
-own_twice (Some a) (Some t) = ap Some (together_twice a t)
-
-or_on : (a b c : Bool) → (b || c) ≡ b → ((a || b) || c) ≡ (a || b)
-or_on true b c e = refl
-or_on false b c e = e
-
-and_twice : (a b : Bool) → ((a && b) && b) ≡ (a && b)
+pub and_twice : (a b : Bool) → ((a && b) && b) ≡ (a && b)
 and_twice true true = refl
 and_twice true false = refl
 and_twice false b = refl
 
-and_assoc : (a b c : Bool) → (a && (b && c)) ≡ ((a && b) && c)
+pub and_assoc : (a b c : Bool) → (a && (b && c)) ≡ ((a && b) && c)
 and_assoc true b c = refl
 and_assoc false b c = refl
 
@@ -72,12 +55,11 @@ and_true : (a : Bool) → (a && true) ≡ a
 and_true true = refl
 and_true false = refl
 
-is_type : Ctype → Option Ctype → Bool
+abbrev pub is_type : Ctype → Option Ctype → Bool
 is_type t o = elim o as (λ x. Bool) [ None ↦ false | Some other ↦ same_type other t ]
 
 module _ (s : Source) (sense : ℕ → Sense) where
   same_more : (w : World) (t : Ctype) (ds : List Declared) (d : Declared) → all_same w s sense t (ds ++ d ∷ []) ≡ (all_same w s sense t ds && is_type t (own_type s sense d.node))
-  unfolding is_type
   same_more w t [] d = and_true (is_type t (own_type s sense d.node))
   same_more w t (x ∷ ds) d =
       ap (λ (b : Bool). is_type t (own_type s sense x.node) && b) (same_more w t ds d) ∙ and_assoc (is_type t (own_type s sense x.node)) (all_same w s sense t ds) (is_type t (own_type s sense d.node))
@@ -95,40 +77,6 @@ module _ (s : Source) (sense : ℕ → Sense) where
         some-push s sense test thin d ∙ (ap (λ (b : Bool). b || test d) (h.defined w) ∙ sym (some-push s sense test ds d));
     first = λ leaf. first_behind s sense leaf thin [] d ∙ (h.first d.node ∙ sym (first_behind s sense leaf ds [] d));
   }
-
-  -- with one that is like the last
-  pub thin_same : (ds front : List Declared) (q d : Declared) → IsThin s sense ds (front ++ q ∷ []) → IsAlike s sense q.node d.node → IsThin s sense (ds ++ d ∷ []) (front ++ q ∷ [])
-  thin_same ds front q d h a =
-      let thin = front ++ q ∷ [] in
-      let own_d = own_type s sense d.node in
-      let own_q = own_type s sense q.node in
-      record {
-        together =
-            let o = all_together None (types_of s sense front) in
-            types_more s sense None front q
-            ∙ (sym (own_twice o own_q)
-            ∙ (ap (λ (x : Option Ctype). with_own (with_own o own_q) x) (sym a.types)
-            ∙ (ap (λ (x : Option Ctype). with_own x own_d) (sym (types_more s sense None front q) ∙ h.together)
-            ∙ sym (types_more s sense None ds d))));
-        same = λ w t.
-            let x = all_same w s sense t front in
-            same_more w t front q
-            ∙ (sym (and_twice x (is_type t own_q))
-            ∙ (ap (λ (o : Option Ctype). (x && is_type t own_q) && is_type t o) (sym a.types)
-            ∙ (ap (λ (b : Bool). b && is_type t own_d) (sym (same_more w t front q) ∙ h.same w t)
-            ∙ sym (same_more w t ds d))));
-        defined = λ w.
-            let test : Declared → Bool = λ x. defines w s sense x.node in
-            let x = some_such s sense test front in
-            some-push s sense test front q
-            ∙ (sym (or_on x (test q) (test d) (a.defined w))
-            ∙ (ap (λ (b : Bool). b || test d) (sym (some-push s sense test front q) ∙ h.defined w)
-            ∙ sym (some-push s sense test ds d)));
-        first = λ leaf.
-            first_behind s sense leaf front [] q
-            ∙ (sym (first_behind s sense d.node front [] q)
-            ∙ (h.first d.node ∙ sym (first_behind s sense leaf ds [] d)));
-      }
 
   -- those that are wanted, with one more
   pub those_more : (internal : Bool) (ds : List Declared) (d : Declared) → those internal s sense (ds ++ d ∷ []) ≡ those internal s sense ds ++ one_if (passes internal s sense d.node) d
@@ -162,15 +110,9 @@ thin_now syntax results internal ds thin h u uses =
     let s = source_in syntax uses in
     subst (λ (l : List Made). IsThin s (sense_in (senses_made u l)) (those internal s (sense_in (senses_made u l)) ds) thin) (append-nil results) (h u uses [])
 
--- the same list, the same with one that is like its last, and one more
+-- the same list, and one more
 pub goes_none : (syntax : Syntax) (results : List Made) (thin : List Declared) → GoesOn syntax results thin [] thin
 goes_none syntax results thin = λ u uses more ds h. subst (λ (l : List Declared). IsThin (source_in syntax uses) (later u results more) l thin) (sym (append-nil ds)) h
-
-pub goes_same : (syntax : Syntax) (results : List Made) (thin : List Declared) (d : Declared) → IsRepeated syntax results thin d.node → GoesOn syntax results thin (d ∷ []) thin
-goes_same syntax results thin d r = λ u uses more ds h.
-    let s = source_in syntax uses in
-    let F = later u results more in
-    subst (λ (l : List Declared). IsThin s F (ds ++ d ∷ []) l) (sym r.ends) (thin_same s F ds r.front r.one d (subst (λ (l : List Declared). IsThin s F ds l) r.ends h) (r.alike u uses more))
 
 pub goes_more : (syntax : Syntax) (results : List Made) (thin new : List Declared) (d : Declared) → new ≡ thin ++ d ∷ [] → GoesOn syntax results thin (d ∷ []) new
 goes_more syntax results thin new d e = λ u uses more ds h.

@@ -1,5 +1,5 @@
--- Lists of declarations without those that give their name no more than the one before them.
-use Rattle.std.specs.Prelude.{ℕ, ◌≡◌, ◌<◌, ◌||◌, Bool, true, false, List, [], ◌∷◌, ◌++◌, length, get_or, Option, Some, None}
+-- Lists of declarations without those that give their name no more than those before them: a round of declarations that is made again.
+use Rattle.std.specs.Prelude.{ℕ, ⊤, ◌≡◌, ◌<◌, ◌||◌, Bool, true, false, List, [], ◌∷◌, ◌++◌, length, get_or, Option, Some, None}
 use Rattle.core_tree.specs.declared.node.Unit.{Unit}
 use Rattle.c_types.specs.declared.term.TypeId.{TypeId}
 use Rattle.c_types.specs.Trees.{Ctype}
@@ -54,12 +54,20 @@ pub record IsAlike (s : Source) (sense : ℕ → Sense) (one other : ℕ) : Type
 abbrev pub StaysAlike : Syntax → List Made → ℕ → ℕ → Type 0
 StaysAlike syntax results one other = (u : Unit) (uses : List (ℕ × ℕ)) (more : List Made) → IsAlike (source_in syntax uses) (later u results more) one other
 
--- a list ends with a declaration that another one is like
-pub record IsRepeated (syntax : Syntax) (results : List Made) (ds : List Declared) (leaf : ℕ) : Type 0 where
+-- each of some declarations is like the one at its place among others
+abbrev pub StayAlike : Syntax → List Made → List Declared → List Declared → Type 0
+StayAlike syntax results [] [] = ⊤
+StayAlike syntax results (d ∷ ds) (e ∷ es) = StaysAlike syntax results d.node e.node × StayAlike syntax results ds es
+StayAlike syntax results ds es = ⊥
+
+-- a list with a declaration more is one that is kept with a round behind it, and what is kept ends with declarations that those are like
+pub record IsRound (syntax : Syntax) (results : List Made) (ds kept : List Declared) (d : Declared) : Type 0 where
   pub front : List Declared
-  pub one : Declared
-  pub ends : ds ≡ front ++ one ∷ []
-  pub alike : StaysAlike syntax results one.node leaf
+  pub first : List Declared
+  pub second : List Declared
+  pub ends : kept ≡ front ++ first
+  pub more : ds ++ d ∷ [] ≡ kept ++ second
+  pub alike : StayAlike syntax results first second
 
 -- some of a list of declarations that give what all of it give: the type together, one type, a definition, and the first of them
 pub record IsThin (s : Source) (sense : ℕ → Sense) (ds thin : List Declared) : Type 0 where

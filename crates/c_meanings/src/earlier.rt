@@ -1,4 +1,4 @@
-// The declarations of a name before one, without those that give it no more than the one before them.
+// The declarations of a name before one, without those that give it no more than those before them.
 ghost use Rattle.std.specs.Prelude.{◌≡◌, ◌<◌, ℕ, true, List, All, length, IfOk, IfSome, IsOkUnless};
 ghost use Rattle.core_nodes.specs.declared.fault.CheckFault.TheVariants.{OutOfMemory};
 ghost use Rattle.core_tree.specs.declared.node.Unit.{Unit as UnitSpec};
@@ -25,8 +25,9 @@ use name_chains::{in_scope_link, typing_link};
 use std::alloc::Global;
 use tree_reads::Syntax;
 
-/// The declarations before one of a name in its scope, without those that give it no more than the one before them; None where they aren't
-/// known. Only memory may want. Asked of the declarations of a name one after another, in order, it looks at each of them once.
+/// The declarations before one of a name in its scope, without those that give it no more than those before them; None where they aren't
+/// known. Only memory may want. The contract says that the list is thin and that what is kept stays right, and nothing of how often a
+/// declaration is looked at.
 pub fn scope_thinned(
     alloc: Global,
     names: &Names,
@@ -49,8 +50,9 @@ pub fn scope_thinned(
     thinned_now(alloc, syntax, results, &mut linkages.own, links, last)
 }
 
-/// The declarations that together give a name its type, without those that give it no more than the one before them; None where they aren't
-/// known. Only memory may want. Asked of the declarations of a name one after another, in order, it looks at each of them once.
+/// The declarations that together give a name its type, without those that give it no more than those before them; None where they aren't
+/// known. Only memory may want. The contract says that the list is thin and that what is kept stays right, and nothing of how often a
+/// declaration is looked at.
 pub(crate) fn typing_thinned(
     alloc: Global,
     names: &Names,
@@ -138,7 +140,7 @@ fn symbol_before(names: &Names, syntax: &Syntax, leaf: u32) -> Option<u32>
     }
 }
 
-// The declarations of a list of a symbol's that give their name internal linkage, without those that give it no more than the one before
+// The declarations of a list of a symbol's that give their name internal linkage, without those that give it no more than those before
 // them; None where they aren't known.
 fn symbol_thinned(
     alloc: Global,
@@ -165,8 +167,9 @@ fn symbol_thinned(
     thinned_list(alloc, syntax, &linkages.internal, last)
 }
 
-/// The declarations before one that give its name internal linkage, without those that give it no more than the one before them; None
-/// where they aren't known. Only memory may want. Asked of the declarations of a name one after another, in order, it looks at each of them once.
+/// The declarations before one that give its name internal linkage, without those that give it no more than those before them; None
+/// where they aren't known. Only memory may want. The contract says what the list gives and that what is kept stays right, and nothing
+/// of how often a declaration is looked at.
 pub fn internal_thinned(
     alloc: Global,
     names: &Names,
@@ -200,7 +203,8 @@ fn first_or(list: &[Declared], leaf: u32) -> u32
 }
 
 /// The entity of the object or function that a leaf declares, by a leaf: the first declaration of an internal name in the unit, and of
-/// any other name its own (C11 6.2.2p2). Only memory may want. Asked again and again, it looks at each declaration of the name once.
+/// any other name its own (C11 6.2.2p2). Only memory may want. The contract says which leaf it is and that what is kept stays right, and
+/// nothing of how often a declaration is looked at.
 pub(crate) fn entity_kept(
     alloc: Global,
     names: &Names,

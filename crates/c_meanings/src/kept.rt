@@ -28,9 +28,9 @@ use std::alloc::Global;
 use tree_reads::{Above, Syntax, nearest_above};
 
 /// What is kept of earlier declarations (C11 6.2.2), by the last links of their lists: whether one of those that are seen where a name is
-/// declared is `static` at file scope, and whether all those in a scope give their name internal linkage, or none does; and the lists of those in
-/// a scope, of those that together give a type, and of those of a symbol that give it internal linkage, without those that give their name no
-/// more than the one before them.
+/// declared is `static` at file scope, and whether all those in a scope give their name internal linkage, or none does; and the lists of
+/// those in a scope, of those that together give a type, and of those of a symbol that give it internal linkage, without those that give
+/// their name no more than those before them.
 #[derive(Drop)]
 pub struct Linkages {
     pub(crate) statics: Vec<Option<bool>>,
@@ -257,8 +257,8 @@ pub(crate) fn internal_asked(
     }
 }
 
-/// Whether a leaf declares a name with internal linkage (C11 6.2.2p3 to p5), with what is kept: asked of the declarations of a name one
-/// after another, in order, it looks at each of them once.
+/// Whether a leaf declares a name with internal linkage (C11 6.2.2p3 to p5), with what is kept. The contract says that the answer is
+/// right and that what is kept stays so, and nothing of how often a declaration is looked at.
 pub fn internal_kept(
     names: &Names,
     syntax: &Syntax,
@@ -323,8 +323,8 @@ fn one_at(
     Some(here.flag)
 }
 
-/// Whether the declarations before one in its scope all have a linkage, internal or not (C11 6.2.2p7); None where that isn't known. Asked of
-/// the declarations of a name one after another, in order, it is known as long as it is so.
+/// Whether the declarations before one in its scope all have a linkage, internal or not (C11 6.2.2p7); None where that isn't known. Asked
+/// of the declarations of a name one after another, in order, it is known as long as it is so.
 pub fn same_internal_kept(
     names: &Names,
     syntax: &Syntax,

@@ -17,8 +17,7 @@ pub use kept::{Linkages, internal_kept, same_internal_kept};
 pub use linkage::{entity_of, is_internal, is_internal_after, linkage_of};
 pub use meanings::{Meaning, meaning_at};
 pub use names::{
-    Names, before_in_scope, declared_at, declares_function, is_linked, is_typedef, linked_before,
-    names_of_unit,
+    Names, before_in_scope, declared_at, declares_function, is_linked, is_typedef, names_of_unit,
 };
 pub use statics::{StaticSeen, nothing_seen};
 pub use storage::{is_automatic, is_static_object, storage_of};

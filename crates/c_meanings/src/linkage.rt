@@ -30,7 +30,8 @@ pub(crate) fn takes_over(names: &Names, syntax: &Syntax, results: &Results, leaf
 }
 
 /// Whether a leaf declares a name with internal linkage (C11 6.2.2p3 to p5), with what an earlier question found out of the declarations
-/// that are seen there: asked of the declarations of a name one after another, forwards or backwards, it looks at each of them once.
+/// that are seen there. The contract says that the answer is right and that what was found out stays so, and nothing of how often a
+/// declaration is looked at.
 pub fn is_internal_after(
     names: &Names,
     syntax: &Syntax,

@@ -11,9 +11,7 @@ ghost use Rattle.c_meanings.specs.Known.{AreLeaves, AreChained, AreNames, ArePai
 use c_mentions::settings::place_of;
 use c_scope::{Bound, Declared, Kind};
 use leaf_maps::LeafMap;
-use name_chains::{
-    Link, Links, NameChains, in_scope_link, linked_link, list_of, name_chains, symbol_chains,
-};
+use name_chains::{Link, Links, NameChains, in_scope_link, list_of, name_chains, symbol_chains};
 use pta_base::OutOfMemory;
 use std::alloc::Global;
 use tree_reads::Syntax;
@@ -149,21 +147,4 @@ pub fn before_in_scope(
 {
     let link = in_scope_link(&names.chains, leaf);
     list_of(alloc, names.chains.own.as_slice(), link)
-}
-
-/// The declarations with linkage that are seen where a name is declared (C11 6.2.2p4), those of the outermost scope first.
-pub fn linked_before(
-    alloc: Global,
-    names: &Names,
-    syntax: &Syntax,
-    leaf: u32,
-) -> Result<Vec<Declared>, OutOfMemory>
-    requires names { AreChained syntax.now names.now }
-    ensures list { IfOk result (λ v. (uses : List (ℕ × ℕ)) →
-        let s = source_in syntax.now uses in
-        v.items ≡ senses.linked_before s (senses.ordinary_at s leaf)) }
-    ensures leaves { IfOk result (λ v. All (λ d. d.node < length syntax.now.tree.now.nodes.items) v.items) }
-{
-    let link = linked_link(&names.chains, leaf);
-    list_of(alloc, names.chains.links.as_slice(), link)
 }

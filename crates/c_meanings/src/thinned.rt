@@ -1,4 +1,4 @@
-// Lists of declarations without those that give their name no more than the one before them.
+// Lists of declarations without those that give their name no more than those before them: a round of declarations that is made again.
 ghost use Rattle.std.specs.Prelude.{◌≡◌, ◌<◌, ◌++◌, ◌∷◌, [], ◌⊎◌, ℕ, Bool, List, All, length, get_or, slice_get, Some, None, true, false, IfOk, IfSome, IsOkUnless};
 ghost use Rattle.core_nodes.specs.declared.fault.CheckFault.TheVariants.{OutOfMemory};
 ghost use Rattle.core_tree.specs.declared.node.Unit.{Unit as UnitSpec};
@@ -11,7 +11,7 @@ ghost use Rattle.name_chains.specs.declared.links.Link.{Link as LinkSpec};
 ghost use Rattle.name_chains.specs.Links.{listed, IsLinkOf, AreBackward, Adds, HaveLeaves};
 ghost use Rattle.c_meanings.specs.declared.thinned.End.{End as EndSpec};
 ghost use Rattle.c_meanings.specs.Known.{nodes_in};
-ghost use Rattle.c_meanings.specs.Thinned.{IsRepeated, IsThin, GoesOn, StaysWanted, StaysThin, one_if, AreEnds, AreThinned, IsEndOf};
+ghost use Rattle.c_meanings.specs.Thinned.{IsRound, IsThin, GoesOn, StaysWanted, StaysThin, one_if, AreEnds, AreThinned, IsEndOf};
 
 use crate::alike::is_alike;
 use c_results::Results;
@@ -21,14 +21,17 @@ use name_chains::{Link, Links, list_of};
 use std::alloc::Global;
 use tree_reads::Syntax;
 
+// How many declarations a round may have that is looked for.
+const LONGEST_ROUND: u32 = 8;
+
 /// The end of a list that has been thinned, by its last link.
 #[derive(Clone, Copy, Debug)]
 pub(crate) struct End {
     pub(crate) last: Option<u32>,
 }
 
-/// The lists that end with some links, each without the declarations that give their name no more than the one before them, as far as they are
-/// known.
+/// The lists that end with some links, each without the declarations that give their name no more than those before them, as far as they
+/// are known.
 #[derive(Drop)]
 pub(crate) struct Thinned {
     pub(crate) links: Links,
@@ -52,25 +55,74 @@ impl Thinned {
     }
 }
 
-// Whether a list ends with a declaration that another one is like.
-fn is_repeated(
+// Whether a list with a declaration more ends with a round made again: what stands behind a link of it is, declaration for declaration,
+// like what ends with that link.
+fn is_round(
     syntax: &Syntax,
     results: &Results,
     links: &[Link],
     last: Option<u32>,
-    leaf: u32,
+    kept: u32,
+    declared: Declared,
 ) -> bool
+    requires last { IsLinkOf links.now last }
+    requires kept { kept < length links.now }
+    requires backward { AreBackward links.now }
+    requires leaves { HaveLeaves (nodes_in syntax.now) links.now }
+    requires declared { declared.node < nodes_in syntax.now }
+    ensures { result ≡ true → IsRound syntax.now results.now (listed links.now last) (listed links.now (Some kept)) declared }
+{
+    let end = links[kept as usize];
+    if !is_alike(syntax, results, end.declared.node, declared.node) {
+        return false;
+    }
+    let mut one = end.before;
+    let mut other = last;
+    while let Some(there) = other {
+        if there == kept {
+            return true;
+        }
+        let Some(here) = one else {
+            return false;
+        };
+        let first = links[here as usize];
+        let second = links[there as usize];
+        if !is_alike(syntax, results, first.declared.node, second.declared.node) {
+            return false;
+        }
+        one = first.before;
+        other = second.before;
+    }
+    false
+}
+
+// The link without whose followers a list with a declaration more gives the same, since they make a round again; None where none of the
+// last few is one.
+fn round_end(
+    syntax: &Syntax,
+    results: &Results,
+    links: &[Link],
+    last: Option<u32>,
+    declared: Declared,
+) -> Option<u32>
     requires last { IsLinkOf links.now last }
     requires backward { AreBackward links.now }
     requires leaves { HaveLeaves (nodes_in syntax.now) links.now }
-    requires leaf { leaf < nodes_in syntax.now }
-    ensures { result ≡ true → IsRepeated syntax.now results.now (listed links.now last) leaf }
+    requires declared { declared.node < nodes_in syntax.now }
+    ensures link { IfSome result (λ kept. kept < length links.now) }
+    ensures round { IfSome result (λ kept. IsRound syntax.now results.now (listed links.now last) (listed links.now (Some kept)) declared) }
 {
-    let Some(place) = last else {
-        return false;
-    };
-    let link = links[place as usize];
-    is_alike(syntax, results, link.declared.node, leaf)
+    let mut at = last;
+    for _ in 0..LONGEST_ROUND {
+        let Some(kept) = at else {
+            return None;
+        };
+        if is_round(syntax, results, links, last, kept, declared) {
+            return Some(kept);
+        }
+        at = links[kept as usize].before;
+    }
+    None
 }
 
 // A list with a declaration more, by its last link. More links than there are numbers count as want of memory.
@@ -121,8 +173,8 @@ fn thinned_with(
     if !wanted {
         return Ok(last);
     }
-    if is_repeated(syntax, results, links.as_slice(), last, declared.node) {
-        return Ok(last);
+    if let Some(kept) = round_end(syntax, results, links.as_slice(), last, declared) {
+        return Ok(Some(kept));
     }
     push_link(links, last, declared)
 }
@@ -149,8 +201,8 @@ fn keep_end(ends: &mut Vec<Option<End>>, place: u32, last: Option<u32>)
     ends[place as usize] = Some(End { last });
 }
 
-/// Thins the list that ends with a link, where the list before it is known. `wanted` says whether the declaration of the link is to be in it.
-/// Only memory may want.
+/// Thins the list that ends with a link, where the list before it is known. `wanted` says whether the declaration of the link is to be in
+/// it. Only memory may want.
 pub(crate) fn thin(
     syntax: &Syntax,
     results: &Results,
@@ -258,8 +310,8 @@ fn thin_all(
     Ok(())
 }
 
-/// The thinned list of a list, by its last link, with all lists before it. Only memory may want. Asked of longer and longer lists it looks
-/// at each declaration once.
+/// The thinned list of a list, by its last link, with all lists before it. Only memory may want. The contract says that the list is thin
+/// and that what is kept stays right, and nothing of how often a declaration is looked at.
 pub(crate) fn thinned_now(
     alloc: Global,
     syntax: &Syntax,

@@ -123,8 +123,8 @@ pub(crate) fn type_behind(
     all_of(alloc, unit, syntax, results, None, list.as_slice())
 }
 
-/// The same with what is kept of earlier declarations: asked of the declarations of a name one after another, in order, or again and again of
-/// one of them, it looks at each once, where those that stand behind one another are made alike.
+/// The same with what is kept of earlier declarations. The contract says that the type is the same and that what is kept stays right, and
+/// nothing of how often a declaration is looked at.
 pub(crate) fn type_thinned(
     alloc: Global,
     unit: &mut Unit,

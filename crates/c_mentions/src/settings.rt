@@ -108,7 +108,7 @@ fn is_same(a: Setting, b: Setting) -> bool
     a.scope == b.scope && a.body == b.body && is_same_role(a.role, b.role)
 }
 
-/// The number of a setting: the one that is given, where it is that setting's, or else a new one.
+/// The number of a setting: the one that is given, or the last one, where it is that setting's, or else a new one.
 fn place_for(kinds: &mut Vec<Setting>, given: u32, setting: Setting) -> Result<u32, OutOfMemory>
     requires { given < length kinds.old.items }
     ensures place { IfOk result (λ place. (place < length kinds.new.items) × (kind_at kinds.new.items place ≡ setting)) }
@@ -118,6 +118,9 @@ fn place_for(kinds: &mut Vec<Setting>, given: u32, setting: Setting) -> Result<u
         return Ok(given);
     }
     let place = place_of(kinds.len())?;
+    if place > 0 && is_same(kinds[place as usize - 1], setting) {
+        return Ok(place - 1);
+    }
     kinds.push(setting)?;
     Ok(place)
 }

@@ -6,7 +6,7 @@ use Rattle.c_types.specs.declared.term.MemberTerm.{MemberTerm}
 use Rattle.c_types.specs.Trees.{Ctype}
 use Rattle.c_types.specs.Table.{type_of}
 use Rattle.core_tree.specs.declared.node.Unit.{Unit}
-use Rattle.c_consts.specs.Core.{Core}
+use Rattle.c_senses.specs.PassedOn.{Core}
 use Rattle.c_inits.specs.Made.{Part}
 use Rattle.c_inits.specs.Tables.{part_of}
 use Rattle.c_senses.specs.Sense.{Sense, Nothing, IsCore, IsType, IsSpecified, IsDeclarator, IsDerivation, IsParameter, IsMembers, IsValue, IsRun, IsInitial, Parameter}

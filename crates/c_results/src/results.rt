@@ -7,9 +7,9 @@ use crate::made::Made;
 use std::alloc::{AllocError, Global};
 use std::marker::Model;
 
-/// What has been made for the nodes of a tree, by node number. Clauses see it as the list of that. A node takes four bytes: the place of what
-/// has been made for it among all that has been. Nodes for which there is nothing share a place, and so do those that pass on the core node or the
-/// type of the node before them, as the productions of an expression with one child do (C11 6.5).
+/// What has been made for the nodes of a tree, by node number. Clauses see it as the list of that. A node takes four bytes: the place of
+/// what has been made for it among all that has been. Nodes for which there is nothing share a place, and so do those that pass on the
+/// core node or the type of the node before them, as the productions of an expression with one child do (C11 6.5).
 #[derive(Drop)]
 pub struct Results {
     places: Vec<u32>,

@@ -4,3 +4,4 @@ pub mod Going
 pub mod AllHappen
 pub mod Growing
 pub mod Keys
+pub mod Unlabelled

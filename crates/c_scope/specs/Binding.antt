@@ -32,6 +32,10 @@ abbrev pub label_after : BTreeMap (ℕ × ℕ) ℕ → ℕ → ℕ → Mention �
 label_after before body node (Label symbol) other sign = label_more before body symbol node other sign
 label_after before body node _ other sign = label_at before other sign
 
+-- a node leaves the same labels by either of two mentions
+abbrev pub LeaveSameLabels : ℕ → Mention → Mention → Type 0
+LeaveSameLabels node a b = (before : BTreeMap (ℕ × ℕ) ℕ) (body other sign : ℕ) → label_after before body node a other sign ≡ label_after before body node b other sign
+
 abbrev pub has : BTreeSet ℕ → ℕ → Bool
 has set n = list_any (λ k. n == k) set.keys
 

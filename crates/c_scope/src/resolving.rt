@@ -1,5 +1,5 @@
 //! Resolves the names of a unit.
-ghost use Rattle.c_scope.specs.Binding.{Holds, label_at};
+ghost use Rattle.c_scope.specs.Binding.{Holds, LeaveSameLabels, label_at};
 ghost use Rattle.c_scope.specs.Happens.{AreHappenings};
 ghost use Rattle.c_scope.specs.Known.{Happening, first_label, known, nothing_known};
 ghost use Rattle.c_mentions.specs.Mentions as mentions;
@@ -13,6 +13,7 @@ use crate::kinds::{Declared, NameFault};
 use c_grammar::{SyntaxNode, Tree};
 use c_lexer::{Token, Tokens};
 use c_mentions::mentions::{Mention, mention_at};
+use c_mentions::roles::Role;
 use c_mentions::settings::{Scope, Setting, SettingList, Settings, place_of, settings_of};
 use c_mentions::symbols::symbols;
 use pta_base::OutOfMemory;
@@ -60,6 +61,16 @@ fn mention_of(unit: Unit, node: u32, setting: Setting) -> Mention
     )
 }
 
+/// What a node of a unit does to labels, as far as they ask for it: only what stands in a statement can be one.
+fn label_mention(unit: Unit, node: u32, setting: Setting) -> Mention
+    ensures { LeaveSameLabels node result (mentions.mention_at unit.entry.text.now unit.entry.tokens.now (symbol_at unit.entry.symbols.now) (nodes_of unit.entry.nodes.now) node (nat_lt setting.body unit.entry.file) setting.role) }
+{
+    match setting.role {
+        Role::Statement { .. } => mention_of(unit, node, setting),
+        _ => Mention::Nothing,
+    }
+}
+
 /// The first label of each symbol in the body of each function.
 fn find_labels(alloc: Global, unit: Unit) -> Result<Labels, OutOfMemory>
     requires { length unit.settings.now < 2 ^ 32 }
@@ -68,7 +79,7 @@ fn find_labels(alloc: Global, unit: Unit) -> Result<Labels, OutOfMemory>
     let mut labels = BTreeMap::new(alloc);
     for node in 0..unit.settings.len() {
         let setting = unit.settings.at(node);
-        let mention = mention_of(unit, node as u32, setting);
+        let mention = label_mention(unit, node as u32, setting);
         note_label(&mut labels, setting.body, node as u32, mention)?;
     }
     Ok(labels)

@@ -3,8 +3,8 @@ use Rattle.std.specs.Prelude.{ℕ, ◌==◌, pos, Bool, true, false, ◌||◌, n
 use Rattle.std.specs.List.{flat_map}
 use Rattle.pta_base.specs.declared.kind.Kind.TheVariants.{Operand}
 use Rattle.pta_base.specs.declared.place.Place.{Place}
-use Rattle.c_lexer.specs.declared.TokenKind.{TokenKind}
-use Rattle.c_lexer.specs.declared.TokenKind.TheVariants.{Identifier, Keyword, Punctuator, Integer, Floating, Character, Text, End}
+use Rattle.c_grammar.specs.PassedOn.{TokenKind}
+use Rattle.c_grammar.specs.PassedOn.{Identifier, Keyword, Punctuator, Integer, Floating, Character, Text, End}
 use Rattle.core_tree.specs.declared.node.Op.TheVariants.{Plus, Minus, Complement}
 use Rattle.core_tree.specs.declared.node.NodeKind.TheVariants.{Number}
 use Rattle.core_tree.specs.Rows.{int}

@@ -1,10 +1,10 @@
 -- What constants and string literals mean (C11 6.4.4.1, 6.4.4.4, 6.4.5).
 use Rattle.std.specs.Prelude.{ℕ, zero, suc, ◌+◌, ◌-◌, ◌==◌, ℤ, pos, neg_ℤ, Bool, true, false, ◌&&◌, ◌||◌, not, nat_lt, min, List, [], ◌∷◌, take, drop, length, slice_index, if◌then◌else◌}
 use Rattle.std.specs.List.{list_any, prefix_len}
-use Rattle.c_lexer.specs.declared.numbers.Base.{Base}
-use Rattle.c_lexer.specs.declared.numbers.Base.TheVariants.{Octal, Decimal, Hexadecimal}
-use Rattle.c_lexer.specs.Numbers.{value, behind, digit_count, begins_hexadecimal}
-use Rattle.c_lexer.specs.Escapes.{octal_value}
+use Rattle.c_grammar.specs.PassedOn.{Base}
+use Rattle.c_grammar.specs.PassedOn.{Octal, Decimal, Hexadecimal}
+use Rattle.c_grammar.specs.PassedOn.{value, behind, digit_count, begins_hexadecimal}
+use Rattle.c_grammar.specs.PassedOn.{octal_value}
 use Rattle.c_types.specs.Trees.{Ctype, IntegerType}
 use Rattle.core_tree.specs.Rows.{int, long}
 

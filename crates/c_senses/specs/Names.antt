@@ -1,8 +1,8 @@
 -- What a unit's declarations say of its names (C11 6.2.1 to 6.2.3), and the source that its tokens and its tree are.
 use Rattle.std.specs.Prelude.{ℕ, ◌==◌, Bool, true, false, ◌&&◌, List, [], ◌∷◌, ◌++◌, map, get_or, Option, Some, None, if◌then◌else◌}
 use Rattle.std.specs.List.{find}
-use Rattle.c_lexer.specs.declared.Token.{Token}
-use Rattle.c_lexer.specs.declared.Tokens.{Tokens}
+use Rattle.c_grammar.specs.PassedOn.{Token}
+use Rattle.c_grammar.specs.PassedOn.{Tokens}
 use Rattle.c_grammar.specs.declared.trees.SyntaxNode.{SyntaxNode}
 use Rattle.c_grammar.specs.declared.trees.Tree.{Tree}
 use Rattle.c_scope.specs.PassedOn.{nodes_of}

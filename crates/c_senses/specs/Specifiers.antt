@@ -1,8 +1,8 @@
 -- Specifiers of declarations (C11 6.7.1 to 6.7.5).
 use Rattle.std.specs.Prelude.{ℕ, suc, ◌==◌, Bool, true, false, ◌&&◌, ◌||◌, not, nat_le, List, [], ◌∷◌, length, Option, Some, None, is_some, if◌then◌else◌}
 use Rattle.pta_base.specs.declared.kind.Kind.TheVariants.{Operand}
-use Rattle.c_lexer.specs.declared.TokenKind.{TokenKind}
-use Rattle.c_lexer.specs.declared.TokenKind.TheVariants.{Keyword}
+use Rattle.c_grammar.specs.PassedOn.{TokenKind}
+use Rattle.c_grammar.specs.PassedOn.{Keyword}
 use Rattle.c_types.specs.Trees.{Ctype, VoidType, BoolType, IntegerType, FloatingType, VaListType}
 use Rattle.core_tree.specs.Rows.{int, long, character}
 use Rattle.c_grammar.specs.Terminals.{contains, own_meaning, own_words}

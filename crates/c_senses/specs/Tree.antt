@@ -1,9 +1,9 @@
 -- A unit's text, its tokens and its syntax tree, with what its names mean.
 use Rattle.std.specs.Prelude.{ℕ, zero, suc, ◌-◌, ◌==◌, Bool, true, false, ◌&&◌, ◌||◌, List, [], ◌∷◌, Option, Some, None, slice_get, length, if◌then◌else◌}
 use Rattle.pta_base.specs.declared.place.Place.{Place}
-use Rattle.c_lexer.specs.declared.Token.{Token}
-use Rattle.c_lexer.specs.declared.TokenKind.{TokenKind}
-use Rattle.c_lexer.specs.declared.TokenKind.TheVariants.{Identifier, Keyword, Punctuator, End}
+use Rattle.c_grammar.specs.PassedOn.{Token}
+use Rattle.c_grammar.specs.PassedOn.{TokenKind}
+use Rattle.c_grammar.specs.PassedOn.{Identifier, Keyword, Punctuator, End}
 use Rattle.c_grammar.specs.declared.trees.SyntaxNode.{SyntaxNode}
 use Rattle.c_grammar.specs.Reads.{leaf}
 use Rattle.c_grammar.specs.Terminals.{spelled, contains}

@@ -5,3 +5,4 @@ pub use Rattle.c_senses.specs.Tags.{completed_from, members_under}
 pub use Rattle.c_senses.specs.Rows.{AreSenses, world_at}
 pub use Rattle.c_senses.specs.Sense.{Sense, sense_in}
 pub use Rattle.c_senses.specs.Right.{Declared, InitialisesOnce, IsBody, IsDeclaredAt, IsEntityOf, KeysRight, Numbering, TagsDiffer, is_tag}
+pub use Rattle.c_consts.specs.Core.{Core, InOrder, Of}

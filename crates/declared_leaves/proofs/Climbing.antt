@@ -15,7 +15,7 @@ use Rattle.c_senses.specs.Rows.{AreSenses, declarator_row, at_its_name}
 use Rattle.sense_laws.specs.Sound.{Gives}
 use Rattle.sense_laws.proofs.Giving.{then_gives, if_given, and_left}
 use Rattle.placed_laws.proofs.Climbing.{Grown}
-use Rattle.grown_parts.specs.Parts.{IsBrought}
+use Rattle.run_laws.specs.PassedOn.{IsBrought}
 use Rattle.run_laws.proofs.Times.{known_at, world_of, fitted}
 use Rattle.declared_leaves.specs.Leaves.{IsNamed, Own, Inner, IsDeclaredBy, LeavesDeclared}
 use Rattle.declared_leaves.proofs.Naming.{row_is, sense_named, named_sense}

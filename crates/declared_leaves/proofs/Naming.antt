@@ -18,9 +18,9 @@ use Rattle.sense_laws.proofs.Giving.{then_gives, if_holds, and_left}
 use Rattle.sense_laws.proofs.Types.{anything}
 use Rattle.placed_laws.proofs.Rows.{declarators}
 use Rattle.placed_laws.proofs.Climbing.{Grown, is_other_in, is_other, AllOther, AtMostOne}
-use Rattle.grown_parts.specs.Parts.{IsBrought, Brings}
-use Rattle.grown_parts.proofs.Declaring.{AllIn}
-use Rattle.grown_parts.proofs.Allowed.{declarator_parts, declarator_list, abstract_list, either_list}
+use Rattle.run_laws.specs.PassedOn.{IsBrought, Brings}
+use Rattle.run_laws.proofs.PassedOn.{AllIn}
+use Rattle.run_laws.proofs.PassedOn.{declarator_parts, declarator_list, abstract_list, either_list}
 use Rattle.run_laws.proofs.Times.{known_at, world_of, known, row_as, fitted}
 use Rattle.run_laws.proofs.Shapes.{declarator_gives}
 use Rattle.run_laws.proofs.Running.{listed_in, first_in}

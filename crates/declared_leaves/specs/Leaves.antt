@@ -7,7 +7,7 @@ use Rattle.c_senses.specs.Entities.{specified_of}
 use Rattle.c_senses.specs.Sense.{Sense, IsDeclarator, Derivation, Specified, sense_in}
 use Rattle.c_senses.specs.Rows.{AreSenses}
 use Rattle.placed_laws.proofs.Climbing.{Grown}
-use Rattle.grown_parts.specs.Parts.{IsBrought}
+use Rattle.run_laws.specs.PassedOn.{IsBrought}
 
 -- the name of a declarator of any form: a part of it, or the name of a declarator within its parentheses
 pub data IsNamed (s : Source) : ℕ → ℕ → Type 0 where

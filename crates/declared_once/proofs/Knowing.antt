@@ -26,7 +26,7 @@ use Rattle.grown_parts.specs.Parts.{IsBrought}
 use Rattle.grown_parts.proofs.Reading.{units_bring}
 use Rattle.run_laws.proofs.Times.{known_at, known}
 use Rattle.run_laws.proofs.Automatic.{specified_later}
-use Rattle.plain_names.proofs.Later.{known_later, told}
+use Rattle.settled_types.proofs.PassedOn.{known_later, told}
 use Rattle.name_order.specs.Order.{Declares, Rises, IsOrdered}
 use Rattle.name_order.proofs.Ordered.{units_ordered}
 use Rattle.linkage_laws.proofs.Origins.{HasOrigin, origin}
@@ -35,7 +35,7 @@ use Rattle.linkage_laws.proofs.Roles as roles
 use Rattle.linkage_laws.proofs.Chains.{Reached, either_is, declaring, name_reached}
 use Rattle.linkage_laws.proofs.Linked.{Tree, stands_linked}
 use Rattle.linkage_laws.proofs.Reading.{tree_is}
-use Rattle.function_definitions.proofs.Declaring.{outer_is, declared_by_outermost, Declares as declares_role}
+use Rattle.internal_laws.proofs.PassedOn.{outer_is, declared_by_outermost, Declares as declares_role}
 use Rattle.internal_laws.proofs.Sorted as sorted
 use Rattle.internal_laws.proofs.Settled.{specs_settled}
 use Rattle.internal_laws.proofs.Same as same

@@ -20,15 +20,22 @@ pub(crate) const LEAF: u32 = 4294967295;
 // A production with its first token and its children.
 pub(crate) type Row<'a> = (u32, u32, &'a [u32]);
 
+// One node.
+fn node_of(alloc: Global, row: &Row<'_>) -> Result<SyntaxNode, Fail> {
+    let children = Vec::from_slice(alloc, row.2)?;
+    Ok(SyntaxNode {
+        production: row.0,
+        token: row.1,
+        children: Children::of(alloc, children)?,
+    })
+}
+
 // The tree of those nodes.
 pub(crate) fn tree_of(alloc: Global, rows: &[Row<'_>]) -> Result<Tree, Fail> {
     let mut nodes = Vec::new(alloc);
     for row in rows {
-        nodes.push(SyntaxNode {
-            production: row.0,
-            token: row.1,
-            children: Children::of(alloc, Vec::from_slice(alloc, row.2)?)?,
-        })?;
+        let node = node_of(alloc, row)?;
+        nodes.push(node)?;
     }
     Ok(Tree {
         unit: 0,

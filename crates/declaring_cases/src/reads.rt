@@ -6,7 +6,7 @@ use std::test::Fail;
 use tree_reads::{Above, Syntax, Test, count_where, has_word, nearest_above};
 
 // The nodes of `while(1)break;`, as far as statements go.
-const LOOP: [Row<'static>; 8] = [
+static LOOP: [Row<'static>; 8] = [
     (LEAF, 0, &[]),
     (LEAF, 1, &[]),
     (LEAF, 2, &[]),
@@ -42,13 +42,13 @@ fn break_in_loop(rt: HostRuntime) -> Result<(), Fail> {
     let found = tokens(alloc, b"while(1)break;")?;
     let tree = tree_of(alloc, &LOOP)?;
     let syntax = Syntax::new(alloc, &found, &tree)?;
-    assert_eq!(rt; parent(&syntax, 4), Some(6));
-    assert_eq!(rt; parent(&syntax, 6), Some(7));
-    assert_eq!(rt; parent(&syntax, 7), None);
-    assert_eq!(rt; above(&syntax, Above::Loop, 6), Some(7));
-    assert_eq!(rt; above(&syntax, Above::Breakable, 5), Some(7));
-    assert_eq!(rt; above(&syntax, Above::Switch, 6), None);
+    assert!(rt; parent(&syntax, 4) == Some(6));
+    assert!(rt; parent(&syntax, 6) == Some(7));
+    assert!(rt; parent(&syntax, 7) == None);
+    assert!(rt; above(&syntax, Above::Loop, 6) == Some(7));
+    assert!(rt; above(&syntax, Above::Breakable, 5) == Some(7));
+    assert!(rt; above(&syntax, Above::Switch, 6) == None);
     assert!(rt; has_word(&syntax, 33, 0));
-    assert_eq!(rt; count_where(&syntax, Test::Sign(32), &[4, 5]), 1);
+    assert!(rt; count_where(&syntax, Test::Sign(32), &[4, 5]) == 1);
     Ok(())
 }

@@ -6,21 +6,31 @@ use c_types::term::{Form, TypeId, TypeList};
 use std::alloc::Global;
 use std::test::Fail;
 
-// The results of three nodes: a type, a declarator of a function over one parameter, and that parameter.
-fn three(alloc: Global) -> Result<Results, Fail> {
+// A function over one parameter.
+fn returning(alloc: Global) -> Result<Derivation, Fail> {
     let mut types = Vec::new(alloc);
     types.push(TypeId(7))?;
-    let mut derivations = Vec::new(alloc);
-    derivations.push(Derivation::Returning {
+    Ok(Derivation::Returning {
         parameters: TypeList::from_items(types),
         form: Form::Fixed,
-    })?;
-    let mut results = Results::new(alloc);
-    results.push(Made::Typed(TypeId(3)))?;
-    results.push(Made::Declarator {
+    })
+}
+
+// The declarator of that function.
+fn declarator(alloc: Global) -> Result<Made, Fail> {
+    let mut derivations = Vec::new(alloc);
+    derivations.push(returning(alloc)?)?;
+    Ok(Made::Declarator {
         name: Some(5),
         derivations: BoxedList::of(alloc, derivations)?,
-    })?;
+    })
+}
+
+// The results of three nodes: a type, the declarator, and its parameter.
+fn three(alloc: Global) -> Result<Results, Fail> {
+    let mut results = Results::new(alloc);
+    results.push(Made::Typed(TypeId(3)))?;
+    results.push(declarator(alloc)?)?;
     results.push(Made::Parameter {
         name: None,
         ty: TypeId(7),
@@ -33,12 +43,20 @@ fn three(alloc: Global) -> Result<Results, Fail> {
 fn read_by_kind(rt: HostRuntime) -> Result<(), Fail> {
     let results = three(rt.alloc())?;
     let list = &results;
-    assert_eq!(rt; type_at(list, 0), Some(TypeId(3)));
-    assert_eq!(rt; type_at(list, 1), None);
-    assert_eq!(rt; type_at(list, 3), None);
-    assert_eq!(rt; node_at(list, 0), None);
-    assert_eq!(rt; parameter_at(list, 2), Some((None, TypeId(7))));
+    assert!(rt; type_at(list, 0) == Some(TypeId(3)));
+    assert!(rt; type_at(list, 1) == None);
+    assert!(rt; type_at(list, 3) == None);
+    assert!(rt; node_at(list, 0) == None);
+    assert!(rt; parameter_at(list, 2) == Some((None, TypeId(7))));
     Ok(())
+}
+
+// Whether the first result is a declarator of that name with so many derivations.
+fn is_declarator(list: &Results, wanted: u32, count: usize) -> bool {
+    match declarator_at(list, 0) {
+        Some((name, derivations)) => name == Some(wanted) && derivations.len() == count,
+        None => false,
+    }
 }
 
 // A copy of a declarator has its name and its derivations.
@@ -48,12 +66,6 @@ fn copied_declarator(rt: HostRuntime) -> Result<(), Fail> {
     let copy = copied_at(rt.alloc(), &results, 1)?;
     let mut list = Results::new(rt.alloc());
     list.push(copy)?;
-    match declarator_at(&list, 0) {
-        Some((name, derivations)) => {
-            assert_eq!(rt; name, Some(5));
-            assert_eq!(rt; derivations.len(), 1);
-        }
-        None => return Err(Fail::new("no declarator")),
-    }
+    assert!(rt; is_declarator(&list, 5, 1));
     Ok(())
 }

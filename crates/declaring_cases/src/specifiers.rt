@@ -48,44 +48,47 @@ fn specified(
     }
 }
 
+// The nodes of `long unsigned x`.
+static LONG_UNSIGNED: [Row<'static>; 8] = [
+    (LEAF, 0, &[]),
+    (TYPE, 0, &[0]),
+    (LEAF, 1, &[]),
+    (TYPE, 1, &[2]),
+    (SPECS, 0, &[1, 3]),
+    (LEAF, 2, &[]),
+    (DECLARATOR, 2, &[5]),
+    (DECLARATION, 0, &[4, 6]),
+];
+
 // `long unsigned` is unsigned long: its size is 8, and its rank is above that of int (C11 6.7.2p2).
 #[test]
 fn long_unsigned(rt: HostRuntime) -> Result<(), Fail> {
-    let alloc = rt.alloc();
-    let rows: [Row<'_>; 8] = [
-        (LEAF, 0, &[]),
-        (TYPE, 0, &[0]),
-        (LEAF, 1, &[]),
-        (TYPE, 1, &[2]),
-        (SPECS, 0, &[1, 3]),
-        (LEAF, 2, &[]),
-        (DECLARATOR, 2, &[5]),
-        (DECLARATION, 0, &[4, 6]),
-    ];
-    let found = specified(alloc, b"long unsigned x", &rows, 4, &[1, 3])?;
-    assert_eq!(rt; found, Some((8, 5, false)));
+    let found = specified(rt.alloc(), b"long unsigned x", &LONG_UNSIGNED, 4, &[1, 3])?;
+    assert!(rt; matches!(found, Some((8, 5, false))));
     Ok(())
 }
+
+// The nodes of `static extern int x`.
+static TWO_WORDS: [Row<'static>; 10] = [
+    (LEAF, 0, &[]),
+    (STORAGE, 0, &[0]),
+    (LEAF, 1, &[]),
+    (STORAGE, 1, &[2]),
+    (LEAF, 2, &[]),
+    (TYPE, 2, &[4]),
+    (SPECS, 0, &[1, 3, 5]),
+    (LEAF, 3, &[]),
+    (DECLARATOR, 3, &[7]),
+    (DECLARATION, 0, &[6, 8]),
+];
 
 // At most one storage word stands in specifiers (C11 6.7.1p2).
 #[test]
 fn two_storage_words(rt: HostRuntime) -> Result<(), Fail> {
-    let alloc = rt.alloc();
-    let rows: [Row<'_>; 10] = [
-        (LEAF, 0, &[]),
-        (STORAGE, 0, &[0]),
-        (LEAF, 1, &[]),
-        (STORAGE, 1, &[2]),
-        (LEAF, 2, &[]),
-        (TYPE, 2, &[4]),
-        (SPECS, 0, &[1, 3, 5]),
-        (LEAF, 3, &[]),
-        (DECLARATOR, 3, &[7]),
-        (DECLARATION, 0, &[6, 8]),
-    ];
-    let refused = specified(alloc, b"static extern int x", &rows, 6, &[1, 3, 5])?;
-    assert_eq!(rt; refused, None);
-    let fits = specified(alloc, b"static extern int x", &rows, 6, &[1, 5])?;
-    assert_eq!(rt; fits, Some((4, 4, true)));
+    let text = b"static extern int x";
+    let refused = specified(rt.alloc(), text, &TWO_WORDS, 6, &[1, 3, 5])?;
+    assert!(rt; refused.is_none());
+    let fits = specified(rt.alloc(), text, &TWO_WORDS, 6, &[1, 5])?;
+    assert!(rt; matches!(fits, Some((4, 4, true))));
     Ok(())
 }

@@ -1,8 +1,8 @@
 //! The laws: functions that do nothing, whose contracts they are.
 ghost use Rattle.definition_laws.specs.Definitions.{BlockPartsAreDefined, DefinitionsAreFound, LocalsAreDefined};
 
-/// In the tree of a unit that is read, each block, each statement and each declaration within a block stands in an external declaration that has
-/// a block (C11 6.8.2, 6.9.1).
+/// In the tree of a unit that is read, each block, each statement and each declaration within a block stands in an external declaration
+/// that has a block (C11 6.8.2, 6.9.1).
 pub fn block_parts_are_defined()
     ensures { BlockPartsAreDefined }
 {}

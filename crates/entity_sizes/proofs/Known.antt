@@ -17,8 +17,8 @@ use Rattle.placed_laws.proofs.Climbing.{Grown}
 use Rattle.linkage_laws.proofs.Seen.{parent_is}
 use Rattle.body_returns.proofs.Built.{placed}
 use Rattle.declared_leaves.specs.Leaves.{IsDeclaredBy}
-use Rattle.declared_once.specs.Once.{IsDeclaredOnce}
-use Rattle.declared_once.proofs.Knowing.{declared_once}
+use Rattle.agreed_internals.specs.PassedOn.{IsDeclaredOnce}
+use Rattle.agreed_internals.proofs.PassedOn.{declared_once}
 use Rattle.agreed_internals.specs.Agreeing.{AreAgreed}
 use Rattle.agreed_internals.proofs.Agreeing.{internals_agree}
 

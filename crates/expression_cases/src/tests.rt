@@ -1,18 +1,18 @@
-// Expressions from their texts to their core nodes, through the parser.
+// Expressions from the texts of their units to their core nodes, through the parser.
 
-ghost use Rattle.std.specs.Prelude.{◌≡◌, ◌<◌, ◌+◌, [], IfOk, length};
-ghost use Rattle.c_check.specs.Around.{IsKnown};
+ghost use Rattle.std.specs.Prelude.{◌≡◌, ◌<◌, IfOk, length};
 ghost use Rattle.core_nodes.specs.Standing.{IsReady};
 
 use c_check::{CheckFault, Known, Meaning, check_expression};
-use c_grammar::{Scopes, Tree};
+use c_grammar::Tree;
+use c_lexer::Tokens;
 use c_lexer::lexer::tokens;
-use c_lexer::{TokenKind, Tokens};
-use c_parser::parse_expression;
-use c_scope::{Bound, Declared, Kind as DeclaredKind};
+use c_scope::{Bound, resolve};
 use c_types::table::TypeTable;
 use c_types::term::{Form, Term, TypeId, TypeList};
+use c_units::parse_unit;
 use core_tree::node::{Entity, Linkage, NodeKind, Op, Storage, Unit};
+use parsed_laws::laws::children_first;
 use pta_base::{Kind, Place, Text};
 use std::alloc::Global;
 use std::test::Fail;
@@ -20,14 +20,24 @@ use std::test::Fail;
 // The number of the text's unit.
 const UNIT: u32 = 3;
 
-// The production of a leaf.
-const LEAF: u32 = 4294967295;
+// The production of a statement.
+const STATEMENT: u32 = 30;
 
-// A place in the first line.
+// What stands before an expression, which is on the fifth line. Of o, q, x and y, and of the tags r, n and l nothing is known.
+const OBJECTS: &str = "int a,b,*p;void*v;int e[1];int f(int*,...);typedef int*t;enum{c=2};int g();";
+
+const OTHERS: &str =
+    "struct s{char x;int*y;}z;int h();int h(int);extern char k[];extern char k[3];int q;struct r{int i;};";
+
+const PARTS: &str = "struct n{int i;char m[2];}y;struct l{int i;int j[];}*x;float o;";
+
+const BODY: &str = "void w(void){";
+
+// A place in the expression's line.
 fn place_at(column: u32) -> Place {
     Place {
         unit: UNIT,
-        line: 1,
+        line: 5,
         column,
     }
 }
@@ -41,17 +51,12 @@ struct ObjectTypes {
     array: TypeId,
     function: TypeId,
     plain: TypeId,
+    structure: TypeId,
 }
 
 // The unit that has these types and neither nodes nor entities.
 fn bare_unit(alloc: Global) -> Result<(Unit, ObjectTypes), Fail>
     ensures ready { IfOk result (λ made. IsReady made.0) }
-    ensures known { IfOk result (λ made. IsKnown made.0 []) }
-    ensures none { IfOk result (λ made. length made.0.entities.items ≡ 0) }
-    ensures types { IfOk result (λ made. (made.1.int.0 < length made.0.types.terms)
-        × (made.1.pointer.0 < length made.0.types.terms) × (made.1.void_pointer.0 < length made.0.types.terms)
-        × (made.1.array.0 < length made.0.types.terms) × (made.1.function.0 < length made.0.types.terms)
-        × (made.1.plain.0 < length made.0.types.terms)) }
 {
     let name = Text::copy_of(alloc, "sum.c")?;
     let mut types = TypeTable::new(alloc);
@@ -79,6 +84,8 @@ fn bare_unit(alloc: Global) -> Result<(Unit, ObjectTypes), Fail>
         parameters: TypeList::from_items(Vec::new(alloc)),
         form: Form::Unspecified,
     })?;
+    let tag = types.tag()?;
+    let structure = types.add(Term::Structure(tag))?;
     let unit = Unit {
         name,
         types,
@@ -95,29 +102,13 @@ fn bare_unit(alloc: Global) -> Result<(Unit, ObjectTypes), Fail>
             array,
             function,
             plain,
+            structure,
         },
     ))
 }
 
-// One entity more.
-fn add_entity(unit: Unit, entity: Entity) -> Result<Unit, Fail>
-    requires ready { IsReady unit }
-    requires known { IsKnown unit [] }
-    requires ty { entity.ty.0 < length unit.types.terms }
-    ensures ready { IfOk result (λ more. IsReady more) }
-    ensures known { IfOk result (λ more. IsKnown more []) }
-    ensures types { IfOk result (λ more. more.types ≡ unit.types) }
-    ensures count { IfOk result (λ more. length more.entities.items ≡ length unit.entities.items + 1) }
-{
-    let mut unit = unit;
-    unit.entities.push(entity)?;
-    Ok(unit)
-}
-
-// An object with external linkage.
-fn object(alloc: Global, name: &str, ty: TypeId) -> Result<Entity, Fail>
-    ensures { IfOk result (λ entity. entity.ty ≡ ty) }
-{
+// An object or a function with external linkage.
+fn object(alloc: Global, name: &str, ty: TypeId) -> Result<Entity, Fail> {
     Ok(Entity {
         name: Text::copy_of(alloc, name)?,
         unit: UNIT,
@@ -131,64 +122,42 @@ fn object(alloc: Global, name: &str, ty: TypeId) -> Result<Entity, Fail>
     })
 }
 
-// The unit of the objects a and b of type int, p of type int *, v of type void * and e of type int[1], and of the functions
-// int f(int *, ...) and int g().
-fn unit_of_seven(alloc: Global) -> Result<Unit, Fail>
+// The unit of the objects a and b of type int, p of type int *, v of type void * and e of type int[1], of the functions
+// int f(int *, ...) and int g(), of an object of a structure, and of the function int h(int) and an array k.
+fn unit_of_objects(alloc: Global) -> Result<Unit, Fail>
     ensures ready { IfOk result (λ unit. IsReady unit) }
-    ensures known { IfOk result (λ unit. IsKnown unit []) }
-    ensures count { IfOk result (λ unit. length unit.entities.items ≡ 7) }
 {
-    let (bare, types) = bare_unit(alloc)?;
-    let one = add_entity(bare, object(alloc, "a", types.int)?)?;
-    let two = add_entity(one, object(alloc, "b", types.int)?)?;
-    let three = add_entity(two, object(alloc, "p", types.pointer)?)?;
-    let four = add_entity(three, object(alloc, "v", types.void_pointer)?)?;
-    let five = add_entity(four, object(alloc, "e", types.array)?)?;
-    let six = add_entity(five, object(alloc, "f", types.function)?)?;
-    add_entity(six, object(alloc, "g", types.plain)?)
+    let (unit, types) = bare_unit(alloc)?;
+    let mut unit = unit;
+    unit.entities.push(object(alloc, "a", types.int)?)?;
+    unit.entities.push(object(alloc, "b", types.int)?)?;
+    unit.entities.push(object(alloc, "p", types.pointer)?)?;
+    unit.entities.push(object(alloc, "v", types.void_pointer)?)?;
+    unit.entities.push(object(alloc, "e", types.array)?)?;
+    unit.entities.push(object(alloc, "f", types.function)?)?;
+    unit.entities.push(object(alloc, "g", types.plain)?)?;
+    unit.entities.push(object(alloc, "z", types.structure)?)?;
+    unit.entities.push(object(alloc, "h", types.plain)?)?;
+    unit.entities.push(object(alloc, "k", types.array)?)?;
+    Ok(unit)
 }
 
-// The objects of a unit, which the syntax nodes 1000 to 1005 declare, and the typedef name t of p's type, which the node 1006 declares;
-// and the enumerator c of the value 2, which the node 1007 declares; and the function g, which the nodes 1009 and 1010 declare.
-fn known_objects(alloc: Global, unit: &Unit) -> Result<Known, Fail>
-    requires known { IsKnown unit.now [] }
-    requires count { length unit.now.entities.items ≡ 7 }
-    ensures { IfOk result (λ known. IsKnown unit.now known.list.items) }
-{
-    let pointer = unit.entities[2].ty;
-    let entries = [
-        (1000, Meaning::Entity(0)),
-        (1001, Meaning::Entity(1)),
-        (1002, Meaning::Entity(2)),
-        (1003, Meaning::Entity(3)),
-        (1004, Meaning::Entity(4)),
-        (1005, Meaning::Entity(5)),
-        (1006, Meaning::TypeName(pointer)),
-        (1007, Meaning::Value(2)),
-        (1009, Meaning::Entity(6)),
-        (1010, Meaning::Entity(6)),
-    ];
-    Ok(Known {
-        owner: None,
-        list: entries.to_vec(alloc)?,
-    })
-}
-
-// The syntax node that declares a name; of that of n nothing is known, as of that of a name that the expression itself declares.
-fn declaring(name: &[u8]) -> u32 {
+// What is known of a name, or of a tag.
+fn known_of(name: &[u8]) -> Option<Meaning> {
     match name {
-        b"a" => 1000,
-        b"b" => 1001,
-        b"p" => 1002,
-        b"v" => 1003,
-        b"e" => 1004,
-        b"f" => 1005,
-        b"t" => 1006,
-        b"c" => 1007,
-        b"n" => 1008,
-        b"g" => 1009,
-        b"h" => 1010,
-        _ => 0,
+        b"a" => Some(Meaning::Entity(0)),
+        b"b" => Some(Meaning::Entity(1)),
+        b"p" => Some(Meaning::Entity(2)),
+        b"v" => Some(Meaning::Entity(3)),
+        b"e" => Some(Meaning::Entity(4)),
+        b"f" => Some(Meaning::Entity(5)),
+        b"g" => Some(Meaning::Entity(6)),
+        b"z" => Some(Meaning::Entity(7)),
+        b"h" => Some(Meaning::Entity(8)),
+        b"k" => Some(Meaning::Entity(9)),
+        b"c" => Some(Meaning::Value(2)),
+        b"s" => Some(Meaning::Tag(0)),
+        _ => None,
     }
 }
 
@@ -204,61 +173,44 @@ fn token_text<'a>(found: &Tokens<'a>, token: u32) -> &'a [u8] {
     }
 }
 
-// Whether a token is a name.
-fn is_identifier(found: &Tokens<'_>, token: u32) -> bool {
-    match found.list.get(token as usize) {
-        Some(there) => there.kind == TokenKind::Identifier,
-        None => false,
+// The text of a node's first token.
+fn node_text<'a>(found: &Tokens<'a>, tree: &Tree, node: u32) -> &'a [u8] {
+    match tree.nodes.get(node as usize) {
+        Some(there) => token_text(found, there.token),
+        None => &[],
     }
 }
 
-// A declaration of a function in the scope of the file.
-fn function_declared(node: u32, symbol: u32) -> Declared {
-    Declared {
-        node,
-        symbol,
-        scope: 0,
-        kind: DeclaredKind::Linked,
-        is_function: true,
-    }
-}
-
-// Each name with the node that declares it. The node 1009 is the first declaration of g, and 1010, which h stands for, another one.
-fn bound_of(alloc: Global, found: &Tokens<'_>, tree: &Tree) -> Result<Bound, Fail> {
-    let mut uses = Vec::new(alloc);
-    for (i, node) in tree.nodes.iter().enumerate() {
-        if node.production == LEAF && is_identifier(found, node.token) && i < 1000 {
-            let declaration = declaring(token_text(found, node.token));
-            if declaration > 0 {
-                uses.push((i as u32, declaration))?;
-            }
+// What is known of the declarations of a unit.
+fn known_names(
+    alloc: Global,
+    found: &Tokens<'_>,
+    tree: &Tree,
+    bound: &Bound,
+) -> Result<Known, Fail> {
+    let mut list = Vec::new(alloc);
+    for d in bound.names.as_slice() {
+        if let Some(meaning) = known_of(node_text(found, tree, d.node)) {
+            list.push((d.node, meaning))?;
         }
     }
-    let names = [function_declared(1009, 5), function_declared(1010, 5)];
-    Ok(Bound {
-        uses,
-        labels: Vec::new(alloc),
-        names: names.to_vec(alloc)?,
-        tags: Vec::new(alloc),
-    })
+    for d in bound.tags.as_slice() {
+        if let Some(meaning) = known_of(node_text(found, tree, d.node)) {
+            list.push((d.node, meaning))?;
+        }
+    }
+    Ok(Known { owner: None, list })
 }
 
-// The tree of an expression, where t is a typedef name.
-fn parsed(alloc: Global, found: &Tokens<'_>) -> Result<Tree, Fail> {
-    let mut scopes = Scopes::new(alloc);
-    scopes.declare(b"t", true)?;
-    let mut tree = Tree {
-        unit: UNIT,
-        nodes: Vec::new(alloc),
-        root: 0,
-    };
-    if found.list.len() > u32::MAX as usize {
-        return Err(Fail::new("too long"));
+// The expression of the last statement of a tree.
+fn last_expression(tree: &Tree) -> Option<u32> {
+    let mut last = None;
+    for node in tree.nodes.as_slice() {
+        if node.production == STATEMENT {
+            last = node.children.as_slice().first().copied();
+        }
     }
-    match parse_expression(alloc, found, 0, 0, &mut scopes, &mut tree) {
-        Ok(_) => Ok(tree),
-        Err(_) => Err(Fail::new("no expression")),
-    }
+    last
 }
 
 // The column of a node's first token.
@@ -275,18 +227,31 @@ fn column_of(found: &Tokens<'_>, tree: &Tree, node: u32) -> u32 {
 // What a refusal says: its kind, and the column of the first token of the node that it names.
 type Refusal = (Kind, u32);
 
-// The unit with the core nodes of a text, and a refusal where there is one.
-fn answer(alloc: Global, text: &[u8]) -> Result<(Unit, Option<Refusal>), Fail> {
-    let mut unit = unit_of_seven(alloc)?;
-    let mut known = known_objects(alloc, &unit)?;
-    let found = tokens(alloc, text)?;
-    let tree = parsed(alloc, &found)?;
-    let bound = bound_of(alloc, &found, &tree)?;
-    let count = tree.nodes.len();
-    if count == 0 || count > u32::MAX as usize {
-        return Err(Fail::new("no tree"));
+// The unit with the core nodes of an expression, and a refusal where there is one.
+fn answer(alloc: Global, text: &str) -> Result<(Unit, Option<Refusal>), Fail> {
+    let whole = format!(in alloc;
+        "{}\n{}\n{}\n{}\n{};}}\n",
+        OBJECTS, OTHERS, PARTS, BODY, text
+    )?;
+    let found = tokens(alloc, whole.as_bytes())?;
+    if found.list.len() > u32::MAX as usize {
+        return Err(Fail::new("too long"));
     }
-    let node = (count - 1) as u32;
+    let Ok(tree) = parse_unit(alloc, &found, UNIT) else {
+        return Err(Fail::new("no unit"));
+    };
+    let Ok(bound) = resolve(alloc, &found, &tree) else {
+        return Err(Fail::new("no names"));
+    };
+    children_first();
+    let Some(node) = last_expression(&tree) else {
+        return Err(Fail::new("no expression"));
+    };
+    if node as usize >= tree.nodes.len() {
+        return Err(Fail::new("no node"));
+    }
+    let mut unit = unit_of_objects(alloc)?;
+    let mut known = known_names(alloc, &found, &tree, &bound)?;
     let result = check_expression(alloc, &found, &tree, &bound, node, &mut known, &mut unit);
     match result {
         Ok(_) => Ok((unit, None)),
@@ -313,6 +278,10 @@ fn letter_of_operator(op: Op) -> u8 {
         Op::Minus => b'-',
         Op::Less => b'<',
         Op::Equal => b'=',
+        Op::ShiftLeft => b'L',
+        Op::Or => b'|',
+        Op::Complement => b'~',
+        Op::Not => b'!',
         _ => b'o',
     }
 }
@@ -329,7 +298,11 @@ fn letter_of(kind: &NodeKind) -> u8 {
         NodeKind::Decay => b'D',
         NodeKind::AddressOf => b'&',
         NodeKind::Deref => b'*',
+        NodeKind::Upcast => b'S',
+        NodeKind::Member(_) => b'M',
+        NodeKind::MemberOfValue(_) => b'V',
         NodeKind::PointerAdd { minus: false } => b'P',
+        NodeKind::PointerAdd { minus: true } => b'Q',
         NodeKind::Update { post: true, .. } => b'U',
         NodeKind::Update { post: false, .. } => b'u',
         NodeKind::Choose => b'?',
@@ -359,48 +332,48 @@ fn has_shapes(unit: &Unit, shapes: &[Shape<'_>]) -> bool {
 }
 
 // Whether a text gives these core nodes and no others.
-fn gives(alloc: Global, text: &[u8], shapes: &[Shape<'_>]) -> Result<bool, Fail> {
+fn gives(alloc: Global, text: &str, shapes: &[Shape<'_>]) -> Result<bool, Fail> {
     let (unit, refusal) = answer(alloc, text)?;
     Ok(refusal.is_none() && has_shapes(&unit, shapes))
 }
 
 // What refuses a text.
-fn refusal(alloc: Global, text: &[u8]) -> Result<Option<Refusal>, Fail> {
+fn refusal(alloc: Global, text: &str) -> Result<Option<Refusal>, Fail> {
     let (_unit, refusal) = answer(alloc, text)?;
     Ok(refusal)
 }
 
-// Texts with their core nodes, written by hand.
-static TREES: [(&[u8], &[Shape<'static>]); 37] = [
+// Sizes, constants, strings and casts with their core nodes, written by hand.
+static SIZES_AND_CASTS: [(&str, &[Shape<'static>]); 26] = [
     // A size leaves nothing but its number: the operand isn't evaluated, and an array stays one (C11 6.5.3.4p2, 6.3.2.1p3).
-    (b"sizeof a", &[(b'4', 1, &[])]),
-    (b"sizeof e", &[(b'4', 1, &[])]),
-    (b"sizeof(a+b)", &[(b'4', 1, &[])]),
-    (b"sizeof \"abc\"", &[(b'4', 1, &[])]),
-    (b"sizeof p", &[(b'8', 1, &[])]),
+    ("sizeof a", &[(b'4', 1, &[])]),
+    ("sizeof e", &[(b'4', 1, &[])]),
+    ("sizeof(a+b)", &[(b'4', 1, &[])]),
+    ("sizeof \"abc\"", &[(b'4', 1, &[])]),
+    ("sizeof p", &[(b'8', 1, &[])]),
     // Constants of octal digits, and characters, of which a tab is 9 in ASCII (C11 6.4.4.1, 6.4.4.4).
-    (b"07", &[(b'7', 1, &[])]),
-    (b"'\\t'", &[(b'9', 1, &[])]),
+    ("07", &[(b'7', 1, &[])]),
+    ("'\\t'", &[(b'9', 1, &[])]),
     // A string in parentheses is a string, and strings side by side are one, at the place of the first (C11 5.1.1.2p6, 6.5.1p5).
-    (b"(\"xy\")", &[(b'T', 2, &[])]),
-    (b"\"ab\" \"c\"", &[(b'T', 1, &[])]),
-    (b"&e", &[(b'e', 2, &[]), (b'&', 1, &[0])]),
+    ("(\"xy\")", &[(b'T', 2, &[])]),
+    ("\"ab\" \"c\"", &[(b'T', 1, &[])]),
+    ("&e", &[(b'e', 2, &[]), (b'&', 1, &[0])]),
     // The size of a type, and its alignment, where an array has its element's (C11 6.5.3.4p2, p3). A pointer to a function that takes two
     // parameters is a pointer (6.7.7).
-    (b"sizeof(char)", &[(b'1', 1, &[])]),
-    (b"sizeof(int[2])", &[(b'8', 1, &[])]),
-    (b"sizeof(char(*)(int,char*))", &[(b'8', 1, &[])]),
-    (b"sizeof(t)", &[(b'8', 1, &[])]),
-    (b"_Alignof(int[2])", &[(b'4', 1, &[])]),
+    ("sizeof(char)", &[(b'1', 1, &[])]),
+    ("sizeof(int[2])", &[(b'8', 1, &[])]),
+    ("sizeof(char(*)(int,char*))", &[(b'8', 1, &[])]),
+    ("sizeof(t)", &[(b'8', 1, &[])]),
+    ("_Alignof(int[2])", &[(b'4', 1, &[])]),
     // A cast to the type that a value has adds nothing; one to another type is a conversion at the operand's place (C11 6.5.4).
-    (b"(int)a", &[(b'a', 6, &[]), (b'F', 6, &[0])]),
+    ("(int)a", &[(b'a', 6, &[]), (b'F', 6, &[0])]),
     (
-        b"(char)a",
+        "(char)a",
         &[(b'a', 7, &[]), (b'F', 7, &[0]), (b'C', 7, &[1])],
     ),
-    (b"(t)v", &[(b'd', 4, &[]), (b'F', 4, &[0]), (b'C', 4, &[1])]),
+    ("(t)v", &[(b'd', 4, &[]), (b'F', 4, &[0]), (b'C', 4, &[1])]),
     (
-        b"*(int*)v",
+        "*(int*)v",
         &[
             (b'd', 8, &[]),
             (b'F', 8, &[0]),
@@ -409,20 +382,20 @@ static TREES: [(&[u8], &[Shape<'static>]); 37] = [
         ],
     ),
     // A cast of the constant 0 to a pointer is a null value (C11 6.3.2.3p3).
-    (b"(void*)0", &[(b'N', 8, &[])]),
+    ("(void*)0", &[(b'N', 8, &[])]),
     // Parameters in the list of a type name may have names, of functions and in parentheses too, and the type is the same (C11 6.7.6.3,
     // 6.7.7). A pointer to a function is converted to another one (6.3.2.3p8).
-    (b"(int(*)(int b))0", &[(b'N', 16, &[])]),
+    ("(int(*)(int b))0", &[(b'N', 16, &[])]),
     (
-        b"(int(*)(int(*b)[2],int d(char g)))f",
+        "(int(*)(int(*b)[2],int d(char g)))f",
         &[(b'f', 35, &[]), (b'D', 35, &[0]), (b'C', 35, &[1])],
     ),
     // An enumerator is a constant of type int, also where a constant is asked for (C11 6.4.4.3, 6.6p6).
-    (b"c", &[(b'2', 1, &[])]),
-    (b"sizeof c", &[(b'4', 1, &[])]),
-    (b"sizeof(char[c])", &[(b'2', 1, &[])]),
+    ("c", &[(b'2', 1, &[])]),
+    ("sizeof c", &[(b'4', 1, &[])]),
+    ("sizeof(char[c])", &[(b'2', 1, &[])]),
     (
-        b"a+c",
+        "a+c",
         &[
             (b'a', 1, &[]),
             (b'2', 3, &[]),
@@ -430,9 +403,13 @@ static TREES: [(&[u8], &[Shape<'static>]); 37] = [
             (b'+', 2, &[2, 1]),
         ],
     ),
+];
+
+// The same of operators between operands, calls, and what an expression declares.
+static VALUES_AND_CALLS: [(&str, &[Shape<'static>]); 22] = [
     // A product is made before the sum that it is part of (C11 6.5.5, 6.5.6).
     (
-        b"a+b*2",
+        "a+b*2",
         &[
             (b'a', 1, &[]),
             (b'b', 3, &[]),
@@ -445,7 +422,7 @@ static TREES: [(&[u8], &[Shape<'static>]); 37] = [
     ),
     // An assignment that computes takes the place itself and the right operand's value (C11 6.5.16.2).
     (
-        b"a+=b",
+        "a+=b",
         &[
             (b'a', 1, &[]),
             (b'b', 4, &[]),
@@ -455,7 +432,7 @@ static TREES: [(&[u8], &[Shape<'static>]); 37] = [
     ),
     // What counts up a pointer is under the star (C11 6.5.2.4, 6.5.3.2).
     (
-        b"*p++",
+        "*p++",
         &[
             (b'c', 2, &[]),
             (b'1', 3, &[]),
@@ -465,7 +442,7 @@ static TREES: [(&[u8], &[Shape<'static>]); 37] = [
     ),
     // An integer may stand before the brackets; the pointer comes first (C11 6.5.2.1p2).
     (
-        b"a[p]",
+        "a[p]",
         &[
             (b'a', 1, &[]),
             (b'c', 3, &[]),
@@ -477,7 +454,7 @@ static TREES: [(&[u8], &[Shape<'static>]); 37] = [
     ),
     // The right operand of && stands in a branch alone (C11 6.5.13p4).
     (
-        b"a&&b",
+        "a&&b",
         &[
             (b'a', 1, &[]),
             (b'b', 4, &[]),
@@ -493,12 +470,12 @@ static TREES: [(&[u8], &[Shape<'static>]); 37] = [
     // A constant 0 that is assigned to a pointer, or stands beside one, is a null value, also where it has to be computed
     // (C11 6.3.2.3p3, 6.5.16.1p1).
     (
-        b"p=1-1",
+        "p=1-1",
         &[(b'c', 1, &[]), (b'N', 4, &[]), (b'A', 2, &[0, 1])],
     ),
     // Beside a pointer to void the other one is converted (C11 6.5.9p5).
     (
-        b"p==v",
+        "p==v",
         &[
             (b'c', 1, &[]),
             (b'd', 4, &[]),
@@ -510,7 +487,7 @@ static TREES: [(&[u8], &[Shape<'static>]); 37] = [
     ),
     // Beside a pointer the constant 0 of a choice becomes one (C11 6.5.15p6).
     (
-        b"a?p:0",
+        "a?p:0",
         &[
             (b'a', 1, &[]),
             (b'c', 3, &[]),
@@ -520,10 +497,10 @@ static TREES: [(&[u8], &[Shape<'static>]); 37] = [
             (b'?', 2, &[2, 3, 4]),
         ],
     ),
-    // A call takes the value of what is called and of each argument, one past the list too, and one for a parameter is converted to its type
-    // (C11 6.5.2.2p4, p7).
+    // A call takes the value of what is called and of each argument, one past the list too, and one for a parameter is converted to its
+    // type (C11 6.5.2.2p4, p7).
     (
-        b"f(p,a)",
+        "f(p,a)",
         &[
             (b'f', 1, &[]),
             (b'c', 3, &[]),
@@ -537,7 +514,7 @@ static TREES: [(&[u8], &[Shape<'static>]); 37] = [
     // A function without a list of parameters takes any, where no declaration of its name before may have given one (C11 6.5.2.2p6,
     // 6.2.7p4).
     (
-        b"g(a)",
+        "g(a)",
         &[
             (b'f', 1, &[]),
             (b'a', 3, &[]),
@@ -547,7 +524,7 @@ static TREES: [(&[u8], &[Shape<'static>]); 37] = [
         ],
     ),
     (
-        b"f(0)",
+        "f(0)",
         &[
             (b'f', 1, &[]),
             (b'D', 1, &[0]),
@@ -555,46 +532,286 @@ static TREES: [(&[u8], &[Shape<'static>]); 37] = [
             (b'(', 2, &[1, 2]),
         ],
     ),
+    // A function that is declared several times takes what its declarations say together, and an array has the length that one of them
+    // gives (C11 6.2.7p4).
+    (
+        "h(a)",
+        &[
+            (b'f', 1, &[]),
+            (b'a', 3, &[]),
+            (b'D', 1, &[0]),
+            (b'F', 3, &[1]),
+            (b'(', 2, &[2, 3]),
+        ],
+    ),
+    ("sizeof k", &[(b'3', 1, &[])]),
+    // Structures are named by their tags, and an operand of sizeof may declare some, with members, or enumerators that are constants from
+    // there on (C11 6.7.2.1 to 6.7.2.3).
+    (
+        "(struct s*)v",
+        &[(b'd', 12, &[]), (b'F', 12, &[0]), (b'C', 12, &[1])],
+    ),
+    ("sizeof(struct r*)", &[(b'8', 1, &[])]),
+    ("sizeof(struct{char i[3];})", &[(b'3', 1, &[])]),
+    ("sizeof(union{int i;char j;})", &[(b'4', 1, &[])]),
+    ("sizeof(enum{m=5})", &[(b'4', 1, &[])]),
+    ("sizeof(char[sizeof(enum{m=5})+m])", &[(b'9', 1, &[])]),
+    // A parameter is an object of its type within its own list (C11 6.2.1p4), and an initialiser in an operand of sizeof makes nothing, but
+    // it gives an array its length (6.7.9p22).
+    ("sizeof(int(*)(int n,int[sizeof n]))", &[(b'8', 1, &[])]),
+    ("sizeof(char[]){1,2}", &[(b'2', 1, &[])]),
+    // One of the names of the function around, which is a string (C11 6.4.2.2p1).
+    ("__func__", &[(b'T', 1, &[])]),
+];
+
+// The same of operators before one operand, members, pointers and conversions between them.
+static PREFIXES_AND_PLACES: [(&str, &[Shape<'static>]); 25] = [
+    // Operators before one operand (C11 6.5.3.1, 6.5.3.2, 6.5.3.3); what a star and an ampersand undo stays.
+    ("-a", &[(b'a', 2, &[]), (b'F', 2, &[0]), (b'-', 1, &[1])]),
+    ("~a", &[(b'a', 2, &[]), (b'F', 2, &[0]), (b'~', 1, &[1])]),
+    ("!p", &[(b'c', 2, &[]), (b'F', 2, &[0]), (b'!', 1, &[1])]),
+    ("++a", &[(b'a', 3, &[]), (b'1', 1, &[]), (b'u', 1, &[0, 1])]),
+    ("*&a", &[(b'a', 3, &[]), (b'&', 2, &[0]), (b'*', 1, &[1])]),
+    // A place of array type gives the pointer to its first element (C11 6.3.2.1p3).
+    (
+        "e[0]",
+        &[
+            (b'e', 1, &[]),
+            (b'0', 3, &[]),
+            (b'D', 1, &[0]),
+            (b'P', 2, &[2, 1]),
+            (b'*', 2, &[3]),
+        ],
+    ),
+    // A member of a place, through a pointer, and of a value (C11 6.5.2.3p3, p4).
+    ("z.x", &[(b'h', 1, &[]), (b'M', 2, &[0])]),
+    (
+        "(&z)->x",
+        &[
+            (b'h', 3, &[]),
+            (b'&', 2, &[0]),
+            (b'*', 5, &[1]),
+            (b'M', 5, &[2]),
+        ],
+    ),
+    (
+        "(a?z:z).x",
+        &[
+            (b'a', 2, &[]),
+            (b'h', 4, &[]),
+            (b'h', 6, &[]),
+            (b'F', 2, &[0]),
+            (b'F', 4, &[1]),
+            (b'F', 6, &[2]),
+            (b'?', 3, &[3, 4, 5]),
+            (b'V', 8, &[6]),
+        ],
+    ),
+    // Integers, pointers and differences of pointers (C11 6.5.6 to 6.5.8, 6.5.12); the pointer of a sum comes first.
+    (
+        "p-p",
+        &[
+            (b'c', 1, &[]),
+            (b'c', 3, &[]),
+            (b'F', 1, &[0]),
+            (b'F', 3, &[1]),
+            (b'-', 2, &[2, 3]),
+        ],
+    ),
+    (
+        "p-1",
+        &[
+            (b'c', 1, &[]),
+            (b'1', 3, &[]),
+            (b'F', 1, &[0]),
+            (b'Q', 2, &[2, 1]),
+        ],
+    ),
+    (
+        "1+p",
+        &[
+            (b'1', 1, &[]),
+            (b'c', 3, &[]),
+            (b'F', 3, &[1]),
+            (b'P', 2, &[2, 0]),
+        ],
+    ),
+    (
+        "a<<b",
+        &[
+            (b'a', 1, &[]),
+            (b'b', 4, &[]),
+            (b'F', 1, &[0]),
+            (b'F', 4, &[1]),
+            (b'L', 2, &[2, 3]),
+        ],
+    ),
+    (
+        "a<b",
+        &[
+            (b'a', 1, &[]),
+            (b'b', 3, &[]),
+            (b'F', 1, &[0]),
+            (b'F', 3, &[1]),
+            (b'<', 2, &[2, 3]),
+        ],
+    ),
+    (
+        "a|b",
+        &[
+            (b'a', 1, &[]),
+            (b'b', 3, &[]),
+            (b'F', 1, &[0]),
+            (b'F', 3, &[1]),
+            (b'|', 2, &[2, 3]),
+        ],
+    ),
+    // The right operand of || stands in a branch alone (C11 6.5.14p4).
+    (
+        "a||b",
+        &[
+            (b'a', 1, &[]),
+            (b'b', 4, &[]),
+            (b'F', 1, &[0]),
+            (b'F', 4, &[1]),
+            (b'1', 2, &[]),
+            (b'1', 2, &[]),
+            (b'0', 2, &[]),
+            (b'?', 2, &[3, 5, 6]),
+            (b'?', 2, &[2, 4, 7]),
+        ],
+    ),
+    // A structure is assigned as a whole, and a comma puts values one after the other (C11 6.5.16.1p1, 6.5.17).
+    (
+        "z=z",
+        &[
+            (b'h', 1, &[]),
+            (b'h', 3, &[]),
+            (b'F', 3, &[1]),
+            (b'A', 2, &[0, 2]),
+        ],
+    ),
+    (
+        "a,b",
+        &[
+            (b'a', 1, &[]),
+            (b'b', 3, &[]),
+            (b'F', 1, &[0]),
+            (b'F', 3, &[1]),
+            (b',', 2, &[2, 3]),
+        ],
+    ),
+    // Casts to void, from pointers to _Bool and to integers, and between pointers: to integers of one size, and to pointers (C11 6.3.1.2,
+    // 6.3.2.3p6, p7, 6.5.4p2). One from a structure to the type of its first member goes up a step (6.7.2.1p15).
+    (
+        "(void)a",
+        &[(b'a', 7, &[]), (b'F', 7, &[0]), (b'C', 7, &[1])],
+    ),
+    (
+        "(_Bool)p",
+        &[(b'c', 8, &[]), (b'F', 8, &[0]), (b'C', 8, &[1])],
+    ),
+    (
+        "(long)p",
+        &[(b'c', 7, &[]), (b'F', 7, &[0]), (b'C', 7, &[1])],
+    ),
+    (
+        "(unsigned*)p",
+        &[(b'c', 12, &[]), (b'F', 12, &[0]), (b'C', 12, &[1])],
+    ),
+    (
+        "(char**)&p",
+        &[(b'c', 10, &[]), (b'&', 9, &[0]), (b'C', 9, &[1])],
+    ),
+    (
+        "(char*)&z",
+        &[(b'h', 9, &[]), (b'&', 8, &[0]), (b'S', 8, &[1])],
+    ),
+    // Of what is only looked at on the way nothing has to be known.
+    ("sizeof q", &[(b'4', 1, &[])]),
 ];
 
 #[test]
-fn trees(rt: HostRuntime) -> Result<(), Fail> {
-    for (text, shapes) in &TREES {
+fn sizes_and_casts(rt: HostRuntime) -> Result<(), Fail> {
+    for (text, shapes) in &SIZES_AND_CASTS {
         assert!(rt; gives(rt.alloc(), text, shapes)?, "{text:?}");
     }
     Ok(())
 }
 
-// Texts that are refused, with the kind and the column of the first node in the tree's order that doesn't fit (C11 6.3.2.3p1, 6.5.2.2p1, p2,
-// 6.5.2.3p1, p2, 6.5.3.2p1, p2, 6.5.3.4p1, 6.5.4p2, 6.5.5p2, 6.5.8p2, 6.5.9p2, 6.5.15p3, 6.5.16.1p1, 6.7.6.2p1, p4); and
-// what isn't built yet.
-static REFUSALS: [(&[u8], Kind, u32); 26] = [
-    (b"&1", Kind::Operand, 1),
-    (b"a+sizeof *v", Kind::Operand, 10),
-    (b"p*a+&2", Kind::Operand, 1),
-    (b"a=p", Kind::Operand, 1),
-    (b"a?p:1", Kind::Operand, 1),
-    (b"f()", Kind::Operand, 2),
-    (b"f(a)", Kind::NumberToPointer, 2),
-    (b"a(p)", Kind::Operand, 2),
-    (b"a.b", Kind::Operand, 2),
-    (b"p->b", Kind::Operand, 2),
-    (b"p<v", Kind::Operand, 1),
-    (b"p==1", Kind::Operand, 1),
-    (b"*a", Kind::Operand, 1),
-    (b"sizeof(void)", Kind::Operand, 1),
-    (b"(int[2])a", Kind::Operand, 1),
-    (b"(t)a", Kind::NumberToPointer, 1),
-    (b"sizeof(int[0])", Kind::Operand, 11),
-    (b"sizeof(int[a])", Kind::Vla, 11),
-    (b"sizeof(int()[2])", Kind::Operand, 11),
-    (b"(int(*)(int b))v", Kind::Operand, 1),
-    (b"&c", Kind::Operand, 1),
-    (b"c=a", Kind::Operand, 1),
-    (b"sizeof(int(*)(int b,int d[p]))", Kind::Operand, 26),
-    (b"h(a)", Kind::NotBuilt, 1),
-    (b"sizeof(int(*)(int n,int[sizeof n]))", Kind::NotBuilt, 32),
-    (b"sizeof(struct s)", Kind::NotBuilt, 8),
+#[test]
+fn values_and_calls(rt: HostRuntime) -> Result<(), Fail> {
+    for (text, shapes) in &VALUES_AND_CALLS {
+        assert!(rt; gives(rt.alloc(), text, shapes)?, "{text:?}");
+    }
+    Ok(())
+}
+
+#[test]
+fn prefixes_and_places(rt: HostRuntime) -> Result<(), Fail> {
+    for (text, shapes) in &PREFIXES_AND_PLACES {
+        assert!(rt; gives(rt.alloc(), text, shapes)?, "{text:?}");
+    }
+    Ok(())
+}
+
+// Texts that are refused, with the kind and the column of the first node in the tree's order that doesn't fit (C11 6.3.2.3p1, 6.5.2.1p1,
+// 6.5.2.2p1, p2, 6.5.2.3p1, p2, 6.5.3.1p1, 6.5.3.2p1, p2, 6.5.3.3p1, 6.5.3.4p1, 6.5.4p2, 6.5.5p2, 6.5.6p2, 6.5.8p2, 6.5.9p2, 6.5.15p3,
+// 6.5.16p2, 6.5.16.1p1, 6.6p3, p4, 6.7.2.1p4, 6.7.2.2p2, 6.7.6.2p1, p4, 6.7.9p2), or that is outside of what is read; and what isn't built
+// yet.
+static REFUSALS: [(&str, Kind, u32); 52] = [
+    ("&1", Kind::Operand, 1),
+    ("a+sizeof *v", Kind::Operand, 10),
+    ("p*a+&2", Kind::Operand, 1),
+    ("a=p", Kind::Operand, 1),
+    ("a?p:1", Kind::Operand, 1),
+    ("f()", Kind::Operand, 2),
+    ("f(a)", Kind::NumberToPointer, 2),
+    ("a(p)", Kind::Operand, 2),
+    ("a.b", Kind::Operand, 2),
+    ("p->b", Kind::Operand, 2),
+    ("p<v", Kind::Operand, 1),
+    ("p==1", Kind::Operand, 1),
+    ("*a", Kind::Operand, 1),
+    ("sizeof(void)", Kind::Operand, 1),
+    ("(int[2])a", Kind::Operand, 1),
+    ("(t)a", Kind::NumberToPointer, 1),
+    ("sizeof(int[0])", Kind::Operand, 11),
+    ("sizeof(int[a])", Kind::Vla, 11),
+    ("sizeof(int()[2])", Kind::Operand, 11),
+    ("(int(*)(int b))v", Kind::Operand, 1),
+    ("&c", Kind::Operand, 1),
+    ("c=a", Kind::Operand, 1),
+    ("sizeof(int(*)(int b,int d[p]))", Kind::Operand, 26),
+    ("h()", Kind::Operand, 2),
+    ("z.y.x", Kind::Operand, 4),
+    ("sizeof(struct{int i;int i;})", Kind::Operand, 25),
+    ("sizeof(enum r)", Kind::Operand, 13),
+    ("o", Kind::Floating, 1),
+    ("-p", Kind::Operand, 1),
+    ("!z", Kind::Operand, 1),
+    ("++1", Kind::Operand, 1),
+    ("z+a", Kind::Operand, 1),
+    ("1=a", Kind::Operand, 1),
+    ("a[b]", Kind::Operand, 2),
+    ("a?z:a", Kind::Operand, 1),
+    ("(int)z", Kind::Operand, 1),
+    ("p=&z", Kind::Operand, 1),
+    ("(char*)p", Kind::IntegerSizeCast, 1),
+    ("(struct r*)&z", Kind::StructureCast, 1),
+    ("(char*)(struct{int i;}*)v", Kind::CharacterCast, 1),
+    ("(a,y).m", Kind::ArrayOfValue, 6),
+    ("x->j", Kind::FlexibleMember, 2),
+    ("sizeof(int[1/0])", Kind::DivideByZero, 13),
+    ("sizeof(char[-1])", Kind::Operand, 12),
+    ("sizeof(char[2147483647+1])", Kind::ConstantRange, 23),
+    ("sizeof(enum{m=a})", Kind::Constant, 15),
+    ("sizeof(enum{m=2147483648})", Kind::Operand, 13),
+    ("sizeof(struct{int i:33;})", Kind::Operand, 19),
+    ("sizeof(int){1,2}", Kind::Initialiser, 15),
+    ("q", Kind::NotBuilt, 1),
+    ("(struct r*)v", Kind::NotBuilt, 1),
+    ("(char[]){1,2}[0]", Kind::NotBuilt, 1),
 ];
 
 #[test]

@@ -16,7 +16,7 @@ use Rattle.c_grammar.specs.Names.{no_names}
 use Rattle.c_grammar.specs.Productions.{p_unit}
 use Rattle.c_grammar.specs.Terminals.{contains}
 use Rattle.c_grammar.specs.Reads.{Node, node_of, leaf}
-use Rattle.c_parser.specs.Parse.{begin}
+use Rattle.c_units.specs.PassedOn.{begin}
 use Rattle.c_units.specs.Units.{IsUnit}
 use Rattle.c_senses.specs.Names.{source_of, numbered}
 use Rattle.c_senses.specs.Tree.{Source, production_of, children_of, token_of, kind_of_token, word_of_kind, is_number, word_at, has_word, any_where, is_name, is_identifier, first_where}

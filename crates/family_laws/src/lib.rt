@@ -1,4 +1,5 @@
-//! What the reading of a unit says of its tree: whose child a node is, in which order, and what lists of members and specifiers are made of.
+//! What the reading of a unit says of its tree: whose child a node is, in which order, and what lists of members and specifiers are made
+//! of.
 #![tactic(auto)]
 
 pub mod laws;

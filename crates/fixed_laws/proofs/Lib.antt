@@ -5,3 +5,4 @@ pub mod Literals
 pub mod Declarators
 pub mod Objects
 pub mod Whole
+pub mod PassedOn

@@ -1,3 +1,4 @@
 pub mod Heads
 pub mod Standing
 pub mod Reading
+pub mod PassedOn

@@ -37,8 +37,8 @@ fn mark_node(
     Ok(())
 }
 
-/// For each node whether a structure's or union's tag is known by it, by what each node is. A tag that is known by a node past the tree, which no bound unit has,
-/// counts as want of memory.
+/// For each node whether a structure's or union's tag is known by it, by what each node is. A tag that is known by a node past the tree,
+/// which no bound unit has, counts as want of memory.
 pub(crate) fn tag_flags(
     alloc: Global,
     syntax: &Syntax,

@@ -152,8 +152,8 @@ fn given_keys(
     Ok(list)
 }
 
-// The key of each specifier, by what each node is. It is known of each node whether it stands in a block; if it weren't, that would count as
-// want of memory.
+// The key of each specifier, by what each node is. It is known of each node whether it stands in a block; if it weren't, that would count
+// as want of memory.
 fn all_keys(
     alloc: Global,
     syntax: &Syntax,

@@ -7,7 +7,7 @@ use Rattle.c_grammar.specs.declared.trees.Tree.{Tree}
 use Rattle.c_grammar.specs.Table.{item_of}
 use Rattle.c_grammar.specs.Tree.{makes_node}
 use Rattle.c_grammar.specs.Reads.{leaf}
-use Rattle.c_units.specs.Units.{IsUnit}
+use Rattle.placed_laws.specs.PassedOn.{IsUnit}
 use Rattle.placed_laws.specs.PassedOn.{Source, production_at, children_at}
 use Rattle.placed_laws.specs.PassedOn.{source_of, numbered}
 

@@ -1,3 +1,4 @@
 pub mod Rows
 pub mod Declarations
 pub mod Whole
+pub mod PassedOn

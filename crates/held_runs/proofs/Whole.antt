@@ -23,8 +23,8 @@ use Rattle.scope_laws.specs.Scoped.{IsPart}
 use Rattle.standing_laws.specs.Standing.{IsGrown}
 use Rattle.standing_laws.proofs.Climbing.{in_list, child_inside}
 use Rattle.standing_laws.proofs.Descending.{F, W, row_there, same_given}
-use Rattle.owner_laws.proofs.Whole.{grown_of}
-use Rattle.owner_laws.proofs.Walk.{under_further}
+use Rattle.held_parts.proofs.PassedOn.{grown_of}
+use Rattle.held_parts.proofs.PassedOn.{under_further}
 use Rattle.held_parts.specs.Held.{StandsIn, InSome, IsHeld, PartsHeld}
 use Rattle.held_parts.proofs.Whole.{units_hold_parts}
 use Rattle.held_runs.specs.Runs.{BlockWith, NodeOf, RunsHeld}

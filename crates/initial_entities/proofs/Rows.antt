@@ -31,12 +31,12 @@ use Rattle.standing_laws.specs.Standing.{IsGrown}
 use Rattle.standing_laws.proofs.Climbing.{in_list, found_where, parent_is, parent_holds}
 use Rattle.grown_parts.specs.Parts.{IsBrought}
 use Rattle.grown_parts.proofs.Reading.{units_bring}
-use Rattle.run_laws.proofs.Times.{known_at, world_of, known, told_before, row_as, fitted}
-use Rattle.run_laws.proofs.Running.{first_in, last_found}
+use Rattle.declared_leaves.proofs.PassedOn.{known_at, world_of, known, told_before, row_as, fitted}
+use Rattle.declared_leaves.proofs.PassedOn.{first_in, last_found}
 use Rattle.declared_leaves.specs.Leaves.{IsDeclaredBy}
 use Rattle.declared_leaves.proofs.Climbing.{leaves_declared}
-use Rattle.linkage_laws.proofs.Seen.{node_within}
-use Rattle.linkage_laws.proofs.Reading.{tree_is}
+use Rattle.known_entities.proofs.PassedOn.{node_within}
+use Rattle.known_entities.proofs.PassedOn.{tree_is}
 use Rattle.text_rows.proofs.Fitting.{grown}
 use Rattle.known_entities.specs.Entities.{IsKnownAt}
 use Rattle.known_entities.proofs.Known.{entities_known}

@@ -22,7 +22,7 @@ use Rattle.sense_laws.proofs.Giving.{some_given}
 use Rattle.run_laws.proofs.Times.{known_at, world_of, told_before, row_as, fitted}
 use Rattle.plain_names.proofs.Later.{known_later}
 use Rattle.built_rows.specs.Rows.{types_declared}
-use Rattle.text_rows.specs.Texts.{TypesFit}
+use Rattle.initial_entities.specs.PassedOn.{TypesFit}
 use Rattle.known_entities.specs.Entities.{IsKnownAt}
 use Rattle.known_entities.proofs.Known.{entities_known}
 use Rattle.initial_entities.specs.Own.{IsOwnInitial}

@@ -35,7 +35,7 @@ use Rattle.grown_parts.proofs.Reading.{units_bring}
 use Rattle.run_laws.proofs.Times.{known_at, world_of, row_as, fitted}
 use Rattle.built_rows.specs.Rows.{parenthesis_of, is_list_of, core_type_of, types_declared}
 use Rattle.built_rows.specs.Rows as rows
-use Rattle.text_rows.proofs.Fitting.{grown, asked_fit}
+use Rattle.initial_entities.proofs.PassedOn.{grown, asked_fit}
 use Rattle.owner_laws.proofs.Unnamed.{literal_unnamed}
 use Rattle.initialised_objects.specs.Initialised.{IsOwnLiteral, LiteralsOwn}
 use Rattle.initialised_objects.proofs.Shapes.{function_below, outcome_object, has_sense}

@@ -15,7 +15,7 @@ use Rattle.c_senses.specs.Sense.{Sense, sense_in}
 use Rattle.c_senses.specs.Right.{IsLiteralOf}
 use Rattle.c_senses.specs.Rows.{AreSenses}
 use Rattle.built_rows.specs.Rows.{types_declared}
-use Rattle.text_rows.specs.Texts.{TypesFit}
+use Rattle.initial_entities.specs.PassedOn.{TypesFit}
 use Rattle.initial_entities.specs.Own.{IsOwnInitial}
 
 -- the first part of a compound literal initialises its own object, which is no function

@@ -18,7 +18,7 @@ use Rattle.c_senses.specs.Entities.{is_linked, is_internal, is_internal_of, inte
 use Rattle.c_senses.specs.Right.{of_internal, is_definition_at, is_tentative, representative}
 use Rattle.c_senses.specs.Rows.{AreSenses}
 use Rattle.c_senses.specs.Sense.{Sense, sense_in}
-use Rattle.definition_laws.specs.Definitions.{is_definition}
+use Rattle.linkage_laws.specs.PassedOn.{is_definition}
 use Rattle.family_laws.specs.Families.{Families}
 use Rattle.member_names.specs.Differ.{InOrder}
 use Rattle.linkage_laws.proofs.Origins.{HasOrigin, origin, origins}

@@ -4,3 +4,4 @@ pub mod Settled
 pub mod Same
 pub mod Known
 pub mod Reading
+pub mod PassedOn

@@ -10,7 +10,7 @@ use Rattle.core_tree.specs.Valid.{Owned}
 use Rattle.c_senses.specs.Names.{source_of, numbered}
 use Rattle.c_senses.specs.Sense.{Sense}
 use Rattle.c_senses.specs.Rows.{AreSenses}
-use Rattle.built_units.specs.Built.{IsBuilt}
+use Rattle.linkage_laws.specs.PassedOn.{IsBuilt}
 use Rattle.owned_laws.specs.Owned.{InternalsDefined}
 
 -- in a unit that is read, whose rows all fit, an internal name that is defined as a function is known by that definition

@@ -6,7 +6,8 @@ pub fn definitions_known()
     ensures { DefinitionsKnown }
 {}
 
-/// In a unit that is built of a text's senses an automatic object and a parameter have an owner, and each owner is a function (C11 6.2.4, 6.9.1).
+/// In a unit that is built of a text's senses an automatic object and a parameter have an owner, and each owner is a function (C11 6.2.4,
+/// 6.9.1).
 pub fn owners_known()
     ensures { OwnersKnown }
 {}

@@ -26,8 +26,8 @@ use Rattle.run_laws.proofs.Automatic.{specified_later}
 use Rattle.built_rows.specs.Rows.{types_declared}
 use Rattle.plain_names.proofs.Later.{known_later, told, initialiser_same}
 use Rattle.joined_types.proofs.Joining.{types_joined}
-use Rattle.object_types.proofs.Typing.{is_named, linkage_plain}
-use Rattle.settled_types.specs.Settled.{AreSettled}
+use Rattle.internal_types.proofs.PassedOn.{is_named, linkage_plain}
+use Rattle.declared_once.specs.PassedOn.{AreSettled}
 use Rattle.declared_once.specs.Once.{IsDeclaredOnce}
 use Rattle.linked_scopes.specs.Scoped.{AreScoped}
 use Rattle.internal_types.proofs.Initials.{initialised_words}

@@ -4,3 +4,4 @@ pub mod Seen
 pub mod Names
 pub mod Earlier
 pub mod Reading
+pub mod PassedOn

@@ -27,8 +27,8 @@ use Rattle.linkage_laws.proofs.Reading.{tree_is}
 use Rattle.run_laws.proofs.Times.{known_at, world_of}
 use Rattle.plain_names.proofs.Fitting.{SomeFits, meaning_fits, found_node}
 use Rattle.built_rows.specs.Rows.{types_declared}
-use Rattle.settled_types.specs.Settled.{AreSettled}
-use Rattle.settled_types.proofs.Settling.{types_settled}
+use Rattle.declared_once.specs.PassedOn.{AreSettled}
+use Rattle.declared_once.proofs.PassedOn.{types_settled}
 use Rattle.declared_once.specs.Once.{IsDeclaredOnce}
 use Rattle.declared_once.proofs.Knowing.{In, declared_once}
 use Rattle.internal_types.specs.PassedOn.{AreAgreed}

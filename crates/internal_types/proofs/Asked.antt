@@ -18,7 +18,7 @@ use Rattle.linkage_laws.proofs.Seen.{parent_is}
 use Rattle.function_definitions.proofs.Whole as whole_of
 use Rattle.run_laws.proofs.Times.{known_at, world_of, row_as}
 use Rattle.declared_leaves.specs.Leaves.{IsDeclaredBy}
-use Rattle.earlier_initialisers.specs.Earlier.{StandsDeclaring}
+use Rattle.agreed_internals.specs.PassedOn.{StandsDeclaring}
 
 some_one : {X : Type 0} → {x y : X} → ◌≡◌ {A = Option X} (Some x) (Some y) → x ≡ y
 some_one h = cc

@@ -30,7 +30,7 @@ use Rattle.run_laws.proofs.Automatic.{specified_later}
 use Rattle.built_rows.specs.Rows.{types_declared}
 use Rattle.plain_names.proofs.Later.{initialiser_same}
 use Rattle.declared_leaves.specs.Leaves.{IsDeclaredBy}
-use Rattle.earlier_initialisers.specs.Earlier.{StandsDeclaring}
+use Rattle.agreed_internals.specs.PassedOn.{StandsDeclaring}
 use Rattle.initialiser_laws.specs.Initialisers.{InitialisersAreOf}
 use Rattle.joined_types.proofs.Joining.{types_joined}
 use Rattle.whole_types.proofs.Wholes.{types_whole}

@@ -13,7 +13,7 @@ use Rattle.c_types.specs.Table.{Table, type_of}
 use Rattle.core_tree.specs.declared.node.Node.{Node}
 use Rattle.core_tree.specs.declared.node.Unit.{Unit}
 use Rattle.core_tree.specs.Range.{child_in}
-use Rattle.c_consts.specs.Core.{Of, InOrder}
+use Rattle.core_nodes.specs.PassedOn.{Of, InOrder}
 use Rattle.core_nodes.specs.Standing.{no_core, cores_among, cores_grown, core_at, cores_at, Builds}
 use Rattle.core_nodes.proofs.Reading.{tree_is, before_same}
 use Rattle.kept_nodes.specs.Marked.{ChildIn, marked, IsClosed}

@@ -7,7 +7,7 @@ use Rattle.core_tree.specs.declared.node.Node.{Node}
 use Rattle.core_tree.specs.declared.node.Unit.{Unit}
 use Rattle.core_tree.specs.Typed.{trees_of}
 use Rattle.core_tree.specs.Range.{child_in, Under, here, below}
-use Rattle.c_consts.specs.Core.{InOrder}
+use Rattle.core_nodes.specs.PassedOn.{InOrder}
 use Rattle.core_nodes.specs.Standing.{core_at, parts_in, Builds}
 use Rattle.kept_nodes.specs.Marked.{ChildIn, marked, AreMarked}
 use Rattle.kept_nodes.specs.Copied.{tree_of, AreCopied}

@@ -3,7 +3,7 @@ use Rattle.std.specs.Prelude.{ℕ, ◌≡◌, ◌+◌, ◌-◌, ◌<◌, ◌≤�
 use Rattle.c_types.specs.Table.{Table}
 use Rattle.core_tree.specs.declared.node.Node.{Node}
 use Rattle.core_tree.specs.declared.node.Unit.{Unit}
-use Rattle.c_consts.specs.Core.{Core}
+use Rattle.core_nodes.specs.PassedOn.{Core}
 use Rattle.core_nodes.specs.Standing.{no_core, cores_grown, core_at}
 use Rattle.kept_nodes.specs.Marked.{ChildIn, marked}
 

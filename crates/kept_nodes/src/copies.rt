@@ -5,7 +5,7 @@ ghost use Rattle.std.specs.Prelude.{◌≡◌, ◌+◌, ◌<◌, ◌++◌, [], �
 ghost use Rattle.core_nodes.specs.declared.fault.CheckFault.TheVariants.{OutOfMemory};
 ghost use Rattle.core_tree.specs.declared.node.Unit.{Unit as UnitSpec};
 ghost use Rattle.c_types.specs.Table.{type_of};
-ghost use Rattle.c_consts.specs.Core.{InOrder, Of};
+ghost use Rattle.core_nodes.specs.PassedOn.{InOrder, Of};
 ghost use Rattle.core_nodes.specs.PassedOn.{Fits};
 ghost use Rattle.core_nodes.specs.Standing.{IsReady, Builds, Made, cores_at};
 ghost use Rattle.kept_nodes.specs.Marked.{IsClosed};

@@ -25,7 +25,7 @@ use Rattle.linkage_laws.proofs.Roles as roles
 use Rattle.linkage_laws.proofs.Chains.{either_is, declaring, name_reached}
 use Rattle.linkage_laws.proofs.Linked.{Tree}
 use Rattle.linkage_laws.proofs.Reading.{tree_is}
-use Rattle.function_definitions.proofs.Declaring.{outer_is, Declares as declares_role}
+use Rattle.internal_laws.proofs.PassedOn.{outer_is, Declares as declares_role}
 use Rattle.internal_laws.proofs.Sorted as sorted
 use Rattle.internal_laws.proofs.Settled.{specs_settled}
 use Rattle.internal_laws.proofs.Same as same

@@ -81,6 +81,13 @@ rises_all leaves numbers are i j le h = elim (leb_tells (suc i) j) [
   | inr more ↦ let ge = more.1 in let same : i ≡ j = omega arith in let e = ap (λ (k : ℕ). get_or leaves k 0) same in omega (arith, e)
 ]
 
+-- a leaf behind those that rise isn't among them
+pub missing_behind : (leaves numbers : List ℕ) (leaf : ℕ) → AreRising leaves numbers → (0 < length leaves → get_or leaves (length leaves - 1) 0 < leaf) → number_at (pairs_of leaves numbers) leaf ≡ None
+missing_behind leaves numbers leaf are behind = missing leaves numbers leaf (λ i h e.
+    let last = behind (omega arith) in
+    let below = rises_all leaves numbers are i (length leaves - 1) (omega arith) (omega arith) in
+    omega (arith, last, below, e))
+
 none_first : (a b : Option ℕ) → or_else a b ≡ None → a ≡ None
 none_first None b h = refl
 none_first (Some x) b h = h

@@ -55,6 +55,9 @@ impl LeafMap {
     pub fn get(&self, leaf: u32) -> Option<u32>
         ensures { result ≡ number_at self.now leaf }
     {
+        if is_behind(self.leaves.as_slice(), leaf) {
+            return self.others.get(&leaf).copied();
+        }
         match self.leaves.binary_search(&leaf) {
             Ok(place) => Some(self.numbers[place]),
             Err(_) => self.others.get(&leaf).copied(),

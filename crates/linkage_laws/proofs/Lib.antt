@@ -11,3 +11,4 @@ pub mod Scopes
 pub mod Linked
 pub mod Reading
 pub mod Unlinked
+pub mod PassedOn

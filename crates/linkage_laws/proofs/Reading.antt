@@ -11,7 +11,7 @@ use Rattle.c_grammar.specs.Terminals.{contains}
 use Rattle.c_grammar.specs.Tree.{makes_node}
 use Rattle.c_grammar.specs.Reads.{State, Node, node_of, leaf, opened, Walks, Opens}
 use Rattle.c_parser.specs.Parse.{begin}
-use Rattle.c_units.specs.Units.{IsUnit}
+use Rattle.definition_laws.specs.PassedOn.{IsUnit}
 use Rattle.c_senses.specs.Names.{source_of, names_of, numbered}
 use Rattle.c_senses.specs.Tree.{production_of, children_of, is_a}
 use Rattle.nesting_laws.proofs.PassedOn.{Extends}

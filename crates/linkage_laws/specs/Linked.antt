@@ -3,7 +3,7 @@ use Rattle.std.specs.Prelude.{ℕ, ◌≡◌, ◌||◌, true, false, List, lengt
 use Rattle.c_lexer.specs.declared.Tokens.{Tokens}
 use Rattle.c_grammar.specs.declared.trees.Tree.{Tree}
 use Rattle.c_grammar.specs.Words.{word_extern}
-use Rattle.c_units.specs.Units.{IsUnit}
+use Rattle.definition_laws.specs.PassedOn.{IsUnit}
 use Rattle.c_lexer.specs.Cut.{IsTokens}
 use Rattle.core_tree.specs.declared.node.Unit.{Unit}
 use Rattle.core_tree.specs.Typed.{trees_of}

@@ -1,2 +1,3 @@
 -- What this crate passes on, from those below it to those above it.
-pub use Rattle.definition_laws.specs.Definitions.{is_definition}
+pub use Rattle.definition_laws.specs.Definitions.{HasDefinition, is_definition}
+pub use Rattle.built_units.specs.Built.{IsBuilt}

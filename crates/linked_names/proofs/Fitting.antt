@@ -16,8 +16,8 @@ use Rattle.c_senses.specs.Sense.{Sense, IsDeclarator, Specified, sense_in}
 use Rattle.c_senses.specs.Rows.{AreSenses}
 use Rattle.sense_laws.specs.Sound.{AgreesWith, MeaningFits}
 use Rattle.placed_laws.proofs.Climbing.{Grown}
-use Rattle.standing_laws.specs.Standing.{IsGrown}
-use Rattle.standing_laws.proofs.Climbing.{in_list, parent_is}
+use Rattle.run_laws.specs.PassedOn.{IsGrown}
+use Rattle.run_laws.proofs.PassedOn.{in_list, parent_is}
 use Rattle.grown_parts.specs.Parts.{IsBrought}
 use Rattle.run_laws.proofs.Times.{known_at, known}
 use Rattle.run_laws.proofs.Automatic.{specified_later}
@@ -26,8 +26,8 @@ use Rattle.name_order.specs.Order as order
 use Rattle.object_types.proofs.PassedOn.{Later, Grown as Grew, known_later, own_later, initialiser_for_same, derived_later}
 use Rattle.object_types.proofs.PassedOn.{SomeFits, no_value, meaning_fits, found_node}
 use Rattle.joined_types.proofs.Joining.{types_joined}
-use Rattle.declared_leaves.specs.Leaves.{IsNamed, Own, Inner, IsDeclaredBy}
-use Rattle.declared_leaves.proofs.Climbing.{leaves_declared, outermost_is}
+use Rattle.object_types.specs.PassedOn.{IsNamed, Own, Inner, IsDeclaredBy}
+use Rattle.object_types.proofs.PassedOn.{leaves_declared, outermost_is}
 use Rattle.object_types.proofs.Typing.{not_yet, around, linkage_plain, is_named}
 use Rattle.built_rows.specs.Rows.{types_declared}
 use Rattle.linked_names.specs.Linked.{ExternalNamesFit}

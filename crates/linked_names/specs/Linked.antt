@@ -9,7 +9,7 @@ use Rattle.c_senses.specs.Sense.{Sense, sense_in}
 use Rattle.c_senses.specs.Rows.{AreSenses, world_at}
 use Rattle.sense_laws.specs.Sound.{MeaningFits}
 use Rattle.placed_laws.proofs.Climbing.{Grown}
-use Rattle.standing_laws.specs.Standing.{IsGrown}
+use Rattle.run_laws.specs.PassedOn.{IsGrown}
 use Rattle.grown_parts.specs.Parts.{IsBrought}
 use Rattle.name_order.specs.Order.{IsOrdered}
 use Rattle.built_rows.specs.Rows.{types_declared}

@@ -7,7 +7,7 @@ use std::test::Fail;
 #[test]
 fn sums(rt: HostRuntime) -> Result<(), Fail> {
     let list = starts(rt.alloc(), [2, 0, 3].as_slice())?;
-    assert_eq!(rt; list.as_slice(), [0, 2, 2, 5].as_slice());
+    assert!(rt; list.as_slice() == [0, 2, 2, 5].as_slice());
     let most = starts(rt.alloc(), [u32::MAX, 1].as_slice());
     assert!(rt; most.is_err());
     Ok(())

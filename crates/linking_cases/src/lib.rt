@@ -8,4 +8,6 @@ mod locations;
 #[cfg(test)]
 mod numbering;
 #[cfg(test)]
+mod programs;
+#[cfg(test)]
 mod signatures;

@@ -1,13 +1,12 @@
-// The locations of two programs: of a unit in the form in which GCC writes it, and of one with a union, members without
-// names, locals of one name, a compound literal, and allocating functions that are named otherwise than in a call.
+// Programs of one unit that are built from plain data, and their locations.
 
 ghost use Rattle.std.specs.Prelude.{◌≡◌, ◌<◌, ◌≤◌, None, IfOk, IsTrue, length};
 ghost use Rattle.c_types.specs.Table.{type_of};
 ghost use Rattle.c_types.specs.Made.{ArePlain, IsComplete};
 
-use c_types::key::ObjectKey;
+use crate::programs::{Case, EntityRow, First, Made, NodeRow, PROGRAMS, Sort, Spot, Wanted};
 use c_types::table::TypeTable;
-use c_types::term::{Form, MemberTerm, Name, OutOfMemory, PathStep, Term, TypeId, TypeList};
+use c_types::term::{Form, MemberTerm, Name, OutOfMemory, Term, TypeId, TypeList};
 use core_tree::held::{Children, HeldList, Number};
 use core_tree::{Entity, Linkage, Node, NodeKind, Program, Storage};
 use obj_space::{Space, objects};
@@ -97,6 +96,44 @@ fn at(line: u32, column: u32) -> Place {
         line,
         column,
     }
+}
+
+// The type with that number in a list.
+fn numbered(ids: &[TypeId], number: usize) -> Result<TypeId, OutOfMemory> {
+    match ids.get(number) {
+        Some(id) => Ok(*id),
+        None => Err(OutOfMemory),
+    }
+}
+
+// Members of types of a list.
+fn member_list(
+    alloc: Global,
+    ids: &[TypeId],
+    parts: &[(&'static str, usize)],
+) -> Result<Vec<MemberTerm>, OutOfMemory> {
+    let mut members = Vec::new(alloc);
+    for (name, ty) in parts {
+        let ty = numbered(ids, *ty)?;
+        push_to(&mut members, member(alloc, name, ty)?)?;
+    }
+    Ok(members)
+}
+
+// What a node of that sort is.
+fn kind_of(alloc: Global, sort: Sort) -> Result<NodeKind, OutOfMemory> {
+    Ok(match sort {
+        Sort::Text(text) => {
+            let bytes = Vec::from_slice(alloc, text.as_bytes())?;
+            NodeKind::Text(HeldList::of(alloc, bytes)?)
+        }
+        Sort::FunctionName(entity) => NodeKind::FunctionName(entity),
+        Sort::Literal(entity) => NodeKind::Literal(entity),
+        Sort::Number(value) => NodeKind::Number(Number::of(value)),
+        Sort::Decay => NodeKind::Decay,
+        Sort::Call => NodeKind::CallNode,
+        Sort::Convert => NodeKind::Convert,
+    })
 }
 
 impl Draft {
@@ -220,6 +257,60 @@ impl Draft {
         push_to(&mut self.nodes, node)
     }
 
+    // The type of a row, over the types of the rows before it.
+    fn made(&mut self, ids: &[TypeId], row: &Made) -> Result<TypeId, OutOfMemory> {
+        match *row {
+            Made::Character => self.integer(true),
+            Made::Int => self.integer(false),
+            Made::Pointer(to) => {
+                let to = numbered(ids, to)?;
+                self.pointer(to)
+            }
+            Made::Array(of, length) => {
+                let of = numbered(ids, of)?;
+                self.array(of, length)
+            }
+            Made::Function(given, parameter) => {
+                let given = numbered(ids, given)?;
+                let parameter = numbered(ids, parameter)?;
+                self.function(given, parameter)
+            }
+            Made::Members(is_union, parts) => {
+                let list = member_list(self.alloc, ids, parts)?;
+                self.members(is_union, list)
+            }
+        }
+    }
+
+    // The types of all rows.
+    fn add_types(&mut self, rows: &[Made]) -> Result<Vec<TypeId>, OutOfMemory> {
+        let mut ids = Vec::new(self.alloc);
+        for row in rows {
+            let id = self.made(ids.as_slice(), row)?;
+            push_to(&mut ids, id)?;
+        }
+        Ok(ids)
+    }
+
+    // The entities of all rows.
+    fn add_entities(&mut self, ids: &[TypeId], rows: &[EntityRow]) -> Result<(), OutOfMemory> {
+        for (name, (line, column), ty, linkage, storage, owner) in rows {
+            let ty = numbered(ids, *ty)?;
+            self.entity(name, at(*line, *column), ty, *linkage, *storage, *owner)?;
+        }
+        Ok(())
+    }
+
+    // The nodes of all rows.
+    fn add_nodes(&mut self, ids: &[TypeId], rows: &[NodeRow]) -> Result<(), OutOfMemory> {
+        for (sort, (line, column), ty, children) in rows {
+            let kind = kind_of(self.alloc, *sort)?;
+            let ty = numbered(ids, *ty)?;
+            self.node(kind, at(*line, *column), ty, children)?;
+        }
+        Ok(())
+    }
+
     // The program of that unit.
     fn program(self, unit: &str) -> Result<Program, OutOfMemory> {
         let Draft {
@@ -239,310 +330,64 @@ impl Draft {
     }
 }
 
-/// A location as it is wanted: its name, its type number, and whether it is collapsed.
-type Wanted = (&'static str, u32, bool);
+// The program of a case.
+fn built(alloc: Global, case: &Case) -> Result<Program, OutOfMemory> {
+    let mut draft = Draft::new(alloc);
+    let ids = draft.add_types(case.types)?;
+    draft.add_entities(ids.as_slice(), case.entities)?;
+    draft.add_nodes(ids.as_slice(), case.nodes)?;
+    draft.program(case.unit)
+}
 
-// The locations are those, and each is found by its name.
-fn compare(rt: &impl Abort, space: &Space, wanted: &[Wanted]) {
-    assert_eq!(rt; space.count() as usize, wanted.len());
-    for (l, (name, ty, collapsed)) in wanted.iter().enumerate() {
-        if l < space.count() as usize {
-            let l = l as u32;
-            assert!(rt; space.name(l) == *name, "{name}");
-            assert_eq!(rt; space.node_type(l), *ty, "{name}");
-            assert_eq!(rt; space.collapsed(l), *collapsed, "{name}");
-            assert_eq!(rt; space.find(name), Some(l), "{name}");
-        }
+// Whether a location is the one that is wanted, and is found by its name.
+fn is_wanted(space: &Space, l: usize, (name, ty, collapsed): Wanted) -> bool {
+    if l >= space.count() as usize {
+        return false;
+    }
+    let l = l as u32;
+    space.name(l) == name
+        && space.node_type(l) == ty
+        && space.collapsed(l) == collapsed
+        && space.find(name) == Some(l)
+}
+
+// The locations are those that are wanted.
+fn expect_locations(rt: &impl Abort, space: &Space, wanted: &[Wanted]) {
+    assert!(rt; space.count() as usize == wanted.len());
+    for (l, row) in wanted.iter().enumerate() {
+        assert!(rt; is_wanted(space, l, *row), "{}", row.0);
     }
 }
 
-/// The types of the first program: char, int, pointer, structure, pointer to it, and main's and push's.
-#[derive(Clone, Copy)]
-struct Types {
-    character: TypeId,
-    int: TypeId,
-    pointer: TypeId,
-    structure: TypeId,
-    to_structure: TypeId,
-    taking: TypeId,
-    plain: TypeId,
+// Each object has that first location, or none.
+fn expect_firsts(rt: &impl Abort, space: &Space, wanted: &[First]) {
+    for (key, first) in wanted {
+        assert!(rt; space.first(*key) == *first, "{key:?}");
+    }
 }
 
-// `struct node { struct node *next; const char *word; }`, where `next` may be any pointer here.
-fn node_types(draft: &mut Draft) -> Result<Types, OutOfMemory> {
-    let alloc = draft.alloc;
-    let character = draft.integer(true)?;
-    let int = draft.integer(false)?;
-    let pointer = draft.pointer(character)?;
-    let mut members = Vec::new(alloc);
-    push_to(&mut members, member(alloc, "next", pointer)?)?;
-    push_to(&mut members, member(alloc, "word", pointer)?)?;
-    let structure = draft.members(false, members)?;
-    let to_structure = draft.pointer(structure)?;
-    let taking = draft.function(int, pointer)?;
-    let plain = draft.function(int, int)?;
-    Ok(Types {
-        character,
-        int,
-        pointer,
-        structure,
-        to_structure,
-        taking,
-        plain,
-    })
+// Each path leads to that location, or to none.
+fn expect_spots(rt: &impl Abort, space: &Space, types: &TypeTable, wanted: &[Spot]) {
+    for (key, path, spot) in wanted {
+        assert!(rt; space.spot(types, *key, path) == *spot, "{key:?}");
+    }
 }
 
-// The entities of the first program.
-fn list_entities(draft: &mut Draft, t: Types) -> Result<(), OutOfMemory> {
-    let external = Linkage::External;
-    let internal = Linkage::Internal;
-    let local = Linkage::Local;
-    let declared = Storage::Declared;
-    let body = Storage::FunctionBody;
-    draft.entity("malloc", at(4, 14), t.taking, external, declared, None)?;
-    draft.entity(
-        "__errno_location",
-        at(5, 13),
-        t.plain,
-        external,
-        declared,
-        None,
-    )?;
-    draft.entity(
-        "__ctype_b_loc",
-        at(6, 35),
-        t.plain,
-        external,
-        declared,
-        None,
-    )?;
-    draft.entity("strtod", at(8, 15), t.plain, external, declared, None)?;
-    draft.entity("main", at(20, 5), t.taking, external, body, None)?;
-    draft.entity("push", at(12, 13), t.taking, internal, body, None)?;
-    draft.entity(
-        "head",
-        at(11, 21),
-        t.to_structure,
-        internal,
-        Storage::Static,
-        None,
-    )?;
-    draft.entity(
-        "w",
-        at(12, 30),
-        t.pointer,
-        local,
-        Storage::Parameter,
-        Some(5),
-    )?;
-    draft.entity(
-        "n",
-        at(14, 16),
-        t.to_structure,
-        local,
-        Storage::Automatic,
-        Some(5),
-    )?;
-    draft.entity(
-        "argv",
-        at(20, 27),
-        t.pointer,
-        local,
-        Storage::Parameter,
-        Some(4),
-    )?;
-    draft.entity(
-        "argc",
-        at(20, 14),
-        t.int,
-        local,
-        Storage::Parameter,
-        Some(4),
-    )
-}
-
-// Nodes of the first program: its text, its call of malloc under a conversion, and the names of the other functions.
-fn list_nodes(draft: &mut Draft, t: Types) -> Result<(), OutOfMemory> {
-    let text = HeldList::of(draft.alloc, Vec::from_slice(draft.alloc, b"one")?)?;
-    let array = draft.array(t.character, 4)?;
-    draft.node(NodeKind::Text(text), at(23, 10), array, &[])?;
-    draft.node(NodeKind::FunctionName(2), at(22, 9), t.plain, &[])?;
-    draft.node(NodeKind::FunctionName(1), at(24, 9), t.plain, &[])?;
-    draft.node(NodeKind::FunctionName(0), at(14, 20), t.taking, &[])?;
-    draft.node(NodeKind::Decay, at(14, 20), t.pointer, &[3])?;
-    draft.node(NodeKind::Number(Number::of(16)), at(14, 27), t.int, &[])?;
-    draft.node(NodeKind::CallNode, at(14, 26), t.pointer, &[4, 5])?;
-    draft.node(NodeKind::Convert, at(14, 26), t.to_structure, &[6])
-}
-
-#[test]
-fn list(rt: HostRuntime) -> Result<(), Fail> {
-    let mut draft = Draft::new(rt.alloc());
-    let types = node_types(&mut draft)?;
-    list_entities(&mut draft, types)?;
-    list_nodes(&mut draft, types)?;
-    let program = draft.program("list.i")?;
-    let space = objects(rt.alloc(), &program)?;
-    let wanted = [
-        ("list.i:head", 4, false),
-        ("list.i:push", 5, false),
-        ("list.i:push/w", 4, false),
-        ("list.i:push/n", 4, false),
-        ("malloc@list.i:14:26", 8, false),
-        ("malloc@list.i:14:26.next", 4, false),
-        ("malloc@list.i:14:26.word", 4, false),
-        ("main", 5, false),
-        ("main/argc", 2, false),
-        ("main/argv", 4, false),
-        ("str@list.i:23:10", 0, false),
-        ("malloc", 5, false),
-        ("__errno_location", 5, false),
-        ("__ctype_b_loc", 5, false),
-        ("<errno>", 2, false),
-        ("<ctype>", 4, false),
-        ("<ctypes>", 1, false),
-        ("<argv>", 4, false),
-        ("<arg>", 0, false),
-    ];
-    compare(&rt, &space, &wanted);
-    assert_eq!(rt; space.find("strtod"), None);
-    assert_eq!(rt; space.first(ObjectKey::Call(6)), Some(4));
-    assert_eq!(rt; space.first(ObjectKey::Entity(5)), Some(1));
-    assert_eq!(rt; space.first(ObjectKey::Text(0)), Some(10));
-    assert_eq!(rt; space.first(ObjectKey::Library(8)), Some(16));
-    assert_eq!(rt; space.first(ObjectKey::Function(0)), Some(11));
-    assert_eq!(rt; space.first(ObjectKey::Star(0)), None);
+// The locations of a program are those that are wanted.
+fn expect(rt: &impl Abort, alloc: Global, case: &Case) -> Result<(), Fail> {
+    let program = built(alloc, case)?;
+    let space = objects(alloc, &program)?;
+    expect_locations(rt, &space, case.locations);
+    assert!(rt; space.find(case.lacking).is_none());
+    expect_firsts(rt, &space, case.firsts);
+    expect_spots(rt, &space, &program.types, case.spots);
     Ok(())
 }
 
-// `struct s { int a[2]; struct {int*p;} *q; struct {int*p;}; union {int x; int*y;} u; } g;`
-fn nested_types(draft: &mut Draft) -> Result<Types, OutOfMemory> {
-    let alloc = draft.alloc;
-    let int = draft.integer(false)?;
-    let pointer = draft.pointer(int)?;
-    let numbers = draft.array(int, 2)?;
-    let mut one = Vec::new(alloc);
-    push_to(&mut one, member(alloc, "p", pointer)?)?;
-    let inner = draft.members(false, one)?;
-    let mut parts = Vec::new(alloc);
-    push_to(&mut parts, member(alloc, "x", int)?)?;
-    push_to(&mut parts, member(alloc, "y", pointer)?)?;
-    let union = draft.members(true, parts)?;
-    let mut whole = Vec::new(alloc);
-    push_to(&mut whole, member(alloc, "a", numbers)?)?;
-    push_to(&mut whole, member(alloc, "q", pointer)?)?;
-    push_to(&mut whole, member(alloc, "", inner)?)?;
-    push_to(&mut whole, member(alloc, "u", union)?)?;
-    let structure = draft.members(false, whole)?;
-    let taking = draft.function(int, pointer)?;
-    Ok(Types {
-        character: int,
-        int,
-        pointer,
-        structure,
-        to_structure: numbers,
-        taking,
-        plain: taking,
-    })
-}
-
-// The entities of the second program.
-fn odd_entities(draft: &mut Draft, t: Types) -> Result<(), OutOfMemory> {
-    let external = Linkage::External;
-    let local = Linkage::Local;
-    let declared = Storage::Declared;
-    let body = Storage::FunctionBody;
-    draft.entity("malloc", at(1, 7), t.taking, external, declared, None)?;
-    draft.entity("strdup", at(1, 34), t.taking, external, declared, None)?;
-    draft.entity("h", at(1, 62), t.pointer, external, Storage::Static, None)?;
-    draft.entity("g", at(2, 73), t.structure, external, Storage::Static, None)?;
-    draft.entity("f", at(3, 13), t.taking, Linkage::Internal, body, None)?;
-    draft.entity("b", at(3, 19), t.int, local, Storage::Parameter, Some(4))?;
-    draft.entity("b", at(3, 27), t.int, local, Storage::Automatic, Some(4))?;
-    draft.entity("c", at(3, 41), t.int, local, Storage::Static, Some(4))?;
-    draft.entity(
-        "l",
-        at(3, 48),
-        t.pointer,
-        local,
-        Storage::Automatic,
-        Some(4),
-    )?;
-    draft.entity(
-        "",
-        at(3, 49),
-        t.to_structure,
-        local,
-        Storage::Automatic,
-        Some(4),
-    )?;
-    draft.entity("main", at(4, 5), t.int, external, body, None)
-}
-
-// Nodes of the second program: malloc's name alone, calls of strdup and malloc, and the compound literal.
-fn odd_nodes(draft: &mut Draft, t: Types) -> Result<(), OutOfMemory> {
-    let text = HeldList::of(draft.alloc, Vec::from_slice(draft.alloc, b"x")?)?;
-    draft.node(NodeKind::FunctionName(0), at(1, 83), t.taking, &[])?;
-    draft.node(NodeKind::Decay, at(1, 83), t.pointer, &[0])?;
-    draft.node(NodeKind::FunctionName(1), at(3, 61), t.taking, &[])?;
-    draft.node(NodeKind::Decay, at(3, 61), t.pointer, &[2])?;
-    draft.node(NodeKind::Text(text), at(3, 68), t.to_structure, &[])?;
-    draft.node(NodeKind::CallNode, at(3, 67), t.pointer, &[3, 4])?;
-    draft.node(NodeKind::FunctionName(0), at(3, 73), t.taking, &[])?;
-    draft.node(NodeKind::Decay, at(3, 73), t.pointer, &[6])?;
-    draft.node(NodeKind::CallNode, at(3, 79), t.pointer, &[7])?;
-    draft.node(NodeKind::Literal(9), at(3, 49), t.to_structure, &[])
-}
-
 #[test]
-fn odd(rt: HostRuntime) -> Result<(), Fail> {
-    let mut draft = Draft::new(rt.alloc());
-    let types = nested_types(&mut draft)?;
-    odd_entities(&mut draft, types)?;
-    odd_nodes(&mut draft, types)?;
-    let program = draft.program("a.i")?;
-    let space = objects(rt.alloc(), &program)?;
-    let wanted = [
-        ("h", 4, false),
-        ("g", 10, false),
-        ("g.a", 2, false),
-        ("g.q", 4, false),
-        ("g.#2", 8, false),
-        ("g.#2.p", 4, false),
-        ("g.u", 9, true),
-        ("a.i:f", 5, false),
-        ("a.i:f/b@3:19", 2, false),
-        ("a.i:f/b@3:27", 2, false),
-        ("a.i:f/c", 2, false),
-        ("a.i:f/l", 4, false),
-        ("lit@a.i:3:49", 2, false),
-        ("strdup@a.i:3:67", 0, false),
-        ("str@a.i:3:68", 2, false),
-        ("malloc@a.i:3:79", 5, true),
-        ("main", 5, false),
-        ("malloc", 5, false),
-        ("strdup", 5, false),
-        ("malloc@*", 5, true),
-    ];
-    compare(&rt, &space, &wanted);
-    assert_eq!(rt; space.first(ObjectKey::Star(0)), Some(19));
-    let g = ObjectKey::Entity(3);
-    let types = &program.types;
-    let inner = [PathStep::Member(2), PathStep::Member(0)];
-    assert_eq!(rt; space.spot(types, g, &inner), Some(5));
-    assert_eq!(rt;
-        space.spot(types, g, &[PathStep::Member(0), PathStep::Index(1)]),
-        Some(2)
-    );
-    assert_eq!(rt;
-        space.spot(types, g, &[PathStep::Member(3), PathStep::Member(1)]),
-        Some(6)
-    );
-    assert_eq!(rt; space.spot(types, g, &[PathStep::Member(4)]), None);
-    assert_eq!(rt;
-        space.spot(types, ObjectKey::Call(8), &[PathStep::Index(7)]),
-        Some(15)
-    );
-    assert_eq!(rt; space.spot(types, ObjectKey::Call(6), &[]), None);
+fn locations_of_programs(rt: HostRuntime) -> Result<(), Fail> {
+    for case in &PROGRAMS {
+        expect(&rt, rt.alloc(), case)?;
+    }
     Ok(())
 }

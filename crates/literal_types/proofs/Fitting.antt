@@ -28,8 +28,8 @@ use Rattle.sense_laws.specs.Sound.{Gives}
 use Rattle.sense_laws.specs.Asked.{OutcomeStands}
 use Rattle.sense_laws.proofs.Giving.{then_gives, if_given, and_left, and_right}
 use Rattle.sense_laws.proofs.Types.{anything}
-use Rattle.standing_laws.specs.Standing.{IsGrown}
-use Rattle.standing_laws.proofs.Climbing.{in_list, found_where, parent_holds}
+use Rattle.run_laws.specs.PassedOn.{IsGrown}
+use Rattle.run_laws.proofs.PassedOn.{in_list, found_where, parent_holds}
 use Rattle.grown_parts.specs.Parts.{IsBrought, Brings}
 use Rattle.grown_parts.proofs.Single.{AtMostOne, sole, cast_list, unary_list}
 use Rattle.run_laws.proofs.Times.{known_at, world_of, row_as, fitted}

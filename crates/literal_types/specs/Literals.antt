@@ -10,7 +10,7 @@ use Rattle.c_senses.specs.Sense.{Sense, IsType, sense_in}
 use Rattle.c_senses.specs.Rows.{AreSenses, world_at}
 use Rattle.sense_laws.specs.Sound.{Gives}
 use Rattle.sense_laws.specs.Asked.{OutcomeStands}
-use Rattle.standing_laws.specs.Standing.{IsGrown}
+use Rattle.run_laws.specs.PassedOn.{IsGrown}
 use Rattle.grown_parts.specs.Parts.{IsBrought}
 use Rattle.built_rows.specs.Rows.{types_declared}
 

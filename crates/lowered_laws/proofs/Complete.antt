@@ -19,10 +19,10 @@ use Rattle.grown_parts.proofs.Reading.{units_bring}
 use Rattle.name_order.proofs.Ordered.{units_ordered}
 use Rattle.own_initialisers.proofs.Standing.{initialisers_stand}
 use Rattle.initialised_rows.proofs.Owning.{linked_fit}
-use Rattle.internal_names.proofs.Reading.{internals_fit}
+use Rattle.built_valid.proofs.PassedOn.{internals_fit}
 use Rattle.placed_laws.proofs.Climbing.{Grown}
-use Rattle.text_rows.specs.Texts.{TypesFit}
-use Rattle.text_rows.proofs.Linked.{types_fit, tree_grown}
+use Rattle.initialised_rows.specs.PassedOn.{TypesFit}
+use Rattle.initialised_rows.proofs.PassedOn.{types_fit, tree_grown}
 use Rattle.tag_sizes.specs.Sizes.{TagsSpecified}
 use Rattle.specified_types.proofs.Specified.{types_specified}
 use Rattle.planted_nodes.specs.declared.planting.Planted.{Planted}
@@ -31,8 +31,8 @@ use Rattle.unit_finish.specs.Complete.{IsNamedWhole, IsMadeOf, MakesUnits}
 use Rattle.built_parts.specs.Parts.{ArePut, IsPut}
 use Rattle.built_parts.proofs.Building.{parts_built}
 use Rattle.built_valid.proofs.Whole.{built_is_valid}
-use Rattle.parts_named.specs.Named.{AreParts as AreNamedParts}
-use Rattle.parts_named.proofs.Known.{parts_known}
+use Rattle.known_initials.specs.PassedOn.{AreParts as AreNamedParts}
+use Rattle.known_initials.proofs.PassedOn.{parts_known}
 use Rattle.known_names.proofs.Whole.{names_known}
 use Rattle.known_initials.proofs.Whole.{initials_known}
 use Rattle.raised_parts.proofs.Whole.{parts_once}

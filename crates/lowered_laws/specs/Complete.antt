@@ -1,4 +1,4 @@
--- That a text whose rows all fit has a unit.
+-- That whatever unit is made of the parts of a text is valid.
 use Rattle.std.specs.Prelude.{ℕ, List}
 use Rattle.c_lexer.specs.declared.Tokens.{Tokens}
 use Rattle.c_lexer.specs.Cut.{IsTokens}

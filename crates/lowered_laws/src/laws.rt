@@ -1,9 +1,9 @@
-//! That texts whose rows all fit are built.
+//! That whatever unit is made of the parts of a text is valid.
 ghost use Rattle.lowered_laws.specs.Complete.{TextsComplete};
 
-/// A text that is cut into tokens, read and bound, whose rows all fit, has parts of which a valid unit is made (C11 6.5 to 6.9): each entity
-/// that is named there is declared, once, and whatever unit is made of them is valid, with each Initialise as its entity's body. So nothing
-/// of it has to be tested where the unit is made.
+/// Of what the walk over a text that is cut, read and bound gives (`AreParts`: the rows of all its nodes fit), whatever unit is made is
+/// valid (C11 6.5 to 6.9): each entity that is named there is declared, once, and each Initialise is its entity's body. So nothing of it
+/// has to be tested where the unit is made.
 pub fn texts_complete()
     ensures { TextsComplete }
 {}

@@ -1,4 +1,4 @@
-//! The law of texts that have a unit: a function that does nothing, whose contract it is.
+//! The law of the units that are made of texts: a function that does nothing, whose contract it is.
 #![tactic(auto)]
 
 pub mod laws;

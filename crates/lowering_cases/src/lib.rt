@@ -8,6 +8,8 @@ mod declarations;
 #[cfg(test)]
 mod initialisers;
 #[cfg(test)]
+mod page;
+#[cfg(test)]
 mod refusals;
 #[cfg(test)]
 mod statements;

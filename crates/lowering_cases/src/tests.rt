@@ -3,80 +3,96 @@
 use crate::answers::answer;
 use crate::declarations::DECLARATIONS;
 use crate::initialisers::INITIALISERS;
+use crate::page::Page;
 use crate::refusals::REFUSALS;
 use crate::statements::STATEMENTS;
 use std::alloc::Global;
+use std::process::Abort;
 use std::test::Fail;
 
-// A row without the lines that only say what it is about, where a line that begins with two spaces goes on with the one before.
-fn joined(alloc: Global, row: &str) -> Result<String, Fail> {
-    let mut out = String::new(alloc);
-    for line in row.split('\n') {
-        if line.starts_with("//") {
-            continue;
+// Adds a line of a row, unless it only says what the row is about; one that begins with two spaces goes on with the line before.
+fn join(out: &mut Page, line: &str) {
+    if line.starts_with("//") {
+        return;
+    }
+    let is_first = out.text.is_empty();
+    match line.strip_prefix("  ") {
+        Some(rest) => {
+            out.say(" ");
+            out.say(rest);
         }
-        match line.strip_prefix("  ") {
-            Some(rest) => {
-                out.push_str(" ")?;
-                out.push_str(rest)?;
-            }
-            None if out.is_empty() => out.push_str(line)?,
-            None => {
-                out.push_str("\n")?;
-                out.push_str(line)?;
-            }
+        None => {
+            out.say(if is_first { "" } else { "\n" });
+            out.say(line);
         }
     }
-    Ok(out)
 }
 
-// What a row's text is answered, behind the text; a text behind `@` with the columns of its core nodes.
-fn answered(alloc: Global, row: &str) -> Result<String, Fail> {
-    let text = row.split('\n').next().unwrap_or("");
-    let mut out = text.to_string(alloc)?;
-    let said = match text.strip_prefix("@") {
-        Some(own) => answer(alloc, own, true)?,
-        None => answer(alloc, text, false)?,
-    };
-    out.push_str(said.as_str())?;
-    Ok(out)
+// A row without the lines that only say what it is about, where a line that begins with two spaces goes on with the one before.
+fn joined(alloc: Global, row: &str) -> Page {
+    let mut out = Page::new(alloc);
+    for line in row.split('\n') {
+        join(&mut out, line);
+    }
+    out
 }
 
-// Whether the text of a row is answered what the row says.
+// What a text is answered; a text behind `@` with the columns of its core nodes.
+fn said(alloc: Global, text: &str) -> Result<String, Fail> {
+    match text.strip_prefix("@") {
+        Some(own) => answer(alloc, own, true),
+        None => answer(alloc, text, false),
+    }
+}
+
+// Whether a row is a text and then the answer.
+fn ends_in(row: &str, text: &str, found: &str) -> bool {
+    match row.strip_prefix(text) {
+        Some(rest) => rest == found,
+        None => false,
+    }
+}
+
+// Whether the text in the first line of a row is answered what the row says behind it.
 fn is_answered(alloc: Global, row: &str) -> Result<bool, Fail> {
-    let row = joined(alloc, row)?;
-    let found = answered(alloc, row.as_str())?;
-    Ok(found.as_str() == row.as_str())
+    let text = row.split('\n').next().unwrap_or("");
+    let found = said(alloc, text)?;
+    Ok(ends_in(row, text, found.as_str()))
+}
+
+// Whether a row holds.
+fn holds(alloc: Global, row: &str) -> Result<bool, Fail> {
+    let page = joined(alloc, row);
+    if page.lacks {
+        return Err(Fail::new("no memory"));
+    }
+    is_answered(alloc, page.text.as_str())
+}
+
+// Asserts that each row of a table holds.
+fn expect_rows(rt: &impl Abort, alloc: Global, rows: &str) -> Result<(), Fail> {
+    for row in rows.split("\n\n") {
+        assert!(rt; holds(alloc, row)?, "{row}");
+    }
+    Ok(())
 }
 
 #[test]
 fn declarations(rt: HostRuntime) -> Result<(), Fail> {
-    for row in DECLARATIONS.split("\n\n") {
-        assert!(rt; is_answered(rt.alloc(), row)?, "{row}");
-    }
-    Ok(())
+    expect_rows(&rt, rt.alloc(), DECLARATIONS)
 }
 
 #[test]
 fn initialisers(rt: HostRuntime) -> Result<(), Fail> {
-    for row in INITIALISERS.split("\n\n") {
-        assert!(rt; is_answered(rt.alloc(), row)?, "{row}");
-    }
-    Ok(())
+    expect_rows(&rt, rt.alloc(), INITIALISERS)
 }
 
 #[test]
 fn statements(rt: HostRuntime) -> Result<(), Fail> {
-    for row in STATEMENTS.split("\n\n") {
-        assert!(rt; is_answered(rt.alloc(), row)?, "{row}");
-    }
-    Ok(())
+    expect_rows(&rt, rt.alloc(), STATEMENTS)
 }
 
 #[test]
 fn refusals(rt: HostRuntime) -> Result<(), Fail> {
-    for row in REFUSALS.split("\n\n") {
-        assert!(rt; is_answered(rt.alloc(), row)?, "{row}");
-    }
-    Ok(())
+    expect_rows(&rt, rt.alloc(), REFUSALS)
 }

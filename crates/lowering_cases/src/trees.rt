@@ -1,10 +1,10 @@
 // Core nodes as trees: `eq:i(a:i 1:i)` compares. A type stands where the nodes below don't decide it, and a column where it is asked for.
 
-use crate::types::{write_number, write_type};
+use crate::page::Page;
+use crate::types::write_type;
 use c_types::term::PathStep;
 use core_tree::node::{Node, NodeKind, Op, Unit};
 use std::alloc::Global;
-use std::test::Fail;
 
 // How many pieces the text of a tree may have.
 const PIECES: usize = 10_000;
@@ -63,169 +63,157 @@ fn is_shared(unit: &Unit, entity: u32) -> bool {
 }
 
 /// Adds an entity by its name, and by its column too where another one has the name.
-pub(crate) fn write_entity(shown: Shown<'_>, out: &mut String, entity: u32) -> Result<(), Fail> {
+pub(crate) fn write_entity(shown: Shown<'_>, out: &mut Page, entity: u32) {
     let Some(this) = shown.unit.entities.get(entity as usize) else {
-        return Err(Fail::new("no such entity"));
+        out.lacks = true;
+        return;
     };
-    out.push_str(this.name.as_str())?;
+    out.say(this.name.as_str());
     if is_shared(shown.unit, entity) {
-        out.push_str("#")?;
-        write_number(shown.alloc, out, u64::from(this.place.column))?;
+        out.say("#");
+        out.number(shown.alloc, i128::from(this.place.column));
     }
-    Ok(())
 }
 
 // Entities within brackets.
-fn write_entities(shown: Shown<'_>, out: &mut String, entities: &[u32]) -> Result<(), Fail> {
-    out.push_str("[")?;
+fn write_entities(shown: Shown<'_>, out: &mut Page, entities: &[u32]) {
+    out.say("[");
     for (at, entity) in entities.iter().enumerate() {
-        if at > 0 {
-            out.push_str(",")?;
-        }
-        write_entity(shown, out, *entity)?;
+        out.say(if at > 0 { "," } else { "" });
+        write_entity(shown, out, *entity);
     }
-    out.push_str("]")?;
-    Ok(())
+    out.say("]");
+}
+
+// One byte of a string literal.
+fn write_byte(out: &mut Page, byte: u8) {
+    if out.text.push(byte as char).is_err() {
+        out.lacks = true;
+    }
 }
 
 // The bytes of a string literal.
-fn write_bytes(out: &mut String, bytes: &[u8]) -> Result<(), Fail> {
-    out.push_str("'")?;
+fn write_bytes(out: &mut Page, bytes: &[u8]) {
+    out.say("'");
     for byte in bytes {
-        out.push(*byte as char)?;
+        write_byte(out, *byte);
     }
-    out.push_str("'")?;
-    Ok(())
+    out.say("'");
+}
+
+// A step from an object to a part of it.
+fn write_step(alloc: Global, out: &mut Page, step: PathStep) {
+    match step {
+        PathStep::Index(index) => {
+            out.say("[");
+            out.number(alloc, i128::from(index));
+            out.say("]");
+        }
+        PathStep::Member(member) => {
+            out.say(".");
+            out.number(alloc, i128::from(member));
+        }
+    }
 }
 
 // A path from an object to a part of it.
-fn write_path(alloc: Global, out: &mut String, path: &[PathStep]) -> Result<(), Fail> {
+fn write_path(alloc: Global, out: &mut Page, path: &[PathStep]) {
     for step in path {
-        match step {
-            PathStep::Index(index) => {
-                out.push_str("[")?;
-                write_number(alloc, out, *index)?;
-                out.push_str("]")?;
-            }
-            PathStep::Member(member) => {
-                out.push_str(".")?;
-                write_number(alloc, out, u64::from(*member))?;
-            }
-        }
+        write_step(alloc, out, *step);
     }
-    out.push_str("=")?;
-    Ok(())
-}
-
-// An integer.
-fn write_integer(alloc: Global, out: &mut String, number: i128) -> Result<(), Fail> {
-    let digits = format!(in alloc; "{}", number)?;
-    out.push_str(digits.as_str())?;
-    Ok(())
-}
-
-// A word with a number or a name behind it.
-fn write_member(alloc: Global, out: &mut String, word: &str, member: u32) -> Result<(), Fail> {
-    out.push_str(word)?;
-    write_number(alloc, out, u64::from(member))
+    out.say("=");
 }
 
 // An update by its operator, and by whether it gives the old value.
-fn write_update(out: &mut String, op: Op, post: bool) -> Result<(), Fail> {
-    out.push_str(if post { "post " } else { "update " })?;
-    out.push_str(op_name(op))?;
-    Ok(())
+fn write_update(out: &mut Page, op: Op, post: bool) {
+    out.say(if post { "post " } else { "update " });
+    out.say(op_name(op));
 }
 
-// A node that is a place or a value.
-fn write_value(shown: Shown<'_>, out: &mut String, kind: &NodeKind) -> Result<(), Fail> {
+// The word of a node that is a place or a value.
+fn value_word(kind: &NodeKind) -> &'static str {
+    match kind {
+        NodeKind::Literal(_) => "lit ",
+        NodeKind::Deref => "deref",
+        NodeKind::Member(_) => ".",
+        NodeKind::NullValue => "null",
+        NodeKind::Fetch => "get",
+        NodeKind::AddressOf => "addr",
+        NodeKind::Decay => "decay",
+        NodeKind::Convert => "conv",
+        NodeKind::Upcast => "up",
+        NodeKind::Assign => "set",
+        NodeKind::Choose => "choose",
+        NodeKind::Sequence => "then",
+        NodeKind::CallNode => "call",
+        NodeKind::MemberOfValue(_) => "!",
+        _ => "",
+    }
+}
+
+// What belongs to a node that is a place or a value.
+fn write_value(shown: Shown<'_>, out: &mut Page, kind: &NodeKind) {
     let alloc = shown.alloc;
     match kind {
-        NodeKind::Named(entity) => write_entity(shown, out, *entity)?,
-        NodeKind::FunctionName(entity) => write_entity(shown, out, *entity)?,
-        NodeKind::Text(bytes) => write_bytes(out, bytes.as_slice())?,
-        NodeKind::Literal(entity) => {
-            out.push_str("lit ")?;
-            write_entity(shown, out, *entity)?;
-        }
-        NodeKind::Deref => out.push_str("deref")?,
-        NodeKind::Member(member) => write_member(alloc, out, ".", *member)?,
-        NodeKind::Number(number) => write_integer(alloc, out, number.get())?,
-        NodeKind::NullValue => out.push_str("null")?,
-        NodeKind::Fetch => out.push_str("get")?,
-        NodeKind::AddressOf => out.push_str("addr")?,
-        NodeKind::Decay => out.push_str("decay")?,
-        NodeKind::PointerAdd { minus } => out.push_str(if *minus { "back" } else { "move" })?,
-        NodeKind::Convert => out.push_str("conv")?,
-        NodeKind::Upcast => out.push_str("up")?,
-        NodeKind::Assign => out.push_str("set")?,
-        NodeKind::Update { op, post } => write_update(out, *op, *post)?,
-        NodeKind::Choose => out.push_str("choose")?,
-        NodeKind::Sequence => out.push_str("then")?,
-        NodeKind::CallNode => out.push_str("call")?,
-        NodeKind::MemberOfValue(member) => write_member(alloc, out, "!", *member)?,
-        NodeKind::Arith(op) => out.push_str(op_name(*op))?,
-        _ => out.push_str("?")?,
+        NodeKind::Named(entity) => write_entity(shown, out, *entity),
+        NodeKind::FunctionName(entity) => write_entity(shown, out, *entity),
+        NodeKind::Text(bytes) => write_bytes(out, bytes.as_slice()),
+        NodeKind::Literal(entity) => write_entity(shown, out, *entity),
+        NodeKind::Member(member) => out.number(alloc, i128::from(*member)),
+        NodeKind::Number(number) => out.number(alloc, number.get()),
+        NodeKind::PointerAdd { minus } => out.say(if *minus { "back" } else { "move" }),
+        NodeKind::Update { op, post } => write_update(out, *op, *post),
+        NodeKind::MemberOfValue(member) => out.number(alloc, i128::from(*member)),
+        NodeKind::Arith(op) => out.say(op_name(*op)),
+        _ => {}
     }
-    Ok(())
 }
 
 // A `for` with its entities, and with letters for its condition and for what is done after its body.
-fn write_for(
-    shown: Shown<'_>,
-    out: &mut String,
-    entities: &[u32],
-    condition: bool,
-    after: bool,
-) -> Result<(), Fail> {
-    out.push_str("for")?;
-    write_entities(shown, out, entities)?;
-    out.push_str(if condition { "c" } else { "" })?;
-    out.push_str(if after { "a" } else { "" })?;
-    Ok(())
+fn write_for(shown: Shown<'_>, out: &mut Page, entities: &[u32], condition: bool, after: bool) {
+    write_entities(shown, out, entities);
+    out.say(if condition { "c" } else { "" });
+    out.say(if after { "a" } else { "" });
 }
 
-// A node that is a statement.
-fn write_statement(shown: Shown<'_>, out: &mut String, kind: &NodeKind) -> Result<(), Fail> {
+// The word of a node that is a statement.
+fn statement_word(kind: &NodeKind) -> &'static str {
     match kind {
-        NodeKind::Expression => out.push_str("expr")?,
-        NodeKind::Block(entities) => {
-            out.push_str("block")?;
-            write_entities(shown, out, entities.as_slice())?;
-        }
-        NodeKind::If => out.push_str("if")?,
-        NodeKind::While => out.push_str("while")?,
-        NodeKind::DoWhile => out.push_str("do")?,
+        NodeKind::Expression => "expr",
+        NodeKind::Block(_) => "block",
+        NodeKind::If => "if",
+        NodeKind::While => "while",
+        NodeKind::DoWhile => "do",
+        NodeKind::For { .. } => "for",
+        NodeKind::Switch => "switch",
+        NodeKind::Case(_) => "case ",
+        NodeKind::Default => "default",
+        NodeKind::Label(_) => "label ",
+        NodeKind::Goto(_) => "goto ",
+        NodeKind::Break => "break",
+        NodeKind::Continue => "continue",
+        NodeKind::Return => "return",
+        NodeKind::Initialise { .. } => "init ",
+        NodeKind::Skip => "skip",
+        _ => "",
+    }
+}
+
+// What belongs to a node that is a statement.
+fn write_statement(shown: Shown<'_>, out: &mut Page, kind: &NodeKind) {
+    match kind {
+        NodeKind::Block(entities) => write_entities(shown, out, entities.as_slice()),
         NodeKind::For {
             entities,
             condition,
             after,
-        } => write_for(shown, out, entities.as_slice(), *condition, *after)?,
-        NodeKind::Switch => out.push_str("switch")?,
-        NodeKind::Case(value) => {
-            out.push_str("case ")?;
-            write_integer(shown.alloc, out, value.get())?;
-        }
-        NodeKind::Default => out.push_str("default")?,
-        NodeKind::Label(name) => {
-            out.push_str("label ")?;
-            out.push_str(name.as_str())?;
-        }
-        NodeKind::Goto(name) => {
-            out.push_str("goto ")?;
-            out.push_str(name.as_str())?;
-        }
-        NodeKind::Break => out.push_str("break")?,
-        NodeKind::Continue => out.push_str("continue")?,
-        NodeKind::Return => out.push_str("return")?,
-        NodeKind::Initialise { entity, .. } => {
-            out.push_str("init ")?;
-            write_entity(shown, out, *entity)?;
-        }
-        NodeKind::Skip => out.push_str("skip")?,
-        _ => write_value(shown, out, kind)?,
+        } => write_for(shown, out, entities.as_slice(), *condition, *after),
+        NodeKind::Case(value) => out.number(shown.alloc, value.get()),
+        NodeKind::Label(name) => out.say(name.as_str()),
+        NodeKind::Goto(name) => out.say(name.as_str()),
+        NodeKind::Initialise { entity, .. } => write_entity(shown, out, *entity),
+        _ => {}
     }
-    Ok(())
 }
 
 // Whether a node's type isn't decided by the nodes below it and by its kind.
@@ -255,55 +243,79 @@ fn path_at<'a>(kind: &'a NodeKind, at: usize) -> Option<&'a [PathStep]> {
     }
 }
 
+// One piece more that is left, to be written before the others.
+fn leave<'a>(out: &mut Page, left: &mut Vec<Piece<'a>>, piece: Piece<'a>) {
+    if left.push(piece).is_err() {
+        out.lacks = true;
+    }
+}
+
+// The pieces of one of the nodes under a node, with the path of an initialiser's value.
+fn push_child<'a>(
+    out: &mut Page,
+    left: &mut Vec<Piece<'a>>,
+    node: &'a Node,
+    at: usize,
+    child: u32,
+) {
+    leave(out, left, Piece::Node(child));
+    if let Some(path) = path_at(&node.kind, at) {
+        leave(out, left, Piece::Path(path));
+    }
+    leave(out, left, Piece::Words(if at > 0 { " " } else { "(" }));
+}
+
 // The pieces of what stands under a node.
-fn push_children<'a>(left: &mut Vec<Piece<'a>>, node: &'a Node) -> Result<(), Fail> {
+fn push_children<'a>(out: &mut Page, left: &mut Vec<Piece<'a>>, node: &'a Node) {
     let children = node.children.as_slice();
     if children.is_empty() {
-        return Ok(());
+        return;
     }
-    left.push(Piece::Words(")"))?;
+    leave(out, left, Piece::Words(")"));
     for done in 0..children.len() {
         let at = children.len() - 1 - done;
-        left.push(Piece::Node(children[at]))?;
-        if let Some(path) = path_at(&node.kind, at) {
-            left.push(Piece::Path(path))?;
-        }
-        left.push(Piece::Words(if at > 0 { " " } else { "(" }))?;
+        push_child(out, left, node, at, children[at]);
     }
-    Ok(())
 }
 
 // A node without what stands under it.
-fn write_head(shown: Shown<'_>, out: &mut String, node: &Node) -> Result<(), Fail> {
-    write_statement(shown, out, &node.kind)?;
+fn write_head(shown: Shown<'_>, out: &mut Page, node: &Node) {
+    out.say(statement_word(&node.kind));
+    write_statement(shown, out, &node.kind);
+    out.say(value_word(&node.kind));
+    write_value(shown, out, &node.kind);
     if is_typed(&node.kind) {
-        out.push_str(":")?;
-        write_type(shown.alloc, out, shown.unit, node.ty)?;
+        out.say(":");
+        write_type(shown.alloc, out, shown.unit, node.ty);
     }
     if shown.placed {
-        out.push_str("@")?;
-        write_number(shown.alloc, out, u64::from(node.place.column))?;
+        out.say("@");
+        out.number(shown.alloc, i128::from(node.place.column));
     }
-    Ok(())
+}
+
+// A node by its number; what stands under it is left.
+fn write_node<'a>(shown: Shown<'a>, out: &mut Page, left: &mut Vec<Piece<'a>>, number: u32) {
+    match shown.unit.nodes.get(number as usize) {
+        Some(node) => {
+            write_head(shown, out, node);
+            push_children(out, left, node);
+        }
+        None => out.lacks = true,
+    }
 }
 
 /// Adds the tree of a core node to a text.
-pub(crate) fn write_tree(shown: Shown<'_>, out: &mut String, root: u32) -> Result<(), Fail> {
+pub(crate) fn write_tree(shown: Shown<'_>, out: &mut Page, root: u32) {
     let mut left = Vec::new(shown.alloc);
-    left.push(Piece::Node(root))?;
+    leave(out, &mut left, Piece::Node(root));
     for _piece in 0..PIECES {
         match left.pop() {
-            Some(Piece::Words(words)) => out.push_str(words)?,
-            Some(Piece::Path(path)) => write_path(shown.alloc, out, path)?,
-            Some(Piece::Node(number)) => {
-                let Some(node) = shown.unit.nodes.get(number as usize) else {
-                    return Err(Fail::new("no such node"));
-                };
-                write_head(shown, out, node)?;
-                push_children(&mut left, node)?;
-            }
-            None => return Ok(()),
+            Some(Piece::Words(words)) => out.say(words),
+            Some(Piece::Path(path)) => write_path(shown.alloc, out, path),
+            Some(Piece::Node(number)) => write_node(shown, out, &mut left, number),
+            None => return,
         }
     }
-    Err(Fail::new("too many pieces"))
+    out.lacks = true;
 }

@@ -1,9 +1,9 @@
 // Types as text, from the outside in: `*i` is a pointer to int, `[3]c` an array of three chars, `(i,...)v` a variadic function.
 
+use crate::page::Page;
 use c_types::term::{Form, Term, TypeId};
 use core_tree::node::Unit;
 use std::alloc::Global;
-use std::test::Fail;
 
 // How many pieces the text of a type may have.
 const PIECES: usize = 10_000;
@@ -15,11 +15,11 @@ enum Piece {
     Type(TypeId),
 }
 
-/// Adds a number to a text.
-pub(crate) fn write_number(alloc: Global, out: &mut String, number: u64) -> Result<(), Fail> {
-    let digits = format!(in alloc; "{}", number)?;
-    out.push_str(digits.as_str())?;
-    Ok(())
+// One piece more that is left, to be written before the others.
+fn leave(out: &mut Page, left: &mut Vec<Piece>, piece: Piece) {
+    if left.push(piece).is_err() {
+        out.lacks = true;
+    }
 }
 
 // An integer type, by its size, its rank and its sign.
@@ -41,13 +41,12 @@ fn integer_name(size: u8, rank: u8, signed: bool) -> &'static str {
 }
 
 // An array, up to its element.
-fn write_array(alloc: Global, out: &mut String, length: Option<u64>) -> Result<(), Fail> {
-    out.push_str("[")?;
+fn write_array(alloc: Global, out: &mut Page, length: Option<u64>) {
+    out.say("[");
     if let Some(count) = length {
-        write_number(alloc, out, count)?;
+        out.number(alloc, i128::from(count));
     }
-    out.push_str("]")?;
-    Ok(())
+    out.say("]");
 }
 
 // What stands behind the parameters of a function.
@@ -62,83 +61,72 @@ fn end_of_list(form: Form, none: bool) -> &'static str {
 
 // The pieces of a function's type.
 fn push_function(
+    out: &mut Page,
     left: &mut Vec<Piece>,
     returned: TypeId,
     parameters: &[TypeId],
     form: Form,
-) -> Result<(), Fail> {
-    left.push(Piece::Type(returned))?;
-    left.push(Piece::Words(end_of_list(form, parameters.is_empty())))?;
+) {
+    leave(out, left, Piece::Type(returned));
+    leave(
+        out,
+        left,
+        Piece::Words(end_of_list(form, parameters.is_empty())),
+    );
     for done in 0..parameters.len() {
         let at = parameters.len() - 1 - done;
-        left.push(Piece::Type(parameters[at]))?;
-        if at > 0 {
-            left.push(Piece::Words(","))?;
-        }
+        leave(out, left, Piece::Type(parameters[at]));
+        leave(out, left, Piece::Words(if at > 0 { "," } else { "" }));
     }
-    left.push(Piece::Words("("))?;
-    Ok(())
+    leave(out, left, Piece::Words("("));
 }
 
 // A structure or union by the number of its tag.
-fn write_tag(alloc: Global, out: &mut String, letter: &str, tag: u32) -> Result<(), Fail> {
-    out.push_str(letter)?;
-    write_number(alloc, out, u64::from(tag))
+fn write_tag(alloc: Global, out: &mut Page, letter: &str, tag: u32) {
+    out.say(letter);
+    out.number(alloc, i128::from(tag));
 }
 
 // The head of a type; its parts are left.
-fn write_term(
-    alloc: Global,
-    out: &mut String,
-    unit: &Unit,
-    left: &mut Vec<Piece>,
-    ty: TypeId,
-) -> Result<(), Fail> {
+fn write_term(alloc: Global, out: &mut Page, unit: &Unit, left: &mut Vec<Piece>, ty: TypeId) {
     if ty.0 >= unit.types.type_count() {
-        return Err(Fail::new("no such type"));
+        out.lacks = true;
+        return;
     }
     match unit.types.term(ty) {
-        Term::Void => out.push_str("v")?,
-        Term::Bool => out.push_str("b")?,
-        Term::Integer { size, rank, signed } => {
-            out.push_str(integer_name(*size, *rank, *signed))?
-        }
-        Term::Floating => out.push_str("F")?,
-        Term::VaList => out.push_str("V")?,
+        Term::Void => out.say("v"),
+        Term::Bool => out.say("b"),
+        Term::Integer { size, rank, signed } => out.say(integer_name(*size, *rank, *signed)),
+        Term::Floating => out.say("F"),
+        Term::VaList => out.say("V"),
         Term::Pointer(to) => {
-            out.push_str("*")?;
-            left.push(Piece::Type(*to))?;
+            out.say("*");
+            leave(out, left, Piece::Type(*to));
         }
         Term::Array { of, length } => {
-            write_array(alloc, out, *length)?;
-            left.push(Piece::Type(*of))?;
+            write_array(alloc, out, *length);
+            leave(out, left, Piece::Type(*of));
         }
         Term::Function {
             result,
             parameters,
             form,
-        } => push_function(left, *result, parameters.as_slice(), *form)?,
-        Term::Structure(tag) => write_tag(alloc, out, "S", *tag)?,
-        Term::Union(tag) => write_tag(alloc, out, "U", *tag)?,
+        } => push_function(out, left, *result, parameters.as_slice(), *form),
+        Term::Structure(tag) => write_tag(alloc, out, "S", *tag),
+        Term::Union(tag) => write_tag(alloc, out, "U", *tag),
     }
-    Ok(())
 }
 
 /// Adds a type of a unit to a text.
-pub(crate) fn write_type(
-    alloc: Global,
-    out: &mut String,
-    unit: &Unit,
-    ty: TypeId,
-) -> Result<(), Fail> {
+pub(crate) fn write_type(alloc: Global, out: &mut Page, unit: &Unit, ty: TypeId) {
     let mut left = Vec::new(alloc);
-    left.push(Piece::Type(ty))?;
+    leave(out, &mut left, Piece::Type(ty));
     for _piece in 0..PIECES {
         match left.pop() {
-            Some(Piece::Words(words)) => out.push_str(words)?,
-            Some(Piece::Type(part)) => write_term(alloc, out, unit, &mut left, part)?,
-            None => return Ok(()),
+            Some(Piece::Words(words)) => out.say(words),
+            Some(Piece::Type(part)) => write_term(alloc, out, unit, &mut left, part),
+            None => return,
         }
     }
-    Err(Fail::new("too many pieces"))
+    out.lacks = true;
 }

@@ -1,7 +1,8 @@
 // Units as text: an entity on each line, in the order of their places, and then a tag on each.
 
+use crate::page::Page;
 use crate::trees::{Shown, write_entity, write_tree};
-use crate::types::{write_number, write_type};
+use crate::types::write_type;
 use c_types::term::MemberTerm;
 use core_tree::node::{Entity, Linkage, Storage, Unit};
 use std::alloc::Global;
@@ -28,90 +29,103 @@ fn storage_letter(storage: Storage) -> &'static str {
 }
 
 // The name, the column, the linkage, the storage and the type of an entity.
-fn write_declared(shown: Shown<'_>, out: &mut String, entity: &Entity) -> Result<(), Fail> {
-    out.push_str("\n")?;
-    out.push_str(entity.name.as_str())?;
-    out.push_str("#")?;
-    write_number(shown.alloc, out, u64::from(entity.place.column))?;
-    out.push_str(" ")?;
-    out.push_str(linkage_letter(entity.linkage))?;
-    out.push_str(storage_letter(entity.storage))?;
-    out.push_str(" ")?;
-    write_type(shown.alloc, out, shown.unit, entity.ty)
+fn write_declared(shown: Shown<'_>, out: &mut Page, entity: &Entity) {
+    out.say("\n");
+    out.say(entity.name.as_str());
+    out.say("#");
+    out.number(shown.alloc, i128::from(entity.place.column));
+    out.say(" ");
+    out.say(linkage_letter(entity.linkage));
+    out.say(storage_letter(entity.storage));
+    out.say(" ");
+    write_type(shown.alloc, out, shown.unit, entity.ty);
 }
 
-// The column of the first use of an entity, its function and its body.
-fn write_rest(shown: Shown<'_>, out: &mut String, entity: &Entity) -> Result<(), Fail> {
+// The column of the first use of an entity.
+fn write_used(shown: Shown<'_>, out: &mut Page, entity: &Entity) {
     if let Some(place) = entity.used {
-        out.push_str(" used ")?;
-        write_number(shown.alloc, out, u64::from(place.column))?;
+        out.say(" used ");
+        out.number(shown.alloc, i128::from(place.column));
     }
+}
+
+// The function of an entity.
+fn write_owner(shown: Shown<'_>, out: &mut Page, entity: &Entity) {
     if let Some(owner) = entity.owner {
-        out.push_str(" in ")?;
-        write_entity(shown, out, owner)?;
+        out.say(" in ");
+        write_entity(shown, out, owner);
     }
+}
+
+// The body of an entity.
+fn write_body(shown: Shown<'_>, out: &mut Page, entity: &Entity) {
     if let Some(body) = entity.body {
-        out.push_str(" = ")?;
-        write_tree(shown, out, body)?;
+        out.say(" = ");
+        write_tree(shown, out, body);
     }
-    Ok(())
 }
 
 // The entities at a column.
-fn write_at(shown: Shown<'_>, out: &mut String, column: u32) -> Result<(), Fail> {
+fn write_at(shown: Shown<'_>, out: &mut Page, column: u32) {
     for entity in &shown.unit.entities {
         if entity.place.column == column && entity.place.line == 1 {
-            write_declared(shown, out, entity)?;
-            write_rest(shown, out, entity)?;
+            write_declared(shown, out, entity);
+            write_used(shown, out, entity);
+            write_owner(shown, out, entity);
+            write_body(shown, out, entity);
         }
     }
-    Ok(())
 }
 
 // A member with its type and its width.
-fn write_member(shown: Shown<'_>, out: &mut String, member: &MemberTerm) -> Result<(), Fail> {
-    out.push_str(" ")?;
+fn write_member(shown: Shown<'_>, out: &mut Page, member: &MemberTerm) {
+    out.say(" ");
     if let Some(name) = &member.name {
-        out.push_str(name.as_str())?;
+        out.say(name.as_str());
     }
-    out.push_str(":")?;
-    write_type(shown.alloc, out, shown.unit, member.ty)?;
+    out.say(":");
+    write_type(shown.alloc, out, shown.unit, member.ty);
     if let Some(bits) = member.bits {
-        out.push_str(".")?;
-        write_number(shown.alloc, out, u64::from(bits))?;
+        out.say(".");
+        out.number(shown.alloc, i128::from(bits));
     }
-    Ok(())
 }
 
 // The members of a tag.
-fn write_members(shown: Shown<'_>, out: &mut String, tag: u32) -> Result<(), Fail> {
+fn write_members(shown: Shown<'_>, out: &mut Page, tag: u32) {
     if tag >= shown.unit.types.tag_count() {
-        return Err(Fail::new("no such tag"));
+        out.lacks = true;
+        return;
     }
     let Some(members) = shown.unit.types.members(tag) else {
-        out.push_str(" incomplete")?;
-        return Ok(());
+        out.say(" incomplete");
+        return;
     };
     for member in members {
-        write_member(shown, out, member)?;
+        write_member(shown, out, member);
     }
-    Ok(())
+}
+
+// The key and the members of a tag.
+fn write_tag(shown: Shown<'_>, out: &mut Page, key: &str, tag: usize) {
+    out.say("\n<");
+    out.say(key);
+    out.say(">");
+    if tag > u32::MAX as usize {
+        out.lacks = true;
+        return;
+    }
+    write_members(shown, out, tag as u32);
 }
 
 // The keys and the members of the tags, in the order of their numbers.
-fn write_tags(shown: Shown<'_>, out: &mut String) -> Result<(), Fail> {
+fn write_tags(shown: Shown<'_>, out: &mut Page) {
     for (tag, key) in shown.unit.tags.iter().enumerate() {
-        out.push_str("\n<")?;
-        if let Some(text) = key {
-            out.push_str(text.as_str())?;
+        match key {
+            Some(text) => write_tag(shown, out, text.as_str(), tag),
+            None => write_tag(shown, out, "", tag),
         }
-        out.push_str(">")?;
-        if tag > u32::MAX as usize {
-            return Err(Fail::new("too many tags"));
-        }
-        write_members(shown, out, tag as u32)?;
     }
-    Ok(())
 }
 
 /// The text of a unit whose own text is one line of so many columns, with or without the columns of its nodes.
@@ -126,10 +140,14 @@ pub(crate) fn unit_text(
         unit,
         placed,
     };
-    let mut out = String::new(alloc);
+    let mut out = Page::new(alloc);
     for column in 0..columns {
-        write_at(shown, &mut out, column)?;
+        write_at(shown, &mut out, column);
     }
-    write_tags(shown, &mut out)?;
-    Ok(out)
+    write_tags(shown, &mut out);
+    let Page { text, lacks } = out;
+    if lacks {
+        return Err(Fail::new("not all is written"));
+    }
+    Ok(text)
 }

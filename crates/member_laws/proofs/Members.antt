@@ -21,7 +21,7 @@ use Rattle.c_senses.specs.Rows.{world_at, row, AreSenses}
 use Rattle.sense_laws.specs.Laws.{Grows}
 use Rattle.sense_laws.specs.Senses.{ChildrenFirst}
 use Rattle.family_laws.specs.Families.{Families}
-use Rattle.struct_rows.specs.Taken.{bits_fit, is_none_left, is_flexible, type_fits, takes_member, takes}
+use Rattle.struct_laws.specs.PassedOn.{bits_fit, is_none_left, is_flexible, type_fits, takes_member, takes}
 use Rattle.struct_laws.proofs.Members.{never_untaken}
 use Rattle.struct_laws.proofs.Lists.{found}
 use Rattle.built_units.specs.Built.{IsBuilt}

@@ -19,7 +19,7 @@ use Rattle.c_grammar.specs.Terminals.{contains, terminal, terminal_of, takes}
 use Rattle.c_grammar.specs.Tree.{makes_node}
 use Rattle.c_grammar.specs.Reads.{State, Fault, Node, leaf, node_of, first, second, taken, scoped, opened, closed, Walks, Opens, at_end, token, no_token, use_of, no_use, choice, no_choice, no_alternative, again, no_again, scope, enough, deep, refused, whole, broken}
 use Rattle.c_parser.specs.Parse.{begin}
-use Rattle.c_units.specs.Units.{IsUnit}
+use Rattle.family_laws.specs.PassedOn.{IsUnit}
 
 -- ---- which rows take a token of their own
 

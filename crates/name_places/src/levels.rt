@@ -3,9 +3,9 @@ ghost use Rattle.std.specs.Prelude.{◌≡◌, ◌<◌, length, IfSome};
 ghost use Rattle.c_senses.specs.Tree.{any_where, nearest_above};
 ghost use Rattle.c_senses.specs.Entities as spec;
 ghost use Rattle.tree_reads.specs.Sources.{source_read};
-ghost use Rattle.name_places.specs.Levels.{asks, is_definition, level_seen, no_senses};
+ghost use Rattle.name_places.specs.Levels.{asks, is_definition, is_in_rest, level_seen, no_senses};
 
-use tree_reads::{Syntax, child_of, children_of, has_word, is_a};
+use tree_reads::{Syntax, child_of, children_of, has_word, is_a, production_of};
 
 const P_EXTERNAL: u32 = 1;
 
@@ -69,11 +69,15 @@ fn any_asks(syntax: &Syntax, list: &[u32]) -> bool
     false
 }
 
-// Whether a node is `sizeof` or `_Alignof` with what it asks of.
-fn is_operand_word(syntax: &Syntax, node: u32) -> bool
-    ensures { result ≡ spec.is_operand_word (source_read syntax.now) no_senses node }
+// Whether a node stands in what follows a declared name.
+fn is_in_rest(syntax: &Syntax, node: u32) -> bool
+    requires { node < length syntax.now.tree.now.nodes.items }
+    ensures { result ≡ is_in_rest (source_read syntax.now) node }
 {
-    is_a(syntax, P_UNARY, node) && any_asks(syntax, children_of(syntax, node))
+    match syntax.parent_of(node) {
+        Some(parent) => is_a(syntax, P_REST, parent),
+        None => false,
+    }
 }
 
 /// Whether a node is the initialiser of a declared name (C11 6.7.9).
@@ -81,13 +85,7 @@ pub(crate) fn is_object_initialiser(syntax: &Syntax, node: u32) -> bool
     requires { node < length syntax.now.tree.now.nodes.items }
     ensures { result ≡ spec.is_object_initialiser (source_read syntax.now) no_senses node }
 {
-    if !is_a(syntax, P_INIT, node) {
-        return false;
-    }
-    match syntax.parent_of(node) {
-        Some(parent) => is_a(syntax, P_REST, parent),
-        None => false,
-    }
+    is_a(syntax, P_INIT, node) && is_in_rest(syntax, node)
 }
 
 // Whether a node decides if what is in it initialises a static object.
@@ -95,15 +93,16 @@ fn is_boundary(syntax: &Syntax, node: u32) -> bool
     requires { node < length syntax.now.tree.now.nodes.items }
     ensures { result ≡ spec.is_boundary (source_read syntax.now) no_senses node }
 {
-    is_operand_word(syntax, node)
-        || is_a(syntax, P_SUFFIX, node)
-        || is_a(syntax, P_ALIGN, node)
-        || is_a(syntax, P_ENUMERATOR, node)
-        || is_a(syntax, P_FIELD, node)
-        || is_a(syntax, P_DESIGNATOR, node)
-        || is_a(syntax, P_STATEMENT, node)
-        || is_a(syntax, P_ASSERT, node)
-        || is_object_initialiser(syntax, node)
+    let production = production_of(syntax, node);
+    (production == P_UNARY && any_asks(syntax, children_of(syntax, node)))
+        || production == P_SUFFIX
+        || production == P_ALIGN
+        || production == P_ENUMERATOR
+        || production == P_FIELD
+        || production == P_DESIGNATOR
+        || production == P_STATEMENT
+        || production == P_ASSERT
+        || (production == P_INIT && is_in_rest(syntax, node))
 }
 
 // Whether a node passes a test.

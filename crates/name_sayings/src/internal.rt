@@ -63,8 +63,8 @@ fn internal_of(
     Err(CheckFault::OutOfMemory)
 }
 
-// The leaves of all declarations before one of a name that give it internal linkage, in order. It takes as long as there are declarations of
-// the symbol before it.
+// The leaves of all declarations before one of a name that give it internal linkage, in order. It takes as long as there are declarations
+// of the symbol before it.
 fn all_before(
     alloc: Global,
     names: &Names,

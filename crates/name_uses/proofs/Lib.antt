@@ -4,3 +4,4 @@ pub mod Parts
 pub mod Worlds
 pub mod Usual
 pub mod Known
+pub mod PassedOn

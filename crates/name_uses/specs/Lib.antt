@@ -2,3 +2,4 @@ pub mod Around
 pub mod Looked
 pub mod Built
 pub mod Usual
+pub mod PassedOn

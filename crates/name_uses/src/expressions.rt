@@ -25,10 +25,10 @@ use std::alloc::Global;
 use tree_reads::Syntax;
 
 /// The row of a node of an expression (C11 6.5.1 to 6.5.17), over what was made for the nodes before it and what the declarations
-/// before it give, with what is kept of these. `BadOperand` and `Unsupported` hold the kind and the node that the row refuses with; a node of another production
-/// is `BadOperand`. `NotBuilt`, at the node: an integer constant of 2^64 or more, strings with an escape of 256 or more, and a name
-/// that means a number which int doesn't hold or an object that no node of the tree declares. No reading of a text takes such
-/// constants and strings, and where the rows before fit no name means that.
+/// before it give, with what is kept of these. `BadOperand` and `Unsupported` hold the kind and the node that the row refuses with; a node
+/// of another production is `BadOperand`. `NotBuilt`, at the node: an integer constant of 2^64 or more, strings with an escape of 256 or
+/// more, and a name that means a number which int doesn't hold or an object that no node of the tree declares. No reading of a text takes
+/// such constants and strings, and where the rows before fit no name means that.
 pub fn expression(
     alloc: Global,
     unit: &mut Unit,

@@ -26,8 +26,8 @@ const P_BLOCK: u32 = 29;
 
 const LEFT_PARENTHESIS: u8 = 2;
 
-/// What a node is to the tags of a unit: the specifier of a structure or union, that of an enumeration (C11 6.7.2.1, 6.7.2.2), a declaration
-/// of members, a block or a parameter list, or none of these.
+/// What a node is to the tags of a unit: the specifier of a structure or union, that of an enumeration (C11 6.7.2.1, 6.7.2.2), a
+/// declaration of members, a block or a parameter list, or none of these.
 #[derive(Clone, Copy, Debug, PartialEq, Eq)]
 pub enum Role {
     Structure,

@@ -37,8 +37,8 @@ use Rattle.linkage_laws.proofs.Seen.{some_same, none_some}
 use Rattle.linkage_laws.proofs.Linked.{stands_linked}
 use Rattle.linkage_laws.proofs.Reading.{tree_is}
 use Rattle.linkage_laws.proofs.Unlinked.{made, Made}
-use Rattle.function_definitions.specs.Defined.{Defines}
-use Rattle.function_definitions.proofs.Reading.{definitions_declare}
+use Rattle.function_bodies.specs.PassedOn.{Defines}
+use Rattle.function_bodies.proofs.PassedOn.{definitions_declare}
 use Rattle.function_bodies.proofs.Reading.{parts_of, declarators_of}
 use Rattle.function_bodies.proofs.Standing.{named_by}
 use Rattle.representative_names.specs.Representatives.{IsKnown}

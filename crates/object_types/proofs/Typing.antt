@@ -33,9 +33,9 @@ use Rattle.placed_laws.proofs.Climbing.{Grown}
 use Rattle.standing_laws.specs.Standing.{IsGrown}
 use Rattle.standing_laws.proofs.Climbing.{in_list, found_where, parent_is, parent_holds}
 use Rattle.grown_parts.specs.Parts.{IsBrought}
-use Rattle.run_laws.proofs.Times.{known_at, world_of, told_before, row_as, fitted}
-use Rattle.run_laws.proofs.Running.{first_in, last_found}
-use Rattle.built_rows.specs.Rows.{types_declared, literal_type}
+use Rattle.declared_leaves.proofs.PassedOn.{known_at, world_of, told_before, row_as, fitted}
+use Rattle.declared_leaves.proofs.PassedOn.{first_in, last_found}
+use Rattle.plain_names.specs.PassedOn.{types_declared, literal_type}
 use Rattle.plain_names.proofs.Later.{Later, known_later, told, derived_later}
 use Rattle.declared_leaves.specs.Leaves.{IsNamed, Own, Inner, IsDeclaredBy}
 use Rattle.declared_leaves.proofs.Climbing.{leaves_declared}

@@ -15,7 +15,7 @@ use Rattle.c_senses.specs.Rows.{AreSenses, world_at}
 use Rattle.placed_laws.proofs.Climbing.{Grown}
 use Rattle.standing_laws.specs.Standing.{IsGrown}
 use Rattle.grown_parts.specs.Parts.{IsBrought}
-use Rattle.built_rows.specs.Rows.{types_declared}
+use Rattle.plain_names.specs.PassedOn.{types_declared}
 
 abbrev pub ObjectsTyped : Type 0
 ObjectsTyped =

@@ -1,3 +1,4 @@
 pub mod Parts
 pub mod Searching
 pub mod Standing
+pub mod PassedOn

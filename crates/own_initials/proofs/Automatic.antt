@@ -36,8 +36,8 @@ use Rattle.placed_initialisers.specs.PassedOn.{IsPlaced}
 use Rattle.placed_initialisers.proofs.Whole.{units_place}
 use Rattle.initial_entities.specs.Own.{IsOwnInitial}
 use Rattle.initial_entities.proofs.Rows.{initialisers_own}
-use Rattle.held_parts.specs.Held.{IsHeld}
-use Rattle.held_parts.proofs.Whole.{units_hold_parts}
+use Rattle.held_runs.specs.PassedOn.{IsHeld}
+use Rattle.held_runs.proofs.PassedOn.{units_hold_parts}
 use Rattle.held_runs.specs.Runs.{BlockWith}
 use Rattle.held_runs.proofs.Whole.{climb}
 use Rattle.automatic_runs.proofs.Whole.{automatic_runs}

@@ -5,3 +5,4 @@ pub mod Automatic
 pub mod Functions
 pub mod Roots
 pub mod Own
+pub mod PassedOn

@@ -38,7 +38,7 @@ use Rattle.linkage_laws.proofs.Seen.{some_same, no_both, apart, node_within, par
 use Rattle.linkage_laws.proofs.Linked as linked
 use Rattle.linkage_laws.proofs.Reading.{tree_is}
 use Rattle.linkage_laws.proofs.Unlinked.{stands_for}
-use Rattle.run_initialisers.proofs.Whole.{units_run_initialisers}
+use Rattle.automatic_runs.proofs.PassedOn.{units_run_initialisers}
 use Rattle.own_initials.proofs.Trees.{within}
 use Rattle.own_initials.proofs.Names.{both}
 use Rattle.own_initials.proofs.Rests.{name_in, seen_later, Place, place_of, rest_in}

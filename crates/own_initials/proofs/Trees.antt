@@ -10,7 +10,7 @@ use Rattle.c_senses.specs.Tree.{Source}
 use Rattle.c_senses.specs.Sense.{Sense}
 use Rattle.c_senses.specs.Right.{Within, Itself, Below}
 use Rattle.count_rows.specs.Counts.{own_weight, unless_left_out, count_in, count_under}
-use Rattle.held_parts.specs.Held.{StandsIn, InSome}
+use Rattle.held_runs.specs.PassedOn.{StandsIn, InSome}
 use Rattle.once_initialised.specs.Once.{initialises}
 
 module _ (s : Source) (senses : List Sense) where

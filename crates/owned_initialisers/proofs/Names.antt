@@ -37,7 +37,7 @@ use Rattle.built_units.specs.Built.{IsBuilt}
 use Rattle.linkage_laws.proofs.Linked as linked
 use Rattle.linkage_laws.proofs.Reading.{tree_is}
 use Rattle.linkage_laws.proofs.Unlinked.{lives, local}
-use Rattle.object_bodies.specs.Objects.{IsPlaced}
+use Rattle.placed_initialisers.specs.PassedOn.{IsPlaced}
 use Rattle.placed_initialisers.proofs.Whole.{units_place}
 use Rattle.initial_entities.specs.Own.{IsOwnInitial}
 use Rattle.initial_entities.proofs.Rows.{initialisers_own}

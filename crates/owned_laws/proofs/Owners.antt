@@ -23,9 +23,9 @@ use Rattle.c_senses.specs.Names.{source_of, numbered, ordinary_at}
 use Rattle.c_senses.specs.Sense.{Sense, sense_in}
 use Rattle.c_senses.specs.Entities.{declaration_of, is_at_file, is_parameter, is_defined, is_linked, is_internal, is_static_object, has_storage, initialiser_for, declares_function, own_type, storage_of, linkage_of, entity_of, first_of, internal_among, function_around, defined_name, all_together, types_of}
 use Rattle.c_senses.specs.Right.{SameOwner, Declared as Declares, IsDeclaredAt, is_declaring, stands_in_declaration, is_defined_parameter, declares_entity, declared_as, declared_name, entity_type, internal_type, representative, storage_at, owner_at, of_internal, with_one}
-use Rattle.definition_laws.specs.Definitions.{is_definition, HasDefinition}
-use Rattle.definition_laws.proofs.Locals.{locals}
-use Rattle.built_units.specs.Built.{IsBuilt}
+use Rattle.linkage_laws.specs.PassedOn.{is_definition, HasDefinition}
+use Rattle.linkage_laws.proofs.PassedOn.{locals}
+use Rattle.linkage_laws.specs.PassedOn.{IsBuilt}
 use Rattle.literal_nodes.specs.Holding.{Holds}
 use Rattle.literal_nodes.specs.Unnamed.{IsUnnamed}
 use Rattle.literal_nodes.proofs.Unnamed.{unnamed}

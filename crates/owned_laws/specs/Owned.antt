@@ -12,9 +12,9 @@ use Rattle.c_senses.specs.Names.{source_of, numbered}
 use Rattle.c_senses.specs.Sense.{Sense, sense_in}
 use Rattle.c_senses.specs.Entities.{is_internal, entity_of}
 use Rattle.c_senses.specs.Right.{representative}
-use Rattle.definition_laws.specs.Definitions.{is_definition}
+use Rattle.linkage_laws.specs.PassedOn.{is_definition}
 use Rattle.function_definitions.specs.Defined.{Defines}
-use Rattle.built_units.specs.Built.{IsBuilt}
+use Rattle.linkage_laws.specs.PassedOn.{IsBuilt}
 
 -- an internal name that is defined as a function is known by that definition
 abbrev pub InternalsDefined : Source → List Sense → Type 0

@@ -25,8 +25,8 @@ use Rattle.near_nodes.proofs.All.{near_kept}
 use Rattle.scope_laws.specs.Beneath.{Beneath, part, deeper}
 use Rattle.scope_laws.specs.Scoped.{IsPart, Rooted, ParametersListed, DeclaredOnce}
 use Rattle.scope_laws.proofs.Whole.{uses_stay, names_declared_once}
-use Rattle.standing_laws.specs.Standing.{IsGrown}
-use Rattle.standing_laws.proofs.Climbing.{in_list, list_in, child_inside, parent_is}
+use Rattle.parameter_bodies.specs.PassedOn.{IsGrown}
+use Rattle.parameter_bodies.proofs.PassedOn.{in_list, list_in, child_inside, parent_is}
 use Rattle.owner_laws.specs.Owners.{LeftsStand}
 use Rattle.owner_laws.proofs.Defined.{is_definition, both}
 use Rattle.owner_laws.proofs.Naming.{clash, own_leaf}

@@ -34,8 +34,8 @@ use Rattle.nesting_laws.proofs.Nesting.{units_nest}
 use Rattle.near_nodes.specs.Holding.{Holds, OfSense}
 use Rattle.scope_laws.specs.Beneath.{part}
 use Rattle.scope_laws.specs.Scoped.{ParametersListed}
-use Rattle.standing_laws.specs.Standing.{IsGrown, IsMade}
-use Rattle.standing_laws.proofs.Bodies.{Above, above}
+use Rattle.parameter_bodies.specs.PassedOn.{IsGrown, IsMade}
+use Rattle.parameter_bodies.proofs.PassedOn.{Above, above}
 use Rattle.parameter_bodies.proofs.Bare.{parameters_bare}
 use Rattle.lasting_literals.proofs.Lasting.{literals_last}
 use Rattle.owner_laws.specs.Owners.{LeftsStand, DefinitionsNamed, IsOwnable, OwnersBuilt}

@@ -36,8 +36,8 @@ use Rattle.run_laws.proofs.Times.{known_at, told_before}
 use Rattle.single_initialisers.proofs.Apart.{stands_outermost}
 use Rattle.single_initialisers.proofs.Parts.{member, Holds, in_rest, in_other, holder, inner_holder, item_in, no_declarator_in}
 use Rattle.known_entities.proofs.Known.{entities_known}
-use Rattle.initial_entities.specs.Own.{IsOwnInitial}
-use Rattle.initial_entities.proofs.Rows.{initialisers_own}
+use Rattle.own_initials.specs.PassedOn.{IsOwnInitial}
+use Rattle.own_initials.proofs.PassedOn.{initialisers_own}
 use Rattle.own_initials.proofs.Names.{both}
 use Rattle.own_initials.proofs.Rests.{name_in, seen_later, Place, beside, above, place_of}
 use Rattle.parts_initialise.proofs.Stored.{runs_for, automatic_later, stands_for}

@@ -1,1 +1,2 @@
 pub mod Initialise
+pub mod PassedOn

@@ -17,8 +17,8 @@ pub fn names_initialise()
     ensures { NamesInitialise }
 {}
 
-/// In a unit that is made of a parsed tree's senses each initialiser, that of an object with a name or of a compound literal, is the body of
-/// its entity (C11 6.5.2.5, 6.7.9).
+/// In a unit that is made of a parsed tree's senses each initialiser, that of an object with a name or of a compound literal, is the body
+/// of its entity (C11 6.5.2.5, 6.7.9).
 pub fn units_initialise_once()
     ensures { UnitsInitialiseOnce }
 {}

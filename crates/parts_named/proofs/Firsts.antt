@@ -35,17 +35,17 @@ use Rattle.parsed_laws.proofs.Constants.{constants_fit}
 use Rattle.statement_laws.proofs.Grammar.{statements_parsed}
 use Rattle.standing_laws.specs.Standing.{IsGrown}
 use Rattle.built_rows.specs.Rows.{types_declared}
-use Rattle.text_rows.specs.Texts.{TypesFit}
-use Rattle.text_rows.proofs.Fitting.{asked_fit}
-use Rattle.text_rows.proofs.Linked.{types_fit, tree_grown}
+use Rattle.initialised_rows.specs.PassedOn.{TypesFit}
+use Rattle.initialised_rows.proofs.PassedOn.{asked_fit}
+use Rattle.initialised_rows.proofs.PassedOn.{types_fit, tree_grown}
 use Rattle.initialised_rows.proofs.Owning.{linked_fit}
 use Rattle.internal_names.proofs.Reading.{internals_fit}
 use Rattle.internal_names.proofs.Order.{used, earlier}
 use Rattle.internal_names.proofs.Seen.{Entry, entry, row, sees}
 use Rattle.internal_names.proofs.Lists.{last_is}
-use Rattle.linked_scopes.specs.Scoped.{AreScoped}
-use Rattle.linked_scopes.proofs.Reading.{linked_scoped}
-use Rattle.declared_once.proofs.Knowing.{In}
+use Rattle.internal_names.specs.PassedOn.{AreScoped}
+use Rattle.internal_names.proofs.PassedOn.{linked_scoped}
+use Rattle.agreed_internals.proofs.PassedOn.{In}
 use Rattle.agreed_internals.proofs.Lists.{found_at, behind_front}
 use Rattle.plain_names.proofs.Fitting.{found_node, own_named, own_entity}
 use Rattle.own_initialisers.proofs.Standing.{initialisers_stand}

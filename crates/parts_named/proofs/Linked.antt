@@ -17,8 +17,8 @@ use Rattle.c_senses.specs.Right.{of_internal, with_one, representative, internal
 use Rattle.linkage_laws.proofs.Linked as linked
 use Rattle.linkage_laws.proofs.Reading.{tree_is}
 use Rattle.linkage_laws.proofs.Unlinked.{stands_for}
-use Rattle.declared_once.specs.Once.{IsDeclaredOnce}
-use Rattle.declared_once.proofs.Knowing.{declared_once}
+use Rattle.agreed_internals.specs.PassedOn.{IsDeclaredOnce}
+use Rattle.agreed_internals.proofs.PassedOn.{declared_once}
 use Rattle.agreed_internals.specs.Agreeing.{AreAgreed}
 use Rattle.agreed_internals.proofs.Agreeing.{internals_agree}
 use Rattle.parts_named.specs.Named.{IsDeclared}

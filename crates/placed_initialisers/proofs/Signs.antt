@@ -12,7 +12,7 @@ use Rattle.c_grammar.specs.Words.{sign_comma, sign_assign}
 use Rattle.c_senses.specs.Tree.{Source, is_a, has_sign, is_number, sign_at, sign_of_kind, kind_of_token, token_of, production_at}
 use Rattle.c_senses.specs.Sense.{Sense}
 use Rattle.c_senses.specs.Entities.{behind, without_asm, initialiser_in}
-use Rattle.function_definitions.proofs.Tokens.{sign_taken}
+use Rattle.own_initialisers.proofs.PassedOn.{sign_taken}
 use Rattle.c_lexer.specs.Laws.{Stands}
 use Rattle.sign_parts.specs.Parts.{Mark, leaf_mark, Takes}
 use Rattle.own_initialisers.proofs.Parts.{MaybeInit, Absent, Present, MaybeAsm, NoAsm, Asm, Further, Over, Next, IsRestList, Begins}

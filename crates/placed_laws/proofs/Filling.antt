@@ -8,17 +8,17 @@ use Rattle.c_grammar.specs.declared.trees.SyntaxNode.{SyntaxNode}
 use Rattle.c_grammar.specs.Productions.{p_block}
 use Rattle.c_grammar.specs.Words.{word_extern}
 use Rattle.c_scope.specs.declared.kinds.Declared.{Declared as Declaration}
-use Rattle.core_tree.specs.declared.node.Unit.{Unit}
-use Rattle.core_tree.specs.declared.node.Node.{Node}
-use Rattle.core_tree.specs.declared.node.Entity.{Entity}
-use Rattle.core_tree.specs.declared.node.NodeKind.{NodeKind}
-use Rattle.core_tree.specs.declared.node.NodeKind.TheVariants.{Block, Initialise}
-use Rattle.core_tree.specs.declared.node.Linkage.{Linkage}
-use Rattle.core_tree.specs.declared.node.Linkage.TheVariants.{External, Internal, Local}
-use Rattle.core_tree.specs.declared.node.Storage.{Storage}
-use Rattle.core_tree.specs.declared.node.Storage.TheVariants.{Static, Automatic, FunctionBody, Parameter, Declared}
-use Rattle.core_tree.specs.Typed.{trees_of}
-use Rattle.core_tree.specs.Rows.{Initialises, InitialisesEntity, InitialisesIn}
+use Rattle.filled_units.specs.PassedOn.{Unit}
+use Rattle.filled_units.specs.PassedOn.{Node}
+use Rattle.filled_units.specs.PassedOn.{Entity}
+use Rattle.filled_units.specs.PassedOn.{NodeKind}
+use Rattle.filled_units.specs.PassedOn.{Block, Initialise}
+use Rattle.filled_units.specs.PassedOn.{Linkage}
+use Rattle.filled_units.specs.PassedOn.{External, Internal, Local}
+use Rattle.filled_units.specs.PassedOn.{Storage}
+use Rattle.filled_units.specs.PassedOn.{Static, Automatic, FunctionBody, Parameter, Declared}
+use Rattle.filled_units.specs.PassedOn.{trees_of}
+use Rattle.filled_units.specs.PassedOn.{Initialises, InitialisesEntity, InitialisesIn}
 use Rattle.c_senses.specs.PassedOn.{Core, Of, kind_of}
 use Rattle.c_senses.specs.Names.{ordinary_at, names_type}
 use Rattle.c_senses.specs.Tree.{Source, production_of, children_at, is_a, child_of, place_at}

@@ -3,7 +3,7 @@ use Rattle.std.specs.Prelude.{ℕ, List}
 use Rattle.c_lexer.specs.declared.Tokens.{Tokens}
 use Rattle.c_grammar.specs.declared.trees.Tree.{Tree}
 use Rattle.c_units.specs.Units.{IsUnit}
-use Rattle.core_tree.specs.declared.node.Unit.{Unit}
+use Rattle.filled_units.specs.PassedOn.{Unit}
 use Rattle.c_senses.specs.Names.{source_of, numbered}
 use Rattle.c_senses.specs.Right.{Right}
 use Rattle.filled_units.specs.Filled.{IsFilled}

@@ -16,7 +16,7 @@ use Rattle.c_senses.specs.Limits.{is_function_type}
 use Rattle.c_senses.specs.Entities.{all_together, is_linked, is_typedef, is_internal, linkage_of, entity_of, first_of, internal_among, own_type, types_of, type_behind, is_open, has_earlier_length, last_of, named_by, initialiser_for, object_or_function, declared_meaning, enumerated, meaning_of}
 use Rattle.c_senses.specs.Right as right
 use Rattle.c_senses.specs.Sense.{Sense, IsValue, sense_in}
-use Rattle.sense_laws.specs.Sound.{AgreesWith, MeaningFits}
+use Rattle.built_rows.specs.PassedOn.{AgreesWith, MeaningFits}
 use Rattle.run_laws.proofs.Times.{known_at}
 use Rattle.built_rows.specs.Rows.{types_declared, literal_type}
 use Rattle.plain_names.specs.Plain.{PlainNamesFit}

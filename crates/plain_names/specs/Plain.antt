@@ -5,7 +5,7 @@ use Rattle.c_senses.specs.World.{Meaning}
 use Rattle.c_senses.specs.Entities.{is_linked}
 use Rattle.c_senses.specs.Sense.{Sense, sense_in}
 use Rattle.c_senses.specs.Rows.{world_at}
-use Rattle.sense_laws.specs.Sound.{MeaningFits}
+use Rattle.built_rows.specs.PassedOn.{MeaningFits}
 use Rattle.built_rows.specs.Rows.{types_declared}
 
 abbrev pub PlainNamesFit : Type 0

@@ -13,7 +13,7 @@ use Rattle.c_senses.specs.Sense.{Sense}
 use Rattle.c_senses.specs.Right.{Declared as Declares, declared_name, Within, InitialisesOnce}
 use Rattle.unit_parts.specs.declared.declared.Declared.{Declared}
 use Rattle.own_bodies.specs.Own.{HaveOwnBodies}
-use Rattle.text_rows.specs.Texts.{TypesFit}
+use Rattle.parts_initialise.specs.PassedOn.{TypesFit}
 use Rattle.built_parts.specs.Parts.{ArePut}
 
 -- what has an automatic object's initialiser in its body, and is no automatic object itself, is known by a leaf before that object's

@@ -5,7 +5,7 @@ use c_grammar::productions::{ASSIGNMENT, INIT, PARAMETER};
 use c_grammar::terminals::terminal;
 use c_grammar::{Item, Scopes, item};
 use c_lexer::{Token, TokenKind};
-use pta_base::Kind;
+use pta_base::{Kind, OutOfMemory};
 use std::test::Fail;
 
 // The terminals of a plain name and of `__int128`.
@@ -13,23 +13,33 @@ const PLAIN_NAME: u32 = 93;
 
 const WIDE_INTEGER: u32 = 106;
 
+/// Whether a name is a typedef name.
+fn is_type(scopes: &Scopes, name: &[u8]) -> bool {
+    scopes.is_type(name)
+}
+
+/// Declares a name, as a typedef name or not.
+fn declare(scopes: &mut Scopes, name: &[u8], is_type: bool) -> Result<(), OutOfMemory> {
+    scopes.declare(name, is_type)
+}
+
 // An inner declaration hides an outer one until its scope is left (C11 6.2.1p4).
 #[test]
 fn innermost_declaration(rt: HostRuntime) -> Result<(), Fail> {
     let mut scopes = Scopes::new(rt.alloc());
-    assert!(rt; scopes.is_type(b"__builtin_va_list"));
-    assert!(rt; !scopes.is_type(b"T"));
-    scopes.declare(b"T", true)?;
+    assert!(rt; is_type(&scopes, b"__builtin_va_list"));
+    assert!(rt; !is_type(&scopes, b"T"));
+    declare(&mut scopes, b"T", true)?;
     scopes.enter()?;
-    assert!(rt; scopes.is_type(b"T"));
-    scopes.declare(b"T", false)?;
-    scopes.declare(b"__builtin_va_list", false)?;
-    assert!(rt; !scopes.is_type(b"T"));
-    assert!(rt; !scopes.is_type(b"__builtin_va_list"));
+    assert!(rt; is_type(&scopes, b"T"));
+    declare(&mut scopes, b"T", false)?;
+    declare(&mut scopes, b"__builtin_va_list", false)?;
+    assert!(rt; !is_type(&scopes, b"T"));
+    assert!(rt; !is_type(&scopes, b"__builtin_va_list"));
     assert!(rt; scopes.is_nested());
     scopes.leave();
-    assert!(rt; scopes.is_type(b"T"));
-    assert!(rt; scopes.is_type(b"__builtin_va_list"));
+    assert!(rt; is_type(&scopes, b"T"));
+    assert!(rt; is_type(&scopes, b"__builtin_va_list"));
     assert!(rt; !scopes.is_nested());
     Ok(())
 }
@@ -45,20 +55,28 @@ static SPANS: [(TokenKind, u32, u32, u32); 8] = [
     (TokenKind::Character, 40, 47, 105),
 ];
 
+/// The terminal of a token of a kind over a span.
+fn one_terminal(text: &[u8], kind: TokenKind, start: u32, end: u32, scopes: &Scopes) -> u32 {
+    let tokens = [Token {
+        kind,
+        start,
+        end,
+        line: 1,
+        column: 1,
+    }];
+    terminal(text, &tokens, scopes, 0)
+}
+
 // The terminals of a name, of `__int128`, of `u8"a"`, `L"a"`, `'a'`, `'ab'`, `'\x1fa'` and `'\1234'`.
 #[test]
 fn terminals(rt: HostRuntime) {
     let scopes = Scopes::new(rt.alloc());
     let text = b"ab __int128 u8\"a\" L\"a\" 'a' 'ab' '\\x1fa' '\\1234'";
     for (kind, start, end, want) in &SPANS {
-        let tokens = [Token {
-            kind: *kind,
-            start: *start,
-            end: *end,
-            line: 1,
-            column: *start + 1,
-        }];
-        assert_eq!(rt; terminal(text, &tokens, &scopes, 0), *want, "at {start}");
+        assert!(rt;
+            one_terminal(text, *kind, *start, *end, &scopes) == *want,
+            "at {start}"
+        );
     }
 }
 
@@ -70,9 +88,7 @@ fn rows(rt: HostRuntime) {
     assert!(rt; item(INIT, 1).is_none());
     assert!(rt; item(252, 0).is_none());
     let notes = Notes::new(rt.alloc());
-    assert_eq!(rt; chosen(ASSIGNMENT, INIT, 103, 103, &notes), None);
-    assert_eq!(rt;
-        refusal(PARAMETER, PLAIN_NAME, 103),
-        Some(Kind::OldParameters)
-    );
+    assert!(rt; chosen(ASSIGNMENT, INIT, 103, 103, &notes).is_none());
+    let refused = refusal(PARAMETER, PLAIN_NAME, 103);
+    assert!(rt; matches!(refused, Some(Kind::OldParameters)));
 }

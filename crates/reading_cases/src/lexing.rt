@@ -1,50 +1,73 @@
 //! Tokens of texts, as the standard has them.
 use c_lexer::lexer::tokens;
-use c_lexer::{LexFault, TokenKind};
+use c_lexer::{LexFault, Token, TokenKind};
 use std::alloc::Global;
-use std::process::Abort;
 use std::test::Fail;
 
-/// Asserts that a text is one token of a kind.
-fn expect_token(rt: &impl Abort, alloc: Global, text: &[u8], kind: TokenKind) {
-    match tokens(alloc, text) {
-        Ok(found) => {
-            assert_eq!(rt; found.list.len(), 2, "{text:?}");
-            assert_eq!(rt; found.list[0].kind, kind, "{text:?}");
-            assert_eq!(rt; found.list[0].end as usize, text.len(), "{text:?}");
-            assert_eq!(rt; found.list[1].kind, TokenKind::End, "{text:?}");
-        }
-        Err(fault) => panic!(rt; "{text:?}: {fault:?}"),
+/// Whether a token is of a kind and ends there.
+fn ends_at(token: &Token, kind: TokenKind, end: usize) -> bool {
+    token.kind == kind && token.end as usize == end
+}
+
+/// Whether a list is one token of a kind over so many bytes, and the end.
+fn is_one(list: &[Token], kind: TokenKind, length: usize) -> bool {
+    match list {
+        [token, end] => ends_at(token, kind, length) && end.kind == TokenKind::End,
+        _ => false,
     }
 }
 
-/// Asserts that a text has a first fault.
-fn expect_fault(rt: &impl Abort, alloc: Global, text: &[u8], wanted: LexFault) {
+/// Whether a text is one token of a kind.
+fn is_token(alloc: Global, text: &[u8], kind: TokenKind) -> bool {
     match tokens(alloc, text) {
-        Ok(_) => panic!(rt; "{text:?} has no fault"),
-        Err(fault) => assert_eq!(rt; fault, wanted, "{text:?}"),
+        Ok(found) => is_one(found.list.as_slice(), kind, text.len()),
+        Err(_) => false,
+    }
+}
+
+/// Whether a text is one sign; `#` and `##`, the last two positions, would begin a dropped line here.
+fn is_sign(alloc: Global, text: &[u8], position: u8) -> bool {
+    position >= 46 || is_token(alloc, text, TokenKind::Punctuator(position))
+}
+
+/// Whether a text has that first fault.
+fn has_fault(alloc: Global, text: &[u8], wanted: LexFault) -> bool {
+    match tokens(alloc, text) {
+        Ok(_) => false,
+        Err(fault) => fault == wanted,
     }
 }
 
 /// A kind of token with its span, its line and its column.
 type Wanted = (TokenKind, u32, u32, u32, u32);
 
-/// Asserts that a text has these tokens.
-fn expect_tokens(rt: &impl Abort, alloc: Global, text: &[u8], wanted: &[Wanted]) {
-    match tokens(alloc, text) {
-        Ok(found) => {
-            assert_eq!(rt; found.list.len(), wanted.len(), "{text:?}");
-            for (token, wanted) in found.list.iter().zip(wanted) {
-                assert_eq!(rt; token.kind, wanted.0, "{text:?}");
-                assert_eq!(rt; (token.start, token.end), (wanted.1, wanted.2), "{text:?}");
-                assert_eq!(rt;
-                    (token.line, token.column),
-                    (wanted.3, wanted.4),
-                    "{text:?}"
-                );
-            }
+/// Whether a token is the one that is wanted.
+fn is_wanted(token: &Token, wanted: &Wanted) -> bool {
+    *token
+        == Token {
+            kind: wanted.0,
+            start: wanted.1,
+            end: wanted.2,
+            line: wanted.3,
+            column: wanted.4,
         }
-        Err(fault) => panic!(rt; "{text:?}: {fault:?}"),
+}
+
+/// Whether the tokens are the ones that are wanted.
+fn are_wanted(list: &[Token], wanted: &[Wanted]) -> bool {
+    for (token, want) in list.iter().zip(wanted) {
+        if !is_wanted(token, want) {
+            return false;
+        }
+    }
+    list.len() == wanted.len()
+}
+
+/// Whether a text has these tokens.
+fn has_tokens(alloc: Global, text: &[u8], wanted: &[Wanted]) -> bool {
+    match tokens(alloc, text) {
+        Ok(found) => are_wanted(found.list.as_slice(), wanted),
+        Err(_) => false,
     }
 }
 
@@ -309,25 +332,33 @@ static FAULTS: [(&[u8], LexFault); 52] = [
 ];
 
 #[test]
-fn each_text_is_one_token(rt: HostRuntime) {
+fn each_word_is_one_token(rt: HostRuntime) {
     for (text, position) in &WORDS {
-        expect_token(&rt, rt.alloc(), text, TokenKind::Keyword(*position));
+        assert!(rt;
+            is_token(rt.alloc(), text, TokenKind::Keyword(*position)),
+            "{text:?}"
+        );
     }
-    // `#` and `##`, the last two positions, would begin a dropped line here.
+}
+
+#[test]
+fn each_sign_is_one_token(rt: HostRuntime) {
     for (text, position) in &SIGNS {
-        if *position < 46 {
-            expect_token(&rt, rt.alloc(), text, TokenKind::Punctuator(*position));
-        }
+        assert!(rt; is_sign(rt.alloc(), text, *position), "{text:?}");
     }
+}
+
+#[test]
+fn each_constant_is_one_token(rt: HostRuntime) {
     for (text, kind) in &CONSTANTS {
-        expect_token(&rt, rt.alloc(), text, *kind);
+        assert!(rt; is_token(rt.alloc(), text, *kind), "{text:?}");
     }
 }
 
 #[test]
 fn each_fault_has_its_place(rt: HostRuntime) {
     for (text, fault) in &FAULTS {
-        expect_fault(&rt, rt.alloc(), text, *fault);
+        assert!(rt; has_fault(rt.alloc(), text, *fault), "{text:?}");
     }
 }
 
@@ -383,20 +414,17 @@ static TOKENS: [(&[u8], &[Wanted]); 4] = [
 #[test]
 fn each_text_has_its_tokens(rt: HostRuntime) {
     for (text, wanted) in &TOKENS {
-        expect_tokens(&rt, rt.alloc(), text, wanted);
+        assert!(rt; has_tokens(rt.alloc(), text, wanted), "{text:?}");
     }
 }
 
+static LONGEST: [Wanted; 1] = [(TokenKind::End, 16777216, 16777216, 1, 16777217)];
+
 #[test]
 fn the_longest_text_has_2_to_the_24_bytes(rt: HostRuntime) -> Result<(), Fail> {
-    let mut text = vec![in rt.alloc(); b' '; 1 << 24]?;
-    expect_tokens(
-        &rt,
-        rt.alloc(),
-        text.as_slice(),
-        &[(TokenKind::End, 1 << 24, 1 << 24, 1, (1 << 24) + 1)],
-    );
+    let mut text = vec![in rt.alloc(); b' '; 16777216]?;
+    assert!(rt; has_tokens(rt.alloc(), text.as_slice(), &LONGEST));
     text.push(b' ')?;
-    expect_fault(&rt, rt.alloc(), text.as_slice(), LexFault::TooLong);
+    assert!(rt; has_fault(rt.alloc(), text.as_slice(), LexFault::TooLong));
     Ok(())
 }

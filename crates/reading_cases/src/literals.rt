@@ -4,8 +4,6 @@ use c_literals::{
     ConstantType, character_value, integer_constant, is_in_range, is_narrow, push_string,
 };
 use std::alloc::Global;
-use std::process::Abort;
-use std::test::Fail;
 
 static INTEGERS: [(&[u8], u64, ConstantType); 52] = [
     (b"0", 0, ConstantType::Int),
@@ -134,18 +132,20 @@ static INTEGERS: [(&[u8], u64, ConstantType); 52] = [
     ),
 ];
 
-#[test]
-fn integers(rt: HostRuntime) -> Result<(), Fail> {
-    for wanted in &INTEGERS {
-        let (constant, value, ty) = *wanted;
-        if !is_in_range(constant) {
-            panic!(&rt; "{constant:?} is out of range");
-        }
-        let found = integer_constant(constant);
-        assert_eq!(&rt; found.value, value, "{constant:?}");
-        assert_eq!(&rt; found.ty, ty, "{constant:?}");
+/// Whether a constant is in range and has that value and type.
+fn is_constant(constant: &[u8], value: u64, ty: ConstantType) -> bool {
+    if !is_in_range(constant) {
+        return false;
     }
-    Ok(())
+    let found = integer_constant(constant);
+    found.value == value && found.ty == ty
+}
+
+#[test]
+fn integers(rt: HostRuntime) {
+    for (constant, value, ty) in &INTEGERS {
+        assert!(rt; is_constant(constant, *value, *ty), "{constant:?}");
+    }
 }
 
 static RANGES: [(&[u8], bool); 6] = [
@@ -165,14 +165,17 @@ static NARROW: [(&[u8], bool); 4] = [
 ];
 
 #[test]
-fn ranges(rt: HostRuntime) -> Result<(), Fail> {
+fn ranges(rt: HostRuntime) {
     for (constant, within) in &RANGES {
-        assert_eq!(&rt; is_in_range(constant), *within, "{constant:?}");
+        assert!(rt; is_in_range(constant) == *within, "{constant:?}");
     }
+}
+
+#[test]
+fn narrow(rt: HostRuntime) {
     for (piece, narrow) in &NARROW {
-        assert_eq!(&rt; is_narrow(piece), *narrow, "{piece:?}");
+        assert!(rt; is_narrow(piece) == *narrow, "{piece:?}");
     }
-    Ok(())
 }
 
 static CHARACTERS: [(&[u8], i8); 32] = [
@@ -211,27 +214,32 @@ static CHARACTERS: [(&[u8], i8); 32] = [
 ];
 
 #[test]
-fn characters(rt: HostRuntime) -> Result<(), Fail> {
-    for wanted in &CHARACTERS {
-        let (constant, value) = *wanted;
-        assert_eq!(&rt; character_value(constant), value, "{constant:?}");
+fn characters(rt: HostRuntime) {
+    for (constant, value) in &CHARACTERS {
+        assert!(rt; character_value(constant) == *value, "{constant:?}");
     }
-    Ok(())
 }
 
-/// Asserts that string literals side by side stand for these bytes.
-fn expect_string(rt: &impl Abort, alloc: Global, pieces: &[&[u8]], bytes: &[u8]) {
+/// Adds what a string literal stands for, where it is narrow and there is memory.
+fn is_pushed(text: &mut Vec<u8>, piece: &[u8]) -> bool {
+    if !is_narrow(piece) {
+        return false;
+    }
+    match push_string(text, piece) {
+        Ok(()) => true,
+        Err(_) => false,
+    }
+}
+
+/// Whether string literals side by side stand for these bytes.
+fn is_string(alloc: Global, pieces: &[&[u8]], bytes: &[u8]) -> bool {
     let mut text = Vec::new(alloc);
     for piece in pieces {
-        if !is_narrow(piece) {
-            panic!(rt; "{piece:?} is wide");
-        }
-        match push_string(&mut text, piece) {
-            Ok(()) => {}
-            Err(_) => panic!(rt; "no memory"),
+        if !is_pushed(&mut text, piece) {
+            return false;
         }
     }
-    assert_eq!(rt; text.as_slice(), bytes, "{pieces:?}");
+    text.as_slice() == bytes
 }
 
 static STRINGS: [(&[&[u8]], &[u8]); 31] = [
@@ -275,9 +283,8 @@ static STRINGS: [(&[&[u8]], &[u8]); 31] = [
 ];
 
 #[test]
-fn strings(rt: HostRuntime) -> Result<(), Fail> {
+fn strings(rt: HostRuntime) {
     for (pieces, bytes) in &STRINGS {
-        expect_string(&rt, rt.alloc(), pieces, bytes);
+        assert!(rt; is_string(rt.alloc(), pieces, bytes), "{pieces:?}");
     }
-    Ok(())
 }

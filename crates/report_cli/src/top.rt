@@ -218,16 +218,16 @@ pub fn analyse<R: Threads + Sync, U: Units, O: Sink, E: Sink, G: Gate + Sync>(
         × Grows (O.written out.old) (O.written out.new) text × IsKept system kept.new) }
     ensures unsolved { result ≢ 0 → kept.new ≡ None }
 
-    // Where the words are right, each text is that of a unit in which no name is undeclared or redeclared, and the outside doesn't fail, the
-    // answer is a report or answers, or the first refusal of such texts by their rows, by linking, by a limit or by the script.
+    // Where the words are right, each text is that of a unit in which no name is undeclared or redeclared, and the outside doesn't fail,
+    // the answer is a report or answers, or the first refusal of such texts by their rows, by linking, by a limit or by the script.
     ensures complete { IfSome (told_for (U.text units.old) (texts_of words.now)) (λ told. AreRight (texts_of words.now)
         → AreReadAlone told.units
         → ((name : List ℕ) → Contains (names_read (texts_of words.now)) name → IsSteady (U.faults units.old name) (U.faults units.new name))
         → IsSteady (O.faults out.old) (O.faults out.new)
         → (result ≡ 0) ⊎ ((result ≡ 9) ⊎ ((answer : Answer) × RefusesToldRead told answer × (result ≡ answer.status)))) }
 
-    // Where the words are right, each text has a right unit, and the outside doesn't fail, the answer is a report or answers, or the refusal
-    // of all texts together, by linking or by a limit, or that of the script; no text is refused for itself.
+    // Where the words are right, each text has a right unit, and the outside doesn't fail, the answer is a report or answers, or the
+    // refusal of all texts together, by linking or by a limit, or that of the script; no text is refused for itself.
     ensures right { IfSome (told_for (U.text units.old) (texts_of words.now)) (λ told. AreRight (texts_of words.now)
         → HaveRightUnits 0 told.units
         → ((name : List ℕ) → Contains (names_read (texts_of words.now)) name → IsSteady (U.faults units.old name) (U.faults units.new name))

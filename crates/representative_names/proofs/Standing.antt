@@ -15,10 +15,10 @@ use Rattle.c_senses.specs.Names.{source_of, numbered, ordinary_at, has_linkage}
 use Rattle.c_senses.specs.Entities.{is_linked, is_internal, is_internal_of, internal_among, keep, first_of, entity_of, linkage_of}
 use Rattle.c_senses.specs.Right.{of_internal, is_definition_at, is_tentative, is_declaring, representative}
 use Rattle.c_senses.specs.Sense.{Sense, sense_in}
-use Rattle.linkage_laws.proofs.Origins.{HasOrigin, origin, origins}
-use Rattle.linkage_laws.proofs.Seen.{nodes}
-use Rattle.linkage_laws.proofs.Linked.{Tree}
-use Rattle.linkage_laws.proofs.Reading.{tree_is}
+use Rattle.function_definitions.proofs.PassedOn.{HasOrigin, origin, origins}
+use Rattle.function_definitions.proofs.PassedOn.{nodes}
+use Rattle.function_definitions.proofs.PassedOn.{Tree}
+use Rattle.function_definitions.proofs.PassedOn.{tree_is}
 use Rattle.function_definitions.proofs.Declaring.{sign_is}
 use Rattle.grown_parts.proofs.Reading.{units_bring}
 use Rattle.name_order.proofs.Ordered.{units_ordered}

@@ -18,7 +18,7 @@ use Rattle.family_laws.specs.Families.{IsChild}
 use Rattle.standing_laws.specs.Standing.{IsGrown}
 use Rattle.standing_laws.proofs.Climbing.{child_inside}
 use Rattle.standing_laws.proofs.Descending.{F, W, row_there, sense_before, child_before, same_given}
-use Rattle.owner_laws.proofs.Whole.{grown_of}
+use Rattle.held_parts.proofs.PassedOn.{grown_of}
 use Rattle.function_definitions.proofs.Whole.{declarator_gives}
 use Rattle.held_parts.specs.Held.{StandsIn, InRun, IsHeld}
 use Rattle.run_initialisers.specs.Run.{UnitsRunInitialisers}

@@ -16,3 +16,4 @@ pub mod Rows
 pub mod Growing
 pub mod Completing
 pub mod All
+pub mod PassedOn

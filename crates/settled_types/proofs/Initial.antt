@@ -14,7 +14,7 @@ use Rattle.c_grammar.specs.Reads.{leaf}
 use Rattle.c_senses.specs.Tree.{Source, is_a, is_number, sign_of_kind, kind_of_token, token_of, has_sign}
 use Rattle.c_senses.specs.Entities.{behind, without_asm, initialiser_in}
 use Rattle.c_senses.specs.Sense.{Sense}
-use Rattle.function_definitions.proofs.Tokens.{sign_taken}
+use Rattle.own_initialisers.proofs.PassedOn.{sign_taken}
 use Rattle.sign_parts.specs.Parts.{Mark, leaf_mark, Takes}
 use Rattle.own_initialisers.proofs.Parts.{MaybeInit, Absent, Present, MaybeAsm, NoAsm, Asm, Further, Over, Next, IsRestList, Begins}
 use Rattle.own_initialisers.proofs.Searching.{head_in, next_in, apart, Reads, StandsAs, is_as, sign_is}

@@ -1,2 +1,3 @@
 pub mod Initial
 pub mod Settling
+pub mod PassedOn

@@ -27,17 +27,17 @@ use Rattle.standing_laws.specs.Standing.{IsGrown}
 use Rattle.standing_laws.proofs.Climbing.{in_list, parent_is, parent_holds}
 use Rattle.family_laws.specs.Families.{IsChild}
 use Rattle.grown_parts.specs.Parts.{IsBrought}
-use Rattle.run_laws.proofs.Times.{known_at, world_of}
-use Rattle.run_laws.proofs.Running.{last_found}
+use Rattle.fixed_laws.proofs.PassedOn.{known_at, world_of}
+use Rattle.fixed_laws.proofs.PassedOn.{last_found}
 use Rattle.definition_laws.specs.Definitions.{is_definition, InDefinition}
 use Rattle.linkage_laws.specs.Linked.{StandsLinked}
 use Rattle.linkage_laws.proofs.Seen.{list_in}
 use Rattle.linkage_laws.proofs.Linked.{Tree, linked_named, declaration_is}
 use Rattle.linkage_laws.proofs.Unlinked.{IsInternal, stands_for}
 use Rattle.once_nodes.proofs.Rooted.{initial_of, found_where}
-use Rattle.initialiser_laws.specs.Initialisers.{InitialisersAreOf}
-use Rattle.owner_laws.specs.Owners.{LeftsStand}
-use Rattle.owner_laws.proofs.Unnamed.{literal_unnamed}
+use Rattle.fixed_laws.specs.PassedOn.{InitialisersAreOf}
+use Rattle.left_laws.specs.PassedOn.{LeftsStand}
+use Rattle.left_laws.proofs.PassedOn.{literal_unnamed}
 use Rattle.fixed_laws.specs.Fixed.{LiteralsStatic}
 use Rattle.fixed_laws.proofs.Declarators.{declarators_are}
 use Rattle.static_literals.proofs.Chains.{is_top, Chained, top, up, chain_found, rest_chained, no_definition}

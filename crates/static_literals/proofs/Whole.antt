@@ -1,8 +1,8 @@
 -- Compound literals outside of blocks in units that are built of texts.
 use Rattle.c_senses.specs.Names.{source_of, numbered}
-use Rattle.initialiser_laws.proofs.Found.{initialisers_found}
+use Rattle.fixed_laws.proofs.PassedOn.{initialisers_found}
 use Rattle.grown_parts.proofs.Reading.{units_bring}
-use Rattle.body_returns.proofs.Built.{grown, placed}
+use Rattle.fixed_laws.proofs.PassedOn.{grown, placed}
 use Rattle.left_laws.proofs.Left.{lefts_stand}
 use Rattle.linkage_laws.proofs.Linked.{stands_linked}
 use Rattle.linkage_laws.proofs.Reading.{tree_is}

@@ -1,3 +1,4 @@
 pub mod Laws
 pub mod Untaken
 pub mod Words
+pub mod PassedOn

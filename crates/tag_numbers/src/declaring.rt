@@ -20,7 +20,7 @@ type Places = BTreeMap<(u32, u32), u32>;
 
 /// What each leaf of a tag means: by uses the leaf that declares it, and by that one the first leaf in its scope.
 #[derive(Drop)]
-pub(crate) struct Declaring {
+pub struct Declaring {
     pub(crate) uses: LeafMap,
     pub(crate) firsts: LeafMap,
 }
@@ -68,7 +68,7 @@ fn firsts(alloc: Global, tags: &[Declared]) -> Result<LeafMap, OutOfMemory>
 }
 
 /// What each leaf of a tag means, by what its names are bound to.
-pub(crate) fn meanings(alloc: Global, bound: &Bound) -> Result<Declaring, OutOfMemory>
+pub fn meanings(alloc: Global, bound: &Bound) -> Result<Declaring, OutOfMemory>
     ensures { IfOk result (λ d. (s : Source) → s.uses ≡ bound.now.uses.items → s.declared.tags ≡ bound.now.tags.items → Declares s d) }
 {
     let uses = LeafMap::of_pairs(alloc, bound.uses.as_slice())?;
@@ -98,7 +98,7 @@ fn tag_leaf(syntax: &Syntax, node: u32) -> Option<u32>
 }
 
 /// The node by which the tag of a specifier is known: that of its first declaration, or the specifier itself where it has none.
-pub(crate) fn tag_declared(syntax: &Syntax, declaring: &Declaring, node: u32) -> u32
+pub fn tag_declared(syntax: &Syntax, declaring: &Declaring, node: u32) -> u32
     ensures { (uses : List (ℕ × ℕ)) → Declares (source_in syntax.now uses) declaring.now → result ≡ spec.tag_declared (source_in syntax.now uses) node }
 {
     match tag_leaf(syntax, node) {

@@ -6,4 +6,5 @@ mod numbers;
 mod seen;
 mod tags;
 
+pub use declaring::{Declaring, meanings, tag_declared};
 pub use tags::{Numbered, Tags, number_tags};

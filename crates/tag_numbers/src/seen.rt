@@ -222,8 +222,8 @@ fn keep_seen(
     Ok(())
 }
 
-/// What is known of each specifier's tag, by what each node is. A tag that is known by a node past the tree, which no bound unit has, counts
-/// as want of memory.
+/// What is known of each specifier's tag, by what each node is. A tag that is known by a node past the tree, which no bound unit has,
+/// counts as want of memory.
 pub(crate) fn seen_tags(
     alloc: Global,
     syntax: &Syntax,

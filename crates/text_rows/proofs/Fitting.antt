@@ -25,15 +25,15 @@ use Rattle.parsed_laws.proofs.Constants.{constants_fit}
 use Rattle.statement_laws.proofs.Grammar.{statements_parsed}
 use Rattle.family_laws.proofs.Reading.{units_families}
 use Rattle.nesting_laws.proofs.Nesting.{units_nest}
-use Rattle.standing_laws.specs.Standing.{IsGrown}
+use Rattle.literal_types.specs.PassedOn.{IsGrown}
 use Rattle.grown_parts.specs.Parts.{IsBrought}
 use Rattle.grown_parts.proofs.Reading.{units_bring}
-use Rattle.run_laws.proofs.Running.{declarations_run}
+use Rattle.literal_types.proofs.PassedOn.{declarations_run}
 use Rattle.initial_paths.specs.Within.{PathsStand}
 use Rattle.initial_paths.proofs.Standing.{initials_within}
 use Rattle.literal_types.proofs.Fitting.{literals_fit}
-use Rattle.built_rows.specs.Rows.{types_declared}
-use Rattle.built_rows.proofs.Placed.{rows_asked}
+use Rattle.literal_types.specs.PassedOn.{types_declared}
+use Rattle.literal_types.proofs.PassedOn.{rows_asked}
 use Rattle.text_rows.specs.Texts.{TypesFit, RowsOfTexts}
 
 pub grown : (tokens : Tokens) (unit : ℕ) (tree : Tree) (tag_number : ℕ → ℕ) → IsTokens tokens.text.now tokens.list.items → IsUnit tokens unit tree → IsGrown (numbered tag_number (source_of tokens tree))

@@ -19,8 +19,8 @@ use Rattle.sense_laws.specs.Sound.{MeaningFits}
 use Rattle.sense_laws.specs.Asked.{FirstFits}
 use Rattle.placed_laws.proofs.Climbing.{Grown}
 use Rattle.placed_laws.proofs.Growing.{grown_read}
-use Rattle.standing_laws.specs.Standing.{IsGrown}
-use Rattle.standing_laws.proofs.Climbing.{in_list, parent_is}
+use Rattle.literal_types.specs.PassedOn.{IsGrown}
+use Rattle.literal_types.proofs.PassedOn.{in_list, parent_is}
 use Rattle.grown_parts.specs.Parts.{IsBrought}
 use Rattle.grown_parts.proofs.Reading.{units_bring}
 use Rattle.name_order.specs.Order.{IsNameOf, Own, Inner, Declares, Enumerates, Names, IsOrdered}
@@ -28,7 +28,7 @@ use Rattle.name_order.proofs.Ordered.{units_ordered}
 use Rattle.linked_names.proofs.PassedOn.{SomeFits, no_value, plain_names_fit}
 use Rattle.linked_names.proofs.PassedOn.{objects_typed}
 use Rattle.linked_names.proofs.Fitting.{external_names_fit}
-use Rattle.built_rows.specs.Rows.{types_declared}
+use Rattle.literal_types.specs.PassedOn.{types_declared}
 use Rattle.text_rows.specs.Texts.{TypesFit}
 use Rattle.text_rows.specs.Linked.{LinkedFit, RowsOfLinkedTexts}
 use Rattle.text_rows.proofs.Fitting.{grown, rows_of_texts}

@@ -23,7 +23,7 @@ use Rattle.c_senses.specs.Sense.{Sense, sense_in}
 use Rattle.c_senses.specs.Rows.{world_at}
 use Rattle.sense_laws.specs.Sound.{MeaningFits}
 use Rattle.built_units.specs.Built.{IsBuilt}
-use Rattle.built_rows.specs.Rows.{types_declared}
+use Rattle.literal_types.specs.PassedOn.{types_declared}
 
 -- the type that an internal name means agrees with its entity's, and so does that of an open array within its own initialiser, whose length
 -- an earlier declaration has; an open array's initialiser is the one of its name; and an internal object that is initialised has the type that

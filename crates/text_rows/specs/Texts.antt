@@ -21,7 +21,7 @@ use Rattle.c_senses.specs.Sense.{Sense, sense_in}
 use Rattle.c_senses.specs.Rows.{world_at}
 use Rattle.sense_laws.specs.Asked.{FirstFits}
 use Rattle.built_units.specs.Built.{IsBuilt}
-use Rattle.built_rows.specs.Rows.{types_declared}
+use Rattle.literal_types.specs.PassedOn.{types_declared}
 
 -- the type that a name means at a primary agrees with its entity's, and an object that is initialised has the type of its declarator, with
 -- the length that the initialiser gives it

@@ -1,7 +1,11 @@
 -- Lists that ascend.
-use Rattle.std.proofs.Common.{arith, ◌≡◌, ℕ, zero, suc, ◌+◌, ◌-◌, ◌<◌, ◌≤◌, Bool, true, false, ◌&&◌, List, [], ◌∷◌, length, drop, refl, sym, ap, ◌∙◌}
+use Rattle.std.proofs.Common.{arith, ◌≡◌, ℕ, zero, suc, ◌+◌, ◌-◌, ◌<◌, ◌≤◌, Bool, true, false, ◌&&◌, List, [], ◌∷◌, Some, slice_get, length, drop, get_or, refl, sym, ap, ◌∙◌, ⊎_elim}
 use Rattle.std.specs.Prelude.{nat_lt, slice_index}
+use Rattle.std.proofs.lemmas.Bool.{cases_lt}
 use Rattle.std.proofs.lemmas.Bool.Decides.{nat_tests}
+use Rattle.std.proofs.lemmas.Option.{slice_get_read}
+use Rattle.c_grammar.specs.declared.trees.SyntaxNode.{SyntaxNode}
+use Rattle.c_senses.specs.Tree.{children_of}
 use Rattle.tree_reads.specs.Order.{ascends}
 
 less_is : (x y : ℕ) → x < y → nat_lt x y ≡ true
@@ -63,6 +67,21 @@ ascends_end nodes zero low h = absurd (omega arith)
 ascends_end nodes (suc k) low h =
     let e : suc k - 1 ≡ k = omega arith in
     ap (λ (j : ℕ). ascends (drop j nodes)) e ∙ end_suc nodes k h
+
+-- the children of the nodes so far ascend, and with them those of one node more
+pub more_ascend : (nodes : List SyntaxNode) (node : SyntaxNode) (i : ℕ) (before after : Bool) (children : List ℕ) → i < length nodes → node ≡ get_or nodes i node → children ≡ node.children.items
+    → (before ≡ true → (k : ℕ) → k < i → ascends (children_of (slice_get nodes k)) ≡ true)
+    → after ≡ (before && ascends children)
+    → after ≡ true → (k : ℕ) → k < i + 1 → ascends (children_of (slice_get nodes k)) ≡ true
+more_ascend nodes node i before after children within there list so_far here holds k below =
+    let both : (before && ascends children) ≡ true = sym here ∙ holds in
+    ⊎_elim
+    (λ l. so_far (and_left before (ascends children) both) k l)
+    (λ l.
+    let e : k ≡ i = omega (arith, l, below) in
+    let s : slice_get nodes i ≡ Some node = slice_get_read nodes (length nodes) i node refl within there in
+    ap (λ (j : ℕ). ascends (children_of (slice_get nodes j))) e ∙ (ap (λ o. ascends (children_of o)) s ∙ (ap ascends (sym list) ∙ and_right before (ascends children) both)))
+    (cases_lt k i)
 
 -- ---- what stands before and behind a place of an ascending list
 

@@ -3,26 +3,13 @@ ghost use Rattle.std.specs.Prelude.{◌≡◌, ◌<◌, ◌≤◌, ◌-◌, true
 ghost use Rattle.tree_reads.specs.Order.{ascends, AllAscend};
 
 use crate::syntax::Syntax;
-use c_grammar::SyntaxNode;
 
 // Whether each number is above the one before.
-fn is_ascending(list: &[u32]) -> bool
+pub(crate) fn is_ascending(list: &[u32]) -> bool
     ensures { result ≡ ascends list.now }
 {
     for i in 1..list.len() {
         if list[i - 1] >= list[i] {
-            return false;
-        }
-    }
-    true
-}
-
-// Whether the children of each node ascend.
-pub(crate) fn all_ascend(nodes: &[SyntaxNode]) -> bool
-    ensures { result ≡ true → AllAscend nodes.now }
-{
-    for i in 0..nodes.len() {
-        if !is_ascending(nodes[i].children.as_slice()) {
             return false;
         }
     }

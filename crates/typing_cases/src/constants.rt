@@ -369,6 +369,11 @@ fn long_sum(alloc: Global, terms: u32) -> Result<Option<Result<i128, ConstFault>
     }
 }
 
+// Whether that is found at the last node of an expression.
+fn gives(alloc: Global, words: &[Word], wanted: Result<i128, ConstFault>) -> Result<bool, Fail> {
+    Ok(answer(alloc, words)? == Some(wanted))
+}
+
 #[test]
 fn operators(rt: HostRuntime) -> Result<(), Fail> {
     let i = Word::Int;
@@ -413,46 +418,56 @@ fn operators(rt: HostRuntime) -> Result<(), Fail> {
         ([i(-1), i(1), Word::Two(Op::Less)], Ok(1)),
     ];
     for (words, value) in rows {
-        assert_eq!(rt; answer(rt.alloc(), words.as_slice())?, Some(value));
+        assert!(rt; gives(rt.alloc(), words.as_slice(), value)?);
     }
     Ok(())
 }
 
-// -2147483647 - 1, 0 ? 1 / 0 : 2, 1 || n and ~5u.
+// -2147483647 - 1.
+static LEAST: [Word; 4] = [
+    Word::Int(2147483647),
+    Word::One(Op::Minus),
+    Word::Int(1),
+    Word::Two(Op::Minus),
+];
+
+// 0 ? 1 / 0 : 2.
+static BRANCH: [Word; 6] = [
+    Word::Int(0),
+    Word::Int(1),
+    Word::Int(0),
+    Word::Two(Op::Divide),
+    Word::Int(2),
+    Word::Choice,
+];
+
+// 1 || n.
+static EITHER: [Word; 7] = [
+    Word::Int(1),
+    Word::Int(1),
+    Word::Variable,
+    Word::Int(1),
+    Word::Int(0),
+    Word::Choice,
+    Word::Choice,
+];
+
+// ~5u.
+static BITS: [Word; 2] = [Word::Unsigned(5), Word::One(Op::Complement)];
+
 #[test]
 fn expressions(rt: HostRuntime) -> Result<(), Fail> {
-    let i = Word::Int;
-    let least = [
-        i(2147483647),
-        Word::One(Op::Minus),
-        i(1),
-        Word::Two(Op::Minus),
-    ];
-    assert_eq!(rt; answer(rt.alloc(), &least)?, Some(Ok(-2147483648)));
-    let branch = [i(0), i(1), i(0), Word::Two(Op::Divide), i(2), Word::Choice];
-    assert_eq!(rt; answer(rt.alloc(), &branch)?, Some(Ok(2)));
-    let either = [
-        i(1),
-        i(1),
-        Word::Variable,
-        i(1),
-        i(0),
-        Word::Choice,
-        Word::Choice,
-    ];
-    assert_eq!(rt;
-        answer(rt.alloc(), &either)?,
-        Some(Err(ConstFault::NotConstant(2)))
-    );
-    let bits = [Word::Unsigned(5), Word::One(Op::Complement)];
-    assert_eq!(rt; answer(rt.alloc(), &bits)?, Some(Ok(4294967290)));
+    assert!(rt; gives(rt.alloc(), &LEAST, Ok(-2147483648))?);
+    assert!(rt; gives(rt.alloc(), &BRANCH, Ok(2))?);
+    assert!(rt; gives(rt.alloc(), &EITHER, Err(ConstFault::NotConstant(2)))?);
+    assert!(rt; gives(rt.alloc(), &BITS, Ok(4294967290))?);
     Ok(())
 }
 
 // A sum of many terms is deep on its left.
 #[test]
 fn sums(rt: HostRuntime) -> Result<(), Fail> {
-    assert_eq!(rt; long_sum(rt.alloc(), 100000)?, Some(Ok(100000)));
+    assert!(rt; long_sum(rt.alloc(), 100000)? == Some(Ok(100000)));
     Ok(())
 }
 
@@ -469,8 +484,8 @@ fn conversions(rt: HostRuntime) {
         rank: 2,
         signed,
     };
-    assert_eq!(rt; convert(200, int(), byte(true)), -56);
-    assert_eq!(rt; convert(-1, int(), byte(false)), 255);
-    assert_eq!(rt; convert(256, int(), Term::Bool), 1);
-    assert_eq!(rt; convert(256, int(), byte(false)), 0);
+    assert!(rt; convert(200, int(), byte(true)) == -56);
+    assert!(rt; convert(-1, int(), byte(false)) == 255);
+    assert!(rt; convert(256, int(), Term::Bool) == 1);
+    assert!(rt; convert(256, int(), byte(false)) == 0);
 }

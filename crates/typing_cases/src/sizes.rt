@@ -187,33 +187,41 @@ fn push_member(members: &mut Vec<MemberTerm>, ty: TypeId) -> Result<(), OutOfMem
     }
 }
 
+// Whether a text spells a type of that size with so many nodes.
+fn measures(alloc: Global, text: &[u8], size: u64, nodes: u32) -> bool {
+    let mut builder = Builder::new(alloc);
+    match spelled(&mut builder, text) {
+        Ok(Some(id)) => {
+            builder.table.size_of(id) == Some(size) && builder.table.nodes(id) == Some(nodes)
+        }
+        _ => false,
+    }
+}
+
+static SIZES: [(&str, u64, u32); 15] = [
+    ("{cc*}", 16, 3),
+    ("{csc}", 6, 4),
+    ("{ic}", 8, 3),
+    ("{clc}", 24, 4),
+    ("{{csc}c}", 8, 6),
+    ("{c{cc*}s}", 32, 6),
+    ("{c5i}", 12, 3),
+    ("{{csc}3l}", 32, 6),
+    ("[c9i]", 12, 1),
+    ("{c[c9i]}", 16, 3),
+    ("{sdc}", 48, 4),
+    ("{bli}", 24, 4),
+    ("{c{c{cc*}s}2c}", 80, 9),
+    ("{c*i23c}", 40, 4),
+    ("i23", 24, 1),
+];
+
 #[test]
 fn sizes_and_nodes(rt: HostRuntime) {
-    let rows: [(&str, u64, u32); 15] = [
-        ("{cc*}", 16, 3),
-        ("{csc}", 6, 4),
-        ("{ic}", 8, 3),
-        ("{clc}", 24, 4),
-        ("{{csc}c}", 8, 6),
-        ("{c{cc*}s}", 32, 6),
-        ("{c5i}", 12, 3),
-        ("{{csc}3l}", 32, 6),
-        ("[c9i]", 12, 1),
-        ("{c[c9i]}", 16, 3),
-        ("{sdc}", 48, 4),
-        ("{bli}", 24, 4),
-        ("{c{c{cc*}s}2c}", 80, 9),
-        ("{c*i23c}", 40, 4),
-        ("i23", 24, 1),
-    ];
-    for (text, size, nodes) in rows {
-        let mut builder = Builder::new(rt.alloc());
-        match spelled(&mut builder, text.as_bytes()) {
-            Ok(Some(id)) => {
-                assert_eq!(rt; builder.table.size_of(id), Some(size), "{text}");
-                assert_eq!(rt; builder.table.nodes(id), Some(nodes), "{text}");
-            }
-            _ => assert!(rt; false, "{text}"),
-        }
+    for (text, size, nodes) in &SIZES {
+        assert!(rt;
+            measures(rt.alloc(), text.as_bytes(), *size, *nodes),
+            "{text}"
+        );
     }
 }

@@ -10,7 +10,7 @@ use std::alloc::Global;
 use std::test::Fail;
 
 /// What is wrong with the unit.
-#[derive(Clone, Copy, Debug, PartialEq, Eq)]
+#[derive(Clone, Copy)]
 enum Fault {
     Nothing,
     TypeOfChild,
@@ -55,13 +55,16 @@ fn types_of(alloc: Global, fault: Fault) -> Result<TypeTable, OutOfMemory> {
         rank: 5,
         signed: true,
     })?;
-    let form = if fault == Fault::NoListVoid {
-        Form::Unspecified
-    } else {
-        Form::Fixed
-    };
-    add_function(alloc, &mut types, int, form)?;
+    add_function(alloc, &mut types, int, form_of(fault))?;
     Ok(types)
+}
+
+// The form of the function's list of parameters.
+fn form_of(fault: Fault) -> Form {
+    match fault {
+        Fault::NoListVoid => Form::Unspecified,
+        _ => Form::Fixed,
+    }
 }
 
 // A function type without parameters.
@@ -116,96 +119,140 @@ fn place_at(column: u32) -> Place {
     }
 }
 
+// The type of the first operand.
+fn fetched_type(fault: Fault) -> u32 {
+    match fault {
+        Fault::TypeOfChild => LONG,
+        _ => INT,
+    }
+}
+
+// The statement in the loop.
+fn jump(alloc: Global, fault: Fault) -> Result<NodeKind, OutOfMemory> {
+    match fault {
+        Fault::GotoWithoutLabel => {
+            let label = Text::copy_of(alloc, "out")?;
+            Ok(NodeKind::Goto(HeldText::of(alloc, label)?))
+        }
+        _ => Ok(NodeKind::Break),
+    }
+}
+
+// A block without objects.
+fn block(alloc: Global) -> Result<NodeKind, OutOfMemory> {
+    Ok(NodeKind::Block(HeldList::of(alloc, Vec::new(alloc))?))
+}
+
+// The loop.
+fn repeats(fault: Fault) -> NodeKind {
+    match fault {
+        Fault::BreakOutsideLoop => NodeKind::If,
+        _ => NodeKind::While,
+    }
+}
+
 // The nodes of the unit.
 fn nodes_of(alloc: Global, fault: Fault) -> Result<Vec<Node>, OutOfMemory> {
     let mut nodes = Vec::new(alloc);
-    let ty = if fault == Fault::TypeOfChild {
-        LONG
-    } else {
-        INT
-    };
-    push_node(alloc, &mut nodes, 30, NodeKind::Named(0), INT, &[])?;
-    push_node(alloc, &mut nodes, 30, NodeKind::Fetch, ty, &[0])?;
-    let jump = if fault == Fault::GotoWithoutLabel {
-        NodeKind::Goto(HeldText::of(alloc, Text::copy_of(alloc, "out")?)?)
-    } else {
-        NodeKind::Break
-    };
-    push_node(alloc, &mut nodes, 35, jump, VOID, &[])?;
-    let block = NodeKind::Block(HeldList::of(alloc, Vec::new(alloc))?);
-    push_node(alloc, &mut nodes, 33, block, VOID, &[2])?;
-    let kind = if fault == Fault::BreakOutsideLoop {
-        NodeKind::If
-    } else {
-        NodeKind::While
-    };
-    push_node(alloc, &mut nodes, 23, kind, VOID, &[1, 3])?;
-    push_node(alloc, &mut nodes, 50, NodeKind::Named(0), INT, &[])?;
-    push_node(alloc, &mut nodes, 50, NodeKind::Fetch, INT, &[5])?;
+    first_nodes(alloc, &mut nodes, fault)?;
     last_nodes(alloc, &mut nodes, fault)?;
     Ok(nodes)
 }
 
+// The loop, and what is returned.
+fn first_nodes(alloc: Global, nodes: &mut Vec<Node>, fault: Fault) -> Result<(), OutOfMemory> {
+    push_node(alloc, nodes, 30, NodeKind::Named(0), INT, &[])?;
+    push_node(alloc, nodes, 30, NodeKind::Fetch, fetched_type(fault), &[0])?;
+    push_node(alloc, nodes, 35, jump(alloc, fault)?, VOID, &[])?;
+    push_node(alloc, nodes, 33, block(alloc)?, VOID, &[2])?;
+    push_node(alloc, nodes, 23, repeats(fault), VOID, &[1, 3])?;
+    push_node(alloc, nodes, 50, NodeKind::Named(0), INT, &[])?;
+    push_node(alloc, nodes, 50, NodeKind::Fetch, INT, &[5])
+}
+
 // The Return and the body of the function.
 fn last_nodes(alloc: Global, nodes: &mut Vec<Node>, fault: Fault) -> Result<(), OutOfMemory> {
-    if fault == Fault::ReturnOfOtherType {
-        push_node(alloc, nodes, 43, NodeKind::Convert, LONG, &[6])?;
-    } else {
-        push_node(alloc, nodes, 43, NodeKind::Return, VOID, &[6])?;
+    if matches!(fault, Fault::ReturnOfOtherType) {
+        return other_return(alloc, nodes);
     }
     let children: &[u32] = match fault {
         Fault::TwiceInOneList => &[4, 7, 4],
         Fault::TwiceInTwoLists => &[4, 7, 3],
         Fault::NodeOutOfRange => &[4, 7, 900],
         Fault::ParentFirst => &[4, 8],
-        Fault::ReturnOfOtherType => &[4],
         _ => &[4, 7],
     };
-    if fault == Fault::ReturnOfOtherType {
-        push_node(alloc, nodes, 43, NodeKind::Return, VOID, &[7])?;
-        let block = NodeKind::Block(HeldList::of(alloc, Vec::new(alloc))?);
-        return push_node(alloc, nodes, 21, block, VOID, &[4, 8]);
-    }
-    let block = NodeKind::Block(HeldList::of(alloc, Vec::new(alloc))?);
-    push_node(alloc, nodes, 21, block, VOID, children)
+    push_node(alloc, nodes, 43, NodeKind::Return, VOID, &[6])?;
+    push_node(alloc, nodes, 21, block(alloc)?, VOID, children)
 }
 
-// The entities of the unit: `x` and `f`.
-fn entities_of(alloc: Global, fault: Fault) -> Result<Vec<Entity>, OutOfMemory> {
-    let used = match fault {
+// A Return of a long, and the body of the function.
+fn other_return(alloc: Global, nodes: &mut Vec<Node>) -> Result<(), OutOfMemory> {
+    push_node(alloc, nodes, 43, NodeKind::Convert, LONG, &[6])?;
+    push_node(alloc, nodes, 43, NodeKind::Return, VOID, &[7])?;
+    push_node(alloc, nodes, 21, block(alloc)?, VOID, &[4, 8])
+}
+
+// The place of the first use of `x`.
+fn used_of(fault: Fault) -> Option<Place> {
+    match fault {
         Fault::UseNotTold => None,
         Fault::UseToldLate => Some(place_at(50)),
         _ => Some(place_at(30)),
-    };
-    let object = Entity {
+    }
+}
+
+// The storage of `x`.
+fn storage_of(fault: Fault) -> Storage {
+    match fault {
+        Fault::LocalWithoutOwner => Storage::Automatic,
+        _ => Storage::Static,
+    }
+}
+
+// The owner of `x`.
+fn owner_of(fault: Fault) -> Option<u32> {
+    match fault {
+        Fault::OwnerIsObject => Some(0),
+        _ => None,
+    }
+}
+
+// The initialiser of `x`.
+fn initialiser_of(fault: Fault) -> Option<u32> {
+    match fault {
+        Fault::BodyOfObject => Some(3),
+        _ => None,
+    }
+}
+
+// The body of `f`.
+fn body_of(fault: Fault) -> u32 {
+    match fault {
+        Fault::BodyIsChild => 3,
+        Fault::ReturnOfOtherType => 9,
+        _ => 8,
+    }
+}
+
+// `x`.
+fn object(alloc: Global, fault: Fault) -> Result<Entity, OutOfMemory> {
+    Ok(Entity {
         name: Text::copy_of(alloc, "x")?,
         unit: 0,
         place: place_at(5),
         ty: TypeId(INT),
         linkage: Linkage::External,
-        storage: if fault == Fault::LocalWithoutOwner {
-            Storage::Automatic
-        } else {
-            Storage::Static
-        },
-        owner: if fault == Fault::OwnerIsObject {
-            Some(0)
-        } else {
-            None
-        },
-        body: if fault == Fault::BodyOfObject {
-            Some(3)
-        } else {
-            None
-        },
-        used,
-    };
-    let body = match fault {
-        Fault::BodyIsChild => 3,
-        Fault::ReturnOfOtherType => 9,
-        _ => 8,
-    };
-    let function = Entity {
+        storage: storage_of(fault),
+        owner: owner_of(fault),
+        body: initialiser_of(fault),
+        used: used_of(fault),
+    })
+}
+
+// `f`.
+fn function(alloc: Global, fault: Fault) -> Result<Entity, OutOfMemory> {
+    Ok(Entity {
         name: Text::copy_of(alloc, "f")?,
         unit: 0,
         place: place_at(12),
@@ -213,25 +260,34 @@ fn entities_of(alloc: Global, fault: Fault) -> Result<Vec<Entity>, OutOfMemory> 
         linkage: Linkage::External,
         storage: Storage::FunctionBody,
         owner: None,
-        body: Some(body),
+        body: Some(body_of(fault)),
         used: None,
-    };
+    })
+}
+
+// The entities of the unit: `x` and `f`.
+fn entities_of(alloc: Global, fault: Fault) -> Result<Vec<Entity>, OutOfMemory> {
     let mut entities = Vec::new(alloc);
-    push_to(&mut entities, object)?;
-    push_to(&mut entities, function)?;
+    push_to(&mut entities, object(alloc, fault)?)?;
+    push_to(&mut entities, function(alloc, fault)?)?;
     Ok(entities)
+}
+
+// The keys of the tags, of which there are none.
+fn tags_of(alloc: Global, fault: Fault) -> Result<Vec<Option<Text>>, OutOfMemory> {
+    let mut tags = Vec::new(alloc);
+    if matches!(fault, Fault::KeyWithoutTag) {
+        push_to(&mut tags, Some(Text::copy_of(alloc, "struct s")?))?;
+    }
+    Ok(tags)
 }
 
 // The unit with a fault.
 fn unit_with(alloc: Global, fault: Fault) -> Result<Unit, OutOfMemory> {
-    let mut tags = Vec::new(alloc);
-    if fault == Fault::KeyWithoutTag {
-        push_to(&mut tags, Some(Text::copy_of(alloc, "struct s")?))?;
-    }
     Ok(Unit {
         name: Text::copy_of(alloc, "a.i")?,
         types: types_of(alloc, fault)?,
-        tags,
+        tags: tags_of(alloc, fault)?,
         nodes: nodes_of(alloc, fault)?,
         entities: entities_of(alloc, fault)?,
     })
@@ -251,37 +307,47 @@ fn program_with(alloc: Global, fault: Fault, names: u32) -> Result<Program, OutO
     })
 }
 
-#[test]
-fn one_unit(rt: HostRuntime) -> Result<(), Fail> {
-    let unit = unit_with(rt.alloc(), Fault::Nothing)?;
-    assert!(rt; valid_unit(&unit));
-    let program = program_with(rt.alloc(), Fault::Nothing, 1)?;
-    assert!(rt; valid_program(&program));
-    Ok(())
+// Whether the unit with a fault is valid.
+fn is_valid(alloc: Global, fault: Fault) -> Result<bool, Fail> {
+    let unit = unit_with(alloc, fault)?;
+    Ok(valid_unit(&unit))
+}
+
+// Whether the program with a fault and so many names is valid.
+fn is_valid_program(alloc: Global, fault: Fault, names: u32) -> Result<bool, Fail> {
+    let program = program_with(alloc, fault, names)?;
+    Ok(valid_program(&program))
 }
 
 #[test]
+fn one_unit(rt: HostRuntime) -> Result<(), Fail> {
+    assert!(rt; is_valid(rt.alloc(), Fault::Nothing)?);
+    assert!(rt; is_valid_program(rt.alloc(), Fault::Nothing, 1)?);
+    Ok(())
+}
+
+static FAULTS: [(&str, Fault); 15] = [
+    ("type of child", Fault::TypeOfChild),
+    ("twice in one list", Fault::TwiceInOneList),
+    ("twice in two lists", Fault::TwiceInTwoLists),
+    ("break outside loop", Fault::BreakOutsideLoop),
+    ("return of other type", Fault::ReturnOfOtherType),
+    ("use not told", Fault::UseNotTold),
+    ("use told late", Fault::UseToldLate),
+    ("body is child", Fault::BodyIsChild),
+    ("body of object", Fault::BodyOfObject),
+    ("goto without label", Fault::GotoWithoutLabel),
+    ("node out of range", Fault::NodeOutOfRange),
+    ("parent first", Fault::ParentFirst),
+    ("owner is object", Fault::OwnerIsObject),
+    ("local without owner", Fault::LocalWithoutOwner),
+    ("key without tag", Fault::KeyWithoutTag),
+];
+
+#[test]
 fn one_fault_each(rt: HostRuntime) -> Result<(), Fail> {
-    let faults = [
-        Fault::TypeOfChild,
-        Fault::TwiceInOneList,
-        Fault::TwiceInTwoLists,
-        Fault::BreakOutsideLoop,
-        Fault::ReturnOfOtherType,
-        Fault::UseNotTold,
-        Fault::UseToldLate,
-        Fault::BodyIsChild,
-        Fault::BodyOfObject,
-        Fault::GotoWithoutLabel,
-        Fault::NodeOutOfRange,
-        Fault::ParentFirst,
-        Fault::OwnerIsObject,
-        Fault::LocalWithoutOwner,
-        Fault::KeyWithoutTag,
-    ];
-    for fault in faults {
-        let unit = unit_with(rt.alloc(), fault)?;
-        assert!(rt; !valid_unit(&unit), "{fault:?}");
+    for (name, fault) in &FAULTS {
+        assert!(rt; !is_valid(rt.alloc(), *fault)?, "{name}");
     }
     Ok(())
 }
@@ -336,20 +402,23 @@ fn unit_with_use(alloc: Global, second: bool) -> Result<Unit, OutOfMemory> {
     })
 }
 
+// Whether that unit is valid.
+fn is_valid_with_use(alloc: Global, second: bool) -> Result<bool, Fail> {
+    let unit = unit_with_use(alloc, second)?;
+    Ok(valid_unit(&unit))
+}
+
 #[test]
 fn uses_of_declarations(rt: HostRuntime) -> Result<(), Fail> {
-    assert!(rt; !valid_unit(&unit_with_use(rt.alloc(), false)?));
-    assert!(rt; valid_unit(&unit_with_use(rt.alloc(), true)?));
+    assert!(rt; !is_valid_with_use(rt.alloc(), false)?);
+    assert!(rt; is_valid_with_use(rt.alloc(), true)?);
     Ok(())
 }
 
 #[test]
 fn programs(rt: HostRuntime) -> Result<(), Fail> {
-    let unit = unit_with(rt.alloc(), Fault::NoListVoid)?;
-    assert!(rt; valid_unit(&unit));
-    let program = program_with(rt.alloc(), Fault::NoListVoid, 1)?;
-    assert!(rt; !valid_program(&program));
-    let program = program_with(rt.alloc(), Fault::Nothing, 0)?;
-    assert!(rt; !valid_program(&program));
+    assert!(rt; is_valid(rt.alloc(), Fault::NoListVoid)?);
+    assert!(rt; !is_valid_program(rt.alloc(), Fault::NoListVoid, 1)?);
+    assert!(rt; !is_valid_program(rt.alloc(), Fault::Nothing, 0)?);
     Ok(())
 }

@@ -10,8 +10,6 @@ use c_types::table::TypeTable;
 use c_types::term::{MemberTerm, Name, OutOfMemory, Term, TypeId};
 use pta_base::Kind;
 use std::alloc::Global;
-use std::process::Abort;
-use std::test::Fail;
 
 /// A table, with the members of each structure and union that isn't closed yet.
 #[derive(Drop)]
@@ -125,53 +123,74 @@ fn spelled(builder: &mut Builder, text: &[u8]) -> Result<Option<TypeId>, OutOfMe
     Ok(last)
 }
 
-/// Asserts that the way to a name in the type that a text spells is this one.
-fn expect_way(rt: &impl Abort, alloc: Global, text: &[u8], name: &[u8], wanted: Option<&[u32]>) {
-    let mut builder = Builder::new(alloc);
-    let Ok(Some(whole)) = spelled(&mut builder, text) else {
-        panic!(rt; "{text:?} spells no type");
-    };
-    if builder.table.type_count() <= whole.0 {
-        panic!(rt; "{text:?} spells no type");
+// Whether a way is the one that is wanted.
+fn is_way(found: &Option<Vec<u32>>, wanted: Option<&[u32]>) -> bool {
+    match found {
+        Some(way) => match wanted {
+            Some(steps) => way.as_slice() == steps,
+            None => false,
+        },
+        None => wanted.is_none(),
     }
-    assert!(rt; has_members(&builder.table, whole));
-    match (way_to(alloc, &builder.table, whole, name), wanted) {
-        (Ok(Some(way)), Some(steps)) => assert_eq!(rt; way.as_slice(), steps, "{text:?} {name:?}"),
-        (Ok(None), None) => {}
-        _ => panic!(rt; "{text:?} {name:?}"),
+}
+
+// Whether the way to a name in a type is this one.
+fn way_is(
+    alloc: Global,
+    table: &TypeTable,
+    whole: TypeId,
+    name: &[u8],
+    wanted: Option<&[u32]>,
+) -> bool {
+    if table.type_count() <= whole.0 {
+        return false;
+    }
+    if !has_members(table, whole) {
+        return false;
+    }
+    match way_to(alloc, table, whole, name) {
+        Ok(found) => is_way(&found, wanted),
+        Err(_) => false,
+    }
+}
+
+// Whether the way to a name in the type that a text spells is this one.
+fn has_way(alloc: Global, text: &[u8], name: &[u8], wanted: Option<&[u32]>) -> bool {
+    let mut builder = Builder::new(alloc);
+    match spelled(&mut builder, text) {
+        Ok(Some(whole)) => way_is(alloc, &builder.table, whole, name, wanted),
+        _ => false,
     }
 }
 
 #[test]
-fn ways(rt: HostRuntime) -> Result<(), Fail> {
+fn ways(rt: HostRuntime) {
     let alloc = rt.alloc();
-    expect_way(&rt, alloc, b"{abc}", b"a", Some(&[0]));
-    expect_way(&rt, alloc, b"{abc}", b"c", Some(&[2]));
-    expect_way(&rt, alloc, b"{abc}", b"d", None);
-    expect_way(&rt, alloc, b"{abc}", b"ab", None);
-    expect_way(&rt, alloc, b"{abc}", b"", None);
-    expect_way(&rt, alloc, b"{a{bc}d}", b"c", Some(&[1, 1]));
-    expect_way(&rt, alloc, b"{a{bc}d}", b"d", Some(&[2]));
-    expect_way(&rt, alloc, b"{a[b{cd}]}", b"d", Some(&[1, 1, 1]));
-    expect_way(&rt, alloc, b"{{{{{x}}}}}", b"x", Some(&[0, 0, 0, 0, 0]));
-    expect_way(&rt, alloc, b"[{ab}{cd}]", b"d", Some(&[1, 1]));
-    expect_way(&rt, alloc, b"{{ab}{cd}{ef}}", b"e", Some(&[2, 0]));
-    Ok(())
+    assert!(rt; has_way(alloc, b"{abc}", b"a", Some(&[0])));
+    assert!(rt; has_way(alloc, b"{abc}", b"c", Some(&[2])));
+    assert!(rt; has_way(alloc, b"{abc}", b"d", None));
+    assert!(rt; has_way(alloc, b"{abc}", b"ab", None));
+    assert!(rt; has_way(alloc, b"{abc}", b"", None));
+    assert!(rt; has_way(alloc, b"{a{bc}d}", b"c", Some(&[1, 1])));
+    assert!(rt; has_way(alloc, b"{a{bc}d}", b"d", Some(&[2])));
+    assert!(rt; has_way(alloc, b"{a[b{cd}]}", b"d", Some(&[1, 1, 1])));
+    assert!(rt; has_way(alloc, b"{{{{{x}}}}}", b"x", Some(&[0, 0, 0, 0, 0])));
+    assert!(rt; has_way(alloc, b"[{ab}{cd}]", b"d", Some(&[1, 1])));
+    assert!(rt; has_way(alloc, b"{{ab}{cd}{ef}}", b"e", Some(&[2, 0])));
 }
 
 // gcc refuses two members of one name; the search goes on as the definition says.
 #[test]
-fn ways_of_names_that_stand_twice(rt: HostRuntime) -> Result<(), Fail> {
+fn ways_of_names_that_stand_twice(rt: HostRuntime) {
     let alloc = rt.alloc();
-    expect_way(&rt, alloc, b"{{ab}b}", b"b", Some(&[1]));
-    expect_way(&rt, alloc, b"{{a}{{b}}{b}}", b"b", Some(&[1, 0, 0]));
-    expect_way(&rt, alloc, b"{{{x}x}}", b"x", Some(&[0, 1]));
-    expect_way(&rt, alloc, b"{{{b}a}{b}}", b"b", Some(&[0, 0, 0]));
-    Ok(())
+    assert!(rt; has_way(alloc, b"{{ab}b}", b"b", Some(&[1])));
+    assert!(rt; has_way(alloc, b"{{a}{{b}}{b}}", b"b", Some(&[1, 0, 0])));
+    assert!(rt; has_way(alloc, b"{{{x}x}}", b"x", Some(&[0, 1])));
+    assert!(rt; has_way(alloc, b"{{{b}a}{b}}", b"b", Some(&[0, 0, 0])));
 }
 
 #[test]
-fn members_and_refusals(rt: HostRuntime) -> Result<(), Fail> {
+fn members_and_refusals(rt: HostRuntime) {
     let alloc = rt.alloc();
     let mut table = TypeTable::new(alloc);
     let Ok(int) = table.add(Term::Integer {
@@ -198,20 +217,10 @@ fn members_and_refusals(rt: HostRuntime) -> Result<(), Fail> {
     };
     assert!(&rt; !has_members(&table, int));
     assert!(&rt; member_of(&table, row, 0).is_none());
-    assert_eq!(&rt; member_refusal(&table, int, false), None);
-    assert_eq!(&rt;
-        member_refusal(&table, open, true),
-        Some(Kind::FlexibleMember)
-    );
-    assert_eq!(&rt;
-        member_refusal(&table, open, false),
-        Some(Kind::FlexibleMember)
-    );
-    assert_eq!(&rt; member_refusal(&table, row, true), None);
-    assert_eq!(&rt;
-        member_refusal(&table, row, false),
-        Some(Kind::ArrayOfValue)
-    );
-    assert_eq!(&rt; member_refusal(&table, real, true), Some(Kind::Floating));
-    Ok(())
+    assert!(&rt; member_refusal(&table, int, false) == None);
+    assert!(&rt; member_refusal(&table, open, true) == Some(Kind::FlexibleMember));
+    assert!(&rt; member_refusal(&table, open, false) == Some(Kind::FlexibleMember));
+    assert!(&rt; member_refusal(&table, row, true) == None);
+    assert!(&rt; member_refusal(&table, row, false) == Some(Kind::ArrayOfValue));
+    assert!(&rt; member_refusal(&table, real, true) == Some(Kind::Floating));
 }

@@ -20,8 +20,8 @@ pub struct Heading {
 }
 
 /// The unit of some nodes, which name entities by their leaves, and of what is declared there: each entity has its position in the list as
-/// its number, and the least place of its uses. It is asked that each entity that is named is declared, once, and that whatever unit is made
-/// of them is valid, each Initialise there being its entity's body; none of this is tested. Only memory may want.
+/// its number, and the least place of its uses. It is asked that each entity that is named is declared, once, and that whatever unit is
+/// made of them is valid, each Initialise there being its entity's body; none of this is tested. Only memory may want.
 pub fn complete(
     alloc: Global,
     heading: Heading,

@@ -32,7 +32,7 @@ use Rattle.unit_finish.specs.declared.keeping.Kept.{Kept}
 use Rattle.unit_finish.specs.Complete.{IsKept, Completes}
 use Rattle.unit_finish.specs.Walked as finish
 use Rattle.unit_finish.specs.Walked.{AreNames, AreTags}
-use Rattle.unit_rows.specs.Standing.{AreKept, AreMade}
+use Rattle.unit_walk.specs.PassedOn.{AreKept, AreMade}
 use Rattle.unit_walk.specs.Walked.{IsWalked, AreDense, RefusedIn}
 use Rattle.lowered_laws.specs.Parts.{AreParts}
 use Rattle.unit_lowering.specs.Lowered.{IsLowered, HasTags}

@@ -21,7 +21,7 @@ ghost use Rattle.unit_finish.specs.Walked as finish;
 ghost use Rattle.unit_finish.specs.Walked.{literal_entry};
 ghost use Rattle.struct_rows.specs.Built.{HasTagTypes};
 ghost use Rattle.own_initials.specs.Own.{InitialisesOwn};
-ghost use Rattle.unit_rows.specs.Standing.{Stand};
+ghost use Rattle.unit_walk.specs.PassedOn.{Stand};
 ghost use Rattle.unit_walk.specs.Ground.{IsGround, source_ground, nodes_ground};
 ghost use Rattle.unit_walk.specs.Walked.{IsWalked, RefusedIn};
 ghost use Rattle.lowered_laws.specs.Complete.{PartsComplete};

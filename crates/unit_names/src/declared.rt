@@ -180,10 +180,10 @@ fn declared_as(
     })
 }
 
-/// What a leaf that may declare something declares as the name of an object or a function: its name and linkage, the type that its declarations give, its
-/// storage, the function that owns it, and its body (C11 6.2.2, 6.2.4, 6.2.7, 6.9); None where it declares none, where another
-/// declaration of an internal name stands before it, and where no type is made. The types that are asked for may be added to the
-/// unit. `asked` is what is kept of the names before. Only memory may want; a name that is no text counts as that too.
+/// What a leaf that may declare something declares as the name of an object or a function: its name and linkage, the type that its
+/// declarations give, its storage, the function that owns it, and its body (C11 6.2.2, 6.2.4, 6.2.7, 6.9); None where it declares none,
+/// where another declaration of an internal name stands before it, and where no type is made. The types that are asked for may be added to
+/// the unit. `asked` is what is kept of the names before. Only memory may want; a name that is no text counts as that too.
 pub(crate) fn declared_at(
     alloc: Global,
     unit: &mut Unit,

@@ -1,4 +1,3 @@
 pub mod Marking
-pub mod Bodies
 pub mod Keeping
 pub mod Ring

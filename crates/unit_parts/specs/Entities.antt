@@ -1,9 +1,7 @@
 -- Entities out of what is declared.
-use Rattle.std.specs.Prelude.{ℕ, suc, ◌≡◌, ⊤, Bool, true, List, [], ◌∷◌, Option, Some, None, slice_get, is_some, option_and_then, option_map}
+use Rattle.std.specs.Prelude.{ℕ, suc, ◌≡◌, Bool, true, List, [], ◌∷◌, Option, Some, None, slice_get, is_some, option_and_then, option_map}
 use Rattle.core_tree.specs.declared.node.Node.{Node}
 use Rattle.core_tree.specs.declared.node.Entity.{Entity}
-use Rattle.core_tree.specs.declared.node.NodeKind.{NodeKind}
-use Rattle.core_tree.specs.declared.node.NodeKind.TheVariants.{Initialise}
 use Rattle.c_senses.specs.Tree.{paired}
 use Rattle.unit_parts.specs.declared.declared.Declared.{Declared}
 use Rattle.unit_parts.specs.Numbered.{new_number}
@@ -56,11 +54,3 @@ entity_from unit n nodes k x = record {
 abbrev pub entities_from : ℕ → (ℕ → Option ℕ) → List Node → ℕ → List Declared → List Entity
 entities_from unit n nodes k [] = []
 entities_from unit n nodes k (x ∷ rest) = entity_from unit n nodes k x ∷ entities_from unit n nodes (suc k) rest
-
--- an Initialise at that number is the body of its entity
-abbrev pub IsOwnBody : List Entity → ℕ → NodeKind → Type 0
-IsOwnBody entities i (Initialise e paths) = (entity : Entity) × (slice_get entities e ≡ Some entity) × (entity.body ≡ Some i)
-IsOwnBody entities i kind = ⊤
-
-abbrev pub EachOwnBody : List Entity → List Node → Type 0
-EachOwnBody entities nodes = (i : ℕ) (node : Node) → slice_get nodes i ≡ Some node → IsOwnBody entities i node.kind

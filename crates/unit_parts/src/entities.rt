@@ -1,14 +1,13 @@
 // Entities out of what is declared.
 #![tactic(auto)]
 
-ghost use Rattle.std.specs.Prelude.{◌≡◌, ◌<◌, ◌^◌, ◌↔◌, length, option_and_then, IfOk, IsTrue, ℕ};
+ghost use Rattle.std.specs.Prelude.{◌≡◌, option_and_then, IfOk};
 ghost use Rattle.leaf_maps.specs.Numbers.{number_at};
-ghost use Rattle.c_senses.specs.Right.{InitialisesOnce};
-ghost use Rattle.unit_parts.specs.Entities.{entities_from, IsOwnBody, EachOwnBody};
+ghost use Rattle.unit_parts.specs.Entities.{entities_from};
 
 use crate::declared::Declared;
 use crate::uses::uses_of;
-use core_tree::node::{Entity, Node, NodeKind, Unit};
+use core_tree::node::{Entity, Node};
 use leaf_maps::LeafMap;
 use pta_base::Place;
 use std::alloc::{AllocError, Global};
@@ -52,34 +51,4 @@ pub fn entities_of(
         })?;
     }
     Ok(entities)
-}
-
-// Whether a node, if it is an Initialise, is the body of its entity.
-fn is_own_body(entities: &[Entity], i: usize, kind: &NodeKind) -> bool
-    ensures { IsTrue result ↔ IsOwnBody entities.now i kind.now }
-{
-    match kind {
-        NodeKind::Initialise { entity, .. } => match entities.get(*entity as usize) {
-            Some(found) => found.body.is_some_and(|b| b as usize == i),
-            None => false,
-        },
-        _ => true,
-    }
-}
-
-// Whether each of the nodes that is an Initialise is the body of its entity.
-fn own_bodies(entities: &[Entity], nodes: &[Node]) -> bool
-    ensures { IsTrue result ↔ EachOwnBody entities.now nodes.now }
-{
-    nodes
-        .iter()
-        .enumerate()
-        .all(|(i, node)| is_own_body(entities, i, &node.kind))
-}
-
-/// Whether each Initialise of a unit is its entity's body.
-pub fn initialises_once(unit: &Unit) -> bool
-    ensures { IsTrue result ↔ InitialisesOnce unit.now }
-{
-    own_bodies(unit.entities.as_slice(), unit.nodes.as_slice())
 }

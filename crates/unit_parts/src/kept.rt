@@ -39,8 +39,8 @@ pub fn new_number(numbers: &[Option<u32>], node: u32) -> u32
     }
 }
 
-// The new numbers of some nodes.
-fn new_numbers(
+// The new numbers of many nodes.
+fn many_numbers(
     alloc: Global,
     numbers: &[Option<u32>],
     nodes: &[u32],
@@ -52,6 +52,30 @@ fn new_numbers(
         list.push(new_number(numbers, *node))?;
     }
     Children::of(alloc, list)
+}
+
+// The new numbers of some nodes. Up to three take no memory of their own.
+fn new_numbers(
+    alloc: Global,
+    numbers: &[Option<u32>],
+    nodes: &[u32],
+) -> Result<Children, AllocError>
+    ensures { IfOk result (λ list. list ≡ map (spec.new_number numbers.now) nodes.now) }
+{
+    match nodes {
+        [] => Ok(Children::none()),
+        [only] => Ok(Children::one(new_number(numbers, *only))),
+        [first, second] => Ok(Children::two(
+            new_number(numbers, *first),
+            new_number(numbers, *second),
+        )),
+        [first, second, third] => Ok(Children::three(
+            new_number(numbers, *first),
+            new_number(numbers, *second),
+            new_number(numbers, *third),
+        )),
+        _ => many_numbers(alloc, numbers, nodes),
+    }
 }
 
 // A node over the new numbers of its children.

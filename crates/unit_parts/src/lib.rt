@@ -11,9 +11,9 @@ mod renamed;
 mod uses;
 
 pub use declared::Declared;
-pub use entities::{entities_of, initialises_once};
+pub use entities::entities_of;
 pub use kept::{kept_nodes, new_number, numbers_of};
 pub use literals::{LiteralAt, literals_in};
 pub use marks::marks_under;
-pub use names::{are_apart, bodies_of, numbering, owners_known, with_moved_bodies};
-pub use renamed::{all_known, rename_all};
+pub use names::{bodies_of, numbering, with_moved_bodies};
+pub use renamed::rename_all;

@@ -1,10 +1,10 @@
 // The numbers of entities by their leaves, and the bodies of what is declared.
 #![tactic(auto)]
 
-ghost use Rattle.std.specs.Prelude.{◌≡◌, ◌<◌, ◌^◌, ◌↔◌, length, map, All, IfOk, IsTrue, ℕ};
+ghost use Rattle.std.specs.Prelude.{◌≡◌, ◌<◌, ◌^◌, length, map, IfOk, ℕ};
 ghost use Rattle.leaf_maps.specs.Numbers.{number_at};
 ghost use Rattle.unit_parts.specs.Entities as spec;
-ghost use Rattle.unit_parts.specs.Entities.{leaves_from, numbering_of, EachApart};
+ghost use Rattle.unit_parts.specs.Entities.{leaves_from, numbering_of};
 
 use crate::declared::Declared;
 use crate::kept::new_number;
@@ -30,31 +30,6 @@ pub fn numbering(alloc: Global, list: &[Declared]) -> Result<LeafMap, AllocError
 {
     let pairs = leaves_of(alloc, list)?;
     LeafMap::of_pairs(alloc, pairs.as_slice())
-}
-
-/// Whether no two of a list are declared at one leaf.
-pub fn are_apart(numbers: &LeafMap, list: &[Declared]) -> bool
-    requires { (d : ℕ) → number_at numbers.now d ≡ numbering_of list.now d }
-    ensures { IsTrue result ↔ EachApart list.now }
-{
-    list.iter().enumerate().all(|(i, item)| numbers.get(item.leaf).is_some_and(|k| k as usize == i))
-}
-
-// Whether an owner, if there is one, has a number.
-fn is_owner_known(numbers: &LeafMap, owner: Option<u32>) -> bool
-    ensures { result ≡ spec.is_owner_known (number_at numbers.now) owner }
-{
-    match owner {
-        Some(leaf) => numbers.get(leaf).is_some(),
-        None => true,
-    }
-}
-
-/// Whether the owner of each of a list, if it has one, has a number.
-pub fn owners_known(numbers: &LeafMap, list: &[Declared]) -> bool
-    ensures { IsTrue result ↔ All (λ x. IsTrue (spec.is_owner_known (number_at numbers.now) x.owner)) list.now }
-{
-    list.iter().all(|item| is_owner_known(numbers, item.owner))
 }
 
 /// The bodies of what is declared, in order.

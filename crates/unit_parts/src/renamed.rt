@@ -1,7 +1,7 @@
 // Nodes that name entities by their numbers.
 #![tactic(auto)]
 
-ghost use Rattle.std.specs.Prelude.{◌≡◌, ◌↔◌, ◌<◌, length, map, IfOk, OnOk, IsTrue, All, ℕ};
+ghost use Rattle.std.specs.Prelude.{◌≡◌, ◌<◌, length, map, IfOk, OnOk};
 ghost use Rattle.leaf_maps.specs.Numbers.{number_at};
 ghost use Rattle.unit_parts.specs.Renamed as spec;
 ghost use Rattle.unit_parts.specs.Turns.{Comes};
@@ -102,38 +102,4 @@ pub fn rename_all(
         turn(alloc, numbers, &mut ring)?;
     }
     Ok(ring.into_vec())
-}
-
-// Whether each of some leaves has a number.
-fn all_named(numbers: &LeafMap, leaves: &[u32]) -> bool
-    ensures { result ≡ spec.all_known (number_at numbers.now) leaves.now }
-{
-    for leaf in leaves {
-        if numbers.get(*leaf).is_none() {
-            return false;
-        }
-    }
-    true
-}
-
-// Whether each entity that a kind names has a number.
-fn is_known(numbers: &LeafMap, kind: &NodeKind) -> bool
-    ensures { result ≡ spec.is_known (number_at numbers.now) kind.now }
-{
-    match kind {
-        NodeKind::Named(d) | NodeKind::FunctionName(d) | NodeKind::Literal(d) => numbers
-            .get(*d)
-            .is_some(),
-        NodeKind::Initialise { entity, .. } => numbers.get(*entity).is_some(),
-        NodeKind::Block(ds) => all_named(numbers, ds.as_slice()),
-        NodeKind::For { entities, .. } => all_named(numbers, entities.as_slice()),
-        _ => true,
-    }
-}
-
-/// Whether each entity that a node names has a number.
-pub fn all_known(numbers: &LeafMap, nodes: &[Node]) -> bool
-    ensures { IsTrue result ↔ All (λ node. IsTrue (spec.is_known (number_at numbers.now) node.kind)) nodes.now }
-{
-    nodes.iter().all(|node| is_known(numbers, &node.kind))
 }

@@ -15,9 +15,9 @@ use Rattle.c_senses.specs.Tree.{Source, production_at, children_at}
 use Rattle.c_senses.specs.World.{World}
 use Rattle.c_senses.specs.Sense.{Sense}
 use Rattle.c_senses.specs.Rows.{row_of}
-use Rattle.expression_rows.specs.Built.{built_row}
-use Rattle.expression_rows.specs.Readable.{IsReadable}
-use Rattle.expression_rows.proofs.Readable.{built_whole}
+use Rattle.name_uses.specs.PassedOn.{built_row}
+use Rattle.name_uses.specs.PassedOn.{IsReadable}
+use Rattle.name_uses.proofs.PassedOn.{built_whole}
 use Rattle.name_places.specs.Named.{IsNamedSense, IsNamedIn}
 use Rattle.row_trees.specs.Trees.{SenseHasRows}
 use Rattle.row_shapes.specs.Kept.{Keeps}

@@ -1,3 +1,4 @@
 pub mod Built
 pub mod Along
 pub mod Standing
+pub mod PassedOn

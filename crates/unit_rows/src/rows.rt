@@ -9,7 +9,7 @@ ghost use Rattle.c_structures.specs.Listed.{AreLists};
 ghost use Rattle.core_nodes.specs.Standing.{IsReady, Builds, Knows};
 ghost use Rattle.c_results.specs.Standing.{sense_made, senses_made, IsWithin, Rowed};
 ghost use Rattle.c_initials.specs.Filling.{Fills};
-ghost use Rattle.expression_rows.specs.Readable.{IsReadable};
+ghost use Rattle.name_uses.specs.PassedOn.{IsReadable};
 ghost use Rattle.family_laws.specs.Families.{Families};
 ghost use Rattle.row_shapes.specs.Kept.{Keeps};
 ghost use Rattle.struct_rows.specs.Built.{HasTagTypes};

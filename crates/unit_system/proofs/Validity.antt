@@ -13,8 +13,8 @@ use Rattle.constraints.specs.System.{IsSized, AreLocated}
 use Rattle.main_laws.proofs.Objects.{body_located}
 use Rattle.parameter_laws.proofs.Deciding.{typed_decide}
 use Rattle.demand_laws.proofs.Demands.{demands_fit}
-use Rattle.item_laws.specs.Items.{ArePlaced}
-use Rattle.item_laws.proofs.Items.{items_fit}
+use Rattle.filled_laws.specs.PassedOn.{ArePlaced}
+use Rattle.filled_laws.proofs.PassedOn.{items_fit}
 use Rattle.unit_system.specs.Right.{IsRight}
 
 -- it has a location

@@ -9,7 +9,7 @@ ghost use Rattle.obj_space.specs.Space.{AreTyped, HasTrees, locations_in};
 ghost use Rattle.obj_space.specs.Spots.{HasWholes};
 ghost use Rattle.obj_space.specs.View.{view_of};
 ghost use Rattle.unit_link.specs.Needs.{AreLinkable};
-ghost use Rattle.item_laws.specs.Items.{ArePlaced};
+ghost use Rattle.filled_laws.specs.PassedOn.{ArePlaced};
 ghost use Rattle.constraints.specs.System.{IsFaultOf as IsSystemFault};
 ghost use Rattle.unit_system.specs.Of.{AreLinkedAs, IsSystemOf};
 ghost use Rattle.unit_system.specs.Right.{IsRight};
@@ -84,7 +84,8 @@ fn system_of(alloc: Global, program: &Program) -> Result<(Space, System), UnitFa
 }
 
 /// The program that valid units of distinct names are, which initialise only objects that they define, its locations and its system over
-/// these, where it is within the limits; or the first fault of linking them, or the limit that their program passes first: 2^24 nodes, then 2^24 words of rows.
+/// these, where it is within the limits; or the first fault of linking them, or the limit that their program passes first: 2^24 nodes,
+/// then 2^24 words of rows.
 pub fn linked_system(alloc: Global, units: Vec<Unit>) -> Result<UnitSystem, UnitFault>
     requires linkable { AreLinkable units.items }
     requires filled { AreFilled units.items }

@@ -13,7 +13,7 @@ use Rattle.c_results.specs.declared.made.Made.{Made}
 use Rattle.c_results.specs.declared.made.Made.TheVariants as made
 use Rattle.c_results.specs.Standing.{sense_made, senses_made, IsWithin}
 use Rattle.c_results.proofs.Keeping.{derivation_kept, derivations_kept, derivable_more, derivables_more, made_kept, within_kept}
-use Rattle.row_shapes.specs.Kept.{Keeps}
+use Rattle.unit_rows.specs.PassedOn.{Keeps}
 use Rattle.unit_worlds.specs.Growing.{Completes, Grows}
 use Rattle.unit_rows.specs.Standing.{AreKept}
 

@@ -1,3 +1,4 @@
 pub mod Keeping
 pub mod Sources
+pub mod Stopping
 pub mod Walking

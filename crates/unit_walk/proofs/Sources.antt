@@ -26,7 +26,7 @@ use Rattle.tree_reads.specs.Sources.{number_in, source_in, source_read}
 use Rattle.tag_numbers.specs.declared.tags.Tags.{Tags}
 use Rattle.tag_numbers.specs.Known.{AreTags}
 use Rattle.tag_numbers.specs.Ordered.{AreInOrder}
-use Rattle.unit_walk.specs.Walked.{AreDense, RefusedBy, RefusedIn}
+use Rattle.unit_walk.specs.Walked.{AreDense}
 
 module _ (syntax : Syntax) (tokens : Tokens) (tree : Tree) (bound : Bound) (same_tokens : syntax.tokens.now ≡ tokens) (same_tree : syntax.tree.now ≡ tree) (bind : IsBound tokens tree bound) where
   pub source_same : source_in syntax bound.uses.items ≡ numbered (number_in syntax.tag_numbers) (source_of tokens tree)
@@ -61,13 +61,6 @@ module _ (syntax : Syntax) (tokens : Tokens) (tree : Tree) (bound : Bound) (same
     ordered = ordered;
   }
 
-  pub refused_in : (tags : Tags) (fault : CheckFault) → AreTags (source_in syntax bound.uses.items) tags → AreInOrder (source_in syntax bound.uses.items) → RefusedBy (source_in syntax bound.uses.items) fault → RefusedIn (source_of tokens tree) fault
-  refused_in tags (BadOperand named) t o h =
-      (number_in syntax.tag_numbers, subst AreDense source_same (dense_of (source_in syntax bound.uses.items) tags t o), subst (λ (s : Source). RefusedBy s (BadOperand named)) source_same h)
-  refused_in tags (Unsupported kind named) t o h =
-      (number_in syntax.tag_numbers, subst AreDense source_same (dense_of (source_in syntax bound.uses.items) tags t o), subst (λ (s : Source). RefusedBy s (Unsupported kind named)) source_same h)
-  refused_in tags OutOfMemory t o h = tt
-
 -- each name is declared at a node
 pub names_there : (syntax : Syntax) (bound : Bound) (lists : SymbolLists) → IsBound syntax.tokens.now syntax.tree.now bound → AreListed syntax lists → All (λ (d : Declared). d.node < length syntax.tree.now.nodes.items) bound.names.items
 unfolding names_of
@@ -82,6 +75,3 @@ pub opened_memory : (syntax : Syntax) (bound : Bound) (fault : CheckFault) → A
 opened_memory syntax bound (BadOperand node) leaves h = absurd h
 opened_memory syntax bound (Unsupported kind node) leaves h = absurd (h.2 leaves)
 opened_memory syntax bound OutOfMemory leaves h = refl
-
-pub memory_refused : (s : Source) (fault : CheckFault) → fault ≡ OutOfMemory → RefusedIn s fault
-memory_refused s fault e = subst (RefusedIn s) (sym e) tt

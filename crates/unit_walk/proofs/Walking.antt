@@ -1,32 +1,26 @@
 -- Rows one after another.
-use Rattle.std.proofs.Common.{arith, ◌≡◌, ◌+◌, ℕ, ◌<◌, List, [], ◌∷◌, ◌++◌, Some, All, Err, length, get_or, map, slice_get, sym, ap, ◌∙◌, subst}
+use Rattle.std.proofs.Common.{arith, ◌≡◌, ◌+◌, ℕ, ◌<◌, List, [], ◌∷◌, ◌++◌, All, length, map, sym, ap, ◌∙◌, subst}
 use Rattle.std.proofs.lemmas.List.Elements.{All-push, All-same}
 use Rattle.std.proofs.lemmas.List.{map-append, length-map}
-use Rattle.std.proofs.lemmas.Option.{slice_get-get_or}
-use Rattle.pta_base.specs.declared.kind.Kind.{Kind}
-use Rattle.pta_base.specs.declared.kind.Kind.TheVariants.{Operand}
 use Rattle.c_types.specs.Table.{TagMembers, type_of, members_among}
 use Rattle.c_types.specs.Layout.{extent_of, looked_up, laid_out}
 use Rattle.core_tree.specs.declared.node.Unit.{Unit}
 use Rattle.c_inits.specs.Made.{TagParts}
-use Rattle.c_grammar.specs.declared.trees.SyntaxNode.{SyntaxNode}
-use Rattle.c_senses.specs.Given.{Given, Fits, Refuses}
+use Rattle.c_senses.specs.Given.{Given, Fits}
 use Rattle.c_senses.specs.Tree.{Source, production_at, children_at}
 use Rattle.c_senses.specs.Tags.{tags_below}
 use Rattle.c_senses.specs.Sense.{Sense, sense_in}
-use Rattle.c_senses.specs.Rows.{world_at, row_of, AreSenses, RefusedAt}
+use Rattle.c_senses.specs.Rows.{world_at, row_of, AreSenses}
 use Rattle.sense_laws.specs.Senses.{ChildrenFirst}
 use Rattle.core_nodes.specs.Standing.{parts_in, IsReady, Knows}
-use Rattle.core_nodes.specs.declared.fault.CheckFault.{CheckFault}
-use Rattle.core_nodes.specs.declared.fault.CheckFault.TheVariants.{BadOperand, Unsupported, OutOfMemory}
 use Rattle.c_results.specs.declared.made.Made.{Made}
-use Rattle.c_results.specs.Standing.{sense_made, senses_made, IsWithin, Rowed}
+use Rattle.c_results.specs.Standing.{sense_made, senses_made, IsWithin}
 use Rattle.c_types.specs.Made.{IsMade}
 use Rattle.c_initials.specs.Filling.{Fills}
 use Rattle.filling_laws.proofs.Worlds.{fills_one}
-use Rattle.row_shapes.specs.Kept.{Keeps}
+use Rattle.unit_rows.specs.PassedOn.{Keeps}
 use Rattle.unit_worlds.specs.Growing.{Grows, completed_at}
-use Rattle.unit_worlds.proofs.Sensing.{no_senses, row_as, senses_more}
+use Rattle.unit_worlds.proofs.Sensing.{no_senses, senses_more}
 use Rattle.unit_worlds.proofs.Worlds.{known_one}
 use Rattle.c_meanings.specs.declared.names.Names.{Names}
 use Rattle.c_meanings.specs.Linkages.{AreLinkages}
@@ -37,7 +31,6 @@ use Rattle.tree_reads.specs.declared.syntax.Syntax.{Syntax}
 use Rattle.unit_rows.specs.declared.along.Along.{Along}
 use Rattle.unit_rows.specs.Along.{AreAlong}
 use Rattle.unit_rows.specs.Standing.{Stand, AreMade}
-use Rattle.unit_walk.specs.Walked.{RefusedBy}
 use Rattle.unit_walk.proofs.Keeping.{mades_grown, withins_grown, kept_grown}
 
 -- before the first row
@@ -102,32 +95,6 @@ module _ (s : Source) (u : Unit) (rs : List Made) (made : AreMade s u rs) where
       knows = subst (λ (t : List Sense). Knows (world_at s t (length more)) v) (sym senses_pushed)
           (known_one s first (senses_made u rs) (sense_made v m) u v (length rs) (length more) grows_there made.knows);
     }
-
-  -- a row that refuses
-  module _ (at : ℕ) (long : length rs ≡ at) (inside : at < length s.nodes) where
-    there_is : (nodes : List SyntaxNode) (i : ℕ) → i < length nodes → (n : SyntaxNode) × (slice_get nodes i ≡ Some n)
-    there_is [] i h = absurd (omega arith)
-    there_is (n ∷ rest) i h = let lt : i < length (n ∷ rest) = h in (get_or (n ∷ rest) i n, slice_get-get_or (n ∷ rest) i n lt)
-
-    here : (n : SyntaxNode) × (slice_get s.nodes (length (senses_made u rs)) ≡ Some n)
-    here = there_is s.nodes (length (senses_made u rs)) (omega (arith, so_many, long, inside))
-
-    at_end : (f : ℕ → Given Sense) (g : Given Sense) → f at ≡ g → f (length (senses_made u rs)) ≡ g
-    at_end f g e = ap f (so_many ∙ long) ∙ e
-
-    refuses_at : (kind : Kind) (named : ℕ) → Whole s u rs at ≡ Refuses kind named → RefusedAt s kind named
-    refuses_at kind named e = record {
-      senses = senses_made u rs;
-      before = made.senses;
-      node = here.0;
-      stands = here.1;
-      refuses = row_as s (senses_made u rs) here.0 here.1 ∙ at_end (Whole s u rs) (Refuses kind named) e;
-    }
-
-    pub refused : (v : Unit) (fault : CheckFault) → Rowed v (Err fault) (Whole s u rs at) → RefusedBy s fault
-    refused v (BadOperand named) e = refuses_at Operand named e
-    refused v (Unsupported kind named) e = refuses_at kind named e
-    refused v OutOfMemory e = tt
 
 -- the results stand with one more
 pub stand_more : (count : ℕ) (u v : Unit) (es : List TagParts) → Grows u v es → IsReady v → (rs more : List Made) (m : Made) → more ≡ rs ++ m ∷ [] → Stand count u rs → IsWithin v m → Keeps count (sense_made v m) → Stand count v more

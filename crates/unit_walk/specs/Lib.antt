@@ -1,2 +1,4 @@
 pub mod Walked
+pub mod Stopping
 pub mod Ground
+pub mod PassedOn

@@ -4,5 +4,4 @@
 mod nodes;
 mod units;
 
-pub use nodes::walk_nodes;
-pub use units::{Ground, Walked, walk};
+pub use units::{Ground, Walked, walk, walk_to};

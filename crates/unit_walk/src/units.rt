@@ -1,5 +1,5 @@
 // A unit of the source, from its tokens and its tree.
-ghost use Rattle.std.specs.Prelude.{◌≡◌, ℕ, List, [], IfOk, IsOkUnless, MatchResult};
+ghost use Rattle.std.specs.Prelude.{◌≡◌, ◌≤◌, ℕ, List, [], length, IfOk, IfSome, IsOkUnless, MatchResult};
 ghost use Rattle.core_tree.specs.declared.node.Unit.{Unit as UnitSpec};
 ghost use Rattle.core_nodes.specs.declared.fault.CheckFault.TheVariants.{OutOfMemory};
 ghost use Rattle.core_nodes.specs.Standing.{IsReady};
@@ -17,6 +17,7 @@ ghost use Rattle.tree_reads.specs.Sources.{source_in, number_in};
 ghost use Rattle.unit_rows.specs.Standing.{Stand};
 ghost use Rattle.unit_walk.specs.Ground.{IsGround, source_ground, nodes_ground};
 ghost use Rattle.unit_walk.specs.Walked.{IsWalked, RefusedIn};
+ghost use Rattle.unit_walk.specs.Stopping.{IsWalkedTo, RefusedEarly};
 
 use crate::nodes::walk_nodes;
 use c_grammar::Tree;
@@ -119,10 +120,76 @@ fn open_unit(alloc: Global, numbered: &Numbered) -> Result<Unit, CheckFault>
     })
 }
 
+/// What each of the first so many nodes of a unit stands for (C11 6.5 to 6.9), where its tokens and its tree are those of a text that is
+/// read (its constants and strings can be read, its tree is of families, and what its rows make is within the limits as long as they fit)
+/// and whose names are bound; the unit has no name yet. It is refused as the first of these nodes is whose row doesn't fit. Beside that
+/// only memory may want. Tags have the numbers of the order of their first specifiers in the whole unit.
+pub fn walk_to<'a>(
+    alloc: Global,
+    tokens: &'a Tokens<'a>,
+    tree: &'a Tree,
+    bound: &Bound,
+    end: u32,
+) -> Result<Walked<'a>, CheckFault>
+    requires tokens { IsTokens tokens.now.text.now tokens.now.list.items }
+    requires bound { IsBound tokens.now tree.now bound.now }
+    requires first { ChildrenFirst (source_of tokens.now tree.now) }
+    requires readable { (at : ℕ) → IsReadable (source_of tokens.now tree.now) at }
+    requires families { Families (source_of tokens.now tree.now) }
+    requires limits { (tag_number : ℕ → ℕ) → AlwaysLimited (numbered tag_number (source_of tokens.now tree.now)) }
+    requires end { end ≤ length tree.now.nodes.items }
+    ensures ground { IfOk result (λ w. IsGround w.ground bound.now) }
+    ensures tokens { IfOk result (λ w. w.ground.numbered.syntax.tokens.now ≡ tokens.now) }
+    ensures tree { IfOk result (λ w. w.ground.numbered.syntax.tree.now ≡ tree.now) }
+    ensures source { IfOk result (λ w.
+        source_ground w.ground bound.now
+        ≡ numbered (number_in w.ground.numbered.syntax.tag_numbers) (source_of tokens.now tree.now)) }
+    ensures ordered { IfOk result (λ w. AreInOrder (source_ground w.ground bound.now)) }
+    ensures stand { IfOk result (λ w. Stand (nodes_ground w.ground) w.unit w.results) }
+    ensures types { IfOk result (λ w. HasTagTypes (source_ground w.ground bound.now) w.unit.types) }
+    ensures walked { MatchResult result
+        (λ w. IsWalkedTo (source_ground w.ground bound.now) end w.unit w.results)
+        (RefusedEarly (source_of tokens.now tree.now) end) }
+{
+    let ground = match ground_of(alloc, tokens, tree, bound) {
+        Ok(ground) => ground,
+        Err(fault) => return Err(fault),
+    };
+    let mut unit = match open_unit(alloc, &ground.numbered) {
+        Ok(unit) => unit,
+        Err(fault) => return Err(fault),
+    };
+    let known = Known {
+        numbered: &ground.numbered,
+        bound,
+        names: &ground.names,
+        lists: &ground.lists,
+        kinds: &ground.kinds,
+    };
+    match walk_nodes(alloc, &mut unit, &known, end) {
+        Ok(results) => Ok(Walked {
+            ground,
+            unit,
+            results,
+        }),
+        Err(fault) => Err(fault),
+    }
+}
+
+// How many nodes a tree has, where there are fewer than 2^32.
+fn node_count(tree: &Tree) -> Option<u32>
+    ensures { IfSome result (λ n. n ≡ length tree.now.nodes.items) }
+{
+    if tree.nodes.len() > u32::MAX as usize {
+        return None;
+    }
+    Some(tree.nodes.len() as u32)
+}
+
 /// What each node of a unit stands for (C11 6.5 to 6.9), where its tokens and its tree are those of a text that is read (its constants
 /// and strings can be read, its tree is of families, and what its rows make is within the limits as long as they fit) and whose names are
-/// bound; the unit has no name yet. It is refused as the first node is whose row doesn't fit. Beside that only memory may want. Tags have
-/// the numbers of the order of their first specifiers.
+/// bound; the unit has no name yet. It is refused as the first node is whose row doesn't fit. Beside that only memory may want, or there
+/// are 2^32 nodes. Tags have the numbers of the order of their first specifiers.
 pub fn walk<'a>(
     alloc: Global,
     tokens: &'a Tokens<'a>,
@@ -148,27 +215,11 @@ pub fn walk<'a>(
         (λ w. IsWalked (source_ground w.ground bound.now) w.unit w.results)
         (RefusedIn (source_of tokens.now tree.now)) }
 {
-    let ground = match ground_of(alloc, tokens, tree, bound) {
-        Ok(ground) => ground,
-        Err(fault) => return Err(fault),
+    let Some(end) = node_count(tree) else {
+        return Err(CheckFault::OutOfMemory);
     };
-    let mut unit = match open_unit(alloc, &ground.numbered) {
-        Ok(unit) => unit,
-        Err(fault) => return Err(fault),
-    };
-    let known = Known {
-        numbered: &ground.numbered,
-        bound,
-        names: &ground.names,
-        lists: &ground.lists,
-        kinds: &ground.kinds,
-    };
-    match walk_nodes(alloc, &mut unit, &known) {
-        Ok(results) => Ok(Walked {
-            ground,
-            unit,
-            results,
-        }),
+    match walk_to(alloc, tokens, tree, bound, end) {
+        Ok(walked) => Ok(walked),
         Err(fault) => Err(fault),
     }
 }

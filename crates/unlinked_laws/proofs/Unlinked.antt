@@ -23,7 +23,7 @@ use Rattle.c_senses.specs.Right as right
 use Rattle.literal_nodes.specs.Holding.{Holds, OfSense}
 use Rattle.literal_nodes.specs.Unnamed.{IsUnnamedKind, IsUnnamed}
 use Rattle.literal_nodes.proofs.Unnamed.{unnamed}
-use Rattle.built_units.specs.Built.{IsBuilt}
+use Rattle.built_laws.specs.PassedOn.{IsBuilt}
 use Rattle.built_laws.specs.Placed.{Stands}
 use Rattle.built_laws.proofs.Placed.{IsMade, made, nodes_stand}
 use Rattle.unlinked_laws.specs.Unlinked.{LiteralsUnlinked}

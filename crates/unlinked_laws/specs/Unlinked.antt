@@ -5,7 +5,7 @@ use Rattle.core_tree.specs.Typed.{trees_of}
 use Rattle.core_tree.specs.Range.{EachNode}
 use Rattle.core_tree.specs.Linkages.{MakesUnlinked}
 use Rattle.c_senses.specs.Tree.{Source}
-use Rattle.built_units.specs.Built.{IsBuilt}
+use Rattle.built_laws.specs.PassedOn.{IsBuilt}
 
 abbrev pub LiteralsUnlinked : Type 0
 LiteralsUnlinked = (s : Source) (name : List ℕ) (u : Unit) → IsBuilt s name u → EachNode (trees_of u) (λ n node. MakesUnlinked (trees_of u) node.kind)

@@ -1,5 +1,5 @@
-//! Rows of calls, prefix expressions, casts, choices, assignments and operators (C11 6.5.2 to 6.5.17), where the constants in the parts stand
-//! in their rows.
+//! Rows of calls, prefix expressions, casts, choices, assignments and operators (C11 6.5.2 to 6.5.17), where the constants in the parts
+//! stand in their rows.
 #![tactic(auto, using(core_nodes::proofs::IntegerTypes::integers))]
 
 mod assigning;

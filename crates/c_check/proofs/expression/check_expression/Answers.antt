@@ -1,64 +1,55 @@
-use Rattle.std.proofs.Common.{rules, ◌≡◌, ◌+◌, ℕ, Option, Ok, length, subst}
-use Rattle.core_nodes.specs.Standing.{core_at}
-use Rattle.core_nodes.specs.declared.fault.CheckFault.TheVariants.{OutOfMemory}
-use Rattle.c_senses.specs.Names.{source_with}
-use Rattle.c_check.specs.Around.{scene_of}
-use Rattle.c_check.specs.Runs.{Answered}
-use Rattle.c_check.proofs.Expressing.{keeps_builds, ends_core, expressed_kept, expressed_none, expressed_fault, ok_of, err_of}
+use Rattle.std.proofs.Common.{arith, rules, ◌≡◌, ◌+◌, ℕ, List, subst}
+use Rattle.family_laws.specs.Families.{Families}
+use Rattle.family_laws.proofs.Reading.{units_families}
+use Rattle.limit_laws.proofs.Limited.{units_limited}
+use Rattle.literal_laws.proofs.Readable.{units_readable}
+use Rattle.c_senses.specs.Names.{source_of}
+use Rattle.tree_reads.specs.Sources.{number_in}
+use Rattle.unit_walk.specs.Ground.{source_ground}
+use Rattle.unit_walk.specs.Stopping.{IsWalkedTo}
+use Rattle.unit_walk.proofs.Sources.{bound_there, dense_of}
+use Rattle.c_check.specs.declared.known.Meaning.{Meaning}
+use Rattle.c_check.specs.Expressed.{Answers}
+use Rattle.c_check.proofs.Answering.{answered, refused_early}
 use Rattle.c_check.proofs.expression.check_expression.Goals as goal
 
-pub returns-in-Ok-Some-clause-builds : goal.returns-in-Ok-Some-clause-builds
-returns-in-Ok-Some-clause-builds c =
-    let from : c.in-Ok.from ≡ length c.args.unit.now.nodes.items = search rules in
-    keeps_builds c.args.unit.now c.walked.new.unit c.keep_under.new.unit c.in-Ok.from from c.in-Ok-Some.ensures.builds c.keep_under.ensures.keeps
+pub walk_to-requires-clause-readable : goal.walk_to-requires-clause-readable
+walk_to-requires-clause-readable c = λ at. units_readable c.args.tokens.now c.args.tree.now.unit c.args.tree.now (λ n. n) c.are_bytes.ensures c.requires.tokens c.requires.read at
 
-pub returns-in-Ok-Some-clause-answer : goal.returns-in-Ok-Some-clause-answer
-returns-in-Ok-Some-clause-answer c = λ readable.
-    let u0 = c.args.unit.now in
-    let u1 = c.walked.new.unit in
-    let u2 = c.keep_under.new.unit in
-    let known = c.args.known.now in
-    let uses = c.args.bound.now.uses.items in
-    let scene = scene_of u0 known.owner known.list.items uses c.args.bound.now.names.items in
-    let s = source_with c.args.tokens.now c.args.tree.now uses in
-    let start = c.first_node-start.result in
-    let end = c.in-Some.end in
-    let found = c.in-Ok-Some.found in
-    let last : end ≡ c.args.node + 1 = search rules in
-    let ends = subst (λ (o : Option ℕ). Answered scene s start end u1 (Ok o)) c.in-Ok-Some.field-0-is (c.in-Ok-Some.ensures.answer readable) in
-    record {
-      start = start;
-      begins = c.first_node-start.ensures.begins;
-      answer = expressed_kept scene s start c.args.node end u1 u2 found c.keep_under.result last (ends_core scene s start end u1 found ends)
-          (ok_of c.keep_under.result (λ i. core_at u2 i ≡ core_at u1 found) c.keep_under.ensures.tree) (err_of c.keep_under.result OutOfMemory c.keep_under.ensures.memory);
-    }
+pub walk_to-requires-clause-families : goal.walk_to-requires-clause-families
+walk_to-requires-clause-families c =
+    let f = units_families c.args.tokens.now c.args.tree.now.unit c.args.tree.now (λ n. n) c.requires.tokens c.requires.read in
+    let plain : Families (source_of c.args.tokens.now c.args.tree.now) = record { single = f.single; ascend = f.ascend; lists = f.lists; members = f.members; words = f.words; untagged = f.untagged } in
+    plain
 
-pub returns-in-Ok-None-clause-answer : goal.returns-in-Ok-None-clause-answer
-returns-in-Ok-None-clause-answer c = λ readable.
-    let u0 = c.args.unit.now in
-    let u1 = c.walked.new.unit in
-    let known = c.args.known.now in
-    let uses = c.args.bound.now.uses.items in
-    let scene = scene_of u0 known.owner known.list.items uses c.args.bound.now.names.items in
-    let s = source_with c.args.tokens.now c.args.tree.now uses in
-    let start = c.first_node-start.result in
-    let end = c.in-Some.end in
-    let last : end ≡ c.args.node + 1 = search rules in
-    let ends = subst (λ (o : Option ℕ). Answered scene s start end u1 (Ok o)) c.in-Ok-None.field-0-is (c.in-Ok-None.ensures.answer readable) in
-    record {
-      start = start;
-      begins = c.first_node-start.ensures.begins;
-      answer = expressed_none scene s start c.args.node end u1 last ends;
-    }
+pub walk_to-requires-clause-limits : goal.walk_to-requires-clause-limits
+walk_to-requires-clause-limits c = λ tag_number. units_limited c.args.tokens.now c.args.tree.now.unit c.args.tree.now tag_number c.requires.tokens c.requires.read
+
+pub walk_to-requires-clause-end : goal.walk_to-requires-clause-end
+walk_to-requires-clause-end c =
+    let last : c.in-Some.end ≡ c.args.node + 1 = search rules in
+    omega (arith, last, c.requires.node)
+
+pub carried-requires-clause-bound : goal.carried-requires-clause-bound
+carried-requires-clause-bound c = bound_there c.in-Ok.walked.ground.numbered.syntax c.args.tokens.now c.args.tree.now c.args.bound.now c.in-Ok.ensures.tokens c.in-Ok.ensures.tree c.requires.bound
+
+pub carried-requires-clause-walked : goal.carried-requires-clause-walked
+carried-requires-clause-walked c =
+    let w = c.in-Ok.walked in
+    let last : c.in-Some.end ≡ c.args.node + 1 = search rules in
+    subst (λ (n : ℕ). IsWalkedTo (source_ground w.ground c.args.bound.now) n w.unit w.results) last c.in-Ok.ensures.walked
+
+pub returns-in-Ok-clause-answer : goal.returns-in-Ok-clause-answer
+returns-in-Ok-clause-answer c =
+    let w = c.in-Ok.walked in
+    let n = w.ground.numbered in
+    let s = source_ground w.ground c.args.bound.now in
+    let ok = c.in-Ok.ensures in
+    let dense = dense_of n.syntax c.args.tokens.now c.args.tree.now c.args.bound.now ok.tokens ok.tree c.requires.bound s n.tags ok.ground.tags ok.ordered in
+    let here = subst (λ (l : List (ℕ × Meaning)). Answers s c.args.node l c.args.unit.now c.carried.new.unit c.carried.result) c.as_slice.ensures.value c.carried.ensures.answer in
+    answered (source_of c.args.tokens.now c.args.tree.now) s (number_in n.syntax.tag_numbers) ok.source dense c.args.node c.args.known.now.list.items c.args.unit.now c.carried.new.unit c.carried.result here
 
 pub returns-in-Err-clause-answer : goal.returns-in-Err-clause-answer
-returns-in-Err-clause-answer c = λ readable.
-    let u0 = c.args.unit.now in
-    let u1 = c.walked.new.unit in
-    let known = c.args.known.now in
-    let uses = c.args.bound.now.uses.items in
-    record {
-      start = c.first_node-start.result;
-      begins = c.first_node-start.ensures.begins;
-      answer = expressed_fault (scene_of u0 known.owner known.list.items uses c.args.bound.now.names.items) (source_with c.args.tokens.now c.args.tree.now uses) c.first_node-start.result c.args.node c.in-Some.end u1 c.in-Err.fault (c.in-Err.ensures.answer readable);
-    }
+returns-in-Err-clause-answer c =
+    let last : c.in-Some.end ≡ c.args.node + 1 = search rules in
+    refused_early (source_of c.args.tokens.now c.args.tree.now) c.args.node c.in-Some.end c.args.known.now.list.items c.args.unit.now c.args.unit.now c.in-Err.fault last c.in-Err.ensures.walked

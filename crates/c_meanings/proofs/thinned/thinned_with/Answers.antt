@@ -1,20 +1,23 @@
-use Rattle.std.proofs.Common.{◌≡◌, true, List, refl, sym, subst}
+use Rattle.std.proofs.Common.{◌≡◌, true, List, Bool, Some, sym, subst}
 use Rattle.std.proofs.lemmas.Result.{IfOk-weaker}
-use Rattle.std.proofs.Common.{Bool}
 use Rattle.name_chains.specs.declared.links.Link.{Link}
 use Rattle.name_chains.specs.Links.{listed}
-use Rattle.c_meanings.specs.Thinned.{GoesOn, IsRepeated, one_if}
-use Rattle.c_meanings.proofs.Thinning.{goes_same, goes_more}
+use Rattle.c_meanings.specs.Thinned.{GoesOn, IsRound, one_if}
+use Rattle.c_meanings.proofs.Rounds.{goes_round}
+use Rattle.c_meanings.proofs.Thinning.{goes_more}
 use Rattle.c_meanings.proofs.thinned.thinned_with.Goals as goal
 
-pub returns-then-is_repeated-clause-thin : goal.returns-then-is_repeated-clause-thin
-returns-then-is_repeated-clause-thin c =
+pub returns-in-Some-clause-thin : goal.returns-in-Some-clause-thin
+returns-in-Some-clause-thin c =
     let syntax = c.args.syntax.now in
     let results = c.args.results.now in
-    let thin = listed c.args.links.now.items c.args.last in
+    let items = c.args.links.now.items in
+    let thin = listed items c.args.last in
+    let kept = listed items (Some c.in-Some.kept) in
     let wanted : c.args.wanted ≡ true = c.if-not-wanted.false in
-    let r : IsRepeated syntax results thin c.args.declared.node = subst (λ (l : List Link). IsRepeated syntax results (listed l c.args.last) c.args.declared.node) c.as_slice.ensures.value (c.if-is_repeated.ensures refl) in
-    subst (λ (b : Bool). GoesOn syntax results thin (one_if b c.args.declared) thin) (sym wanted) (goes_same syntax results thin c.args.declared r)
+    let r : IsRound syntax results thin kept c.args.declared =
+    subst (λ (l : List Link). IsRound syntax results (listed l c.args.last) (listed l (Some c.in-Some.kept)) c.args.declared) c.as_slice.ensures.value c.in-Some.ensures.round in
+    subst (λ (b : Bool). GoesOn syntax results thin (one_if b c.args.declared) kept) (sym wanted) (goes_round syntax results thin kept c.args.declared r)
 
 pub returns-clause-thin : goal.returns-clause-thin
 returns-clause-thin c =

@@ -1,4 +1,4 @@
-use Rattle.std.proofs.Common.{◌<◌, ◌≤◌, length, ap, subst, ◌∙◌, arith}
+use Rattle.std.proofs.Common.{◌<◌, ◌≤◌, length, ap, refl, subst, ◌∙◌, arith}
 use Rattle.std.proofs.lemmas.List.{take_all}
 use Rattle.c_scope.specs.Known.{first_label}
 use Rattle.c_scope.proofs.Going.{labels_noted}
@@ -6,7 +6,9 @@ use Rattle.c_scope.proofs.resolving.find_labels.Goals as goal
 
 pub loop-node-preserved : goal.loop-node-preserved
 loop-node-preserved c = λ all h body symbol.
-    labels_noted c.args.unit all h c.loop-node.node c.at-setting.result (c.at-setting.ensures c.at-setting.result) (subst (λ n. c.loop-node.node < n) c.len-node-end.ensures c.loop-node-test.true) c.loop-node.labels c.note_label.new.labels c.mention_of-mention.result c.mention_of-mention.ensures c.in_ok-note_label.ensures (c.loop-node.invariant all h) body symbol
+    labels_noted c.args.unit all h c.loop-node.node c.at-setting.result (c.at-setting.ensures c.at-setting.result) (subst (λ n. c.loop-node.node < n) c.len-node-end.ensures c.loop-node-test.true) c.loop-node.labels c.note_label.new.labels _ refl
+    (λ other sign. c.in_ok-note_label.ensures other sign ∙ c.label_mention-mention.ensures c.loop-node.labels c.at-setting.result.body other sign)
+    (c.loop-node.invariant all h) body symbol
 
 pub returns : goal.returns
 returns c = λ all h body symbol.

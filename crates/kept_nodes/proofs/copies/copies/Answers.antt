@@ -1,7 +1,7 @@
 use Rattle.std.proofs.Common.{arith, rules, Option, None, IsSome, ◌≡◌, ◌∙◌, ℕ, zero, suc, ◌+◌, ◌<◌, ◌++◌, [], ◌∷◌, List, Some, map, length, length-append, length-drop, get_or, drop, false, sym, ap, subst, refl}
 use Rattle.std.specs.VecDeque.{deque_len}
 use Rattle.core_tree.specs.declared.node.Node.{Node}
-use Rattle.c_consts.specs.Core.{Of}
+use Rattle.core_nodes.specs.PassedOn.{Of}
 use Rattle.c_types.specs.Table.{type_of}
 use Rattle.core_nodes.specs.Standing.{core_at, cores_at}
 use Rattle.core_nodes.proofs.Growing.{builds_on}

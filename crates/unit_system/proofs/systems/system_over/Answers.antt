@@ -3,7 +3,7 @@ use Rattle.obj_space.specs.declared.location.Location.{Location}
 use Rattle.obj_space.specs.View.{view_of}
 use Rattle.constraints.specs.System.{IsFaultOf as IsSystemFault}
 use Rattle.demand_laws.proofs.Fitting.{count_is}
-use Rattle.item_laws.proofs.Spots.{spots_fit}
+use Rattle.filled_laws.proofs.PassedOn.{spots_fit}
 use Rattle.unit_system.proofs.Validity.{some_located, valid_of}
 use Rattle.unit_system.proofs.systems.system_over.Goals as goal
 

@@ -13,7 +13,8 @@ use Rattle.c_declarators.specs.Limited.{AreLimited}
 use Rattle.unit_rows.specs.Along.{AreAlong}
 use Rattle.unit_rows.specs.Standing.{Stand, AreMade, source_known, nodes_known}
 use Rattle.unit_walk.proofs.Keeping.{entities_grown}
-use Rattle.unit_walk.proofs.Walking.{stand_empty, made_empty, Whole, length_made, made_there, refused, stand_more, along_more, senses_with, fills_more}
+use Rattle.unit_walk.proofs.Walking.{stand_empty, made_empty, Whole, length_made, made_there, stand_more, along_more, senses_with, fills_more}
+use Rattle.unit_walk.proofs.Stopping.{refused_before}
 use Rattle.unit_walk.proofs.nodes.walk_nodes.Goals as goal
 
 pub loop-at-init : goal.loop-at-init
@@ -58,7 +59,7 @@ loop-at-preserved c =
       stand = stand_more (nodes_known k) u v es grows ok.ready rs more m items inv.stand ok.within ok.keeps;
       long = ap length items ∙ (length-append rs (m ∷ []) ∙ ap (λ (n : ℕ). n + 1) inv.long);
       entities = entities_grown u v es grows ∙ inv.entities;
-      made = made_there s u v rs more m at inv.made c.requires.known.ordered items inv.long inv.stand.within (omega (arith, c.loop-at-test.true)) ok.row grows;
+      made = made_there s u v rs more m at inv.made c.requires.known.ordered items inv.long inv.stand.within (omega (arith, c.loop-at-test.true, c.requires.end)) ok.row grows;
       fills = fills_more s u v rs more m at c.requires.known.ordered items inv.long inv.stand.within inv.table table grows inv.fills;
       types = tag_types_grow s u v es grows inv.types;
       told =
@@ -94,14 +95,13 @@ returns-in-Err-clause-walked c =
     let at = c.loop-at.at in
     let rs = c.loop-at.results in
     let inv = c.loop-at.invariant in
-    refused s u rs inv.made at inv.long (omega (arith, c.loop-at-test.true)) v c.in-Err.fault c.in-Err.ensures.row
+    refused_before s u rs inv.made at inv.long (omega (arith, c.loop-at-test.true, c.requires.end)) c.args.end (omega (arith, c.loop-at-test.true)) v c.in-Err.fault c.in-Err.ensures.row
 
 pub returns-clause-walked : goal.returns-clause-walked
 returns-clause-walked c =
     let inv = c.loop-at.invariant in
-    let long : c.len-at-end.result ≡ length c.args.known.now.numbered.now.syntax.tree.now.nodes.items = omega (arith, c.len-at-end.ensures, c.args.known.now.numbered.now.syntax.tree.now.nodes.ok) in
-    let ends : c.loop-at.at ≡ c.len-at-end.result = omega (arith, c.loop-at.auto.at-end, c.loop-at-test.false) in
-    record { made = inv.made; whole = inv.long ∙ (ends ∙ long) }
+    let ends : c.loop-at.at ≡ c.args.end = omega (arith, c.loop-at.auto.at-end, c.loop-at-test.false) in
+    record { made = inv.made; long = inv.long ∙ ends }
 
 pub row-requires-clause-senses : goal.row-requires-clause-senses
 row-requires-clause-senses c =

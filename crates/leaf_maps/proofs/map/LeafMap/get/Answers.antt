@@ -1,4 +1,4 @@
-use Rattle.std.proofs.Common.{arith, ℕ, suc, List, Option, Some, Ok, Err, subst, sym, ap, ◌∙◌, ◌≡◌, get_or, inl, inr}
+use Rattle.std.proofs.Common.{arith, ℕ, suc, List, Option, Some, Ok, Err, subst, sym, ap, ◌∙◌, ◌≡◌, ◌<◌, ◌-◌, length, get_or, inl, inr}
 use Rattle.std.proofs.lemmas.Bool.Decides.{leb_tells}
 use Rattle.std.proofs.lemmas.List.{get_or_default}
 use Rattle.std.proofs.lemmas.List.Sorted.{searched}
@@ -7,7 +7,7 @@ use Rattle.std.specs.Ordering.{nat_cmp}
 use Rattle.c_senses.specs.World.{or_else}
 use Rattle.leaf_maps.specs.Numbers.{number_at}
 use Rattle.leaf_maps.specs.Rising.{pairs_of}
-use Rattle.leaf_maps.proofs.Finding.{found_in, found_at, missing, rises_all}
+use Rattle.leaf_maps.proofs.Finding.{found_in, found_at, missing, missing_behind, rises_all}
 use Rattle.leaf_maps.proofs.map.LeafMap.get.Goals as goal
 
 pub returns-in-Ok : goal.returns-in-Ok
@@ -35,5 +35,15 @@ returns-in-Err c =
       | inl less ↦ let lt = less.1 in let below = found.1 i (omega arith) in omega (arith, below, e)
       | inr more ↦ let ge = more.1 in let above = found.2 i (omega arith) h in omega (arith, above, e)
     ]) in
+    rw (← c.self.view_is) (c.copied-in-Err.ensures
+    ∙ (c.get-in-Err.ensures.value ∙ sym (found_in (pairs_of leaves numbers) others c.args.leaf ∙ ap (λ (o : Option ℕ). or_else o (number_at others c.args.leaf)) none)))
+
+pub returns-then-is_behind : goal.returns-then-is_behind
+returns-then-is_behind c =
+    let leaves = c.self.inside.leaves.items in
+    let numbers = c.self.inside.numbers.items in
+    let others = c.self.inside.others.entries in
+    let behind = subst (λ (l : List ℕ). 0 < length l → get_or l (length l - 1) 0 < c.args.leaf) c.as_slice.ensures.value (c.is_behind.ensures c.if-is_behind.true) in
+    let none = missing_behind leaves numbers c.args.leaf c.self.invariant behind in
     rw (← c.self.view_is) (c.copied.ensures
     ∙ (c.get.ensures.value ∙ sym (found_in (pairs_of leaves numbers) others c.args.leaf ∙ ap (λ (o : Option ℕ). or_else o (number_at others c.args.leaf)) none)))

@@ -1,0 +1,158 @@
+// The nodes of one unit behind those of another.
+ghost use Rattle.std.specs.Prelude.{◌≡◌, ◌<◌, ◌+◌, ◌&&◌, ℕ, Option, false, length, map, get_or, All, IfOk, OnOk, IsOkUnless, unwrap_or};
+ghost use Rattle.c_types.specs.Trees.{Ctype};
+ghost use Rattle.c_types.specs.Table.{type_of};
+ghost use Rattle.c_consts.specs.Core.{Of};
+ghost use Rattle.core_tree.specs.declared.node.Unit.{Unit as UnitSpec};
+ghost use Rattle.core_nodes.specs.Standing.{core_at, cores_at, IsReady, Builds};
+ghost use Rattle.leaf_maps.specs.Numbers.{number_at};
+ghost use Rattle.carried_trees.specs.Carried as carried;
+ghost use Rattle.carried_trees.specs.Copied.{all_flagged, AreBehind, AreCarried, AreTyped};
+ghost use Rattle.carried_trees.specs.Terms.{AreIds, AreTypes};
+
+use crate::types::CarriedTypes;
+use c_types::term::TypeId;
+use core_nodes::CheckFault;
+use core_nodes::trees::push_node;
+use core_tree::held::Children;
+use core_tree::node::{Node, NodeKind, Unit};
+use leaf_maps::LeafMap;
+use std::alloc::Global;
+use std::collections::VecDeque;
+
+// The number of an entity.
+fn entity_at(entities: &LeafMap, leaf: u32) -> u32
+    ensures { result ≡ unwrap_or (number_at entities.now leaf) 0 }
+{
+    entities.get(leaf).unwrap_or(0)
+}
+
+// A kind with the number of the entity that it names.
+fn carried_kind(entities: &LeafMap, kind: NodeKind) -> NodeKind
+    ensures { result ≡ carried.carried_kind (number_at entities.now) kind }
+{
+    match kind {
+        NodeKind::Named(leaf) => NodeKind::Named(entity_at(entities, leaf)),
+        NodeKind::FunctionName(leaf) => NodeKind::FunctionName(entity_at(entities, leaf)),
+        other => other,
+    }
+}
+
+// Whether the entity that a kind names has a number.
+fn is_given_kind(entities: &LeafMap, kind: &NodeKind) -> bool
+    ensures { result ≡ carried.is_given_kind (number_at entities.now) kind.now }
+{
+    match kind {
+        NodeKind::Named(leaf) | NodeKind::FunctionName(leaf) => entities.get(*leaf).is_some(),
+        NodeKind::Literal(_) | NodeKind::Block(_) => false,
+        NodeKind::For { .. } | NodeKind::Initialise { .. } => false,
+        _ => true,
+    }
+}
+
+// The numbers of some nodes behind a number.
+fn raised(alloc: Global, from: u32, children: &[u32]) -> Result<Children, CheckFault>
+    ensures raised { IfOk result (λ new. new ≡ map (λ c. from + c) children.now) }
+    ensures memory { IsOkUnless result CheckFault.OutOfMemory }
+{
+    let mut list = Vec::new(alloc);
+    for child in children {
+        let Some(number) = from.checked_add(*child) else {
+            return Err(CheckFault::OutOfMemory);
+        };
+        list.push(number)?;
+    }
+    let held = Children::of(alloc, list)?;
+    Ok(held)
+}
+
+// Whether all of some nodes are flagged.
+fn all_flagged(flags: &[bool], children: &[u32]) -> bool
+    requires { All (λ c. c < length flags.now) children.now }
+    ensures { result ≡ all_flagged flags.now children.now }
+{
+    for child in children {
+        if !flags[*child as usize] {
+            return false;
+        }
+    }
+    true
+}
+
+// Whether all that a node names is given.
+fn is_given(entities: &LeafMap, types: &CarriedTypes, flags: &[bool], node: &Node) -> bool
+    requires ty { node.now.ty.0 < length types.now.given.items }
+    requires children { All (λ c. c < length flags.now) node.now.children }
+    ensures { result ≡ ((carried.is_given_kind (number_at entities.now) node.now.kind && get_or types.now.given.items node.now.ty.0 false)
+        && all_flagged flags.now node.now.children) }
+{
+    is_given_kind(entities, &node.kind)
+        && types.given[node.ty.0 as usize]
+        && all_flagged(flags, node.children.as_slice())
+}
+
+// One node more, over nodes behind a number.
+fn push_carried(
+    alloc: Global,
+    unit: &mut Unit,
+    entities: &LeafMap,
+    types: &CarriedTypes,
+    from: u32,
+    node: Node,
+) -> Result<(), CheckFault>
+    requires ready { IsReady unit.old }
+    requires ids { AreIds types.now.ids.items unit.old.types }
+    requires ty { node.ty.0 < length types.now.ids.items }
+    requires children { All (λ c. from + c < length unit.old.nodes.items) node.children }
+    ensures ready { IsReady unit.new }
+    ensures builds { Builds unit.old unit.new }
+    ensures made { OnOk result (core_at unit.new (length unit.old.nodes.items)
+        ≡ Of (carried.carried_kind (number_at entities.now) node.kind) node.place
+        (type_of unit.old.types (get_or types.now.ids.items node.ty.0 0))
+        (cores_at unit.old (map (λ c. from + c) node.children))) }
+    ensures added { OnOk result (length unit.new.nodes.items ≡ length unit.old.nodes.items + 1) }
+    ensures types { unit.new.types ≡ unit.old.types }
+    ensures memory { IsOkUnless result CheckFault.OutOfMemory }
+{
+    let children = raised(alloc, from, node.children.as_slice())?;
+    let ty = TypeId(types.ids[node.ty.0 as usize]);
+    let kind = carried_kind(entities, node.kind);
+    match push_node(unit, kind, node.place, ty, children) {
+        Ok(_) => Ok(()),
+        Err(_) => Err(CheckFault::OutOfMemory),
+    }
+}
+
+/// Carries nodes into a unit, behind its own: for each whether all that is named in its tree is given. Only memory may want.
+pub(crate) fn carried_nodes(
+    alloc: Global,
+    unit: &mut Unit,
+    entities: &LeafMap,
+    types: &CarriedTypes,
+    from: u32,
+    nodes: Vec<Node>,
+) -> Result<Vec<bool>, CheckFault>
+    requires ready { IsReady unit.old }
+    requires from { from ≡ length unit.old.nodes.items }
+    requires ids { AreIds types.now.ids.items unit.old.types }
+    requires flags { length types.now.given.items ≡ length types.now.ids.items }
+    requires order { AreBehind nodes.items }
+    requires typed { AreTyped (length types.now.ids.items) nodes.items }
+    ensures ready { IsReady unit.new }
+    ensures builds { Builds unit.old unit.new }
+    ensures carried { IfOk result (λ flags. (old : UnitSpec) (tag : ℕ → Option Ctype) →
+        IsReady old →
+        old.nodes.items ≡ nodes.items →
+        AreTypes tag old.types (length old.types.terms) types.now.ids.items types.now.given.items unit.old.types →
+        AreCarried (number_at entities.now) tag old from (length nodes.items) flags.items unit.new) }
+    ensures memory { IsOkUnless result CheckFault.OutOfMemory }
+{
+    let mut rest = VecDeque::from_vec(nodes);
+    let mut flags = Vec::new(alloc);
+    while let Some(node) = rest.pop_front() {
+        let flag = is_given(entities, types, flags.as_slice(), &node);
+        push_carried(alloc, unit, entities, types, from, node)?;
+        flags.push(flag)?;
+    }
+    Ok(flags)
+}

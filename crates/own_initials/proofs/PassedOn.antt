@@ -1,0 +1,2 @@
+-- What this crate passes on, from those below it to those above it.
+pub use Rattle.initial_entities.proofs.Rows.{initialisers_own}

@@ -1,2 +1,0 @@
-pub mod Bodying
-pub mod Viewing

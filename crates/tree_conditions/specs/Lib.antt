@@ -1,4 +1,0 @@
-pub mod Bodies
-pub mod View
-pub mod Around
-pub mod Gathered

@@ -1,5 +1,0 @@
-pub mod Indexed
-pub mod Cases
-pub mod Uses
-pub mod Names
-pub mod Spans
