@@ -1,10 +1,15 @@
 //! Systems of inclusion constraints that are written by hand, for tests: their facts are those of the eight plain types and
-//! of one structure of two pointers.
+//! of one structure of two pointers. Some stand here as plain data, with their least sets and call graphs.
 #![tactic(auto)]
+
+mod drawn;
 
 ghost use Rattle.std.specs.Prelude.{◌≡◌, false, true, None, Some, IfOk};
 ghost use Rattle.sol_model.specs.declared.system.Constraint.TheVariants.{Address, Copy as CopyOf, Load, Store, Field, Call};
 
+pub use drawn::{
+    DIRECT_AND_INDIRECT, LINKED_LIST, ONE_CALL, RING, Rule, SYSTEMS, Spot, TWO_ADDRESSES, Worked,
+};
 use pta_base::{Effect, Listing, OutOfMemory, Place};
 use sol_model::{CallSite, Constraint, Function, LocationFact, System, TypeFact};
 use std::alloc::Global;
