@@ -1,19 +1,23 @@
 -- What is answered of an expression.
-use Rattle.std.proofs.Common.{◌≡◌, ◌∙◌, ℕ, ◌+◌, ◌<◌, ◌≤◌, Bool, true, false, inl, List, get_or, Option, Some, None, Result, Ok, Err, IfOk, refl, sym, ap, subst}
+use Rattle.std.proofs.Common.{arith, ◌≡◌, ◌∙◌, ℕ, zero, suc, ◌+◌, ◌<◌, ◌≤◌, Bool, true, false, inl, inr, List, [], ◌∷◌, ◌++◌, length, get_or, Option, Some, None, IsSome, Result, Ok, Err, IfOk, refl, sym, ap, subst}
 use Rattle.std.proofs.Math.Path.{fun_ext}
+use Rattle.std.proofs.lemmas.Bool.{cases_lt}
 use Rattle.std.proofs.lemmas.List.{length-map}
 use Rattle.std.specs.Option.{option_map}
-use Rattle.std.specs.Prelude.{IfSome, MatchOption, slice_index}
-use Rattle.c_types.specs.Table.{Table, type_of}
+use Rattle.std.specs.Prelude.{slice_index}
+use Rattle.c_types.specs.Trees.{Ctype}
+use Rattle.c_types.specs.Table.{Table, type_of, members_in}
+use Rattle.c_inits.specs.Made.{Part}
+use Rattle.c_inits.specs.Tables.{tagged}
 use Rattle.core_tree.specs.declared.node.Unit.{Unit}
 use Rattle.c_consts.specs.Core.{Core}
 use Rattle.core_nodes.specs.declared.fault.CheckFault.{CheckFault}
 use Rattle.core_nodes.specs.declared.fault.CheckFault.TheVariants.{BadOperand, Unsupported, OutOfMemory}
-use Rattle.core_nodes.specs.Standing.{core_at}
+use Rattle.core_nodes.specs.Standing.{core_at, parts_in}
 use Rattle.c_senses.specs.Tree.{Source}
 use Rattle.c_senses.specs.Names.{numbered}
 use Rattle.c_senses.specs.Sense.{Sense, IsCore, sense_in}
-use Rattle.c_senses.specs.Tags.{tag_declared, is_union}
+use Rattle.c_senses.specs.Tags.{tag_declared, tags_below, is_union}
 use Rattle.c_results.specs.declared.made.Made.{Made}
 use Rattle.c_results.specs.Standing.{sense_made, senses_made}
 use Rattle.c_results.specs.Parts.{core_in}
@@ -21,13 +25,18 @@ use Rattle.tag_numbers.specs.declared.tags.Tags.{Tags}
 use Rattle.tag_numbers.specs.Known.{AreTags}
 use Rattle.unit_walk.specs.Walked.{AreDense}
 use Rattle.unit_walk.specs.Stopping.{IsWalkedTo, RefusedThere, RefusedEarly}
-use Rattle.carried_trees.specs.Carried.{carried_core, is_given_core}
-use Rattle.carried_trees.specs.Terms.{tag_type}
+use Rattle.carried_types.specs.Terms.{IsIdIn, tag_type}
+use Rattle.carried_types.specs.Members.{AreTagged, tag_named}
+use Rattle.carried_trees.specs.Carried.{is_given_core}
+use Rattle.carried_trees.specs.Extends.{Extends, SameParts, AreFilled, IsMissing, IsWhole}
+use Rattle.carried_trees.proofs.Extending.{filled_between, lacks_first}
 use Rattle.leaf_maps.specs.Numbers.{number_at}
-use Rattle.c_check.specs.declared.known.Meaning.{Meaning}
-use Rattle.c_check.specs.Known.{entity_known, tag_known, IsTagType, AreKnownTags}
-use Rattle.c_check.specs.Given.{IsIdOf, AreIdsOf}
-use Rattle.c_check.specs.Expressed.{HasSense, HasTree, IsCarried, IsUnknown, HasNoTree, Answers, Expressed, IsAnswer}
+use Rattle.known_tags.specs.declared.known.Meaning.{Meaning}
+use Rattle.known_tags.specs.Known.{entity_known, tag_known, IsTagType}
+use Rattle.known_tags.specs.Given.{IsIdOf}
+use Rattle.known_tags.specs.Own.{AreFirsts, AreTypesGiven, IsOpened, IsTypeGiven, is_own_first, own_number, own_pairs}
+use Rattle.known_tags.specs.Values.{own_values}
+use Rattle.c_check.specs.Expressed.{HasSense, HasTree, IsCarried, IsUnknown, HasNoTree, Answers, AreOwn, Expressed, IsAnswer, members_behind}
 
 -- the type of a tag by the number of the type
 type_by : (table : Table) (is_union : Bool) (known id : Option ℕ) → IsIdOf table is_union known id → IsTagType table is_union known (option_map (λ (i : ℕ). type_of table i) id)
@@ -35,18 +44,58 @@ type_by table is_union None id h = ap (option_map (λ (i : ℕ). type_of table i
 type_by table is_union (Some tag) None h = h
 type_by table is_union (Some tag) (Some id) h = h
 
-tags_known : (s : Source) (t : Tags) → AreTags s t → (list : List (ℕ × Meaning)) (table : Table) (ids : List (Option ℕ)) → AreIdsOf s list table t.firsts.items t.count ids → AreKnownTags s list table (tag_type table ids)
-tags_known s t are list table ids h tag lt =
-    let few : tag < t.count = subst (λ (n : ℕ). tag < n) (sym are.count) lt in
-    let first = slice_index t.firsts.items tag in
-    let there = are.firsts_are tag few in
-    record {
-      first = first;
-      specifier = there.0;
-      numbered = there.1;
-      least = λ i inside is same. subst (λ (n : ℕ). slice_index t.firsts.items n ≤ i) same (are.least i inside is);
-      typed = type_by table (is_union s first) (tag_known list (tag_declared s first)) (get_or ids tag None) (h tag few);
+module _ (s : Source) (first : ℕ → ℕ) (node : ℕ) (list : List (ℕ × Meaning)) (old new : Table) (kept : (id : ℕ) → id < length old.terms → type_of new id ≡ type_of old id) where
+  id_kept : (o : Option ℕ) → IsIdIn old o → option_map (λ (i : ℕ). type_of new i) o ≡ option_map (λ (i : ℕ). type_of old i) o
+  id_kept None h = refl
+  id_kept (Some i) h = ap Some (kept i h)
+
+  given_by : (own : Bool) (t : Ctype) (is_union : Bool) (known before id : Option ℕ) → IsIdOf old is_union known before → IsIdIn old before → IsOpened own new t before id → IsTypeGiven own t old is_union known (option_map (λ (i : ℕ). type_of new i) id)
+  given_by true t is_union known before id typed within h = ap (option_map (λ (i : ℕ). type_of new i)) h.1 ∙ ap Some h.2
+  given_by false t is_union known before id typed within h =
+      subst (λ (o : Option Ctype). IsTagType old is_union known o) (sym (ap (option_map (λ (i : ℕ). type_of new i)) h ∙ id_kept before within)) (type_by old is_union known before typed)
+
+  -- a type that is given is that of a tag
+  tagged_named : (is_union : Bool) (k : ℕ) → IsSome (tag_named (tagged is_union k))
+  tagged_named true k = refl
+  tagged_named false k = refl
+
+  some_one : {X : Type 0} → {x y : X} → ◌≡◌ {A = Option X} (Some x) (Some y) → x ≡ y
+  some_one e = cc
+
+  named_by : (own : Bool) (is_union : Bool) (number : ℕ) (known : Option ℕ) (o : Option Ctype) → IsTypeGiven own (tagged is_union number) old is_union known o → (t : Ctype) → o ≡ Some t → IsSome (tag_named t)
+  named_by true is_union number known o h t e = subst (λ (x : Ctype). IsSome (tag_named x)) (some_one (sym h ∙ e)) (tagged_named is_union number)
+  named_by false is_union number None o h t e = cc
+  named_by false is_union number (Some k) None h t e = cc
+  named_by false is_union number (Some k) (Some x) h t e = subst (λ (y : Ctype). IsSome (tag_named y)) (some_one e) (subst (λ (y : Ctype). IsSome (tag_named y)) (sym h) (tagged_named is_union k))
+
+  module _ (count : ℕ) (below : count ≡ tags_below s) (ids : List (Option ℕ)) (pairs : List (ℕ × Meaning)) (own : AreOwn s first node list count old new ids pairs) where
+    pub types_given : AreTypesGiven s first node list old (tag_type new ids)
+    types_given = record {
+      each = λ k lt.
+          let few : k < count = subst (λ (n : ℕ). k < n) (sym below) lt in
+          given_by (is_own_first s node list (first k)) (tagged (is_union s (first k)) (own_number s first node list old.tags k)) (is_union s (first k)) (tag_known list (tag_declared s (first k))) (get_or own.known k None) (get_or ids k None) (own.typed k few) (own.within k) (own.opened.each k few);
     }
+
+    past_none : (xs : List (Option ℕ)) (k : ℕ) → length xs ≤ k → get_or xs k None ≡ None
+    past_none [] k h = refl
+    past_none (x ∷ xs) zero h = absurd (omega arith)
+    past_none (x ∷ xs) (suc k) h = past_none xs k (omega arith)
+
+    pub tags_tagged : AreTagged (tag_type new ids)
+    tags_tagged k t e = elim (cases_lt k count) [
+      | inl few ↦ named_by (is_own_first s node list (first k)) (is_union s (first k)) (own_number s first node list old.tags k) (tag_known list (tag_declared s (first k))) (tag_type new ids k) (types_given.each k (subst (λ (n : ℕ). k < n) below few)) t e
+      | inr past ↦ absurd (none_some (sym (ap (option_map (λ (i : ℕ). type_of new i)) (past_none ids k (omega (arith, past, own.long)))) ∙ e))
+    ]
+      where
+        none_some : {x : Ctype} → ◌≡◌ {A = Option Ctype} None (Some x) → ⊥
+        none_some h = cc
+
+firsts_there : (s : Source) (t : Tags) → AreTags s t → AreFirsts s (slice_index t.firsts.items)
+firsts_there s t are = record {
+  specifiers = λ k lt. (are.firsts_are k (subst (λ (n : ℕ). k < n) (sym are.count) lt)).0;
+  numbers = λ k lt. (are.firsts_are k (subst (λ (n : ℕ). k < n) (sym are.count) lt)).1;
+  least = are.least;
+}
 
 core_is : (x : Sense) (c : Core) → core_in x ≡ Some c → x ≡ IsCore c
 core_is (IsCore d) c e = let same : d ≡ c = cc in ap IsCore same
@@ -59,62 +108,81 @@ module _ (s : Source) (node : ℕ) (walked : Unit) (rs : List Made) (w : IsWalke
   pub no_tree : core_in (sense_in (senses_made walked rs) node) ≡ None → HasNoTree s node
   no_tree e = record { sense = sense_in (senses_made walked rs) node; has = sense_there (sense_in (senses_made walked rs) node) refl; none = e }
 
-  module _ (top : ℕ) (at : core_in (sense_in (senses_made walked rs) node) ≡ Some (core_at walked top)) (t : Tags) (are : AreTags s t) (list : List (ℕ × Meaning)) (old : Unit) (ids : List (Option ℕ)) (typed : AreIdsOf s list old.types t.firsts.items t.count ids) (entities : List (ℕ × ℕ)) (named : (leaf : ℕ) → number_at entities leaf ≡ entity_known list leaf) where
+  -- what the world says of members is what the unit's table says
+  pub members_there : (k : ℕ) → members_behind s (senses_made walked rs) k ≡ parts_in walked.types (members_in walked.types k)
+  members_there k = w.made.knows.members k
+
+  module _ (top : ℕ) (at : core_in (sense_in (senses_made walked rs) node) ≡ Some (core_at walked top)) (t : Tags) (are : AreTags s t) (list : List (ℕ × Meaning)) (old mid : Unit) (extends : Extends old mid) (same : SameParts old mid) (ids : List (Option ℕ)) (pairs : List (ℕ × Meaning)) (own : AreOwn s (slice_index t.firsts.items) node list t.count old.types mid.types ids pairs) (entities : List (ℕ × ℕ)) (named : (leaf : ℕ) → number_at entities leaf ≡ entity_known list leaf) where
     tree_there : HasTree s node list old
     tree_there = record {
       core = core_at walked top;
       sense = sense_there (IsCore (core_at walked top)) (core_is (sense_in (senses_made walked rs) node) (core_at walked top) at);
-      type = tag_type old.types ids;
-      tags = tags_known s t are list old.types ids typed;
+      first = slice_index t.firsts.items;
+      firsts = firsts_there s t are;
+      type = tag_type mid.types ids;
+      tags = types_given s (slice_index t.firsts.items) node list old.types mid.types extends.types t.count are.count ids pairs own;
     }
 
     same_names : number_at entities ≡ entity_known list
     same_names = fun_ext named
 
-    carried_there : (new : Unit) (i : ℕ) → is_given_core (number_at entities) (tag_type old.types ids) (core_at walked top) ≡ true → core_at new i ≡ carried_core (number_at entities) (tag_type old.types ids) (core_at walked top) → IsCarried s node list old new i
-    unfolding tree_there core_at
-    carried_there new i given carried = record {
+    pairs_there : pairs ≡ own_pairs s (slice_index t.firsts.items) node list old.types.tags (tags_below s)
+    pairs_there = own.opened.pairs_are ∙ ap (λ (n : ℕ). own_pairs s (slice_index t.firsts.items) node list old.types.tags n) are.count
+
+    filled_there : (new : Unit) (members : ℕ → Option (List Part)) → AreFilled (tag_type mid.types ids) members mid new → AreFilled (tag_type mid.types ids) members old new
+    filled_there new members h = filled_between (tag_type mid.types ids) members old mid new new same h (λ tag. refl)
+
+    whole_there : (new : Unit) (i : ℕ) → IsWhole (number_at entities) (tag_type mid.types ids) (members_behind s (senses_made walked rs)) (core_at walked top) mid new i → IsWhole (entity_known list) (tag_type mid.types ids) (members_behind s (senses_made walked rs)) (core_at walked top) old new i
+    whole_there new i h =
+        let there = subst (λ (f : ℕ → Option ℕ). IsWhole f (tag_type mid.types ids) (members_behind s (senses_made walked rs)) (core_at walked top) mid new i) same_names h in
+        record { given = there.given; carried = there.carried; filled = filled_there new (members_behind s (senses_made walked rs)) there.filled }
+
+    pub carried_there : (new : Unit) (i : ℕ) (all : List (ℕ × Meaning)) → all ≡ pairs ++ own_values s (sense_in (senses_made walked rs)) node list node → mid.types.tags ≡ old.types.tags + length pairs → new.types.tags ≡ mid.types.tags → IsWhole (number_at entities) (tag_type mid.types ids) (members_behind s (senses_made walked rs)) (core_at walked top) mid new i → IsCarried s node list (list ++ all) old new i
+    unfolding tree_there sense_there
+    carried_there new i all all_are numbers kept h = record {
       tree = tree_there;
-      given = subst (λ (f : ℕ → Option ℕ). is_given_core f (tag_type old.types ids) (core_at walked top) ≡ true) same_names given;
-      carried = subst (λ (f : ℕ → Option ℕ). core_at new i ≡ carried_core f (tag_type old.types ids) (core_at walked top)) same_names carried;
+      whole = whole_there new i h;
+      known = ap (λ (l : List (ℕ × Meaning)). list ++ l) (all_are ∙ ap (λ (l : List (ℕ × Meaning)). l ++ own_values s (sense_in (senses_made walked rs)) node list node) pairs_there);
+      numbers = kept ∙ (numbers ∙ ap (λ (l : List (ℕ × Meaning)). old.types.tags + length l) pairs_there);
     }
 
-    unknown_there : is_given_core (number_at entities) (tag_type old.types ids) (core_at walked top) ≡ false → IsUnknown s node list old
-    unfolding tree_there core_at
-    unknown_there missing = record { tree = tree_there; missing = subst (λ (f : ℕ → Option ℕ). is_given_core f (tag_type old.types ids) (core_at walked top) ≡ false) same_names missing }
+    missing_there : IsMissing (number_at entities) (tag_type mid.types ids) (members_behind s (senses_made walked rs)) (core_at walked top) mid → IsMissing (entity_known list) (tag_type mid.types ids) (members_behind s (senses_made walked rs)) (core_at walked top) old
+    missing_there (inl h) = inl (subst (λ (f : ℕ → Option ℕ). is_given_core f (tag_type mid.types ids) (core_at walked top) ≡ false) same_names h)
+    missing_there (inr h) = inr (lacks_first (tag_type mid.types ids) (members_behind s (senses_made walked rs)) old mid same h)
 
-    pub all_there : (new : Unit) (r : Result (Option ℕ) CheckFault)
-        → IfOk r (λ found. MatchOption found (is_given_core (number_at entities) (tag_type old.types ids) (core_at walked top) ≡ false) (λ i. is_given_core (number_at entities) (tag_type old.types ids) (core_at walked top) ≡ true))
-        → IfOk r (λ found. IfSome found (λ i. core_at new i ≡ carried_core (number_at entities) (tag_type old.types ids) (core_at walked top)))
-        → IfOk r (λ found. MatchOption found (IsUnknown s node list old) (λ i. IsCarried s node list old new i))
-    all_there new (Ok None) given tree = unknown_there given
-    all_there new (Ok (Some i)) given tree = carried_there new i given tree
-    all_there new (Err e) given tree = given
+    pub unknown_there : IsMissing (number_at entities) (tag_type mid.types ids) (members_behind s (senses_made walked rs)) (core_at walked top) mid → IsUnknown s node list old
+    unfolding tree_there sense_there
+    unknown_there h = record { tree = tree_there; missing = missing_there h }
 
 -- of a source whose tags are numbered
-module _ (s0 s : Source) (tag_number : ℕ → ℕ) (same : s ≡ numbered tag_number s0) (dense : AreDense s) (node : ℕ) (list : List (ℕ × Meaning)) (old new : Unit) where
-  expressed : (result : Result ℕ CheckFault) → Answers s node list old new result → Expressed s0 node list old new result
+module _ (s0 s : Source) (tag_number : ℕ → ℕ) (same : s ≡ numbered tag_number s0) (dense : AreDense s) (node : ℕ) (list more : List (ℕ × Meaning)) (old new : Unit) where
+  expressed : (result : Result ℕ CheckFault) → Answers s node list more old new result → Expressed s0 node list more old new result
   expressed result h = record {
     tag_number = tag_number;
     dense = subst AreDense same dense;
-    answer = subst (λ (x : Source). Answers x node list old new result) same h;
+    answer = subst (λ (x : Source). Answers x node list more old new result) same h;
   }
 
-  pub answered : (result : Result ℕ CheckFault) → Answers s node list old new result → IsAnswer s0 node list old new result
+  pub answered : (result : Result ℕ CheckFault) → Answers s node list more old new result → IsAnswer s0 node list more old new result
   answered (Ok i) h = expressed (Ok i) h
   answered (Err (BadOperand named)) h = expressed (Err (BadOperand named)) h
   answered (Err (Unsupported kind named)) h = expressed (Err (Unsupported kind named)) h
   answered (Err OutOfMemory) h = tt
 
 -- refused on the way
-pub refused_early : (s : Source) (node end : ℕ) (list : List (ℕ × Meaning)) (old new : Unit) (fault : CheckFault) → end ≡ node + 1 → RefusedEarly s end fault → IsAnswer s node list old new (Err fault)
-refused_early s node end list old new (BadOperand named) e h =
+pub refused_early : (s : Source) (node end : ℕ) (list more : List (ℕ × Meaning)) (old new : Unit) (fault : CheckFault) → end ≡ node + 1 → RefusedEarly s end fault → IsAnswer s node list more old new (Err fault)
+refused_early s node end list more old new (BadOperand named) e h =
     let at : RefusedThere s (node + 1) (BadOperand named) = subst (λ (n : ℕ). RefusedThere s n (BadOperand named)) e h in
     record { tag_number = at.tag_number; dense = at.dense; answer = inl at.refused }
-refused_early s node end list old new (Unsupported kind named) e h =
+refused_early s node end list more old new (Unsupported kind named) e h =
     let at : RefusedThere s (node + 1) (Unsupported kind named) = subst (λ (n : ℕ). RefusedThere s n (Unsupported kind named)) e h in
     record { tag_number = at.tag_number; dense = at.dense; answer = inl at.refused }
-refused_early s node end list old new OutOfMemory e h = tt
+refused_early s node end list more old new OutOfMemory e h = tt
 
-pub memory_answers : (s : Source) (node : ℕ) (list : List (ℕ × Meaning)) (old new : Unit) (fault : CheckFault) → fault ≡ OutOfMemory → Answers s node list old new (Err fault)
-memory_answers s node list old new fault e = subst (λ (f : CheckFault). Answers s node list old new (Err f)) (sym e) tt
+pub memory_answers : (s : Source) (node : ℕ) (list more : List (ℕ × Meaning)) (old new : Unit) (fault : CheckFault) → fault ≡ OutOfMemory → Answers s node list more old new (Err fault)
+memory_answers s node list more old new fault e = subst (λ (f : CheckFault). Answers s node list more old new (Err f)) (sym e) tt
+
+-- by two clauses of one answer
+pub both_ok : {X : Type 0} (r : Result X CheckFault) (A B C : X → Type 0) → ((x : X) → A x → B x → C x) → IfOk r A → IfOk r B → IfOk r C
+both_ok (Ok x) A B C f a b = f x a b
+both_ok (Err e) A B C f a b = a

@@ -1,3 +1,1 @@
-pub mod Known
-pub mod Given
 pub mod Expressed

@@ -1,5 +1,5 @@
 // Whole expressions, by their nodes.
-ghost use Rattle.std.specs.Prelude.{◌≡◌, ◌<◌, ◌+◌, ℕ, List, Some, length, IfOk, IfSome, IsOkUnless, MatchOption};
+ghost use Rattle.std.specs.Prelude.{◌≡◌, ◌<◌, ◌+◌, ◌++◌, ℕ, List, Some, length, slice_index, IfOk, IfSome, OnOk, OnErr, IsOkUnless, MatchOption};
 ghost use Rattle.c_lexer.specs.Cut.{IsTokens};
 ghost use Rattle.c_literals.specs.Laws.{AreBytes};
 ghost use Rattle.c_scope.specs.Resolves.{IsBound};
@@ -8,57 +8,150 @@ ghost use Rattle.c_results.specs.Standing.{senses_made};
 ghost use Rattle.c_senses.specs.Names.{source_of};
 ghost use Rattle.c_senses.specs.Sense.{sense_in};
 ghost use Rattle.c_units.specs.Units.{IsUnit};
-ghost use Rattle.core_nodes.specs.Standing.{IsReady, Builds, core_at};
+ghost use Rattle.core_tree.specs.declared.node.Unit.{Unit as UnitSpec};
+ghost use Rattle.core_nodes.specs.Standing.{IsReady, core_at};
 ghost use Rattle.kept_nodes.specs.Keeps.{AllUnder};
 ghost use Rattle.sense_laws.specs.Senses.{ChildrenFirst};
-ghost use Rattle.tree_reads.specs.Sources.{source_in};
+ghost use Rattle.tree_reads.specs.Sources.{source_read, source_in};
 ghost use Rattle.unit_rows.specs.Standing.{Stand};
 ghost use Rattle.unit_walk.specs.Ground.{IsGround, source_ground, nodes_ground};
 ghost use Rattle.unit_walk.specs.Stopping.{IsWalkedTo};
-ghost use Rattle.carried_trees.specs.Terms.{AreTagIds};
-ghost use Rattle.c_check.specs.declared.known.Meaning.{Meaning as MeaningSpec};
-ghost use Rattle.c_check.specs.Expressed.{Answers, IsAnswer, IsCarried, IsUnknown};
-ghost use Rattle.c_check.specs.Given.{AreGiven, AreIdsOf};
+ghost use Rattle.carried_types.specs.Terms.{AreTagIds};
+ghost use Rattle.carried_trees.specs.Extends.{Extends, SameParts};
+ghost use Rattle.known_tags.specs.declared.known.Meaning.{Meaning as MeaningSpec};
+ghost use Rattle.known_tags.specs.Given.{AreGiven};
+ghost use Rattle.c_check.specs.Expressed.{Answers, AreOwn, AreOwnNames, IsAnswer, IsCarried, IsUnknown};
 
-use crate::given::{Given, given_of, known_types};
-use crate::known::{Known, Meaning};
 use c_grammar::Tree;
 use c_lexer::Tokens;
 use c_results::node_at;
 use c_scope::Bound;
-use carried_trees::carry;
+use carried_trees::carry_whole;
 use core_nodes::CheckFault;
 use core_tree::node::Unit;
+use known_tags::{
+    Given, Known, Meaning, OwnTags, given_of, known_types, nodes_under, own_types, own_values,
+};
 use pta_base::Kind;
 use std::alloc::Global;
 use tag_numbers::{Numbered, meanings};
 use unit_walk::{Walked, walk_to};
+
+/// A tree that was carried into a unit: its node there, and what is known more of declarations.
+#[derive(Drop)]
+pub(crate) struct CarriedTree {
+    node: u32,
+    pairs: Vec<(u32, Meaning)>,
+}
 
 // That the bytes of a text are below 256: it does nothing, and its contract is the fact.
 fn are_bytes(text: &[u8])
     ensures { AreBytes text.now }
 {}
 
-// The numbers in a unit of the types of the tags of another, by what is known of their first declarations.
-fn tag_types(
+// The numbers in a unit of the types of the tags of another, by what is known of their first declarations; the tags that an expression
+// itself declares are new ones.
+fn own_tags(
     alloc: Global,
-    unit: &Unit,
+    unit: &mut Unit,
     bound: &Bound,
     numbered: &Numbered,
     given: &Given,
-) -> Result<Vec<Option<u32>>, CheckFault>
+    node: u32,
+) -> Result<OwnTags, CheckFault>
+    requires ready { IsReady unit.old }
     requires bound { IsBound numbered.now.syntax.tokens.now numbered.now.syntax.tree.now bound.now }
-    ensures typed { IfOk result (λ ids. (list : List (ℕ × MeaningSpec)) →
+    requires node { node < length numbered.now.syntax.tree.now.nodes.items }
+    requires first { ChildrenFirst (source_read numbered.now.syntax) }
+    ensures ready { IsReady unit.new }
+    ensures extends { Extends unit.old unit.new }
+    ensures parts { SameParts unit.old unit.new }
+    ensures nodes { unit.new.nodes.items ≡ unit.old.nodes.items }
+    ensures within { IfOk result (λ tags. AreTagIds tags.ids.items unit.new.types) }
+    ensures numbers { IfOk result (λ tags. unit.new.types.tags ≡ unit.old.types.tags + length tags.pairs.items) }
+    ensures own { IfOk result (λ tags. (list : List (ℕ × MeaningSpec)) →
         AreGiven given.now list →
-        AreIdsOf (source_in numbered.now.syntax bound.now.uses.items) list unit.now.types numbered.now.tags.firsts.items
-        numbered.now.tags.count ids.items) }
-    ensures within { IfOk result (λ ids. AreTagIds ids.items unit.now.types) }
+        AreOwn (source_in numbered.now.syntax bound.now.uses.items) (slice_index numbered.now.tags.firsts.items) node list
+        numbered.now.tags.count unit.old.types unit.new.types tags.ids.items tags.pairs.items) }
     ensures memory { IsOkUnless result CheckFault.OutOfMemory }
 {
     let Ok(declaring) = meanings(alloc, bound) else {
         return Err(CheckFault::OutOfMemory);
     };
-    known_types(alloc, &unit.types, numbered, &declaring, given)
+    let known = known_types(alloc, &unit.types, numbered, &declaring, given)?;
+    let flags = nodes_under(alloc, &numbered.syntax, node)?;
+    own_types(
+        alloc,
+        unit,
+        numbered,
+        &declaring,
+        given,
+        flags.as_slice(),
+        known.as_slice(),
+    )
+}
+
+// Puts pairs behind those of a list, which stays as it was where memory wants.
+fn append(list: &mut Vec<(u32, Meaning)>, pairs: &[(u32, Meaning)]) -> Result<(), CheckFault>
+    ensures ok { OnOk result (list.new.items ≡ list.old.items ++ pairs.now) }
+    ensures err { OnErr result (list.new.items ≡ list.old.items) }
+    ensures memory { IsOkUnless result CheckFault.OutOfMemory }
+{
+    let before = list.len();
+    for pair in pairs {
+        match list.push(*pair) {
+            Ok(()) => {}
+            Err(_) => {
+                list.truncate(before);
+                return Err(CheckFault::OutOfMemory);
+            }
+        }
+    }
+    Ok(())
+}
+
+// The same, with the enumerators that the expression itself declares behind the pairs of its tags.
+fn own_names(
+    alloc: Global,
+    unit: &mut Unit,
+    bound: &Bound,
+    walked: &Walked,
+    given: &Given,
+    node: u32,
+) -> Result<OwnTags, CheckFault>
+    requires ready { IsReady unit.old }
+    requires bound { IsBound walked.now.ground.numbered.syntax.tokens.now walked.now.ground.numbered.syntax.tree.now bound.now }
+    requires node { node < nodes_ground walked.now.ground }
+    requires first { ChildrenFirst (source_read walked.now.ground.numbered.syntax) }
+    ensures ready { IsReady unit.new }
+    ensures extends { Extends unit.old unit.new }
+    ensures parts { SameParts unit.old unit.new }
+    ensures nodes { unit.new.nodes.items ≡ unit.old.nodes.items }
+    ensures within { IfOk result (λ tags. AreTagIds tags.ids.items unit.new.types) }
+    ensures own { IfOk result (λ tags. (u : UnitSpec) (list : List (ℕ × MeaningSpec)) →
+        AreGiven given.now list →
+        AreOwnNames (source_ground walked.now.ground bound.now) (sense_in (senses_made u walked.now.results))
+        (slice_index walked.now.ground.numbered.tags.firsts.items) node list walked.now.ground.numbered.tags.count
+        unit.old.types unit.new.types tags.ids.items tags.pairs.items) }
+    ensures memory { IsOkUnless result CheckFault.OutOfMemory }
+{
+    let numbered = &walked.ground.numbered;
+    let own = own_tags(alloc, unit, bound, numbered, given, node)?;
+    let flags = nodes_under(alloc, &numbered.syntax, node)?;
+    let values = own_values(
+        alloc,
+        &numbered.syntax,
+        &walked.results,
+        given,
+        flags.as_slice(),
+        node,
+    )?;
+    let mut pairs = own.pairs;
+    append(&mut pairs, values.as_slice())?;
+    Ok(OwnTags {
+        ids: own.ids,
+        pairs,
+    })
 }
 
 // The tree of a core node of a walk, carried into a unit; None where it names what isn't known. Only memory may want.
@@ -69,35 +162,42 @@ fn carried_tree(
     list: &[(u32, Meaning)],
     walked: Walked,
     top: u32,
-) -> Result<Option<u32>, CheckFault>
+    node: u32,
+) -> Result<Option<CarriedTree>, CheckFault>
     requires ready { IsReady unit.old }
     requires bound { IsBound walked.ground.numbered.syntax.tokens.now walked.ground.numbered.syntax.tree.now bound.now }
     requires ground { IsGround walked.ground bound.now }
     requires walked { IsReady walked.unit }
     requires top { top < length walked.unit.nodes.items }
+    requires node { node < nodes_ground walked.ground }
     ensures ready { IsReady unit.new }
-    ensures builds { Builds unit.old unit.new }
-    ensures within { IfOk result (λ found. IfSome found (λ i. i < length unit.new.nodes.items)) }
-    ensures only { IfOk result (λ found. IfSome found (λ i. AllUnder unit.new (length unit.old.nodes.items) i)) }
-    ensures answer { (node : ℕ) →
-        let s = source_ground walked.entry.ground bound.now in
+    ensures extends { Extends unit.old unit.new }
+    ensures within { IfOk result (λ found. IfSome found (λ tree. tree.node < length unit.new.nodes.items)) }
+    ensures only { IfOk result (λ found. IfSome found (λ tree. AllUnder unit.new (length unit.old.nodes.items) tree.node)) }
+    ensures answer { let s = source_ground walked.entry.ground bound.now in
         IsWalkedTo s (node + 1) walked.entry.unit walked.entry.results →
         core_in (sense_in (senses_made walked.entry.unit walked.entry.results) node) ≡ Some (core_at walked.entry.unit top) →
         IfOk result (λ found. MatchOption found
         (IsUnknown s node list.now unit.old)
-        (λ i. IsCarried s node list.now unit.old unit.new i)) }
+        (λ tree. IsCarried s node list.now (list.now ++ tree.pairs.items) unit.old unit.new tree.node)) }
     ensures memory { IsOkUnless result CheckFault.OutOfMemory }
 {
     let given = given_of(alloc, list)?;
-    let tags = tag_types(alloc, unit, bound, &walked.ground.numbered, &given)?;
-    carry(
+    let own = own_names(alloc, unit, bound, &walked, &given, node)?;
+    match carry_whole(
         alloc,
         unit,
         walked.unit,
         top,
         &given.entities,
-        tags.as_slice(),
-    )
+        own.ids.as_slice(),
+    )? {
+        Some(node) => Ok(Some(CarriedTree {
+            node,
+            pairs: own.pairs,
+        })),
+        None => Ok(None),
+    }
 }
 
 // The tree that an expression's node stands for, carried into a unit.
@@ -105,7 +205,7 @@ fn carried(
     alloc: Global,
     unit: &mut Unit,
     bound: &Bound,
-    list: &[(u32, Meaning)],
+    list: &mut Vec<(u32, Meaning)>,
     walked: Walked,
     node: u32,
 ) -> Result<u32, CheckFault>
@@ -113,18 +213,23 @@ fn carried(
     requires bound { IsBound walked.ground.numbered.syntax.tokens.now walked.ground.numbered.syntax.tree.now bound.now }
     requires ground { IsGround walked.ground bound.now }
     requires stand { Stand (nodes_ground walked.ground) walked.unit walked.results }
+    requires node { node < nodes_ground walked.ground }
     requires walked { IsWalkedTo (source_ground walked.ground bound.now) (node + 1) walked.unit walked.results }
     ensures ready { IsReady unit.new }
-    ensures builds { Builds unit.old unit.new }
+    ensures extends { Extends unit.old unit.new }
     ensures within { IfOk result (λ i. i < length unit.new.nodes.items) }
     ensures only { IfOk result (λ i. AllUnder unit.new (length unit.old.nodes.items) i) }
-    ensures answer { Answers (source_ground walked.entry.ground bound.now) node list.now unit.old unit.new result }
+    ensures kept { OnErr result (list.new.items ≡ list.old.items) }
+    ensures answer { Answers (source_ground walked.entry.ground bound.now) node list.old.items list.new.items unit.old unit.new result }
 {
     let Some(top) = node_at(&walked.results, node) else {
         return Err(CheckFault::BadOperand(node));
     };
-    match carried_tree(alloc, unit, bound, list, walked, top) {
-        Ok(Some(i)) => Ok(i),
+    match carried_tree(alloc, unit, bound, list.as_slice(), walked, top, node) {
+        Ok(Some(tree)) => {
+            append(list, tree.pairs.as_slice())?;
+            Ok(tree.node)
+        }
         Ok(None) => Err(CheckFault::Unsupported(Kind::NotBuilt, node)),
         Err(fault) => Err(fault),
     }
@@ -136,12 +241,20 @@ fn carried(
 ///
 /// The rows of the unit's nodes are made in their order, up to the expression's own: what the unit declares before the expression, and in
 /// it, is what they say. `BadOperand` and `Unsupported` hold the first node that its row refuses, and the kind of the refusal. A node that
-/// stands for no core tree, as a type name, is `BadOperand`. Not built yet, and `Unsupported` with `NotBuilt` at the expression's node, is
-/// a tree which itself names an entity or has a type with a tag that isn't known, or in which a compound literal stands; what is only
-/// looked at on the way, as in the operand of `sizeof`, may be any. All that stood in the unit goes on standing, and of the nodes that
-/// were added none is left but those of the expression's tree. `known` stays as it was: what the expression itself declares isn't added to
-/// it yet. Want of memory, a node of the number 2^32 - 1, and a unit of 2^32 nodes are `OutOfMemory`. After a refusal the unit is only fit
-/// to be dropped.
+/// stands for no core tree, as a type name, is `BadOperand`.
+///
+/// A tag that the expression itself declares, as in `(struct{int i;}*)v`, is one whose first specifier stands under the expression's node,
+/// and of whose declaration nothing is known. Such tags get the next numbers of the unit, in the order of their first specifiers, and
+/// `known` gains the pair of each, in that order, and behind these the enumerators under the expression's node, by the leaves of their
+/// names, of which nothing is known, with their values. A tag that has members at the expression's end, and none in the unit, has them in
+/// the unit afterwards.
+///
+/// Not built yet, and `Unsupported` with `NotBuilt` at the expression's node, is a tree which itself names an entity or has a type with a
+/// tag that isn't known although it is declared elsewhere, or in which a compound literal stands, and also one where a tag would get a
+/// member whose type has such a tag; what is only looked at on the way, as in the operand of `sizeof`, may be any. All that stood in the
+/// unit goes on standing, and of the nodes that were added none is left but those of the expression's tree. Want of memory, a node of the
+/// number 2^32 - 1, and a unit of 2^32 nodes are `OutOfMemory`. After a refusal `known` is as it was, and the unit is only fit to be
+/// dropped.
 ///
 /// A call takes the time of a walk over the unit's nodes up to the expression.
 pub fn check_expression(
@@ -160,18 +273,19 @@ pub fn check_expression(
     requires ready { IsReady unit.old }
     requires node { node < length tree.now.nodes.items }
     ensures ready { IsReady unit.new }
-    ensures builds { Builds unit.old unit.new }
+    ensures extends { Extends unit.old unit.new }
     ensures within { IfOk result (λ i. i < length unit.new.nodes.items) }
     ensures only { IfOk result (λ i. AllUnder unit.new (length unit.old.nodes.items) i) }
-    ensures known { known.new ≡ known.old }
-    ensures answer { IsAnswer (source_of tokens.now tree.now) node known.old.list.items unit.old unit.new result }
+    ensures owner { known.new.owner ≡ known.old.owner }
+    ensures kept { OnErr result (known.new.list.items ≡ known.old.list.items) }
+    ensures answer { IsAnswer (source_of tokens.now tree.now) node known.old.list.items known.new.list.items unit.old unit.new result }
 {
     are_bytes(tokens.text);
     let Some(end) = node.checked_add(1) else {
         return Err(CheckFault::OutOfMemory);
     };
     match walk_to(alloc, tokens, tree, bound, end) {
-        Ok(walked) => carried(alloc, unit, bound, known.list.as_slice(), walked, node),
+        Ok(walked) => carried(alloc, unit, bound, &mut known.list, walked, node),
         Err(fault) => Err(fault),
     }
 }

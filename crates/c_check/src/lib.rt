@@ -2,9 +2,7 @@
 #![tactic(auto)]
 
 mod expression;
-mod given;
-mod known;
 
 pub use core_nodes::CheckFault;
 pub use expression::check_expression;
-pub use known::{Known, Meaning};
+pub use known_tags::{Known, Meaning};

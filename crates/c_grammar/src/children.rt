@@ -1,5 +1,5 @@
 //! The children of a node of a syntax tree.
-ghost use Rattle.std.specs.Prelude.{◌≡◌, [], IfOk};
+ghost use Rattle.std.specs.Prelude.{◌≡◌, ◌∷◌, [], IfOk};
 
 use std::alloc::{AllocError, Global};
 use std::marker::Model;
@@ -38,6 +38,15 @@ impl Children {
     {
         Children {
             held: Held::Nothing,
+        }
+    }
+
+    /// One child.
+    pub fn one(number: u32) -> Children
+        ensures { result.items ≡ number ∷ [] }
+    {
+        Children {
+            held: Held::One(number),
         }
     }
 

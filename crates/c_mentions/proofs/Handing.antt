@@ -8,7 +8,9 @@ use Rattle.c_grammar.specs.Terminals.{contains}
 use Rattle.c_mentions.specs.declared.settings.Scope.{Scope}
 use Rattle.c_mentions.specs.declared.settings.Setting.{Setting}
 use Rattle.c_grammar.specs.Productions.{p_block}
+use Rattle.c_mentions.specs.declared.roles.Role.{Role}
 use Rattle.c_mentions.specs.declared.roles.Role.TheVariants.{Elsewhere}
+use Rattle.c_mentions.specs.Handing.{Gives}
 use Rattle.c_mentions.specs.Syntax.{is_of}
 use Rattle.c_mentions.specs.Roles.{handed, opened, is_body}
 use Rattle.c_mentions.specs.Settings.{Standing, Stands, Hands, Extends, IsChain, with_scope, handed_down, standing, standings, outermost}
@@ -29,6 +31,17 @@ stays tokens nodes n scopes setting s e h o stands =
       body = subst (λ r. setting.body ≡ cond (is_body nodes n r) n s.body) same (stands.body ∙ ap (λ b. cond b n s.body) (sym (no_body (is_of nodes p_block n))));
       role = subst (λ r. setting.role ≡ handed tokens nodes n r) same (e ∙ sym h);
     }
+
+-- the children of a node get a role by its production alone
+pub gives_stands : (tokens : List Token) (nodes : List Node) (n : ℕ) (given : Role) (scopes : List Scope) (setting within : Setting) (s : Standing) → Gives nodes n given
+    → within.scope ≡ setting.scope → within.body ≡ setting.body → within.role ≡ given → Stands scopes setting s → Stands scopes within (handed_down tokens nodes n s)
+gives_stands tokens nodes n given scopes setting within s g a b r stands = record {
+  chain =
+      subst (λ o. IsChain scopes within.scope (with_scope o s.scopes)) (sym (g.scope tokens s.role))
+      (subst (λ k. IsChain scopes k s.scopes) (sym a) stands.chain);
+  body = subst (λ t. within.body ≡ cond t n s.body) (sym (g.body s.role)) (b ∙ stands.body);
+  role = r ∙ sym (g.role tokens s.role);
+}
 
 or-assoc : (a b c : Bool) → a || (b || c) ≡ (a || b) || c
 or-assoc true b c = refl

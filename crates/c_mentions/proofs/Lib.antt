@@ -4,3 +4,5 @@ pub mod Numbering
 pub mod Chains
 pub mod Handing
 pub mod Alike
+pub mod Speaking
+pub mod Recalling

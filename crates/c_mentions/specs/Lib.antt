@@ -5,3 +5,5 @@ pub mod Roles
 pub mod Settings
 pub mod Mentions
 pub mod Kept
+pub mod Handing
+pub mod Recent

@@ -1,5 +1,6 @@
 -- What a node does to names: it declares one, uses one, or neither.
-use Rattle.std.specs.Prelude.{ℕ, ◌==◌, Bool, ◌&&◌, ◌||◌, Option, Some, None, List, codes, slice_get, if◌then◌else◌}
+use Rattle.std.specs.Prelude.{ℕ, ◌==◌, Bool, false, ◌&&◌, ◌||◌, Option, Some, None, List, codes, filter, length, slice_get, if◌then◌else◌}
+use Rattle.std.specs.List.{range_with_len}
 use Rattle.std.specs.Str.{bytes_eq}
 use Rattle.c_lexer.specs.declared.Token.{Token}
 use Rattle.c_grammar.specs.Reads.{Node}
@@ -15,7 +16,7 @@ use Rattle.c_mentions.specs.declared.mentions.Linkage.{Linkage}
 use Rattle.c_mentions.specs.declared.mentions.Linkage.TheVariants.{Never, Typedef, Object, External}
 use Rattle.c_mentions.specs.declared.mentions.Mention.{Mention}
 use Rattle.c_mentions.specs.declared.mentions.Mention.TheVariants as mention
-use Rattle.c_mentions.specs.Syntax.{first_child, is_name, production_at, token_at}
+use Rattle.c_mentions.specs.Syntax.{first_child, is_identifier, is_name, production_at, token_at, token_kind}
 use Rattle.c_mentions.specs.Declarators.{declarator}
 
 -- the name that a token spells, and its symbol by a list of the symbols of all tokens
@@ -89,6 +90,25 @@ end_mention tokens symbol nodes n role =
     if production_at nodes n == p_enumerator then enumerator_mention symbol nodes n
     else if production_at nodes n == p_declarator || production_at nodes n == p_either then declarator_mention symbol nodes (declarator tokens nodes n) role
     else mention.Nothing
+
+-- the productions whose end declares a name
+abbrev pub ends_name : ℕ → Bool
+ends_name production = production == p_enumerator || (production == p_declarator || production == p_either)
+
+-- a node that may do something to names: the leaf of an identifier, an enumerator or a declarator
+abbrev pub node_speaks : List Token → Node → Bool
+node_speaks tokens n = if n.production == reads.leaf then is_identifier (token_kind tokens n.token) else ends_name n.production
+
+abbrev pub speaks_of : List Token → Option Node → Bool
+speaks_of tokens None = false
+speaks_of tokens (Some n) = node_speaks tokens n
+
+-- whether the node of a number may do something to names, and all that may
+abbrev pub speaks : List Token → List Node → ℕ → Bool
+speaks tokens nodes n = speaks_of tokens (slice_get nodes n)
+
+unfoldable pub speaking : List Token → List Node → List ℕ
+speaking tokens nodes = filter (speaks tokens nodes) (range_with_len 0 (length nodes))
 
 -- what a node does to names, that stands in a function's body or not, and in a role below its parent
 unfoldable pub mention_at : List ℕ → List Token → (ℕ → ℕ) → List Node → ℕ → Bool → Role → Mention

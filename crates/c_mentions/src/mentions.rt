@@ -1,15 +1,20 @@
 //! What a node does to names: it declares one, uses one, or neither.
 ghost use Rattle.c_mentions.specs.Mentions as spec;
 ghost use Rattle.c_mentions.specs.Syntax.{nodes_of};
-ghost use Rattle.std.specs.Prelude.{◌≡◌};
+ghost use Rattle.c_grammar.specs.Reads.{node_of};
+ghost use Rattle.std.specs.Prelude.{◌≡◌, ◌<◌, ◌^◌, length, IfOk};
 
 use crate::declarators::{Declarator, Derivation, declarator_at};
 use crate::roles::{Role, Specifiers, TagUse};
-use crate::syntax::{first_child, is_name, production_at, token_at};
+use crate::syntax::{
+    LEAF, first_child, is_identifier, is_name, production_at, token_at, token_kind,
+};
 use c_grammar::SyntaxNode;
 use c_grammar::productions::{DECLARATOR, EITHER, ENUMERATOR};
 use c_grammar::terminals::spelled;
 use c_lexer::Token;
+use pta_base::OutOfMemory;
+use std::alloc::Global;
 
 /// What the words and the form of a declaration say of the linkage of its names (C11 6.2.2).
 #[derive(Clone, Copy, Debug, PartialEq, Eq)]
@@ -243,6 +248,48 @@ fn end_mention(
     } else {
         Mention::Nothing
     }
+}
+
+/// Whether a production ends the declaration of a name.
+fn ends_name(production: u32) -> bool
+    ensures { result ≡ spec.ends_name production }
+{
+    match production {
+        ENUMERATOR => true,
+        DECLARATOR => true,
+        EITHER => true,
+        _ => false,
+    }
+}
+
+/// Whether a node may do something to names.
+fn is_speaking(tokens: &[Token], here: &SyntaxNode) -> bool
+    ensures { result ≡ spec.node_speaks tokens.now (node_of here.now) }
+{
+    if here.production == LEAF {
+        is_identifier(token_kind(tokens, here.token))
+    } else {
+        ends_name(here.production)
+    }
+}
+
+/// The numbers of the nodes that may do something to names, in order: the leaves of identifiers, the enumerators and the declarators.
+/// What any other node does is `Nothing`, wherever it stands (C11 6.2.1, 6.2.3).
+pub fn speaking(
+    alloc: Global,
+    tokens: &[Token],
+    nodes: &[SyntaxNode],
+) -> Result<Vec<u32>, OutOfMemory>
+    requires { length nodes.now < 2 ^ 32 }
+    ensures { IfOk result (λ list. list.items ≡ spec.speaking tokens.now (nodes_of nodes.now)) }
+{
+    let mut list = Vec::new(alloc);
+    for (node, here) in nodes.iter().enumerate() {
+        if is_speaking(tokens, here) {
+            list.push(node as u32)?;
+        }
+    }
+    Ok(list)
 }
 
 /// What a node does to names, that stands in a function's body or not, and in a role below its parent.

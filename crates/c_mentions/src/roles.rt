@@ -1,17 +1,19 @@
 //! How a node stands below its parent, as far as names ask for it.
 ghost use Rattle.c_mentions.specs.Roles as spec;
 ghost use Rattle.c_mentions.specs.Syntax.{nodes_of};
-ghost use Rattle.c_mentions.specs.declared.roles.Role.TheVariants.{Elsewhere};
-ghost use Rattle.c_lexer.specs.declared.Token.{Token};
-ghost use Rattle.std.specs.Prelude.{◌≡◌, true, None, List};
+ghost use Rattle.c_mentions.specs.Handing.{Handled};
+ghost use Rattle.c_mentions.specs.Syntax.{is_keyword};
+ghost use Rattle.c_grammar.specs.Words.{word_do, word_for, word_if, word_switch, word_while};
+ghost use Rattle.std.specs.Prelude.{◌≡◌, ◌||◌};
 
 use crate::declarators::{declarator_at, is_list};
 use crate::syntax::{
-    children_at, first_child, first_part, has_part, is_leaf, is_name, is_of, is_word, production_at,
+    children_at, first_child, first_part, has_part, is_leaf, is_name, is_of, is_word, leaf_kind,
+    production_at,
 };
 use c_grammar::SyntaxNode;
 use c_grammar::productions::*;
-use c_lexer::Token;
+use c_lexer::{Token, TokenKind};
 
 // Positions of keywords.
 const DO: u8 = 7;
@@ -234,16 +236,28 @@ fn in_enum(nodes: &[SyntaxNode], node: u32) -> Role
     }
 }
 
+/// Whether a kind of token is a keyword with which a selection or an iteration begins (C11 6.8.4, 6.8.5).
+fn is_selection(kind: TokenKind) -> bool
+    ensures { result ≡ (is_keyword kind word_if || is_keyword kind word_switch || is_keyword kind word_while || is_keyword kind word_do || is_keyword kind word_for) }
+{
+    match kind {
+        TokenKind::Keyword(word) => match word {
+            IF | SWITCH | WHILE | DO | FOR => true,
+            _ => false,
+        },
+        _ => false,
+    }
+}
+
 /// Whether a statement is a selection or an iteration (C11 6.8.4, 6.8.5).
-#[tactic(auto, unfolding(crate::specs::Roles::selects))]
+#[tactic(auto, unfolding(crate::specs::Roles::selects, crate::specs::Roles::begins_with))]
 fn selects(tokens: &[Token], nodes: &[SyntaxNode], node: u32) -> bool
     ensures { result ≡ spec.selects tokens.now (nodes_of nodes.now) node }
 {
-    begins_with(tokens, nodes, node, IF)
-        || begins_with(tokens, nodes, node, SWITCH)
-        || begins_with(tokens, nodes, node, WHILE)
-        || begins_with(tokens, nodes, node, DO)
-        || begins_with(tokens, nodes, node, FOR)
+    match first_child(nodes, node) {
+        Some(child) => is_selection(leaf_kind(tokens, nodes, child)),
+        None => false,
+    }
 }
 
 /// The role of what stands in a statement.
@@ -345,15 +359,26 @@ pub(crate) fn is_body(nodes: &[SyntaxNode], node: u32, role: Role) -> bool
     is_of(nodes, BLOCK, node) && is_function(role)
 }
 
-/// Whether the children of a node that stands elsewhere stand as it does: it opens no scope and hands on its role (C11 6.2.1).
-#[tactic(auto, unfolding(crate::specs::Roles::handed, crate::specs::Roles::opened))]
-pub(crate) fn hands_on(nodes: &[SyntaxNode], node: u32) -> bool
-    ensures role { result ≡ true → (tokens : List Token) → spec.handed tokens (nodes_of nodes.now) node Elsewhere ≡ Elsewhere }
-    ensures scope { result ≡ true → (tokens : List Token) → spec.opened tokens (nodes_of nodes.now) node Elsewhere ≡ None }
+/// How a node hands down its role, where that asks for nothing but its production.
+#[derive(Clone, Copy, Debug)]
+pub(crate) enum Handing {
+    /// Its children stand elsewhere.
+    Elsewhere,
+    /// Its children are names.
+    Name,
+    /// More is asked.
+    Else,
+}
+
+/// How a node hands down its role. Where that asks for nothing but its production, it opens no scope and is no body.
+#[tactic(auto, unfolding(crate::specs::Roles::handed, crate::specs::Roles::opened, crate::specs::Roles::is_body))]
+pub(crate) fn handing_of(nodes: &[SyntaxNode], node: u32) -> Handing
+    ensures { Handled (nodes_of nodes.now) node result }
 {
     match production_at(nodes, node) {
-        EXTERNAL | DECLARATION | PARAMETER | TYPE | PRIMARY | STRUCT | ENUM | STATEMENT => false,
-        BLOCK | SUFFIX => false,
-        _ => true,
+        EXTERNAL | DECLARATION | REST | PARAMETER | SPECS | TYPE => Handing::Else,
+        STRUCT | ENUM | STATEMENT | BLOCK | SUFFIX => Handing::Else,
+        PRIMARY => Handing::Name,
+        _ => Handing::Elsewhere,
     }
 }

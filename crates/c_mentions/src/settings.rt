@@ -3,11 +3,11 @@ ghost use Rattle.c_mentions.specs.Settings.{handed_down, with_scope};
 ghost use Rattle.c_mentions.specs.Settings.{AreSettings, Extends, Hands, HandsDown, IsChain, Standing, Stands};
 ghost use Rattle.c_mentions.specs.declared.settings.Setting.{Setting};
 ghost use Rattle.c_mentions.specs.declared.roles.Role.TheVariants.{Elsewhere};
-ghost use Rattle.c_mentions.specs.Kept.{Keeps, kind_at};
+ghost use Rattle.c_mentions.specs.Kept.{Keeps, kind_at, with_role};
 ghost use Rattle.c_mentions.specs.Syntax.{nodes_of};
 ghost use Rattle.std.specs.Prelude.{true, ◌≡◌, ◌==◌, ◌<◌, ◌≤◌, ◌^◌, ℕ, List, length, slice_get, slice_index_or, replicate, if◌then◌else◌, IfOk};
 
-use crate::roles::{Role, handed, hands_on, is_body, opened};
+use crate::roles::{Handing, Role, handed, handing_of, is_body, opened};
 use c_grammar::SyntaxNode;
 use c_lexer::Token;
 use pta_base::OutOfMemory;
@@ -90,6 +90,22 @@ fn hand_all(places: &mut Vec<u32>, children: &[u32], node: usize, place: u32)
     }
 }
 
+/// So many zeros, in blocks.
+#[inline(never)]
+fn zeros(alloc: Global, count: usize) -> Result<Vec<u32>, OutOfMemory>
+    ensures { IfOk result (λ list. list.items ≡ replicate count 0) }
+{
+    let block = [0u32; 1024];
+    let mut list = Vec::with_capacity(alloc, count)?;
+    let mut left = count;
+    while left > 1024 {
+        list.extend_from_slice(&block)?;
+        left -= 1024;
+    }
+    list.extend_from_slice(&block[..left])?;
+    Ok(list)
+}
+
 /// Whether two nodes stand alike below their parents, where they stand in expressions or types; of others that isn't asked.
 fn is_same_role(a: Role, b: Role) -> bool
     ensures { result ≡ true → a ≡ b }
@@ -158,7 +174,7 @@ impl SettingList {
     {
         let mut kinds = Vec::new(alloc);
         kinds.push(setting)?;
-        let places = vec![in alloc; 0; count]?;
+        let places = zeros(alloc, count)?;
         Ok(SettingList { kinds, places })
     }
 
@@ -237,7 +253,45 @@ fn setting_within(
     })
 }
 
-/// Hands down to those of a node's children that have smaller numbers where they stand.
+/// Hands down to those of a node's children that have smaller numbers where they stand, by a setting of their own.
+#[inline(never)]
+fn hand_within(
+    tokens: &[Token],
+    nodes: &[SyntaxNode],
+    scopes: &mut Vec<Scope>,
+    list: &mut SettingList,
+    children: &[u32],
+    node: u32,
+) -> Result<(), OutOfMemory>
+    requires { node < length list.old }
+    ensures { IfOk result (λ done. (d : Setting) → HandsDown tokens.now (nodes_of nodes.now) scopes.old.items scopes.new.items children.now node (slice_index_or list.old node d) list.old list.new) }
+{
+    let place = node as usize;
+    let within = setting_within(tokens, nodes, scopes, node, list.at(place))?;
+    list.hand(children, place, within)
+}
+
+/// Gives a role to those of a node's children that have smaller numbers, and the node's own scope and body.
+fn hand_role(
+    list: &mut SettingList,
+    children: &[u32],
+    node: usize,
+    role: Role,
+) -> Result<(), OutOfMemory>
+    requires { node < length list.old }
+    ensures { IfOk result (λ done. (d : Setting) → Hands children.now node (with_role (slice_index_or list.old node d) role) list.old list.new) }
+{
+    let own = list.at(node);
+    let within = Setting {
+        scope: own.scope,
+        body: own.body,
+        role,
+    };
+    list.hand(children, node, within)
+}
+
+/// Hands down to those of a node's children that have smaller numbers where they stand. Most nodes stand in expressions, and their
+/// children stand as they do.
 fn hand_down(
     tokens: &[Token],
     nodes: &[SyntaxNode],
@@ -250,12 +304,18 @@ fn hand_down(
     ensures { IfOk result (λ done. (d : Setting) → HandsDown tokens.now (nodes_of nodes.now) scopes.old.items scopes.new.items children.now node (slice_index_or list.old node d) list.old list.new) }
 {
     let place = node as usize;
-    if list.is_elsewhere(place) && hands_on(nodes, node) {
-        list.hand_same(children, place);
-        return Ok(());
+    match handing_of(nodes, node) {
+        Handing::Elsewhere => {
+            if list.is_elsewhere(place) {
+                list.hand_same(children, place);
+                Ok(())
+            } else {
+                hand_role(list, children, place, Role::Elsewhere)
+            }
+        }
+        Handing::Name => hand_role(list, children, place, Role::Name),
+        Handing::Else => hand_within(tokens, nodes, scopes, list, children, node),
     }
-    let within = setting_within(tokens, nodes, scopes, node, list.at(place))?;
-    list.hand(children, place, within)
 }
 
 /// Where all nodes stand. A parent stands behind its children, so the nodes are gone through from the last one on.

@@ -7,7 +7,7 @@ use c_grammar::SyntaxNode;
 use c_lexer::{Token, TokenKind};
 
 /// The production of a leaf.
-const LEAF: u32 = 4_294_967_295;
+pub(crate) const LEAF: u32 = 4_294_967_295;
 
 /// What stands for the production where there is no node.
 const NO_PRODUCTION: u32 = 48;
@@ -50,7 +50,7 @@ pub(crate) fn is_leaf(nodes: &[SyntaxNode], node: u32) -> bool
 }
 
 /// The kind of a token; behind the last one there is only the end.
-fn token_kind(tokens: &[Token], token: u32) -> TokenKind
+pub(crate) fn token_kind(tokens: &[Token], token: u32) -> TokenKind
     ensures { result ≡ spec.token_kind tokens.now token }
 {
     match tokens.get(token as usize) {
@@ -60,7 +60,7 @@ fn token_kind(tokens: &[Token], token: u32) -> TokenKind
 }
 
 /// The kind of the token for which a leaf stands; a node that is no leaf has the end's.
-fn leaf_kind(tokens: &[Token], nodes: &[SyntaxNode], node: u32) -> TokenKind
+pub(crate) fn leaf_kind(tokens: &[Token], nodes: &[SyntaxNode], node: u32) -> TokenKind
     ensures { result ≡ spec.leaf_kind tokens.now (nodes_of nodes.now) node }
 {
     if is_leaf(nodes, node) {

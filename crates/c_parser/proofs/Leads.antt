@@ -17,7 +17,7 @@ use Rattle.std.specs.Result.{MatchResult}
 use Rattle.c_grammar.specs.Notes.{noted, notes_begin}
 use Rattle.c_parser.specs.Parse.{state, Sees, Faults}
 use Rattle.c_parser.proofs.Steps.{own_begin, read_own, broken_own, helper, faults_map}
-use Rattle.c_parser.specs.Leads.{ended, ended_by, Passes, Ends, Leads, IsEntered, IsFaulty, IsTurned}
+use Rattle.c_parser.specs.Leads.{ended, ended_by, Passes, Ends, Leads, IsAdvanced, IsEntered, IsFaulty, IsTurned}
 
 pub no_more : {A : Type 0} (xs : List A) → length xs ≡ 0 → xs ≡ []
 no_more [] e = refl
@@ -75,6 +75,31 @@ module _ (text : List ℕ) (tokens : List Token) where
   entered_turns old new scopes nodes q on sees g (Ok u) h = λ r l. let m = h.1 scopes nodes sees r l in leads_through old scopes nodes q on g r m.0 m.2.0 m.1 m.2.1 m.2.2
   entered_turns old new scopes nodes q on sees g (Err f) h =
       faults_lead old scopes nodes f (faults_map (Opens text tokens q old.top.depth (state old.ahead.place scopes nodes old.own)) (Walks text tokens old.top.production old.top.at old.top.depth (state old.ahead.place scopes nodes old.own)) f g.1 (h scopes nodes sees))
+
+  -- what is read or entered at an item goes on
+  pub advanced_turns : (old new : Progress) (scopes : Names) (nodes nodes' : List SyntaxNode) (q on : ℕ) → GoesThrough q on old (state old.ahead.place scopes nodes old.own) → Sees text tokens scopes old.ahead → (r : Result (Unit {0}) ParseFault)
+      → MatchResult r (λ done. IsAdvanced text tokens q on old scopes nodes new nodes') (λ fault. IsFaulty text tokens q old.ahead old.top.depth old.own fault)
+      → MatchResult r (λ done. IsTurned text tokens true old scopes nodes new scopes nodes') (λ fault. Faults (Leads text tokens old scopes nodes) fault)
+  advanced_turns old new scopes nodes nodes' q on g sees (Ok u) h = λ r l. let m = h r l in leads_through old scopes nodes q on g r m.0 m.2.0 m.1 m.2.1 m.2.2
+  advanced_turns old new scopes nodes nodes' q on g sees (Err f) h =
+      faults_lead old scopes nodes f (faults_map (Opens text tokens q old.top.depth (state old.ahead.place scopes nodes old.own)) (Walks text tokens old.top.production old.top.at old.top.depth (state old.ahead.place scopes nodes old.own)) f g.1 (h scopes nodes sees))
+
+  -- what has been entered has advanced
+  pub entered_advances : (old new : Progress) (scopes : Names) (nodes : List SyntaxNode) (q on : ℕ) → Sees text tokens scopes old.ahead → (r : Result (Unit {0}) ParseFault)
+      → MatchResult r (λ done. IsEntered text tokens q on old new) (λ fault. IsFaulty text tokens q old.ahead old.top.depth old.own fault)
+      → MatchResult r (λ done. IsAdvanced text tokens q on old scopes nodes new nodes) (λ fault. IsFaulty text tokens q old.ahead old.top.depth old.own fault)
+  entered_advances old new scopes nodes q on sees (Ok u) h = λ r l. h.1 scopes nodes sees r l
+  entered_advances old new scopes nodes q on sees (Err f) h = h
+
+  -- what has been read at once has advanced
+  pub read_advances : (old new : Progress) (scopes : Names) (nodes nodes' : List SyntaxNode) (q on : ℕ) → new.top ≡ record old.top { at = on } → new.users ≡ old.users
+      → Opens text tokens q old.top.depth (state old.ahead.place scopes nodes old.own) (Ok (state new.ahead.place scopes nodes' new.own)) → IsAdvanced text tokens q on old scopes nodes new nodes'
+  read_advances old new scopes nodes nodes' q on top users o = λ r l.
+      let after = state new.ahead.place scopes nodes' new.own in
+      let f : Frame = record old.top { at = on } in
+      let w = subst (λ (f : Frame). Walks text tokens f.production f.at f.depth after l.0) top l.1 in
+      let e = ap (λ (f : Frame). ended f l.0) top in
+      (Ok after, o, (ended new.top l.0, (l.0, w, e), subst (λ us. Ends text tokens us.items (ended new.top l.0) r) users l.2))
 
   -- a production that makes a node has been opened, and one that makes none
   pub opens_own : (q d place : ℕ) (scopes : Names) (nodes : List SyntaxNode) (own new : Own) → d + nests q ≤ most_nested

@@ -58,6 +58,12 @@ module _ (text : List ℕ) (tokens : List Token) where
       → (x : Result State Fault) × Opens text tokens used old.top.depth (state old.ahead.place scopes nodes old.own) x
       × ((z : Result State Fault) × Passes (record old.top { at = on }) x z × Ends old.users.items z r))
 
+  -- the innermost production uses one that has been read or opened, and goes on behind it at a place of its row
+  abbrev pub IsAdvanced : ℕ → ℕ → Progress → Names → List SyntaxNode → Progress → List SyntaxNode → Type 0
+  IsAdvanced used on old scopes nodes new nodes' = (r : Result State Fault) → Leads new scopes nodes' r
+      → (x : Result State Fault) × Opens text tokens used old.top.depth (state old.ahead.place scopes nodes old.own) x
+      × ((z : Result State Fault) × Passes (record old.top { at = on }) x z × Ends old.users.items z r)
+
   -- Reading goes on, and leads from here to nothing but what it led to from before; or it has come to its end.
   abbrev pub IsTurned : Bool → Progress → Names → List SyntaxNode → Progress → Names → List SyntaxNode → Type 0
   IsTurned true old scopes nodes new scopes' nodes' = (r : Result State Fault) → Leads new scopes' nodes' r → Leads old scopes nodes r

@@ -1,6 +1,7 @@
 //! Reads the productions of the grammar by its table.
 #![tactic(auto)]
 
+mod lone;
 mod reader;
 
 ghost use Rattle.c_grammar.specs.Productions.{p_declaration, p_expression, p_init, p_type_name};

@@ -1,15 +1,17 @@
 //! The reader: it walks the table, and keeps the productions that are open in a list.
 ghost use Rattle.c_grammar.specs.Notes.{noted, notes_after};
-ghost use Rattle.c_grammar.specs.Productions.{p_nothing};
+ghost use Rattle.c_grammar.specs.Productions.{p_expression, p_nothing, p_unary};
 ghost use Rattle.c_grammar.specs.Reads.{Walks, Opens, fault_of, node_of, taken};
 ghost use Rattle.c_grammar.specs.Refusals as refuse;
 ghost use Rattle.c_grammar.specs.Table.{item_of};
 ghost use Rattle.c_parser.specs.Leads as leads;
-ghost use Rattle.c_parser.specs.Leads.{Leads, IsOpened, IsEntered, IsFaulty, IsTurned};
+ghost use Rattle.c_parser.specs.Leads.{Leads, IsAdvanced, IsOpened, IsEntered, IsFaulty, IsTurned};
+ghost use Rattle.c_parser.specs.Lone.{lone_taken};
 ghost use Rattle.c_parser.specs.Parse.{state, Answers, Faults, Sees, fault_seen};
 ghost use Rattle.std.specs.Prelude.{◌≡◌, ℕ, List, ◌+◌, ◌<◌, ◌≤◌, ◌^◌, length, map, [], ◌∷◌, ◌++◌, false, IfOk, OnOk, Some, None, MatchResult, true};
 
 use crate::ParseFault;
+use crate::lone::{add_lone, is_lone};
 use c_grammar::looks::{chosen, fits, makes_node, nests, refusal, refused_token};
 use c_grammar::notes::Notes;
 use c_grammar::steps::step_scopes;
@@ -146,6 +148,36 @@ fn take_token(
     Ok(())
 }
 
+/// Takes the next token, an operand that stands alone, with its nodes up to a level of expressions.
+fn take_lone(
+    input: Input,
+    progress: &mut Progress,
+    scopes: &Scopes,
+    nodes: &mut Vec<SyntaxNode>,
+    production: u32,
+) -> Result<(), OutOfMemory>
+    requires place { progress.old.ahead.place < 2 ^ 32 }
+    requires sees { Sees input.text.now input.tokens.now scopes.now progress.old.ahead }
+    requires from { p_expression ≤ production }
+    requires to { production ≤ p_unary }
+    ensures place { OnOk result (progress.new.ahead.place ≡ progress.old.ahead.place + 1) }
+    ensures sees { OnOk result (Sees input.entry.text.now input.entry.tokens.now scopes.now progress.new.ahead) }
+    ensures takes { OnOk result (state (progress.old.ahead.place + 1) scopes.now nodes.new.items progress.new.own
+        ≡ lone_taken production (state progress.old.ahead.place scopes.now nodes.old.items progress.old.own)) }
+    ensures top { OnOk result (progress.new.top ≡ progress.old.top) }
+    ensures users { OnOk result (progress.new.users ≡ progress.old.users) }
+{
+    let ahead = progress.ahead;
+    let last = add_lone(nodes, production, ahead.place as u32)?;
+    progress.own.children.push(last)?;
+    progress.ahead = Ahead {
+        place: ahead.place + 1,
+        first: ahead.second,
+        second: terminal(input.text, input.tokens, scopes, ahead.place + 2),
+    };
+    Ok(())
+}
+
 /// Makes the node of a production that has been read to its end.
 fn make_node(
     production: u32,
@@ -259,6 +291,36 @@ fn enter(input: Input, progress: &mut Progress, used: u32, on: u32) -> Result<()
     }
 }
 
+/// Reads a production that the innermost one uses, which goes on at a place of its row behind it: all at once where it is a level of
+/// expressions that has an operand alone. Any other one is opened.
+fn advance(
+    input: Input,
+    progress: &mut Progress,
+    scopes: &Scopes,
+    nodes: &mut Vec<SyntaxNode>,
+    used: u32,
+    on: u32,
+) -> Result<(), ParseFault>
+    requires tokens { length input.tokens.now < 2 ^ 32 }
+    requires within { progress.old.ahead.place ≤ length input.tokens.now }
+    requires sees { Sees input.text.now input.tokens.now scopes.now progress.old.ahead }
+    ensures goes { MatchResult result
+        (λ done. IsAdvanced input.entry.text.now input.entry.tokens.now used on progress.old scopes.now nodes.old.items progress.new nodes.new.items)
+        (λ fault. IsFaulty input.entry.text.now input.entry.tokens.now used progress.old.ahead progress.old.top.depth progress.old.own fault) }
+    ensures within { OnOk result (progress.new.ahead.place ≤ length input.entry.tokens.now) }
+    ensures sees { OnOk result (Sees input.entry.text.now input.entry.tokens.now scopes.now progress.new.ahead) }
+{
+    let ahead = progress.ahead;
+    if !is_lone(used, ahead.first, ahead.second, progress.top.depth) {
+        return enter(input, progress, used, on);
+    }
+    progress.top.at = on;
+    match take_lone(input, progress, scopes, nodes, used) {
+        Ok(()) => Ok(()),
+        Err(_) => Err(ParseFault::OutOfMemory),
+    }
+}
+
 /// Ends the innermost production, whose row has been read, and answers whether one that uses it goes on.
 fn close(progress: &mut Progress, nodes: &mut Vec<SyntaxNode>) -> Result<bool, OutOfMemory>
     ensures place { OnOk result (progress.new.ahead ≡ progress.old.ahead) }
@@ -314,10 +376,10 @@ fn step(
                 Err(_) => Err(ParseFault::OutOfMemory),
             }
         }
-        Item::Use(used) => enter(input, progress, used, on),
+        Item::Use(used) => advance(input, progress, scopes, nodes, used, on),
         Item::Choice(one, other) => {
             match chosen(one, other, ahead.first, ahead.second, &progress.own.notes) {
-                Some(used) => enter(input, progress, used, on),
+                Some(used) => advance(input, progress, scopes, nodes, used, on),
                 None => Err(misfit(ahead.first, ahead.place)),
             }
         }

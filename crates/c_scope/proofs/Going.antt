@@ -4,7 +4,7 @@ use Rattle.std.proofs.lemmas.List.{take_more}
 use Rattle.std.specs.BTreeMap.{BTreeMap}
 use Rattle.c_mentions.specs.declared.mentions.Mention.{Mention}
 use Rattle.c_mentions.specs.declared.mentions.Mention.TheVariants as mention
-use Rattle.c_scope.specs.Known.{Happening, Known, known, nothing_known, after, first_label, is_label}
+use Rattle.c_scope.specs.Known.{Happening, Known, known, after, first_label, is_label}
 use Rattle.c_scope.specs.Binding.{or_first, label_at, label_after, Holds, Turns}
 use Rattle.c_mentions.specs.declared.settings.Setting.{Setting}
 use Rattle.c_scope.specs.declared.resolving.Unit.{Unit}
@@ -12,7 +12,7 @@ use Rattle.c_scope.specs.declared.binding.Binder.{Binder}
 use Rattle.c_mentions.specs.Syntax.{nodes_of}
 use Rattle.c_mentions.specs.Settings.{IsChain}
 use Rattle.c_mentions.specs.Mentions.{mention_at, symbol_at}
-use Rattle.c_scope.specs.Happens.{Happens, AreHappenings}
+use Rattle.c_scope.specs.Happens.{Happens, AreHappenings, known_with, label_with}
 
 known-push : (file : ℕ) (labels : ℕ → ℕ → Option ℕ) (n : ℕ) (k : Known) (hs : List Happening) (h : Happening)
     → known file labels n k (hs ++ h ∷ []) ≡ after file labels (n + length hs) h.scopes h.body h.mention (known file labels n k hs)
@@ -44,7 +44,7 @@ first_label-push n (g ∷ hs) h body symbol =
     ap (λ o. cond b (Some n) o) (first_label-push (n + 1) hs h body symbol ∙ ap (λ m. or_first (first_label (n + 1) hs body symbol) (cond (is_label body symbol h h.mention) (Some m) None)) e)
     ∙ sym (or_first-cond b (Some n) (first_label (n + 1) hs body symbol) last)
 
-or_first_none : (o : Option ℕ) → o ≡ or_first o None
+pub or_first_none : (o : Option ℕ) → o ≡ or_first o None
 or_first_none None = refl
 or_first_none (Some n) = refl
 
@@ -58,21 +58,20 @@ label_noted before n h (mention.Tag s e) body symbol = or_first_none (label_at b
 label_noted before n h (mention.Goto s) body symbol = or_first_none (label_at before body symbol)
 label_noted before n h (mention.Declares a b d f g) body symbol = or_first_none (label_at before body symbol)
 
-pub label_more : (old : BTreeMap (ℕ × ℕ) ℕ) (all : List Happening) (i : ℕ) (e : Happening) (body symbol : ℕ) → i < length all
-    → label_at old body symbol ≡ first_label 0 (take i all) body symbol
-    → label_after old (get_or all i e).body i (get_or all i e).mention body symbol ≡ first_label 0 (take (i + 1) all) body symbol
-label_more old all i e body symbol l f =
+-- what stands where there is no node
+abbrev pub none : Happening
+none = record { mention = mention.Nothing; scopes = []; body = 0 }
+
+-- the first labels with those of one node more
+pub label_taken : (all : List Happening) (i : ℕ) (e : Happening) (body symbol : ℕ) → i < length all
+    → first_label 0 (take (i + 1) all) body symbol ≡ or_first (first_label 0 (take i all) body symbol) (cond (is_label body symbol (get_or all i e) (get_or all i e).mention) (Some i) None)
+label_taken all i e body symbol l =
     let h = get_or all i e in
     let n : 0 + length (take i all) ≡ i = simp length-take (omega arith) in
-    label_noted old i h h.mention body symbol
-    ∙ (ap (λ o. or_first o (cond (is_label body symbol h h.mention) (Some i) None)) f
-    ∙ (ap (λ m. or_first (first_label 0 (take i all) body symbol) (cond (is_label body symbol h h.mention) (Some m) None)) (sym n)
-    ∙ sym (ap (λ l. first_label 0 l body symbol) (take_more all i e l) ∙ first_label-push 0 (take i all) h body symbol)))
+    ap (λ l. first_label 0 l body symbol) (take_more all i e l)
+    ∙ (first_label-push 0 (take i all) h body symbol ∙ ap (λ m. or_first (first_label 0 (take i all) body symbol) (cond (is_label body symbol h h.mention) (Some m) None)) n)
 
 module _ (unit : Unit) (all : List Happening) (h : AreHappenings unit all) (i : ℕ) (setting : Setting) (is : get_or unit.settings.now i setting ≡ setting) (within : i < length unit.settings.now) where
-  abbrev none : Happening
-  none = record { mention = mention.Nothing; scopes = []; body = 0 }
-
   inside : i < length all
   inside = subst (λ n. i < n) (sym h.count) within
 
@@ -83,28 +82,25 @@ module _ (unit : Unit) (all : List Happening) (h : AreHappenings unit all) (i : 
   abbrev pub Sees : Mention → Type 0
   Sees m = m ≡ mention_at unit.text.now unit.tokens.now (symbol_at unit.symbols.now) (nodes_of unit.nodes.now) i (ltb setting.body unit.file) setting.role
 
-  -- the labels behind one node more
+  -- the labels with those of a node
   pub labels_noted : (old new : BTreeMap (ℕ × ℕ) ℕ) (m : Mention) → Sees m
       → ((body symbol : ℕ) → label_at new body symbol ≡ label_after old setting.body i m body symbol)
-      → ((body symbol : ℕ) → label_at old body symbol ≡ first_label 0 (take i all) body symbol)
-      → (body symbol : ℕ) → label_at new body symbol ≡ first_label 0 (take (i + 1) all) body symbol
-  labels_noted old new m s f g body symbol =
-      let a = happens in
-      f body symbol
-      ∙ (ap (λ n. label_after old n i m body symbol) a.body
-      ∙ (ap (λ x. label_after old (get_or all i none).body i x body symbol) (s ∙ a.mention)
-      ∙ label_more old all i none body symbol inside (g body symbol)))
-
-  -- what is known behind one node more
-  pub binder_taken : (old new : Binder) (labels : ℕ → ℕ → Option ℕ) (m : Mention) → Sees m
-      → ((chain : List ℕ) → IsChain unit.scopes.now setting.scope chain → Turns old new (after unit.file labels i chain setting.body m))
-      → Holds old (known unit.file labels 0 nothing_known (take i all))
-      → Holds new (known unit.file labels 0 nothing_known (take (i + 1) all))
-  binder_taken old new labels m s f g =
+      → (body symbol : ℕ) → label_at new body symbol ≡ label_with all body symbol i (label_at old body symbol)
+  labels_noted old new m s f body symbol =
       let a = happens in
       let b = get_or all i none in
-      let k = known unit.file labels 0 nothing_known (take i all) in
+      f body symbol
+      ∙ (ap (λ n. label_after old n i m body symbol) a.body
+      ∙ (ap (λ x. label_after old b.body i x body symbol) (s ∙ a.mention)
+      ∙ label_noted old i b b.mention body symbol))
+
+  -- what is known with what a node does
+  pub binder_taken : (old new : Binder) (labels : ℕ → ℕ → Option ℕ) (m : Mention) → Sees m
+      → ((chain : List ℕ) → IsChain unit.scopes.now setting.scope chain → Turns old new (after unit.file labels i chain setting.body m))
+      → Turns old new (known_with unit.file labels all i)
+  binder_taken old new labels m s f = λ k g.
+      let a = happens in
+      let b = get_or all i none in
       let t = f b.scopes a.chain k g in
-      subst (λ x. Holds new x) (sym (known_more unit.file labels nothing_known all i none inside))
-      (subst (λ x. Holds new (after unit.file labels i b.scopes b.body x k)) (s ∙ a.mention)
-      (subst (λ x. Holds new (after unit.file labels i b.scopes x m k)) a.body t))
+      subst (λ x. Holds new (after unit.file labels i b.scopes b.body x k)) (s ∙ a.mention)
+      (subst (λ x. Holds new (after unit.file labels i b.scopes x m k)) a.body t)

@@ -5,3 +5,4 @@ pub mod AllHappen
 pub mod Growing
 pub mod Keys
 pub mod Unlabelled
+pub mod Passing

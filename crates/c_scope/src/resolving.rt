@@ -1,6 +1,6 @@
 //! Resolves the names of a unit.
-ghost use Rattle.c_scope.specs.Binding.{Holds, LeaveSameLabels, label_at};
-ghost use Rattle.c_scope.specs.Happens.{AreHappenings};
+ghost use Rattle.c_scope.specs.Binding.{Holds, LeaveSameLabels, Turns, label_at};
+ghost use Rattle.c_scope.specs.Happens.{AreHappenings, Speak, known_with, label_with};
 ghost use Rattle.c_scope.specs.Known.{Happening, first_label, known, nothing_known};
 ghost use Rattle.c_mentions.specs.Mentions as mentions;
 ghost use Rattle.c_mentions.specs.Mentions.{symbol_at};
@@ -12,7 +12,7 @@ use crate::binding::{Around, Binder, Labels, note_label, take};
 use crate::kinds::{Declared, NameFault};
 use c_grammar::{SyntaxNode, Tree};
 use c_lexer::{Token, Tokens};
-use c_mentions::mentions::{Mention, mention_at};
+use c_mentions::mentions::{Mention, mention_at, speaking};
 use c_mentions::roles::Role;
 use c_mentions::settings::{Scope, Setting, SettingList, Settings, place_of, settings_of};
 use c_mentions::symbols::symbols;
@@ -71,23 +71,52 @@ fn label_mention(unit: Unit, node: u32, setting: Setting) -> Mention
     }
 }
 
-/// The first label of each symbol in the body of each function.
-fn find_labels(alloc: Global, unit: Unit) -> Result<Labels, OutOfMemory>
-    requires { length unit.settings.now < 2 ^ 32 }
+/// Notes the label that a node of a unit declares, if it declares one.
+fn note_node(labels: &mut Labels, unit: Unit, node: u32) -> Result<(), OutOfMemory>
+    requires { node < length unit.settings.now }
+    ensures { IfOk result (λ done. (all : List Happening) → AreHappenings unit.entry all
+        → (body symbol : ℕ) → label_at labels.new body symbol ≡ label_with all body symbol node (label_at labels.old body symbol)) }
+{
+    let setting = unit.settings.at(node as usize);
+    let mention = label_mention(unit, node, setting);
+    note_label(labels, setting.body, node, mention)
+}
+
+/// The first label of each symbol in the body of each function, by the nodes that may do something to names.
+fn find_labels(alloc: Global, unit: Unit, speaking: &[u32]) -> Result<Labels, OutOfMemory>
+    requires { Speak unit speaking.now }
     ensures { IfOk result (λ labels. (all : List Happening) → AreHappenings unit.entry all → (body symbol : ℕ) → label_at labels body symbol ≡ first_label 0 all body symbol) }
 {
     let mut labels = BTreeMap::new(alloc);
-    for node in 0..unit.settings.len() {
-        let setting = unit.settings.at(node);
-        let mention = label_mention(unit, node as u32, setting);
-        note_label(&mut labels, setting.body, node as u32, mention)?;
+    for node in speaking {
+        note_node(&mut labels, unit, *node)?;
     }
     Ok(labels)
 }
 
-/// What is known of names behind all nodes.
-fn bind_all(alloc: Global, unit: Unit, labels: &Labels) -> Result<Binder, OutOfMemory>
-    requires { length unit.settings.now < 2 ^ 32 }
+/// What is known of names behind a node of a unit.
+fn take_node(binder: &mut Binder, labels: &Labels, unit: Unit, node: u32) -> Result<(), OutOfMemory>
+    requires { node < length unit.settings.now }
+    ensures { IfOk result (λ done. (all : List Happening) → AreHappenings unit.entry all → Turns binder.old binder.new (known_with unit.entry.file (label_at labels.now) all node)) }
+{
+    let setting = unit.settings.at(node as usize);
+    let mention = mention_of(unit, node, setting);
+    let around = Around {
+        scopes: unit.scopes,
+        place: setting.scope,
+        file: unit.file,
+    };
+    take(binder, labels, around, setting.body, node, mention)
+}
+
+/// What is known of names behind all nodes, by those that may do something to names.
+fn bind_all(
+    alloc: Global,
+    unit: Unit,
+    labels: &Labels,
+    speaking: &[u32],
+) -> Result<Binder, OutOfMemory>
+    requires { Speak unit speaking.now }
     ensures { IfOk result (λ binder. (all : List Happening) → AreHappenings unit.entry all → Holds binder (known unit.entry.file (label_at labels.now) 0 nothing_known all)) }
 {
     let mut binder = Binder {
@@ -100,22 +129,8 @@ fn bind_all(alloc: Global, unit: Unit, labels: &Labels) -> Result<Binder, OutOfM
         labels: Vec::new(alloc),
         fault: None,
     };
-    for node in 0..unit.settings.len() {
-        let setting = unit.settings.at(node);
-        let mention = mention_of(unit, node as u32, setting);
-        let around = Around {
-            scopes: unit.scopes,
-            place: setting.scope,
-            file: unit.file,
-        };
-        take(
-            &mut binder,
-            labels,
-            around,
-            setting.body,
-            node as u32,
-            mention,
-        )?;
+    for node in speaking {
+        take_node(&mut binder, labels, unit, *node)?;
     }
     Ok(binder)
 }
@@ -149,8 +164,10 @@ fn bind(
         settings: list_of(&settings),
         file,
     };
-    let labels = find_labels(alloc, unit)?;
-    bind_all(alloc, unit, &labels)
+    let list = speaking(alloc, tokens, nodes)?;
+    let spoken = list.as_slice();
+    let labels = find_labels(alloc, unit, spoken)?;
+    bind_all(alloc, unit, &labels, spoken)
 }
 
 /// Binds each use of an ordinary name, a tag or a label of a unit to the node of the innermost declaration that is visible there

@@ -1,3 +1,3 @@
 pub mod Carried
-pub mod Terms
 pub mod Copied
+pub mod Extends

@@ -3,6 +3,8 @@
 
 mod carrying;
 mod nodes;
-mod types;
+mod tags;
+mod whole;
 
-pub use carrying::carry;
+pub use tags::open_in;
+pub use whole::carry_whole;

@@ -8,10 +8,10 @@ ghost use Rattle.core_nodes.specs.Standing.{core_at, cores_at, IsReady, Builds};
 ghost use Rattle.leaf_maps.specs.Numbers.{number_at};
 ghost use Rattle.carried_trees.specs.Carried as carried;
 ghost use Rattle.carried_trees.specs.Copied.{all_flagged, AreBehind, AreCarried, AreTyped};
-ghost use Rattle.carried_trees.specs.Terms.{AreIds, AreTypes};
+ghost use Rattle.carried_types.specs.Terms.{AreIds, AreTypes};
 
-use crate::types::CarriedTypes;
 use c_types::term::TypeId;
+use carried_types::CarriedTypes;
 use core_nodes::CheckFault;
 use core_nodes::trees::push_node;
 use core_tree::held::Children;

@@ -9,7 +9,7 @@ use c_lexer::Tokens;
 use c_lexer::lexer::tokens;
 use c_scope::{Bound, resolve};
 use c_types::table::TypeTable;
-use c_types::term::{Form, Term, TypeId, TypeList};
+use c_types::term::{Form, Name, Term, TypeId, TypeList};
 use c_units::parse_unit;
 use core_tree::node::{Entity, Linkage, NodeKind, Op, Storage, Unit};
 use parsed_laws::laws::children_first;
@@ -227,8 +227,8 @@ fn column_of(found: &Tokens<'_>, tree: &Tree, node: u32) -> u32 {
 // What a refusal says: its kind, and the column of the first token of the node that it names.
 type Refusal = (Kind, u32);
 
-// The unit with the core nodes of an expression, and a refusal where there is one.
-fn answer(alloc: Global, text: &str) -> Result<(Unit, Option<Refusal>), Fail> {
+// The unit with the core nodes of an expression, what is known afterwards, and a refusal where there is one.
+fn answer(alloc: Global, text: &str) -> Result<(Unit, Known, Option<Refusal>), Fail> {
     let whole = format!(in alloc;
         "{}\n{}\n{}\n{}\n{};}}\n",
         OBJECTS, OTHERS, PARTS, BODY, text
@@ -254,14 +254,14 @@ fn answer(alloc: Global, text: &str) -> Result<(Unit, Option<Refusal>), Fail> {
     let mut known = known_names(alloc, &found, &tree, &bound)?;
     let result = check_expression(alloc, &found, &tree, &bound, node, &mut known, &mut unit);
     match result {
-        Ok(_) => Ok((unit, None)),
+        Ok(_) => Ok((unit, known, None)),
         Err(CheckFault::BadOperand(at)) => {
             let column = column_of(&found, &tree, at);
-            Ok((unit, Some((Kind::Operand, column))))
+            Ok((unit, known, Some((Kind::Operand, column))))
         }
         Err(CheckFault::Unsupported(kind, at)) => {
             let column = column_of(&found, &tree, at);
-            Ok((unit, Some((kind, column))))
+            Ok((unit, known, Some((kind, column))))
         }
         Err(CheckFault::OutOfMemory) => Err(Fail::new("out of memory")),
     }
@@ -333,14 +333,22 @@ fn has_shapes(unit: &Unit, shapes: &[Shape<'_>]) -> bool {
 
 // Whether a text gives these core nodes and no others.
 fn gives(alloc: Global, text: &str, shapes: &[Shape<'_>]) -> Result<bool, Fail> {
-    let (unit, refusal) = answer(alloc, text)?;
+    let (unit, _known, refusal) = answer(alloc, text)?;
     Ok(refusal.is_none() && has_shapes(&unit, shapes))
 }
 
 // What refuses a text.
 fn refusal(alloc: Global, text: &str) -> Result<Option<Refusal>, Fail> {
-    let (_unit, refusal) = answer(alloc, text)?;
+    let (_unit, _known, refusal) = answer(alloc, text)?;
     Ok(refusal)
+}
+
+// Whether it is that refusal.
+fn is_refusal(found: Option<Refusal>, kind: Kind, column: u32) -> bool {
+    match found {
+        Some((other, place)) => other == kind && place == column,
+        None => false,
+    }
 }
 
 // Sizes, constants, strings and casts with their core nodes, written by hand.
@@ -731,6 +739,59 @@ static PREFIXES_AND_PLACES: [(&str, &[Shape<'static>]); 25] = [
     ("sizeof q", &[(b'4', 1, &[])]),
 ];
 
+// Tags that the expression itself declares (C11 6.7.2.3): untagged, incomplete, with members, in the list of another one, and named again.
+// An enumerator is named after its declaration in the same expression (6.2.1p7).
+static OWN_TAGS: [(&str, &[Shape<'static>]); 6] = [
+    (
+        "(enum{m=3})0+m",
+        &[(b'0', 12, &[]), (b'3', 14, &[]), (b'+', 13, &[0, 1])],
+    ),
+    (
+        "(struct{int i;}*)v",
+        &[(b'd', 18, &[]), (b'F', 18, &[0]), (b'C', 18, &[1])],
+    ),
+    (
+        "(struct u*)v",
+        &[(b'd', 12, &[]), (b'F', 12, &[0]), (b'C', 12, &[1])],
+    ),
+    (
+        "((struct u{char m;int i;}*)v)->i",
+        &[
+            (b'd', 28, &[]),
+            (b'F', 28, &[0]),
+            (b'C', 28, &[1]),
+            (b'*', 30, &[2]),
+            (b'M', 30, &[3]),
+        ],
+    ),
+    (
+        "((struct{struct u{int i;}w;struct u*x;}*)v)->x->i",
+        &[
+            (b'd', 42, &[]),
+            (b'F', 42, &[0]),
+            (b'C', 42, &[1]),
+            (b'*', 44, &[2]),
+            (b'M', 44, &[3]),
+            (b'F', 44, &[4]),
+            (b'*', 47, &[5]),
+            (b'M', 47, &[6]),
+        ],
+    ),
+    (
+        "sizeof(struct u{char m;int i;}),((struct u*)v)->i",
+        &[
+            (b'8', 1, &[]),
+            (b'd', 45, &[]),
+            (b'F', 45, &[1]),
+            (b'C', 45, &[2]),
+            (b'*', 47, &[3]),
+            (b'M', 47, &[4]),
+            (b'F', 47, &[5]),
+            (b',', 32, &[0, 6]),
+        ],
+    ),
+];
+
 #[test]
 fn sizes_and_casts(rt: HostRuntime) -> Result<(), Fail> {
     for (text, shapes) in &SIZES_AND_CASTS {
@@ -817,11 +878,124 @@ static REFUSALS: [(&str, Kind, u32); 52] = [
 #[test]
 fn refusals(rt: HostRuntime) -> Result<(), Fail> {
     for (text, kind, column) in &REFUSALS {
-        assert_eq!(rt;
-            refusal(rt.alloc(), text)?,
-            Some((*kind, *column)),
+        assert!(rt;
+            is_refusal(refusal(rt.alloc(), text)?, *kind, *column),
             "{text:?}"
         );
     }
+    Ok(())
+}
+
+#[test]
+fn own_tags(rt: HostRuntime) -> Result<(), Fail> {
+    for (text, shapes) in &OWN_TAGS {
+        assert!(rt; gives(rt.alloc(), text, shapes)?, "{text:?}");
+    }
+    Ok(())
+}
+
+// The numbers of the tags that are known, but for that of s.
+fn new_tags(alloc: Global, known: &Known) -> Result<Vec<u32>, Fail> {
+    let mut tags = Vec::new(alloc);
+    for entry in known.list.as_slice() {
+        if let Meaning::Tag(tag) = entry.1 {
+            if tag > 0 {
+                tags.push(tag)?;
+            }
+        }
+    }
+    Ok(tags)
+}
+
+// Whether a member has that name.
+fn is_named(name: &Option<Name>, text: &str) -> bool {
+    match name {
+        Some(name) => name.as_str() == text,
+        None => false,
+    }
+}
+
+// The type of a member of a unit's tag, in that place and with that name.
+fn member_type(unit: &Unit, tag: u32, place: usize, text: &str) -> Option<TypeId> {
+    if tag >= unit.types.tag_count() {
+        return None;
+    }
+    match unit.types.members(tag)?.get(place) {
+        Some(member) if is_named(&member.name, text) => Some(member.ty),
+        _ => None,
+    }
+}
+
+// The size of a type.
+fn size_of(unit: &Unit, ty: TypeId) -> Option<u64> {
+    if ty.0 < unit.types.type_count() {
+        unit.types.size_of(ty)
+    } else {
+        None
+    }
+}
+
+// Whether a member in that place has that name, and a type of that size.
+fn has_member(unit: &Unit, tag: u32, place: usize, text: &str, size: u64) -> bool {
+    let Some(ty) = member_type(unit, tag, place, text) else {
+        return false;
+    };
+    match size_of(unit, ty) {
+        Some(found) => found == size,
+        None => false,
+    }
+}
+
+// The tags that an expression declares are known afterwards, in the order of their first specifiers, and have their members in the unit:
+// u is numbered before the structure in whose list it stands.
+#[test]
+fn tags_known_afterwards(rt: HostRuntime) -> Result<(), Fail> {
+    let alloc = rt.alloc();
+    let (unit, known, refusal) = answer(
+        alloc,
+        "((struct{struct u{int i;int j;}w;struct u*x;}*)v)->x->i",
+    )?;
+    assert!(rt; refusal.is_none());
+    let tags = new_tags(alloc, &known)?;
+    assert!(rt; tags.as_slice() == [1, 2].as_slice());
+    assert!(rt; unit.types.tag_count() == 3);
+    assert!(rt; has_member(&unit, 1, 0, "i", 4) && has_member(&unit, 1, 1, "j", 4));
+    assert!(rt; has_member(&unit, 2, 0, "w", 8) && has_member(&unit, 2, 1, "x", 8));
+    assert!(rt; has_member(&unit, 0, 1, "y", 8));
+    Ok(())
+}
+
+// The values that are known, but for that of c.
+fn new_values(alloc: Global, known: &Known) -> Result<Vec<i128>, Fail> {
+    let mut values = Vec::new(alloc);
+    for entry in known.list.as_slice() {
+        if let Meaning::Value(value) = entry.1 {
+            if value != 2 {
+                values.push(value)?;
+            }
+        }
+    }
+    Ok(values)
+}
+
+// So are the enumerators that it declares, in their order, also those in what is only looked at.
+#[test]
+fn enumerators_known_afterwards(rt: HostRuntime) -> Result<(), Fail> {
+    let alloc = rt.alloc();
+    let text = "(enum{m=7,n})0+sizeof(enum{u=-4})";
+    let (_unit, known, refusal) = answer(alloc, text)?;
+    assert!(rt; refusal.is_none());
+    let values = new_values(alloc, &known)?;
+    assert!(rt; values.as_slice() == [7, 8, -4].as_slice());
+    Ok(())
+}
+
+// After a refusal what is known is as it was.
+#[test]
+fn nothing_known_after_refusals(rt: HostRuntime) -> Result<(), Fail> {
+    let alloc = rt.alloc();
+    let (_unit, known, refusal) = answer(alloc, "(struct u{int i;}*)v,q")?;
+    assert!(rt; is_refusal(refusal, Kind::NotBuilt, 1));
+    assert!(rt; new_tags(alloc, &known)?.is_empty());
     Ok(())
 }

@@ -1,10 +1,6 @@
-//! Types, constants, initialisers and whole units that are made by hand, against what C11 says of them and what GCC makes of them.
+//! Types, members, maps and whole units that are made by hand, against what C11 says of them and what GCC makes of them.
 #![tactic(auto)]
 
-#[cfg(test)]
-mod constants;
-#[cfg(test)]
-mod initials;
 #[cfg(test)]
 mod library;
 #[cfg(test)]

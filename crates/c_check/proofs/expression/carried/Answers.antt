@@ -1,9 +1,10 @@
-use Rattle.std.proofs.Common.{◌<◌, ℕ, inr, Option, length, refl, subst}
-use Rattle.std.specs.Prelude.{IfSome, MatchOption}
-use Rattle.kept_nodes.specs.Keeps.{AllUnder}
+use Rattle.std.proofs.Common.{◌≡◌, ◌∙◌, ℕ, inr, List, ◌++◌, Option, refl, sym, ap, subst}
+use Rattle.std.specs.Prelude.{MatchOption}
 use Rattle.unit_walk.specs.Ground.{source_ground}
+use Rattle.c_check.specs.declared.expression.CarriedTree.{CarriedTree}
+use Rattle.known_tags.specs.declared.known.Meaning.{Meaning}
 use Rattle.c_check.specs.Expressed.{IsCarried, IsUnknown}
-use Rattle.c_check.proofs.Answering.{no_tree, memory_answers}
+use Rattle.c_check.proofs.Answering.{no_tree}
 use Rattle.c_check.proofs.expression.carried.Goals as goal
 
 pub returns-in_default-clause-answer : goal.returns-in_default-clause-answer
@@ -12,39 +13,18 @@ returns-in_default-clause-answer c =
     let s = source_ground w.ground c.args.bound.now in
     inr (refl, no_tree s c.args.node w.unit w.results c.requires.walked (c.in_default.ensures.seen w.unit))
 
-pub carried_tree-requires-clause-walked : goal.carried_tree-requires-clause-walked
-carried_tree-requires-clause-walked c = c.requires.stand.ready
-
-pub carried_tree-requires-clause-top : goal.carried_tree-requires-clause-top
-carried_tree-requires-clause-top c = c.in-Some.ensures.within c.args.walked.unit c.requires.stand.within
-
-pub returns-in-Ok-Some-clause-answer : goal.returns-in-Ok-Some-clause-answer
-returns-in-Ok-Some-clause-answer c =
+pub returns-in_ok-append-in-Ok-Some-clause-answer : goal.returns-in_ok-append-in-Ok-Some-clause-answer
+returns-in_ok-append-in-Ok-Some-clause-answer c =
     let w = c.args.walked in
     let s = source_ground w.ground c.args.bound.now in
-    let list = c.args.list.now in
+    let list = c.as_slice.result.now in
     let old = c.args.unit.now in
-    subst (λ (o : Option ℕ). MatchOption o (IsUnknown s c.args.node list old) (λ (i : ℕ). IsCarried s c.args.node list old c.carried_tree.new.unit i)) c.in-Ok-Some.field-0-is
-    (c.in-Ok-Some.ensures.answer c.args.node c.requires.walked (c.in-Some.ensures.seen w.unit))
-
-pub returns-in-Ok-Some-clause-within : goal.returns-in-Ok-Some-clause-within
-returns-in-Ok-Some-clause-within c =
-    subst (λ (o : Option ℕ). IfSome o (λ (i : ℕ). i < length c.carried_tree.new.unit.nodes.items)) c.in-Ok-Some.field-0-is c.in-Ok-Some.ensures.within
-
-pub returns-in-Ok-Some-clause-only : goal.returns-in-Ok-Some-clause-only
-returns-in-Ok-Some-clause-only c =
-    subst (λ (o : Option ℕ). IfSome o (λ (i : ℕ). AllUnder c.carried_tree.new.unit (length c.args.unit.now.nodes.items) i)) c.in-Ok-Some.field-0-is c.in-Ok-Some.ensures.only
-
-pub returns-in-Ok-None-clause-answer : goal.returns-in-Ok-None-clause-answer
-returns-in-Ok-None-clause-answer c =
-    let w = c.args.walked in
-    let s = source_ground w.ground c.args.bound.now in
-    let list = c.args.list.now in
-    let old = c.args.unit.now in
-    let unknown : IsUnknown s c.args.node list old = subst (λ (o : Option ℕ). MatchOption o (IsUnknown s c.args.node list old) (λ (i : ℕ). IsCarried s c.args.node list old c.carried_tree.new.unit i)) c.in-Ok-None.field-0-is
-    (c.in-Ok-None.ensures.answer c.args.node c.requires.walked (c.in-Some.ensures.seen w.unit)) in
-    inr (refl, refl, unknown)
-
-pub returns-in-Err-clause-answer : goal.returns-in-Err-clause-answer
-returns-in-Err-clause-answer c =
-    memory_answers (source_ground c.args.walked.ground c.args.bound.now) c.args.node c.args.list.now c.args.unit.now c.carried_tree.new.unit c.in-Err.fault c.in-Err.ensures.memory
+    let new = c.carried_tree.new.unit in
+    let there =
+    subst (λ (o : Option CarriedTree). MatchOption o (IsUnknown s c.args.node list old) (λ (t : CarriedTree). IsCarried s c.args.node list (list ++ t.pairs.items) old new t.node)) c.in-Ok-Some.field-0-is (c.in-Ok-Some.ensures.answer c.requires.walked (c.in-Some.ensures.seen w.unit)) in
+    let before = c.as_slice.ensures.value in
+    let all : list ++ c.in-Ok-Some.tree.pairs.items ≡ c.append.new.list.items =
+    ap (λ (l : List (ℕ × Meaning)). l ++ c.in-Ok-Some.tree.pairs.items) before
+    ∙ (sym (ap (λ (l : List (ℕ × Meaning)). c.args.list.now.items ++ l) c.as_slice-in-Ok-Some.ensures.value) ∙ sym c.in_ok-append-in-Ok-Some.ensures.ok) in
+    let behind = subst (λ (l : List (ℕ × Meaning)). IsCarried s c.args.node list l old new c.in-Ok-Some.tree.node) all there in
+    subst (λ (l : List (ℕ × Meaning)). IsCarried s c.args.node l c.append.new.list.items old new c.in-Ok-Some.tree.node) before behind

@@ -1,4 +1,4 @@
-use Rattle.std.proofs.Common.{arith, rules, ◌≡◌, ◌+◌, ℕ, List, subst}
+use Rattle.std.proofs.Common.{arith, rules, ◌≡◌, ◌+◌, ◌<◌, ℕ, length, sym, subst}
 use Rattle.family_laws.specs.Families.{Families}
 use Rattle.family_laws.proofs.Reading.{units_families}
 use Rattle.limit_laws.proofs.Limited.{units_limited}
@@ -8,8 +8,6 @@ use Rattle.tree_reads.specs.Sources.{number_in}
 use Rattle.unit_walk.specs.Ground.{source_ground}
 use Rattle.unit_walk.specs.Stopping.{IsWalkedTo}
 use Rattle.unit_walk.proofs.Sources.{bound_there, dense_of}
-use Rattle.c_check.specs.declared.known.Meaning.{Meaning}
-use Rattle.c_check.specs.Expressed.{Answers}
 use Rattle.c_check.proofs.Answering.{answered, refused_early}
 use Rattle.c_check.proofs.expression.check_expression.Goals as goal
 
@@ -33,6 +31,9 @@ walk_to-requires-clause-end c =
 pub carried-requires-clause-bound : goal.carried-requires-clause-bound
 carried-requires-clause-bound c = bound_there c.in-Ok.walked.ground.numbered.syntax c.args.tokens.now c.args.tree.now c.args.bound.now c.in-Ok.ensures.tokens c.in-Ok.ensures.tree c.requires.bound
 
+pub carried-requires-clause-node : goal.carried-requires-clause-node
+carried-requires-clause-node c = let same = c.in-Ok.ensures.tree in subst (λ t. c.args.node < length t.nodes.items) (sym same) c.requires.node
+
 pub carried-requires-clause-walked : goal.carried-requires-clause-walked
 carried-requires-clause-walked c =
     let w = c.in-Ok.walked in
@@ -46,10 +47,9 @@ returns-in-Ok-clause-answer c =
     let s = source_ground w.ground c.args.bound.now in
     let ok = c.in-Ok.ensures in
     let dense = dense_of n.syntax c.args.tokens.now c.args.tree.now c.args.bound.now ok.tokens ok.tree c.requires.bound s n.tags ok.ground.tags ok.ordered in
-    let here = subst (λ (l : List (ℕ × Meaning)). Answers s c.args.node l c.args.unit.now c.carried.new.unit c.carried.result) c.as_slice.ensures.value c.carried.ensures.answer in
-    answered (source_of c.args.tokens.now c.args.tree.now) s (number_in n.syntax.tag_numbers) ok.source dense c.args.node c.args.known.now.list.items c.args.unit.now c.carried.new.unit c.carried.result here
+    answered (source_of c.args.tokens.now c.args.tree.now) s (number_in n.syntax.tag_numbers) ok.source dense c.args.node c.args.known.now.list.items c.carried.new.list.items c.args.unit.now c.carried.new.unit c.carried.result c.carried.ensures.answer
 
 pub returns-in-Err-clause-answer : goal.returns-in-Err-clause-answer
 returns-in-Err-clause-answer c =
     let last : c.in-Some.end ≡ c.args.node + 1 = search rules in
-    refused_early (source_of c.args.tokens.now c.args.tree.now) c.args.node c.in-Some.end c.args.known.now.list.items c.args.unit.now c.args.unit.now c.in-Err.fault last c.in-Err.ensures.walked
+    refused_early (source_of c.args.tokens.now c.args.tree.now) c.args.node c.in-Some.end c.args.known.now.list.items c.args.known.now.list.items c.args.unit.now c.args.unit.now c.in-Err.fault last c.in-Err.ensures.walked

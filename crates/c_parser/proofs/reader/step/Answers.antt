@@ -5,7 +5,7 @@ use Rattle.c_grammar.specs.Terminals.{takes}
 use Rattle.c_parser.specs.declared.reader.Own.{Own}
 use Rattle.c_parser.specs.declared.reader.Progress.{Progress}
 use Rattle.c_parser.specs.Parse.{state}
-use Rattle.c_parser.proofs.Leads.{faults_lead, through_use, through_choice, through_again, entered_turns, leads_on}
+use Rattle.c_parser.proofs.Leads.{faults_lead, through_use, through_choice, through_again, advanced_turns, entered_turns, leads_on}
 use Rattle.c_parser.proofs.Steps.{terminal_past, faults_told, scoped_state}
 use Rattle.c_parser.proofs.reader.step.Goals as goal
 
@@ -41,14 +41,14 @@ returns-then-fits-clause-steps c =
     let a = c.requires.sees.0 in
     let b = c.requires.sees.1 in
     let e : fits_at i.text.now i.tokens.now c.in-Repeat.repeated s ≡ true = cc in
-    entered_turns i.text.now i.tokens.now p c.enter-then-fits.new.progress c.args.scopes.now c.args.nodes.now.items c.in-Repeat.repeated p.top.at c.requires.sees (through_again i.text.now i.tokens.now p s c.in-Repeat.repeated (cc) e) c.enter-then-fits.result c.enter-then-fits.ensures
+    entered_turns i.text.now i.tokens.now p c.enter.new.progress c.args.scopes.now c.args.nodes.now.items c.in-Repeat.repeated p.top.at c.requires.sees (through_again i.text.now i.tokens.now p s c.in-Repeat.repeated (cc) e) c.enter.result c.enter.ensures
 
 pub returns-in-Use-clause-steps : goal.returns-in-Use-clause-steps
 returns-in-Use-clause-steps c =
     let i = c.args.input in
     let p = c.args.progress.now in
     let s = state p.ahead.place c.args.scopes.now c.args.nodes.now.items p.own in
-    entered_turns i.text.now i.tokens.now p c.enter.new.progress c.args.scopes.now c.args.nodes.now.items c.in-Use.used (p.top.at + 1) c.requires.sees (through_use i.text.now i.tokens.now p s c.in-Use.used (cc)) c.enter.result c.enter.ensures
+    advanced_turns i.text.now i.tokens.now p c.advance.new.progress c.args.scopes.now c.args.nodes.now.items c.advance.new.nodes.items c.in-Use.used (p.top.at + 1) (through_use i.text.now i.tokens.now p s c.in-Use.used (cc)) c.requires.sees c.advance.result c.advance.ensures.goes
 
 pub returns-in-Some-clause-steps : goal.returns-in-Some-clause-steps
 returns-in-Some-clause-steps c =
@@ -58,7 +58,8 @@ returns-in-Some-clause-steps c =
     let a = c.requires.sees.0 in
     let b = c.requires.sees.1 in
     let e : chosen_at i.text.now i.tokens.now c.in-Choice.one c.in-Choice.other s ≡ Some c.in-Some.used = cc in
-    entered_turns i.text.now i.tokens.now p c.enter-in-Some.new.progress c.args.scopes.now c.args.nodes.now.items c.in-Some.used (p.top.at + 1) c.requires.sees (through_choice i.text.now i.tokens.now p s c.in-Choice.one c.in-Choice.other c.in-Some.used (cc) e) c.enter-in-Some.result c.enter-in-Some.ensures
+    advanced_turns i.text.now i.tokens.now p c.advance-in-Some.new.progress c.args.scopes.now c.args.nodes.now.items c.advance-in-Some.new.nodes.items c.in-Some.used (p.top.at + 1)
+    (through_choice i.text.now i.tokens.now p s c.in-Choice.one c.in-Choice.other c.in-Some.used (cc) e) c.requires.sees c.advance-in-Some.result c.advance-in-Some.ensures.goes
 
 pub returns-in-Ok-clause-steps : goal.returns-in-Ok-clause-steps
 returns-in-Ok-clause-steps c =

@@ -1,9 +1,10 @@
-use Rattle.std.proofs.Common.{◌≡◌, ℕ, Option, Result, Ok, Err, List, length, sym, subst, ◌∙◌}
+use Rattle.std.proofs.Common.{◌≡◌, ℕ, Option, Result, Ok, Err, List, length, sym, ap, subst, ◌∙◌}
 use Rattle.std.specs.Result.{IfOk}
 use Rattle.c_scope.specs.declared.resolving.Unit.{Unit}
 use Rattle.c_grammar.specs.Reads.{Node}
 use Rattle.c_mentions.specs.Syntax.{nodes_of}
 use Rattle.c_mentions.specs.Symbols.{Numbers}
+use Rattle.c_mentions.specs.declared.settings.Setting.{Setting}
 use Rattle.c_mentions.proofs.Nodes.{length-nodes_of}
 use Rattle.c_scope.specs.Known.{Happening, known, nothing_known, first_label}
 use Rattle.c_scope.specs.Binding.{Holds, label_at}
@@ -15,6 +16,18 @@ use Rattle.c_scope.proofs.resolving.bind.Goals as goal
 if_ok : {T E : Type 0} (r : Result T E) (P Q : T → Type 0) → IfOk r P → ((x : T) → P x → Q x) → IfOk r Q
 if_ok (Ok x) P Q h f = f x h
 if_ok (Err e) P Q h f = tt
+
+pub find_labels-requires : goal.find_labels-requires
+find_labels-requires c = record {
+  count = ap (λ (l : List Setting). length l) c.list_of.ensures ∙ c.in_ok-settings.ensures.count;
+  all = c.as_slice-spoken.ensures.value ∙ c.in_ok-list.ensures;
+}
+
+pub bind_all-requires : goal.bind_all-requires
+bind_all-requires c = record {
+  count = ap (λ (l : List Setting). length l) c.list_of.ensures ∙ c.in_ok-settings.ensures.count;
+  all = c.as_slice-spoken.ensures.value ∙ c.in_ok-list.ensures;
+}
 
 pub returns : goal.returns
 unfolding bindings

@@ -4,7 +4,7 @@ use Rattle.core_tree.specs.declared.node.Unit.{Unit}
 use Rattle.core_nodes.specs.Standing.{IsReady, Builds}
 use Rattle.leaf_maps.specs.Numbers.{number_at}
 use Rattle.carried_trees.specs.Copied.{AreCarried}
-use Rattle.carried_trees.specs.Terms.{AreTypes}
+use Rattle.carried_types.specs.Terms.{AreTypes}
 use Rattle.carried_trees.proofs.nodes.carried_nodes.Given as goal
 
 -- so many nodes are carried

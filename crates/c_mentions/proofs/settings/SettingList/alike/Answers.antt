@@ -10,4 +10,4 @@ map_replicate f (suc n) x = ap (λ l. f x ∷ l) (map_replicate f n x)
 pub returns : goal.returns
 returns c =
     let kinds : List Setting = c.push.new.self.items in
-    ap (λ (l : List ℕ). map (kind_at kinds) l) (c.in_ok-places.ensures.items_if_clones_equal (λ y e. e)) ∙ (map_replicate (kind_at kinds) c.args.count 0 ∙ ap (λ (l : List Setting). replicate c.args.count (kind_at l 0)) (c.in_ok-push.ensures.items ∙ ap (λ (l : List Setting). l ++ c.args.setting ∷ []) c.new-kinds.ensures.items))
+    ap (λ (l : List ℕ). map (kind_at kinds) l) c.in_ok-places.ensures ∙ (map_replicate (kind_at kinds) c.args.count 0 ∙ ap (λ (l : List Setting). replicate c.args.count (kind_at l 0)) (c.in_ok-push.ensures.items ∙ ap (λ (l : List Setting). l ++ c.args.setting ∷ []) c.new-kinds.ensures.items))

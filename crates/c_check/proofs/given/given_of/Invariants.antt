@@ -1,7 +1,0 @@
-use Rattle.std.proofs.Common.{take}
-use Rattle.c_check.specs.Given.{AreGiven}
-use Rattle.c_check.proofs.given.given_of.Given as goal
-
--- what is known of so many declarations
-abbrev pub invariant-loop-entry : goal.invariant-loop-entry
-invariant-loop-entry l = AreGiven l.given (take l.entry-index l.list)

@@ -1,0 +1,55 @@
+// A tree of one unit in another, with the members of its tags.
+ghost use Rattle.std.specs.Prelude.{◌≡◌, ◌<◌, ℕ, List, Option, length, IfOk, IfSome, IsOkUnless, MatchOption};
+ghost use Rattle.c_types.specs.Table.{members_in};
+ghost use Rattle.c_inits.specs.Made.{Part};
+ghost use Rattle.core_nodes.specs.Standing.{core_at, parts_in, IsReady};
+ghost use Rattle.kept_nodes.specs.Keeps.{AllUnder};
+ghost use Rattle.leaf_maps.specs.Numbers.{number_at};
+ghost use Rattle.carried_types.specs.Terms.{AreTagIds, tag_type};
+ghost use Rattle.carried_types.specs.Members.{AreTagged};
+ghost use Rattle.carried_trees.specs.Extends.{Extends, IsMissing, IsWhole};
+
+use crate::carrying::{add_types, carry};
+use crate::tags::complete_in;
+use core_nodes::CheckFault;
+use core_tree::node::Unit;
+use leaf_maps::LeafMap;
+use std::alloc::Global;
+
+/// Carries the tree of a node of one unit into another, in which entities have the numbers of a map, and tags the types of a list; each
+/// of these tags that has members in the first unit, and none in the other, gets them there, with their types carried. The node of the
+/// tree there, of whose nodes alone the unit has more; None exactly where the tree holds an entity without a number, a tag without a type,
+/// a compound literal, or a statement that has entities, or where a tag that would get members has one with a tag without a type. Only
+/// memory may want; a tag that has another keyword there counts as such. After None, or want of memory, the unit is only fit to be
+/// dropped.
+pub fn carry_whole(
+    alloc: Global,
+    unit: &mut Unit,
+    walked: Unit,
+    top: u32,
+    entities: &LeafMap,
+    tags: &[Option<u32>],
+) -> Result<Option<u32>, CheckFault>
+    requires ready { IsReady unit.old }
+    requires walked { IsReady walked }
+    requires top { top < length walked.nodes.items }
+    requires tags { AreTagIds tags.now unit.old.types }
+    requires tagged { AreTagged (tag_type unit.old.types tags.now) }
+    ensures ready { IsReady unit.new }
+    ensures extends { Extends unit.old unit.new }
+    ensures tags { unit.new.types.tags ≡ unit.old.types.tags }
+    ensures answer { (members : ℕ → Option (List Part)) →
+        ((k : ℕ) → members k ≡ parts_in walked.types (members_in walked.types k)) →
+        IfOk result (λ found. MatchOption found
+        (IsMissing (number_at entities.now) (tag_type unit.old.types tags.now) members (core_at walked top) unit.old)
+        (λ i. IsWhole (number_at entities.now) (tag_type unit.old.types tags.now) members (core_at walked top) unit.old unit.new i)) }
+    ensures within { IfOk result (λ found. IfSome found (λ i. i < length unit.new.nodes.items)) }
+    ensures only { IfOk result (λ found. IfSome found (λ i. AllUnder unit.new (length unit.old.nodes.items) i)) }
+    ensures memory { IsOkUnless result CheckFault.OutOfMemory }
+{
+    let types = add_types(alloc, unit, &walked.types, tags)?;
+    if !complete_in(alloc, unit, &walked.types, tags, &types)? {
+        return Ok(None);
+    }
+    carry(alloc, unit, walked, top, entities, &types)
+}

@@ -1,0 +1,4 @@
+pub mod Numbers
+pub mod Membered
+pub mod Adding
+pub mod Widening

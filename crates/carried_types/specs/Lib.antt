@@ -1,0 +1,4 @@
+pub mod Types
+pub mod Terms
+pub mod Wider
+pub mod Members

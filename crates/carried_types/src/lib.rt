@@ -1,0 +1,10 @@
+//! Types of one table in another, where tags have other numbers: the types themselves, new tags, and members of tags.
+#![tactic(auto)]
+
+mod completing;
+mod opening;
+mod types;
+
+pub use completing::complete_tags;
+pub use opening::open_tag;
+pub use types::{CarriedTypes, carried_types};

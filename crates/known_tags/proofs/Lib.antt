@@ -1,0 +1,4 @@
+pub mod Knowing
+pub mod Climbed
+pub mod Opened
+pub mod Valued

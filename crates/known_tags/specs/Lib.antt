@@ -1,0 +1,4 @@
+pub mod Known
+pub mod Given
+pub mod Own
+pub mod Values

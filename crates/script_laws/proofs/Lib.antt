@@ -1,0 +1,2 @@
+mod Settings
+pub mod Whole

@@ -1,0 +1,5 @@
+pub mod Reading
+mod Searches
+mod Firsts
+mod Settings
+pub mod Whole
