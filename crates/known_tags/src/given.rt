@@ -9,12 +9,12 @@ ghost use Rattle.known_tags.specs.Given.{AreGiven, IsTypeId, IsIdOf, AreIdsOf};
 ghost use Rattle.known_tags.specs.Known.{tag_known};
 
 use crate::known::Meaning;
-use crate::reads::is_union;
 use c_types::table::TypeTable;
 use c_types::term::Term;
 use core_nodes::CheckFault;
 use leaf_maps::LeafMap;
 use std::alloc::Global;
+use struct_rows::is_union;
 use tag_numbers::{Declaring, Numbered, tag_declared};
 use tree_reads::Syntax;
 

@@ -4,7 +4,6 @@
 mod given;
 mod known;
 mod own;
-mod reads;
 mod under;
 mod values;
 

@@ -14,11 +14,11 @@ ghost use Rattle.known_tags.specs.Own.{AreUnder, AreOpened, IsOpened};
 
 use crate::given::{Given, first_of};
 use crate::known::Meaning;
-use crate::reads::is_union;
 use carried_trees::open_in;
 use core_nodes::CheckFault;
 use core_tree::node::Unit;
 use std::alloc::Global;
+use struct_rows::is_union;
 use tag_numbers::{Declaring, Numbered, tag_declared};
 
 /// The numbers of the types of all tags, where they have one, and the tags that are an expression's own: the node of the declaration of
