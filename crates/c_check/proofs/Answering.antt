@@ -1,5 +1,5 @@
 -- What is answered of an expression.
-use Rattle.std.proofs.Common.{arith, ◌≡◌, ◌∙◌, ℕ, zero, suc, ◌+◌, ◌<◌, ◌≤◌, Bool, true, false, inl, inr, List, [], ◌∷◌, ◌++◌, length, get_or, Option, Some, None, IsSome, Result, Ok, Err, IfOk, refl, sym, ap, subst}
+use Rattle.std.proofs.Common.{arith, ◌≡◌, ◌∙◌, ℕ, zero, suc, ◌+◌, ◌<◌, ◌≤◌, Bool, true, false, inl, inr, List, [], ◌∷◌, ◌++◌, map, length, get_or, Option, Some, None, IsSome, Result, Ok, Err, IfOk, refl, sym, ap, subst}
 use Rattle.std.proofs.Math.Path.{fun_ext}
 use Rattle.std.proofs.lemmas.Bool.{cases_lt}
 use Rattle.std.proofs.lemmas.List.{length-map}
@@ -9,6 +9,7 @@ use Rattle.c_types.specs.Trees.{Ctype}
 use Rattle.c_types.specs.Table.{Table, type_of, members_in}
 use Rattle.c_inits.specs.Made.{Part}
 use Rattle.c_inits.specs.Tables.{tagged}
+use Rattle.core_tree.specs.declared.node.Entity.{Entity}
 use Rattle.core_tree.specs.declared.node.Unit.{Unit}
 use Rattle.c_consts.specs.Core.{Core}
 use Rattle.core_nodes.specs.declared.fault.CheckFault.{CheckFault}
@@ -28,14 +29,16 @@ use Rattle.unit_walk.specs.Stopping.{IsWalkedTo, RefusedThere, RefusedEarly}
 use Rattle.carried_types.specs.Terms.{IsIdIn, tag_type}
 use Rattle.carried_types.specs.Members.{AreTagged, tag_named}
 use Rattle.carried_trees.specs.Carried.{is_given_core}
+use Rattle.carried_trees.specs.Literals.{has_literal}
 use Rattle.carried_trees.specs.Extends.{Extends, SameParts, AreFilled, IsMissing, IsWhole}
-use Rattle.carried_trees.proofs.Extending.{filled_between, lacks_first}
+use Rattle.carried_trees.proofs.Extending.{filled_between, lacks_first, tree_on}
 use Rattle.leaf_maps.specs.Numbers.{number_at}
 use Rattle.known_tags.specs.declared.known.Meaning.{Meaning}
 use Rattle.known_tags.specs.Known.{entity_known, tag_known, IsTagType}
 use Rattle.known_tags.specs.Given.{IsIdOf}
 use Rattle.known_tags.specs.Own.{AreFirsts, AreTypesGiven, IsOpened, IsTypeGiven, is_own_first, own_number, own_pairs}
 use Rattle.known_tags.specs.Values.{own_values}
+use Rattle.literal_entities.specs.Entities.{literal_entity}
 use Rattle.c_check.specs.Expressed.{HasSense, HasTree, IsCarried, IsUnknown, HasNoTree, Answers, AreOwn, Expressed, IsAnswer, members_behind}
 
 -- the type of a tag by the number of the type
@@ -132,22 +135,30 @@ module _ (s : Source) (node : ℕ) (walked : Unit) (rs : List Made) (w : IsWalke
     filled_there : (new : Unit) (members : ℕ → Option (List Part)) → AreFilled (tag_type mid.types ids) members mid new → AreFilled (tag_type mid.types ids) members old new
     filled_there new members h = filled_between (tag_type mid.types ids) members old mid new new same h (λ tag. refl)
 
-    whole_there : (new : Unit) (i : ℕ) → IsWhole (number_at entities) (tag_type mid.types ids) (members_behind s (senses_made walked rs)) (core_at walked top) mid new i → IsWhole (entity_known list) (tag_type mid.types ids) (members_behind s (senses_made walked rs)) (core_at walked top) old new i
-    whole_there new i h =
-        let there = subst (λ (f : ℕ → Option ℕ). IsWhole f (tag_type mid.types ids) (members_behind s (senses_made walked rs)) (core_at walked top) mid new i) same_names h in
-        record { given = there.given; carried = there.carried; filled = filled_there new (members_behind s (senses_made walked rs)) there.filled }
+    whole_there : (new : Unit) (i : ℕ) (literals : List (ℕ × ℕ)) → mid.nodes.items ≡ old.nodes.items → mid.entities.items ≡ old.entities.items
+        → IsWhole (number_at entities) (tag_type mid.types ids) (members_behind s (senses_made walked rs)) (core_at walked top) mid new i literals → IsWhole (entity_known list) (tag_type mid.types ids) (members_behind s (senses_made walked rs)) (core_at walked top) old new i literals
+    whole_there new i literals nodes made h =
+        let there = subst (λ (f : ℕ → Option ℕ). IsWhole f (tag_type mid.types ids) (members_behind s (senses_made walked rs)) (core_at walked top) mid new i literals) same_names h in
+        record {
+          tree = tree_on (entity_known list) (tag_type mid.types ids) (core_at walked top) mid old new i literals nodes made there.tree;
+          filled = filled_there new (members_behind s (senses_made walked rs)) there.filled;
+        }
 
-    pub carried_there : (new : Unit) (i : ℕ) (all : List (ℕ × Meaning)) → all ≡ pairs ++ own_values s (sense_in (senses_made walked rs)) node list node → mid.types.tags ≡ old.types.tags + length pairs → new.types.tags ≡ mid.types.tags → IsWhole (number_at entities) (tag_type mid.types ids) (members_behind s (senses_made walked rs)) (core_at walked top) mid new i → IsCarried s node list (list ++ all) old new i
+    pub carried_there : (new : Unit) (i : ℕ) (literals : List (ℕ × ℕ)) (owner : Option ℕ) (all : List (ℕ × Meaning)) → mid.nodes.items ≡ old.nodes.items → all ≡ pairs ++ own_values s (sense_in (senses_made walked rs)) node list node → mid.types.tags ≡ old.types.tags + length pairs
+        → new.types.tags ≡ mid.types.tags → new.entities.items ≡ mid.entities.items ++ map (literal_entity s (senses_made walked rs) owner new.nodes.items) literals
+        → IsWhole (number_at entities) (tag_type mid.types ids) (members_behind s (senses_made walked rs)) (core_at walked top) mid new i literals → IsCarried s node list (list ++ all) owner old new i
     unfolding tree_there sense_there
-    carried_there new i all all_are numbers kept h = record {
+    carried_there new i literals owner all nodes all_are numbers kept gained h = record {
       tree = tree_there;
-      whole = whole_there new i h;
+      literals = literals;
+      whole = whole_there new i literals nodes extends.entities h;
+      entities = gained ∙ ap (λ (l : List Entity). l ++ map (literal_entity s (senses_made walked rs) owner new.nodes.items) literals) extends.entities;
       known = ap (λ (l : List (ℕ × Meaning)). list ++ l) (all_are ∙ ap (λ (l : List (ℕ × Meaning)). l ++ own_values s (sense_in (senses_made walked rs)) node list node) pairs_there);
       numbers = kept ∙ (numbers ∙ ap (λ (l : List (ℕ × Meaning)). old.types.tags + length l) pairs_there);
     }
 
     missing_there : IsMissing (number_at entities) (tag_type mid.types ids) (members_behind s (senses_made walked rs)) (core_at walked top) mid → IsMissing (entity_known list) (tag_type mid.types ids) (members_behind s (senses_made walked rs)) (core_at walked top) old
-    missing_there (inl h) = inl (subst (λ (f : ℕ → Option ℕ). is_given_core f (tag_type mid.types ids) (core_at walked top) ≡ false) same_names h)
+    missing_there (inl h) = inl (subst (λ (f : ℕ → Option ℕ). is_given_core f (has_literal (core_at walked top)) (tag_type mid.types ids) (core_at walked top) ≡ false) same_names h)
     missing_there (inr h) = inr (lacks_first (tag_type mid.types ids) (members_behind s (senses_made walked rs)) old mid same h)
 
     pub unknown_there : IsMissing (number_at entities) (tag_type mid.types ids) (members_behind s (senses_made walked rs)) (core_at walked top) mid → IsUnknown s node list old
@@ -155,32 +166,32 @@ module _ (s : Source) (node : ℕ) (walked : Unit) (rs : List Made) (w : IsWalke
     unknown_there h = record { tree = tree_there; missing = missing_there h }
 
 -- of a source whose tags are numbered
-module _ (s0 s : Source) (tag_number : ℕ → ℕ) (same : s ≡ numbered tag_number s0) (dense : AreDense s) (node : ℕ) (list more : List (ℕ × Meaning)) (old new : Unit) where
-  expressed : (result : Result ℕ CheckFault) → Answers s node list more old new result → Expressed s0 node list more old new result
+module _ (s0 s : Source) (tag_number : ℕ → ℕ) (same : s ≡ numbered tag_number s0) (dense : AreDense s) (node : ℕ) (list more : List (ℕ × Meaning)) (owner : Option ℕ) (old new : Unit) where
+  expressed : (result : Result ℕ CheckFault) → Answers s node list more owner old new result → Expressed s0 node list more owner old new result
   expressed result h = record {
     tag_number = tag_number;
     dense = subst AreDense same dense;
-    answer = subst (λ (x : Source). Answers x node list more old new result) same h;
+    answer = subst (λ (x : Source). Answers x node list more owner old new result) same h;
   }
 
-  pub answered : (result : Result ℕ CheckFault) → Answers s node list more old new result → IsAnswer s0 node list more old new result
+  pub answered : (result : Result ℕ CheckFault) → Answers s node list more owner old new result → IsAnswer s0 node list more owner old new result
   answered (Ok i) h = expressed (Ok i) h
   answered (Err (BadOperand named)) h = expressed (Err (BadOperand named)) h
   answered (Err (Unsupported kind named)) h = expressed (Err (Unsupported kind named)) h
   answered (Err OutOfMemory) h = tt
 
 -- refused on the way
-pub refused_early : (s : Source) (node end : ℕ) (list more : List (ℕ × Meaning)) (old new : Unit) (fault : CheckFault) → end ≡ node + 1 → RefusedEarly s end fault → IsAnswer s node list more old new (Err fault)
-refused_early s node end list more old new (BadOperand named) e h =
+pub refused_early : (s : Source) (node end : ℕ) (list more : List (ℕ × Meaning)) (owner : Option ℕ) (old new : Unit) (fault : CheckFault) → end ≡ node + 1 → RefusedEarly s end fault → IsAnswer s node list more owner old new (Err fault)
+refused_early s node end list more owner old new (BadOperand named) e h =
     let at : RefusedThere s (node + 1) (BadOperand named) = subst (λ (n : ℕ). RefusedThere s n (BadOperand named)) e h in
     record { tag_number = at.tag_number; dense = at.dense; answer = inl at.refused }
-refused_early s node end list more old new (Unsupported kind named) e h =
+refused_early s node end list more owner old new (Unsupported kind named) e h =
     let at : RefusedThere s (node + 1) (Unsupported kind named) = subst (λ (n : ℕ). RefusedThere s n (Unsupported kind named)) e h in
     record { tag_number = at.tag_number; dense = at.dense; answer = inl at.refused }
-refused_early s node end list more old new OutOfMemory e h = tt
+refused_early s node end list more owner old new OutOfMemory e h = tt
 
-pub memory_answers : (s : Source) (node : ℕ) (list more : List (ℕ × Meaning)) (old new : Unit) (fault : CheckFault) → fault ≡ OutOfMemory → Answers s node list more old new (Err fault)
-memory_answers s node list more old new fault e = subst (λ (f : CheckFault). Answers s node list more old new (Err f)) (sym e) tt
+pub memory_answers : (s : Source) (node : ℕ) (list more : List (ℕ × Meaning)) (owner : Option ℕ) (old new : Unit) (fault : CheckFault) → fault ≡ OutOfMemory → Answers s node list more owner old new (Err fault)
+memory_answers s node list more owner old new fault e = subst (λ (f : CheckFault). Answers s node list more owner old new (Err f)) (sym e) tt
 
 -- by two clauses of one answer
 pub both_ok : {X : Type 0} (r : Result X CheckFault) (A B C : X → Type 0) → ((x : X) → A x → B x → C x) → IfOk r A → IfOk r B → IfOk r C

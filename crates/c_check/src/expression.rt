@@ -1,5 +1,6 @@
 // Whole expressions, by their nodes.
-ghost use Rattle.std.specs.Prelude.{◌≡◌, ◌<◌, ◌+◌, ◌++◌, ℕ, List, Some, length, slice_index, IfOk, IfSome, OnOk, OnErr, IsOkUnless, MatchOption};
+ghost use Rattle.std.specs.Prelude.{◌≡◌, ◌<◌, ◌+◌, ◌++◌, ℕ, List, Some, length, slice_index};
+ghost use Rattle.std.specs.Prelude.{IfOk, IfSome, OnOk, OnErr, IsOkUnless, MatchOption};
 ghost use Rattle.c_lexer.specs.Cut.{IsTokens};
 ghost use Rattle.c_literals.specs.Laws.{AreBytes};
 ghost use Rattle.c_scope.specs.Resolves.{IsBound};
@@ -20,7 +21,7 @@ ghost use Rattle.carried_types.specs.Terms.{AreTagIds};
 ghost use Rattle.carried_trees.specs.Extends.{Extends, SameParts};
 ghost use Rattle.known_tags.specs.declared.known.Meaning.{Meaning as MeaningSpec};
 ghost use Rattle.known_tags.specs.Given.{AreGiven};
-ghost use Rattle.c_check.specs.Expressed.{Answers, AreOwn, AreOwnNames, IsAnswer, IsCarried, IsUnknown};
+ghost use Rattle.c_check.specs.Expressed.{Answers, AreOwn, AreOwnNames, Grows, IsAnswer, IsCarried, IsUnknown};
 
 use c_grammar::Tree;
 use c_lexer::Tokens;
@@ -32,6 +33,7 @@ use core_tree::node::Unit;
 use known_tags::{
     Given, Known, Meaning, OwnTags, given_of, known_types, nodes_under, own_types, own_values,
 };
+use literal_entities::push_entities;
 use pta_base::Kind;
 use std::alloc::Global;
 use tag_numbers::{Numbered, meanings};
@@ -160,6 +162,7 @@ fn carried_tree(
     unit: &mut Unit,
     bound: &Bound,
     list: &[(u32, Meaning)],
+    owner: Option<u32>,
     walked: Walked,
     top: u32,
     node: u32,
@@ -171,7 +174,7 @@ fn carried_tree(
     requires top { top < length walked.unit.nodes.items }
     requires node { node < nodes_ground walked.ground }
     ensures ready { IsReady unit.new }
-    ensures extends { Extends unit.old unit.new }
+    ensures grows { Grows unit.old unit.new }
     ensures within { IfOk result (λ found. IfSome found (λ tree. tree.node < length unit.new.nodes.items)) }
     ensures only { IfOk result (λ found. IfSome found (λ tree. AllUnder unit.new (length unit.old.nodes.items) tree.node)) }
     ensures answer { let s = source_ground walked.entry.ground bound.now in
@@ -179,25 +182,35 @@ fn carried_tree(
         core_in (sense_in (senses_made walked.entry.unit walked.entry.results) node) ≡ Some (core_at walked.entry.unit top) →
         IfOk result (λ found. MatchOption found
         (IsUnknown s node list.now unit.old)
-        (λ tree. IsCarried s node list.now (list.now ++ tree.pairs.items) unit.old unit.new tree.node)) }
+        (λ tree. IsCarried s node list.now (list.now ++ tree.pairs.items) owner unit.old unit.new tree.node)) }
     ensures memory { IsOkUnless result CheckFault.OutOfMemory }
 {
     let given = given_of(alloc, list)?;
     let own = own_names(alloc, unit, bound, &walked, &given, node)?;
-    match carry_whole(
+    let found = carry_whole(
         alloc,
         unit,
         walked.unit,
         top,
         &given.entities,
         own.ids.as_slice(),
-    )? {
-        Some(node) => Ok(Some(CarriedTree {
-            node,
-            pairs: own.pairs,
-        })),
-        None => Ok(None),
-    }
+    )?;
+    let Some(tree) = found else {
+        return Ok(None);
+    };
+    push_entities(
+        alloc,
+        &mut unit.entities,
+        &walked.ground.numbered.syntax,
+        &walked.results,
+        owner,
+        unit.nodes.as_slice(),
+        tree.literals.as_slice(),
+    )?;
+    Ok(Some(CarriedTree {
+        node: tree.node,
+        pairs: own.pairs,
+    }))
 }
 
 // The tree that an expression's node stands for, carried into a unit.
@@ -206,6 +219,7 @@ fn carried(
     unit: &mut Unit,
     bound: &Bound,
     list: &mut Vec<(u32, Meaning)>,
+    owner: Option<u32>,
     walked: Walked,
     node: u32,
 ) -> Result<u32, CheckFault>
@@ -216,16 +230,26 @@ fn carried(
     requires node { node < nodes_ground walked.ground }
     requires walked { IsWalkedTo (source_ground walked.ground bound.now) (node + 1) walked.unit walked.results }
     ensures ready { IsReady unit.new }
-    ensures extends { Extends unit.old unit.new }
+    ensures grows { Grows unit.old unit.new }
     ensures within { IfOk result (λ i. i < length unit.new.nodes.items) }
     ensures only { IfOk result (λ i. AllUnder unit.new (length unit.old.nodes.items) i) }
     ensures kept { OnErr result (list.new.items ≡ list.old.items) }
-    ensures answer { Answers (source_ground walked.entry.ground bound.now) node list.old.items list.new.items unit.old unit.new result }
+    ensures answer { let s = source_ground walked.entry.ground bound.now in
+        Answers s node list.old.items list.new.items owner unit.old unit.new result }
 {
     let Some(top) = node_at(&walked.results, node) else {
         return Err(CheckFault::BadOperand(node));
     };
-    match carried_tree(alloc, unit, bound, list.as_slice(), walked, top, node) {
+    match carried_tree(
+        alloc,
+        unit,
+        bound,
+        list.as_slice(),
+        owner,
+        walked,
+        top,
+        node,
+    ) {
         Ok(Some(tree)) => {
             append(list, tree.pairs.as_slice())?;
             Ok(tree.node)
@@ -237,7 +261,8 @@ fn carried(
 
 /// The core node of an expression (C11 6.5), by the expression's syntax node, where its tokens and its tree are those of a text that is
 /// read and whose names are bound. `known` pairs the node of each declaration that stands before the expression, as names are bound to it,
-/// with what it is in the unit: an object's or a function's entity, and a tag's number, of which the unit has a type.
+/// with what it is in the unit: an object's or a function's entity, and a tag's number, of which the unit has a type; its `owner` is the
+/// entity of the function whose body the expression stands in.
 ///
 /// The rows of the unit's nodes are made in their order, up to the expression's own: what the unit declares before the expression, and in
 /// it, is what they say. `BadOperand` and `Unsupported` hold the first node that its row refuses, and the kind of the refusal. A node that
@@ -249,12 +274,16 @@ fn carried(
 /// names, of which nothing is known, with their values. A tag that has members at the expression's end, and none in the unit, has them in
 /// the unit afterwards.
 ///
-/// Not built yet, and `Unsupported` with `NotBuilt` at the expression's node, is a tree which itself names an entity or has a type with a
-/// tag that isn't known although it is declared elsewhere, or in which a compound literal stands, and also one where a tag would get a
-/// member whose type has such a tag; what is only looked at on the way, as in the operand of `sizeof`, may be any. All that stood in the
-/// unit goes on standing, and of the nodes that were added none is left but those of the expression's tree. Want of memory, a node of the
-/// number 2^32 - 1, and a unit of 2^32 nodes are `OutOfMemory`. After a refusal `known` is as it was, and the unit is only fit to be
-/// dropped.
+/// Each compound literal in the expression's tree (C11 6.5.2.5) makes an object, which is the next entity of the unit, in the order of
+/// their nodes: without a name, at its opening parenthesis, with the type that its node has, of local linkage, and with its `Initialise`
+/// as its body. Within a function it lives with its block, and `owner` owns it; elsewhere it lives for the whole run, and none does.
+///
+/// `Unsupported` with `NotBuilt` at the expression's node says that the caller hasn't told all: the tree itself names an entity, or has a
+/// type with a tag, that is declared elsewhere and isn't known, or a tag would get a member whose type has such a tag. What is only looked
+/// at on the way, as in the operand of `sizeof`, may be any. So is the answer for a node that is no expression and lists objects, as a
+/// block. All that stood in the unit goes on standing, and of the nodes and entities that were added none is left but those of the
+/// expression's tree. Want of memory, a node of the number 2^32 - 1, and a unit of 2^32 nodes or entities are `OutOfMemory`. After a
+/// refusal `known` is as it was, and the unit is only fit to be dropped.
 ///
 /// A call takes the time of a walk over the unit's nodes up to the expression.
 pub fn check_expression(
@@ -273,19 +302,23 @@ pub fn check_expression(
     requires ready { IsReady unit.old }
     requires node { node < length tree.now.nodes.items }
     ensures ready { IsReady unit.new }
-    ensures extends { Extends unit.old unit.new }
+    ensures grows { Grows unit.old unit.new }
     ensures within { IfOk result (λ i. i < length unit.new.nodes.items) }
     ensures only { IfOk result (λ i. AllUnder unit.new (length unit.old.nodes.items) i) }
     ensures owner { known.new.owner ≡ known.old.owner }
     ensures kept { OnErr result (known.new.list.items ≡ known.old.list.items) }
-    ensures answer { IsAnswer (source_of tokens.now tree.now) node known.old.list.items known.new.list.items unit.old unit.new result }
+    ensures answer { let s = source_of tokens.now tree.now in
+        IsAnswer s node known.old.list.items known.new.list.items known.old.owner unit.old unit.new result }
 {
     are_bytes(tokens.text);
     let Some(end) = node.checked_add(1) else {
         return Err(CheckFault::OutOfMemory);
     };
     match walk_to(alloc, tokens, tree, bound, end) {
-        Ok(walked) => carried(alloc, unit, bound, &mut known.list, walked, node),
+        Ok(walked) => {
+            let owner = known.owner;
+            carried(alloc, unit, bound, &mut known.list, owner, walked, node)
+        },
         Err(fault) => Err(fault),
     }
 }

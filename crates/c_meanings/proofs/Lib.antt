@@ -9,3 +9,4 @@ pub mod Rounds
 pub mod Onward
 pub mod SameMade
 pub mod Before
+pub mod Meant

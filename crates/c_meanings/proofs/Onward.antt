@@ -19,6 +19,7 @@ use Rattle.tree_reads.specs.Sources.{source_read, source_in}
 use Rattle.name_chains.specs.declared.links.Link.{Link}
 use Rattle.name_chains.specs.Links.{listed, AreBackward}
 use Rattle.name_chains.proofs.Linked.{no_link, listed-none, listed-step}
+use Rattle.remembered_names.proofs.Onward.{memory_more}
 use Rattle.c_meanings.specs.declared.names.Names.{Names}
 use Rattle.c_meanings.specs.declared.kept.Linkages.{Linkages}
 use Rattle.c_meanings.specs.Statics.{some_static}
@@ -188,4 +189,5 @@ linkages_more syntax results m names k h = record {
   own = thinned_more syntax results m false names.chains.own.items k.own h.own;
   typing = thinned_more syntax results m false names.chains.links.items k.typing h.typing;
   internal = thinned_more syntax results m true names.symbols.items k.internal h.internal;
+  memory = memory_more syntax results m k.memory.items h.memory;
 }

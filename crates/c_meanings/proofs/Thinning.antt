@@ -7,6 +7,7 @@ use Rattle.c_types.specs.Trees.{Ctype, ArrayOf, FunctionFrom}
 use Rattle.c_scope.specs.declared.kinds.Declared.{Declared}
 use Rattle.c_senses.specs.Tree.{Source}
 use Rattle.c_senses.specs.World.{World, same_type}
+use Rattle.c_senses.specs.Names.{typing_declarations, ordinary_at}
 use Rattle.c_senses.specs.Sense.{Sense, sense_in}
 use Rattle.c_senses.specs.Entities.{fuller, together, agree, all_same, own_type, keep, defines, is_internal}
 use Rattle.c_results.specs.declared.made.Made.{Made}
@@ -21,7 +22,7 @@ use Rattle.c_meanings.specs.declared.thinned.Thinned.{Thinned}
 use Rattle.c_meanings.specs.Known.{nodes_in}
 use Rattle.c_meanings.specs.Later.{later}
 use Rattle.c_meanings.specs.Joined.{with_own}
-use Rattle.c_meanings.specs.Thinned.{IsThin, GoesOn, AreThinned, StaysThin, StaysWanted, IsEndOf, one_if, passes, those}
+use Rattle.c_meanings.specs.Thinned.{IsThin, GoesOn, AreThinned, StaysThin, StaysTyping, StaysWanted, IsEndOf, one_if, passes, those}
 use Rattle.c_meanings.proofs.Lists.{some-push, first_behind, kept-append, types_more}
 
 -- of two types that are given together one is given
@@ -109,6 +110,12 @@ pub thin_now : (syntax : Syntax) (results : List Made) (internal : Bool) (ds thi
 thin_now syntax results internal ds thin h u uses =
     let s = source_in syntax uses in
     subst (λ (l : List Made). IsThin s (sense_in (senses_made u l)) (those internal s (sense_in (senses_made u l)) ds) thin) (append-nil results) (h u uses [])
+
+pub typing_now : (syntax : Syntax) (results : List Made) (leaf : ℕ) (thin : List Declared) → StaysTyping syntax results leaf thin → (u : Unit) (uses : List (ℕ × ℕ))
+    → IsThin (source_in syntax uses) (sense_in (senses_made u results)) (typing_declarations (source_in syntax uses) (ordinary_at (source_in syntax uses) leaf)) thin
+typing_now syntax results leaf thin h u uses =
+    let s = source_in syntax uses in
+    subst (λ (l : List Made). IsThin s (sense_in (senses_made u l)) (typing_declarations s (ordinary_at s leaf)) thin) (append-nil results) (h u uses [])
 
 -- the same list, and one more
 pub goes_none : (syntax : Syntax) (results : List Made) (thin : List Declared) → GoesOn syntax results thin [] thin

@@ -6,11 +6,12 @@ use Rattle.c_senses.specs.Tree.{Source}
 use Rattle.c_senses.specs.World.{World}
 use Rattle.c_senses.specs.Sense.{Sense}
 use Rattle.c_senses.specs.Declarators.{outermost_of, specs_of}
-use Rattle.c_senses.specs.Entities.{is_linked, is_static_at_file, takes_over, is_internal, same_internal}
+use Rattle.c_senses.specs.Entities.{is_linked, is_static_at_file, takes_over, is_internal, same_internal, entity_of}
 use Rattle.c_results.specs.declared.made.Made.{Made}
 use Rattle.tree_reads.specs.declared.syntax.Syntax.{Syntax}
 use Rattle.tree_reads.specs.Sources.{source_in}
 use Rattle.name_chains.specs.Links.{listed}
+use Rattle.remembered_names.specs.Remembering.{AreRemembered}
 use Rattle.c_meanings.specs.declared.names.Names.{Names}
 use Rattle.c_meanings.specs.declared.kept.Linkages.{Linkages}
 use Rattle.c_meanings.specs.Statics.{some_static}
@@ -39,6 +40,10 @@ StaysStatic syntax results ds b = (u : Unit) (uses : List (ℕ × ℕ)) (more : 
 abbrev pub StaysInternal : Syntax → List Made → ℕ → Bool → Type 0
 StaysInternal syntax results leaf b = (u : Unit) (uses : List (ℕ × ℕ)) (more : List Made) → b ≡ is_internal (source_in syntax uses) (later u results more) leaf
 
+-- whatever more is made, that is the entity of what a leaf declares
+abbrev pub StaysEntity : Syntax → List Made → ℕ → ℕ → Type 0
+StaysEntity syntax results leaf entity = (u : Unit) (uses : List (ℕ × ℕ)) (more : List Made) → entity ≡ entity_of (source_in syntax uses) (later u results more) leaf
+
 -- all of some declarations give their name internal linkage, or none does
 abbrev pub StaysOne : Syntax → List Made → List Declared → Bool → Type 0
 StaysOne syntax results ds b = (u : Unit) (w : World) (uses : List (ℕ × ℕ)) (more : List Made) → same_internal w (source_in syntax uses) (later u results more) b ds ≡ true
@@ -52,3 +57,4 @@ pub record AreLinkages (syntax : Syntax) (results : List Made) (names : Names) (
   pub own : AreThinned syntax results false names.chains.own.items k.own
   pub typing : AreThinned syntax results false names.chains.links.items k.typing
   pub internal : AreThinned syntax results true names.symbols.items k.internal
+  pub memory : AreRemembered syntax results k.memory.items

@@ -7,6 +7,7 @@ use Rattle.c_types.specs.Table.{type_of}
 use Rattle.c_scope.specs.declared.kinds.Declared.{Declared}
 use Rattle.c_senses.specs.Tree.{Source}
 use Rattle.c_senses.specs.World.{World}
+use Rattle.c_senses.specs.Names.{typing_declarations, ordinary_at}
 use Rattle.c_senses.specs.Sense.{Sense, sense_in}
 use Rattle.c_senses.specs.Declarators.{outermost_of, specs_of}
 use Rattle.c_senses.specs.Entities.{own_type, is_parameter, initialiser_for, is_internal, keep, some_such, first_of, types_of, all_together, all_same, defines}
@@ -102,6 +103,12 @@ StaysWanted syntax results internal leaf b = (u : Unit) (uses : List (ℕ × ℕ
 abbrev pub StaysThin : Syntax → List Made → Bool → List Declared → List Declared → Type 0
 StaysThin syntax results internal ds thin =
     (u : Unit) (uses : List (ℕ × ℕ)) (more : List Made) → IsThin (source_in syntax uses) (later u results more) (those internal (source_in syntax uses) (later u results more) ds) thin
+
+-- the declarations that together give a name its type, thinned, whatever more is made
+abbrev pub StaysTyping : Syntax → List Made → ℕ → List Declared → Type 0
+StaysTyping syntax results leaf thin =
+    (u : Unit) (uses : List (ℕ × ℕ)) (more : List Made) →
+    IsThin (source_in syntax uses) (later u results more) (typing_declarations (source_in syntax uses) (ordinary_at (source_in syntax uses) leaf)) thin
 
 -- the ends that are kept are those of lists of declarations at so many nodes
 pub record AreEnds (n : ℕ) (t : Thinned) : Type 0 where

@@ -9,7 +9,7 @@ use crate::storage::has_initialiser;
 use c_declarators::specs_of;
 use c_entities::{is_defined, is_parameter};
 use c_results::{Derivation, Results, declarator_at, specified_at};
-use c_types::term::TypeId;
+use remembered_names::same_ids;
 use tree_reads::{Above, Syntax, nearest_above};
 
 // The nodes that give a name its type: its specifiers and its declarator.
@@ -17,21 +17,6 @@ use tree_reads::{Above, Syntax, nearest_above};
 struct Parts {
     specifiers: u32,
     declarator: u32,
-}
-
-// Whether two lists of types are the same.
-fn same_ids(one: &[TypeId], other: &[TypeId]) -> bool
-    ensures { result ≡ true → one.now ≡ other.now }
-{
-    if one.len() != other.len() {
-        return false;
-    }
-    for i in 0..one.len() {
-        if one[i].0 != other[i].0 {
-            return false;
-        }
-    }
-    true
 }
 
 // Whether two steps of declarators are the same.

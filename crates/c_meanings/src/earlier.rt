@@ -10,11 +10,11 @@ ghost use Rattle.c_senses.specs.Entities as spec;
 ghost use Rattle.c_results.specs.Standing.{senses_made};
 ghost use Rattle.tree_reads.specs.Sources.{source_in};
 ghost use Rattle.c_meanings.specs.Known.{AreChained, AreNamed, nodes_in};
-ghost use Rattle.c_meanings.specs.Linkages.{AreLinkages};
-ghost use Rattle.c_meanings.specs.Thinned.{IsThin, those};
+ghost use Rattle.c_meanings.specs.Linkages.{AreLinkages, StaysEntity};
+ghost use Rattle.c_meanings.specs.Thinned.{IsThin, StaysThin, StaysTyping, those};
 ghost use Rattle.name_chains.specs.Links.{listed, IsLinkOf};
 
-use crate::kept::{Linkages, internal_asked, internal_kept};
+use crate::kept::{Linkages, internal_asked};
 use crate::linkage::entity_of;
 use crate::names::{Names, symbol_link};
 use crate::thinned::{thin, thinned_list, thinned_now, unknown_in};
@@ -51,8 +51,8 @@ pub fn scope_thinned(
 }
 
 /// The declarations that together give a name its type, without those that give it no more than those before them; None where they aren't
-/// known. Only memory may want. The contract says that the list is thin and that what is kept stays right, and nothing of how often a
-/// declaration is looked at.
+/// known. Only memory may want. The contract says that the list is thin, whatever more is made, and that what is kept stays right, and
+/// nothing of how often a declaration is looked at.
 pub(crate) fn typing_thinned(
     alloc: Global,
     names: &Names,
@@ -64,9 +64,7 @@ pub(crate) fn typing_thinned(
     requires names { AreNamed syntax.now results.now names.now }
     requires linkages { AreLinkages syntax.now results.now names.now linkages.old }
     ensures linkages { AreLinkages syntax.now results.now names.now linkages.new }
-    ensures thin { IfOk result (λ found. IfSome found (λ v. (u : UnitSpec) (uses : List (ℕ × ℕ)) →
-        let s = source_in syntax.now uses in
-        IsThin s (sense_in (senses_made u results.now)) (senses.typing_declarations s (senses.ordinary_at s leaf)) v.items)) }
+    ensures thin { IfOk result (λ found. IfSome found (λ v. StaysTyping syntax.now results.now leaf v.items)) }
     ensures leaves { IfOk result (λ found. IfSome found (λ v. All (λ d. d.node < nodes_in syntax.now) v.items)) }
     ensures memory { IsOkUnless result OutOfMemory }
 {
@@ -154,10 +152,8 @@ fn symbol_thinned(
     requires linkages { AreLinkages syntax.now results.now names.now linkages.old }
     requires last { IsLinkOf names.now.symbols.items last }
     ensures linkages { AreLinkages syntax.now results.now names.now linkages.new }
-    ensures thin { IfOk result (λ found. IfSome found (λ v. (u : UnitSpec) (uses : List (ℕ × ℕ)) →
-        let s = source_in syntax.now uses in
-        let sense = sense_in (senses_made u results.now) in
-        IsThin s sense (those true s sense (listed names.now.symbols.items last)) v.items)) }
+    ensures thin { IfOk result (λ found. IfSome found (λ v.
+        StaysThin syntax.now results.now true (listed names.now.symbols.items last) v.items)) }
     ensures leaves { IfOk result (λ found. IfSome found (λ v. All (λ d. d.node < nodes_in syntax.now) v.items)) }
     ensures memory { IsOkUnless result OutOfMemory }
 {
@@ -202,9 +198,16 @@ fn first_or(list: &[Declared], leaf: u32) -> u32
     list[0].node
 }
 
+/// An entity, by a leaf, and whether it stays that whatever more is made.
+#[derive(Clone, Copy, Debug)]
+pub(crate) struct KeptEntity {
+    pub(crate) leaf: u32,
+    pub(crate) stays: bool,
+}
+
 /// The entity of the object or function that a leaf declares, by a leaf: the first declaration of an internal name in the unit, and of
-/// any other name its own (C11 6.2.2p2). Only memory may want. The contract says which leaf it is and that what is kept stays right, and
-/// nothing of how often a declaration is looked at.
+/// any other name its own (C11 6.2.2p2); and whether it stays that. Only memory may want. The contract says which leaf it is and that
+/// what is kept stays right, and nothing of how often a declaration is looked at.
 pub(crate) fn entity_kept(
     alloc: Global,
     names: &Names,
@@ -212,23 +215,32 @@ pub(crate) fn entity_kept(
     results: &Results,
     linkages: &mut Linkages,
     leaf: u32,
-) -> Result<u32, CheckFault>
+) -> Result<KeptEntity, CheckFault>
     requires names { AreNamed syntax.now results.now names.now }
     requires linkages { AreLinkages syntax.now results.now names.now linkages.old }
     requires leaf { leaf < length syntax.now.tree.now.nodes.items }
     ensures linkages { AreLinkages syntax.now results.now names.now linkages.new }
     ensures entity { IfOk result (λ entity. (u : UnitSpec) (uses : List (ℕ × ℕ)) →
-        entity ≡ spec.entity_of (source_in syntax.now uses) (sense_in (senses_made u results.now)) leaf) }
+        entity.leaf ≡ spec.entity_of (source_in syntax.now uses) (sense_in (senses_made u results.now)) leaf) }
+    ensures stays { IfOk result (λ entity. entity.stays ≡ true → StaysEntity syntax.now results.now leaf entity.leaf) }
     ensures memory { IsOkUnless result OutOfMemory }
 {
-    if !internal_kept(names, syntax, results, linkages, leaf) {
-        return Ok(leaf);
+    let asked = internal_asked(names, syntax, results, linkages, leaf);
+    let stays = asked.stays;
+    if !asked.flag {
+        return Ok(KeptEntity { leaf, stays });
     }
     let Some(place) = names.chains.positions.get(leaf) else {
-        return Ok(leaf);
+        return Ok(KeptEntity { leaf, stays: false });
     };
     match symbol_thinned(alloc, names, syntax, results, linkages, Some(place))? {
-        Some(list) => Ok(first_or(list.as_slice(), leaf)),
-        None => Ok(entity_of(names, syntax, results, leaf)),
+        Some(list) => Ok(KeptEntity {
+            leaf: first_or(list.as_slice(), leaf),
+            stays,
+        }),
+        None => Ok(KeptEntity {
+            leaf: entity_of(names, syntax, results, leaf),
+            stays: false,
+        }),
     }
 }

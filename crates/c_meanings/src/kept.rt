@@ -4,7 +4,7 @@ ghost use Rattle.core_tree.specs.declared.node.Unit.{Unit as UnitSpec};
 ghost use Rattle.core_nodes.specs.declared.fault.CheckFault.TheVariants.{OutOfMemory};
 ghost use Rattle.c_results.specs.declared.made.Made.{Made as MadeSpec};
 ghost use Rattle.c_results.specs.Standing.{senses_made};
-ghost use Rattle.c_senses.specs.Sense.{sense_in};
+ghost use Rattle.c_senses.specs.Sense.{Sense, sense_in};
 ghost use Rattle.c_senses.specs.World.{World};
 ghost use Rattle.c_senses.specs.Names as senses;
 ghost use Rattle.c_senses.specs.Entities as spec;
@@ -24,13 +24,14 @@ use c_declarators::specs_of;
 use c_results::Results;
 use core_nodes::CheckFault;
 use name_chains::{Link, in_scope_link, linked_link};
+use remembered_names::{Memory, nothing_remembered};
 use std::alloc::Global;
 use tree_reads::{Above, Syntax, nearest_above};
 
 /// What is kept of earlier declarations (C11 6.2.2), by the last links of their lists: whether one of those that are seen where a name is
 /// declared is `static` at file scope, and whether all those in a scope give their name internal linkage, or none does; and the lists of
 /// those in a scope, of those that together give a type, and of those of a symbol that give it internal linkage, without those that give
-/// their name no more than those before them.
+/// their name no more than those before them; and what uses of some declared names mean.
 #[derive(Drop)]
 pub struct Linkages {
     pub(crate) statics: Vec<Option<bool>>,
@@ -38,6 +39,7 @@ pub struct Linkages {
     pub(crate) own: Thinned,
     pub(crate) typing: Thinned,
     pub(crate) internal: Thinned,
+    pub(crate) memory: Memory,
 }
 
 // An answer, and whether it stays whatever more is made.
@@ -70,12 +72,14 @@ impl Linkages {
         let own = Thinned::new(alloc, names.chains.own.len())?;
         let typing = Thinned::new(alloc, names.chains.links.len())?;
         let internal = Thinned::new(alloc, names.symbols.len())?;
+        let memory = nothing_remembered(alloc)?;
         Ok(Linkages {
             statics,
             scopes,
             own,
             typing,
             internal,
+            memory,
         })
     }
 }
@@ -213,17 +217,16 @@ fn static_at(
     kept
 }
 
-// Whether a leaf declares a name with internal linkage, by whether a declaration that is seen there is `static` at file scope.
+// Whether a leaf declares a name, which has linkage, with internal linkage, by whether a declaration that is seen there is `static` at file
+// scope.
 fn internal_with(names: &Names, syntax: &Syntax, results: &Results, seen: bool, leaf: u32) -> bool
     requires names { AreNamed syntax.now results.now names.now }
     requires leaf { leaf < length syntax.now.tree.now.nodes.items }
+    requires linked { (uses : List (ℕ × ℕ)) (sense : ℕ → Sense) → spec.is_linked (source_in syntax.now uses) sense leaf ≡ true }
     ensures { (u : UnitSpec) (uses : List (ℕ × ℕ)) →
         result ≡ internal_with (source_in syntax.now uses) (sense_in (senses_made u results.now)) seen leaf }
 {
-    let linked = is_linked(names, syntax, leaf);
-    let is_static = is_static_at_file(syntax, results, leaf);
-    let over = takes_over(names, syntax, results, leaf);
-    linked && (is_static || (over && seen))
+    is_static_at_file(syntax, results, leaf) || (seen && takes_over(names, syntax, results, leaf))
 }
 
 /// Whether a leaf declares a name with internal linkage, and whether that stays so whatever more is made.

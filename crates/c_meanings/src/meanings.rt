@@ -9,12 +9,14 @@ ghost use Rattle.core_tree.specs.declared.node.Unit.{Unit as UnitSpec};
 ghost use Rattle.core_nodes.specs.Standing.{IsReady, Builds};
 ghost use Rattle.c_results.specs.Standing.{senses_made, IsWithin};
 ghost use Rattle.tree_reads.specs.Sources.{source_in};
-ghost use Rattle.c_meanings.specs.Known.{AreChained, AreNames, ArePaired};
+ghost use Rattle.remembered_names.specs.Steps.{type_by};
+ghost use Rattle.remembered_names.specs.Remembering.{IsRemembered, named};
+ghost use Rattle.c_meanings.specs.Known.{AreChained, AreNamed, AreNames, ArePaired};
 ghost use Rattle.c_meanings.specs.Linkages.{AreLinkages};
-ghost use Rattle.c_meanings.specs.Meanings.{meaning_seen, IsMeaningWithin};
+ghost use Rattle.c_meanings.specs.Meanings.{meaning_seen, IsMeaningWithin, IsMeantBy};
 ghost use Rattle.c_senses.specs.Names.{linked_before, ordinary_at};
 
-use crate::earlier::entity_kept;
+use crate::earlier::{entity_kept, typing_thinned};
 use crate::kept::Linkages;
 use crate::names::{Names, is_typedef, link_at};
 use crate::storage::has_initialiser;
@@ -26,6 +28,7 @@ use c_types::term::{Term, TypeId};
 use core_nodes::CheckFault;
 use core_tree::node::Unit;
 use name_chains::linked_link;
+use remembered_names::{Remembered, found_at, remember, steps_of, type_made};
 use std::alloc::Global;
 use tree_reads::{Syntax, is_a};
 
@@ -189,13 +192,14 @@ fn entity_named(
     let entity = entity_kept(alloc, names, syntax, results, linkages, named)?;
     let found = type_thinned(alloc, unit, syntax, names, results, linkages, leaf)?;
     match found {
-        Some(ty) => Ok(Some(object_or_function(&unit.types, entity, ty))),
+        Some(ty) => Ok(Some(object_or_function(&unit.types, entity.leaf, ty))),
         None => Ok(None),
     }
 }
 
-// What the declarator of a leaf makes its name mean (C11 6.2.7, 6.7.8); None where that has no type yet. Only memory may want.
-fn declared_meaning(
+// What the declarator of a leaf makes its name mean (C11 6.2.7, 6.7.8); None where that has no type yet. It is looked up in all that has
+// been made. Only memory may want.
+fn looked_up(
     alloc: Global,
     unit: &mut Unit,
     syntax: &Syntax,
@@ -222,6 +226,171 @@ fn declared_meaning(
         type_named(alloc, unit, syntax, results, leaf)
     } else {
         entity_named(alloc, unit, syntax, names, results, linkages, leaf)
+    }
+}
+
+// The declaration whose own type gives a name its meaning for sure, whatever more is made: that of the name itself, or the only one before
+// it that gives a type. None where there are more, and where that isn't known.
+fn meant_by(
+    alloc: Global,
+    syntax: &Syntax,
+    names: &Names,
+    results: &Results,
+    linkages: &mut Linkages,
+    is_type: bool,
+    leaf: u32,
+) -> Result<Option<u32>, CheckFault>
+    requires names { AreNamed syntax.now results.now names.now }
+    requires linkages { AreLinkages syntax.now results.now names.now linkages.old }
+    requires is_type { (uses : List (ℕ × ℕ)) (sense : ℕ → Sense) → is_type ≡ spec.is_typedef (source_in syntax.now uses) sense leaf }
+    requires leaf { leaf < length syntax.now.tree.now.nodes.items }
+    ensures linkages { AreLinkages syntax.now results.now names.now linkages.new }
+    ensures meant { IfOk result (λ found. IfSome found (IsMeantBy syntax.now results.now is_type leaf)) }
+    ensures within { IfOk result (λ found. IfSome found (λ by. by < length syntax.now.tree.now.nodes.items)) }
+    ensures memory { IsOkUnless result CheckFault.OutOfMemory }
+{
+    if is_type {
+        return Ok(Some(leaf));
+    }
+    let Some(list) = typing_thinned(alloc, names, syntax, results, linkages, leaf)? else {
+        return Ok(None);
+    };
+    if list.len() != 1 {
+        return Ok(None);
+    }
+    let by = list[0].node;
+    if by == leaf {
+        return Ok(Some(by));
+    }
+    if has_initialiser(syntax, leaf) {
+        return Ok(None);
+    }
+    Ok(Some(by))
+}
+
+// What can be remembered of a declaration; None where what it means isn't sure yet, or takes more than one look. Only memory may want.
+fn to_remember(
+    alloc: Global,
+    unit: &mut Unit,
+    syntax: &Syntax,
+    names: &Names,
+    results: &Results,
+    linkages: &mut Linkages,
+    leaf: u32,
+) -> Result<Option<Remembered>, CheckFault>
+    requires ready { IsReady unit.old }
+    requires results { All (IsWithin unit.old) results.now }
+    requires names { AreNames syntax.now unit.old results.now names.now }
+    requires linkages { AreLinkages syntax.now results.now names.now linkages.old }
+    requires leaf { leaf < length syntax.now.tree.now.nodes.items }
+    ensures linkages { AreLinkages syntax.now results.now names.now linkages.new }
+    ensures ready { IsReady unit.new }
+    ensures builds { Builds unit.old unit.new }
+    ensures leaf { IfOk result (λ found. IfSome found (λ e. e.leaf ≡ leaf)) }
+    ensures right { IfOk result (λ found. IfSome found (IsRemembered syntax.now results.now)) }
+    ensures typed { IfOk result (λ found. IfSome found (λ e.
+        type_by unit.new results.now e.steps.base e.steps.declarator ≡ Some (type_of unit.new.types e.ty.0))) }
+    ensures within { IfOk result (λ found. IfSome found (λ e. e.ty.0 < length unit.new.types.terms)) }
+    ensures memory { IsOkUnless result CheckFault.OutOfMemory }
+{
+    let is_type = is_typedef(names, syntax, leaf);
+    let Some(by) = meant_by(alloc, syntax, names, results, linkages, is_type, leaf)? else {
+        return Ok(None);
+    };
+    let Some(steps) = steps_of(syntax, results, by) else {
+        return Ok(None);
+    };
+    let kept = entity_kept(alloc, names, syntax, results, linkages, leaf)?;
+    if !kept.stays {
+        return Ok(None);
+    }
+    let Some(ty) = type_made(alloc, unit, results, steps)? else {
+        return Ok(None);
+    };
+    Ok(Some(Remembered {
+        leaf,
+        entity: kept.leaf,
+        ty,
+        steps,
+        is_type,
+    }))
+}
+
+// What a declaration makes its name mean, by what is remembered of it.
+fn meaning_by(types: &TypeTable, found: Remembered) -> Meaning
+    requires { found.ty.0 < length types.now.terms }
+    ensures gives { (u : UnitSpec) (s : Source) (sense : ℕ → Sense) → u.types ≡ types.now →
+        meaning_seen u (Some result) ≡ Some (named s sense found.is_type found.entity (type_of types.now found.ty.0)) }
+    ensures within { (u : UnitSpec) → u.types ≡ types.now → IsMeaningWithin u (Some result) }
+{
+    if found.is_type {
+        Meaning::TypeName(found.ty)
+    } else {
+        object_or_function(types, found.entity, found.ty)
+    }
+}
+
+// The same, remembered for the uses after this one, where it is for sure.
+fn first_meaning(
+    alloc: Global,
+    unit: &mut Unit,
+    syntax: &Syntax,
+    names: &Names,
+    results: &Results,
+    linkages: &mut Linkages,
+    leaf: u32,
+) -> Result<Option<Meaning>, CheckFault>
+    requires ready { IsReady unit.old }
+    requires results { All (IsWithin unit.old) results.now }
+    requires names { AreNames syntax.now unit.old results.now names.now }
+    requires linkages { AreLinkages syntax.now results.now names.now linkages.old }
+    requires leaf { leaf < length syntax.now.tree.now.nodes.items }
+    ensures linkages { AreLinkages syntax.now results.now names.now linkages.new }
+    ensures ready { IsReady unit.new }
+    ensures builds { Builds unit.old unit.new }
+    ensures made { IfOk result (λ m. (uses : List (ℕ × ℕ)) →
+        meaning_seen unit.new m
+        ≡ spec.declared_meaning (source_in syntax.now uses) (sense_in (senses_made unit.old results.now)) leaf) }
+    ensures within { IfOk result (IsMeaningWithin unit.new) }
+    ensures memory { IsOkUnless result CheckFault.OutOfMemory }
+{
+    match to_remember(alloc, unit, syntax, names, results, linkages, leaf)? {
+        Some(found) => {
+            remember(&mut linkages.memory, found);
+            Ok(Some(meaning_by(&unit.types, found)))
+        }
+        None => looked_up(alloc, unit, syntax, names, results, linkages, leaf),
+    }
+}
+
+// What the declarator of a leaf makes its name mean (C11 6.2.7, 6.7.8), by what is remembered of it; None where that has no type yet. Only
+// memory may want. The contract says what it means and that what is kept stays right, and nothing of how often a declaration is looked at.
+fn declared_meaning(
+    alloc: Global,
+    unit: &mut Unit,
+    syntax: &Syntax,
+    names: &Names,
+    results: &Results,
+    linkages: &mut Linkages,
+    leaf: u32,
+) -> Result<Option<Meaning>, CheckFault>
+    requires ready { IsReady unit.old }
+    requires results { All (IsWithin unit.old) results.now }
+    requires names { AreNames syntax.now unit.old results.now names.now }
+    requires linkages { AreLinkages syntax.now results.now names.now linkages.old }
+    requires leaf { leaf < length syntax.now.tree.now.nodes.items }
+    ensures linkages { AreLinkages syntax.now results.now names.now linkages.new }
+    ensures ready { IsReady unit.new }
+    ensures builds { Builds unit.old unit.new }
+    ensures made { IfOk result (λ m. (uses : List (ℕ × ℕ)) →
+        meaning_seen unit.new m
+        ≡ spec.declared_meaning (source_in syntax.now uses) (sense_in (senses_made unit.old results.now)) leaf) }
+    ensures within { IfOk result (IsMeaningWithin unit.new) }
+    ensures memory { IsOkUnless result CheckFault.OutOfMemory }
+{
+    match found_at(&unit.types, results, linkages.memory.as_slice(), leaf) {
+        Some(found) => Ok(Some(meaning_by(&unit.types, found))),
+        None => first_meaning(alloc, unit, syntax, names, results, linkages, leaf),
     }
 }
 

@@ -8,7 +8,6 @@ ghost use Rattle.c_senses.specs.Entities as spec;
 ghost use Rattle.tree_reads.specs.Sources.{source_in};
 ghost use Rattle.c_meanings.specs.Known.{AreLeaves, AreChained, AreNames, ArePaired};
 
-use c_mentions::settings::place_of;
 use c_scope::{Bound, Declared, Kind};
 use leaf_maps::LeafMap;
 use name_chains::{Link, Links, NameChains, in_scope_link, list_of, name_chains, symbol_chains};
@@ -31,13 +30,7 @@ pub fn names_of_unit(alloc: Global, syntax: &Syntax, bound: &Bound) -> Result<Na
     ensures names { (u : UnitSpec) → IfOk result (AreNames syntax.now u []) }
     ensures uses { IfOk result (λ n. ArePaired n bound.now.uses.items) }
 {
-    let _count = place_of(syntax.tree.nodes.len())?;
-    let chains = name_chains(
-        alloc,
-        syntax.tokens.list.as_slice(),
-        syntax.tree.nodes.as_slice(),
-        bound.names.as_slice(),
-    )?;
+    let chains = name_chains(alloc, &bound.settings, bound.names.as_slice())?;
     let symbols = symbol_chains(alloc, bound.names.as_slice())?;
     let uses = LeafMap::of_pairs(alloc, bound.uses.as_slice())?;
     Ok(Names {

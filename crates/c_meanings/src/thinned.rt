@@ -310,8 +310,8 @@ fn thin_all(
     Ok(())
 }
 
-/// The thinned list of a list, by its last link, with all lists before it. Only memory may want. The contract says that the list is thin
-/// and that what is kept stays right, and nothing of how often a declaration is looked at.
+/// The thinned list of a list, by its last link, with all lists before it. Only memory may want. The contract says that the list is thin,
+/// whatever more is made, and that what is kept stays right, and nothing of how often a declaration is looked at.
 pub(crate) fn thinned_now(
     alloc: Global,
     syntax: &Syntax,
@@ -325,8 +325,7 @@ pub(crate) fn thinned_now(
     requires leaves { HaveLeaves (nodes_in syntax.now) links.now }
     requires last { IsLinkOf links.now last }
     ensures thinned { AreThinned syntax.now results.now false links.now thinned.new }
-    ensures list { IfOk result (λ found. IfSome found (λ v. (u : UnitSpec) (uses : List (ℕ × ℕ)) →
-        IsThin (source_in syntax.now uses) (sense_in (senses_made u results.now)) (listed links.now last) v.items)) }
+    ensures list { IfOk result (λ found. IfSome found (λ v. StaysThin syntax.now results.now false (listed links.now last) v.items)) }
     ensures leaves { IfOk result (λ found. IfSome found (λ v. All (λ d. d.node < nodes_in syntax.now) v.items)) }
     ensures memory { IsOkUnless result OutOfMemory }
 {

@@ -12,6 +12,9 @@ use pta_base::OutOfMemory;
 use std::alloc::Global;
 use std::collections::BTreeMap;
 
+/// How many names that were numbered lately are kept, one a place.
+const RECENT_NAMES: u32 = 1024;
+
 /// The first token of each spelling.
 type Firsts = BTreeMap<Vec<u8>, u32>;
 
@@ -46,7 +49,7 @@ fn place_of_name(name: &[u8]) -> usize
     for byte in name {
         sum = sum.wrapping_mul(31).wrapping_add(u32::from(*byte));
     }
-    (sum % 1024) as usize
+    (sum % RECENT_NAMES) as usize
 }
 
 /// No names that were numbered lately.
@@ -54,7 +57,7 @@ fn none_recent(alloc: Global) -> Result<Vec<(u32, u32)>, OutOfMemory>
     ensures { IfOk result (λ recent. recent.items ≡ replicate 1024 (4294967295, 0)) }
 {
     let mut recent = Vec::new(alloc);
-    recent.resize(1024, (u32::MAX, 0))?;
+    recent.resize(RECENT_NAMES as usize, (u32::MAX, 0))?;
     Ok(recent)
 }
 

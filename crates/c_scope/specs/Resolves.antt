@@ -9,7 +9,7 @@ use Rattle.c_scope.specs.declared.kinds.NameFault.TheVariants.{Undeclared, Redec
 use Rattle.c_scope.specs.declared.resolving.Bound.{Bound}
 use Rattle.c_mentions.specs.Syntax.{nodes_of}
 use Rattle.c_mentions.specs.Symbols.{symbol_of}
-use Rattle.c_mentions.specs.Settings.{Standing, standings}
+use Rattle.c_mentions.specs.Settings.{AreSettings, Standing, standings}
 use Rattle.c_mentions.specs.Mentions.{mention_at}
 use Rattle.c_mentions.specs.declared.mentions.Mention.TheVariants.{Use}
 use Rattle.c_scope.specs.declared.kinds.Declared.{Declared}
@@ -44,13 +44,14 @@ first_of text tokens nodes = first_fault None (bindings text tokens nodes).fault
 abbrev pub fault_of : Tokens → Tree → Option NameFault
 fault_of tokens tree = first_of tokens.text.now tokens.list.items (nodes_of tree.nodes.items)
 
--- no name is at fault, and these are the uses and the gotos, in order, with what they mean, and the declarations
+-- no name is at fault, and these are the uses and the gotos, in order, with what they mean, the declarations, and where the nodes stand
 pub record IsBound (tokens : Tokens) (tree : Tree) (bound : Bound) : Type 0 where
   pub right : fault_of tokens tree ≡ None
   pub uses : bound.uses.items ≡ (bindings tokens.text.now tokens.list.items (nodes_of tree.nodes.items)).uses
   pub labels : bound.labels.items ≡ (bindings tokens.text.now tokens.list.items (nodes_of tree.nodes.items)).labels
   pub names : bound.names.items ≡ (bindings tokens.text.now tokens.list.items (nodes_of tree.nodes.items)).names
   pub tags : bound.tags.items ≡ (bindings tokens.text.now tokens.list.items (nodes_of tree.nodes.items)).tags
+  pub settings : AreSettings tokens.list.items (nodes_of tree.nodes.items) bound.settings
 
 -- the first fault; want of memory says nothing of the unit
 abbrev pub IsNameFault : Tokens → Tree → NameFault → Type 0

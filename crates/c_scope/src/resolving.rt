@@ -3,6 +3,7 @@ ghost use Rattle.c_scope.specs.Binding.{Holds, LeaveSameLabels, Turns, label_at}
 ghost use Rattle.c_scope.specs.Happens.{AreHappenings, Speak, known_with, label_with};
 ghost use Rattle.c_scope.specs.Known.{Happening, first_label, known, nothing_known};
 ghost use Rattle.c_mentions.specs.Mentions as mentions;
+ghost use Rattle.c_mentions.specs.Settings.{AreSettings};
 ghost use Rattle.c_mentions.specs.Mentions.{symbol_at};
 ghost use Rattle.c_scope.specs.Resolves.{IsBound, IsNameFault, bindings};
 ghost use Rattle.c_mentions.specs.Syntax.{nodes_of};
@@ -31,6 +32,8 @@ pub struct Bound {
     pub names: Vec<Declared>,
     /// The declarations of tags, in the order in which they are made.
     pub tags: Vec<Declared>,
+    /// In which scopes and in which function's body each node stands, and its role below its parent.
+    pub settings: Settings,
 }
 
 /// A unit with the symbols of its tokens and the settings of its nodes.
@@ -142,15 +145,16 @@ fn list_of(settings: &Settings) -> &SettingList
     &settings.list
 }
 
-/// What is known of the names of a unit.
+/// What is known of the names of a unit, and where its nodes stand.
 fn bind(
     alloc: Global,
     text: &[u8],
     tokens: &[Token],
     nodes: &[SyntaxNode],
-) -> Result<Binder, OutOfMemory>
+) -> Result<(Binder, Settings), OutOfMemory>
     requires { length tokens.now < 2 ^ 32 }
-    ensures { IfOk result (λ binder. Holds binder (bindings text.now tokens.now (nodes_of nodes.now))) }
+    ensures binder { IfOk result (λ known. Holds known.0 (bindings text.now tokens.now (nodes_of nodes.now))) }
+    ensures settings { IfOk result (λ known. AreSettings tokens.now (nodes_of nodes.now) known.1) }
 {
     let file = place_of(nodes.len())?;
     let symbols = symbols(alloc, text, tokens)?;
@@ -167,18 +171,20 @@ fn bind(
     let list = speaking(alloc, tokens, nodes)?;
     let spoken = list.as_slice();
     let labels = find_labels(alloc, unit, spoken)?;
-    bind_all(alloc, unit, &labels, spoken)
+    let binder = bind_all(alloc, unit, &labels, spoken)?;
+    Ok((binder, settings))
 }
 
 /// Binds each use of an ordinary name, a tag or a label of a unit to the node of the innermost declaration that is visible there
 /// (C11 6.2.1, 6.2.3), in the order of the uses. A label is visible in its whole function, any other name from its declaration on.
-/// The declarations of ordinary names and of tags are listed in the order in which they are made.
+/// The declarations of ordinary names and of tags are listed in the order in which they are made. Where each node stands, which
+/// decides what is visible there, is handed on with them.
 /// `Undeclared` and `Redeclared` come exactly where a node is undeclared or redeclared, with the first such node.
 pub fn resolve(alloc: Global, tokens: &Tokens, tree: &Tree) -> Result<Bound, NameFault>
     requires { length tokens.now.list.items < 2 ^ 32 }
     ensures { MatchResult result (λ bound. IsBound tokens.now tree.now bound) (λ fault. IsNameFault tokens.now tree.now fault) }
 {
-    let binder = bind(
+    let (binder, settings) = bind(
         alloc,
         tokens.text,
         tokens.list.as_slice(),
@@ -190,6 +196,7 @@ pub fn resolve(alloc: Global, tokens: &Tokens, tree: &Tree) -> Result<Bound, Nam
             labels: binder.labels,
             names: binder.declared,
             tags: binder.tagged,
+            settings,
         }),
         Some(fault) => Err(fault),
     }

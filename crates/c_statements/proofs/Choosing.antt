@@ -7,7 +7,7 @@ use Rattle.std.specs.Ordering.{nat_cmp, int_cmp, int_eq, is_eq, ordering_then}
 use Rattle.std.specs.Result.{OnOk}
 use Rattle.std.proofs.lemmas.Bool.{eqb-true, eqb-false}
 use Rattle.std.proofs.lemmas.Bool.Decides.{nat_tests}
-use Rattle.c_senses.specs.Tree.{Source, any_where, numbers_from, is_number}
+use Rattle.c_senses.specs.Tree.{Source, any_where, numbers_from, is_number, is_a, has_word, children_at}
 use Rattle.c_senses.specs.World.{World, or_else}
 use Rattle.c_senses.specs.Sense.{Sense, IsCore, sense_in}
 use Rattle.c_results.specs.Parts.{core_in}
@@ -127,6 +127,10 @@ module _ (w : World) (s : Source) (sense : ℕ → Sense) where
   pub other_case : (at switch : ℕ) (number : ℤ) → false ≡ is_statement_of w s sense 2 at → false ≡ is_case_again w s sense switch number at
   other_case at switch number e = ap (λ (a : Bool). case_parts switch number a (switch_around w s sense at) (case_value w s sense (sense at))) e
 
+  -- no statement is a case or a default
+  no_statement : (word at : ℕ) → false ≡ is_a s 30 at → false ≡ is_statement_of w s sense word at
+  no_statement word at e = ap (λ (a : Bool). a && (elim (children_at s at) [ [] ↦ false | first ∷ rest ↦ has_word s word first ])) e
+
   abbrev default_parts : ℕ → Bool → Option ℕ → Bool → Bool
   default_parts switch a o d = a && (is_number o switch && d)
 
@@ -142,6 +146,15 @@ module _ (w : World) (s : Source) (sense : ℕ → Sense) where
 
   pub other_default : (at switch : ℕ) → false ≡ is_statement_of w s sense 6 at → false ≡ is_default_again w s sense switch at
   other_default at switch e = ap (λ (a : Bool). default_parts switch a (switch_around w s sense at) (is_default w s sense (sense at))) e
+
+  -- so what is kept is kept of such a node too
+  pub no_case_there : (at : ℕ) (list : List ((ℕ × ℤ) × ℕ)) → false ≡ is_a s 30 at → (switch : ℕ) (number : ℤ) → is_some (case_at list switch number) ≡ (is_some (case_at list switch number) || is_case_again w s sense switch number at)
+  no_case_there at list e switch number =
+      or_false (is_some (case_at list switch number)) ∙ ap (λ (b : Bool). is_some (case_at list switch number) || b) (other_case at switch number (no_statement 2 at e))
+
+  pub no_default_there : (at : ℕ) (list : List (ℕ × ℕ)) → false ≡ is_a s 30 at → (switch : ℕ) → is_some (number_at list switch) ≡ (is_some (number_at list switch) || is_default_again w s sense switch at)
+  no_default_there at list e switch =
+      or_false (is_some (number_at list switch)) ∙ ap (λ (b : Bool). is_some (number_at list switch) || b) (other_default at switch (no_statement 6 at e))
 
 -- what is kept once a key has been entered, or none has
 or_true : (b : Bool) → true ≡ (b || true)

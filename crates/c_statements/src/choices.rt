@@ -260,6 +260,9 @@ impl Choices {
             AreCases before s (sense_in (take at senses)) at self.old.cases →
             OnOk result (AreCases after s (sense_in senses) (at + 1) self.new.cases) }
     {
+        if !is_a(syntax, P_STATEMENT, at) {
+            return Ok(());
+        }
         self.note_default(unit, syntax, results, at)?;
         self.note_case(unit, syntax, results, at)
     }

@@ -1,7 +1,7 @@
 -- Units that are extended, one step after another.
-use Rattle.std.proofs.Common.{arith, ◌≡◌, ◌∙◌, ℕ, suc, ◌<◌, ◌≤◌, ◌⊎◌, inl, inr, List, [], ◌∷◌, map, length, slice_get, get_or, IsSome, Option, Some, None, Result, Ok, Err, IfOk, true, false, refl, sym, ap}
+use Rattle.std.proofs.Common.{arith, ◌≡◌, ◌∙◌, ℕ, suc, ◌<◌, ◌≤◌, ◌⊎◌, inl, inr, List, [], ◌∷◌, map, length, slice_get, get_or, IsSome, Option, Some, None, Result, Ok, Err, IfOk, false, refl, sym, ap, subst}
 use Rattle.std.proofs.Math.Path.{fun_ext}
-use Rattle.std.specs.Prelude.{IfSome, MatchOption}
+use Rattle.std.specs.Prelude.{MatchOption}
 use Rattle.std.specs.Option.{option_map, is_some}
 use Rattle.c_types.specs.declared.term.MemberTerm.{MemberTerm}
 use Rattle.c_types.specs.Made.{IsMade}
@@ -12,11 +12,13 @@ use Rattle.c_inits.specs.Made.{Part}
 use Rattle.core_tree.specs.declared.node.Unit.{Unit}
 use Rattle.c_consts.specs.Core.{Core}
 use Rattle.core_nodes.specs.declared.fault.CheckFault.{CheckFault}
-use Rattle.core_nodes.specs.Standing.{core_at, parts_in, part_of, part_with, IsReady, Builds}
+use Rattle.core_nodes.specs.Standing.{parts_in, part_of, part_with, IsReady, Builds}
 use Rattle.core_nodes.proofs.Growing.{core_retyped}
 use Rattle.carried_types.specs.Wider.{IsWider}
 use Rattle.carried_types.specs.Terms.{AreTagIds, IsIdIn, tag_type}
+use Rattle.carried_trees.specs.declared.carrying.WholeTree.{WholeTree}
 use Rattle.carried_trees.specs.Carried.{carried_core, is_given_core}
+use Rattle.carried_trees.specs.Literals.{has_literal, literal_number, AreLiterals, IsTree}
 use Rattle.carried_types.specs.Members.{AreAdded, AreComplete, Lacks}
 use Rattle.carried_trees.specs.Extends.{parts_at, Extends, SameParts, PartsFrom, AreFilled, LacksPart, IsMissing, IsWhole}
 
@@ -169,11 +171,20 @@ ids_grown old new tags more there k = by (get_or tags k None) (there k)
     by None h = tt
     by (Some id) h = omega (arith, h, more)
 
+-- a tree stands behind the nodes and the entities of a unit, whatever its types
+pub tree_on : (entity : ℕ → Option ℕ) (tag : ℕ → Option Ctype) (core : Core) (a b new : Unit) (i : ℕ) (list : List (ℕ × ℕ)) → a.nodes.items ≡ b.nodes.items → a.entities.items ≡ b.entities.items
+    → IsTree entity tag core a new i list → IsTree entity tag core b new i list
+tree_on entity tag core a b new i list nodes entities t = record {
+  given = t.given;
+  carried = t.carried ∙ ap (λ (n : ℕ). carried_core entity (literal_number n list) tag core) (ap length entities);
+  literals = subst (λ (n : ℕ). AreLiterals core n (length b.entities.items) new list) (ap length nodes) (subst (λ (n : ℕ). AreLiterals core (length a.nodes.items) n new list) (ap length entities) t.literals);
+}
+
 -- the answer, by what the steps answer
-pub whole_answer : (entity : ℕ → Option ℕ) (tag : ℕ → Option Ctype) (members : ℕ → Option (List Part)) (core : Core) (old new : Unit) (r : Result (Option ℕ) CheckFault) → AreFilled tag members old new
-    → IfOk r (λ found. MatchOption found (is_given_core entity tag core ≡ false) (λ i. is_given_core entity tag core ≡ true))
-    → IfOk r (λ found. IfSome found (λ i. core_at new i ≡ carried_core entity tag core))
-    → IfOk r (λ found. MatchOption found (IsMissing entity tag members core old) (λ i. IsWhole entity tag members core old new i))
-whole_answer entity tag members core old new (Ok None) filled given tree = inl given
-whole_answer entity tag members core old new (Ok (Some i)) filled given tree = record { given = given; carried = tree; filled = filled }
-whole_answer entity tag members core old new (Err e) filled given tree = given
+pub whole_answer : (entity : ℕ → Option ℕ) (tag : ℕ → Option Ctype) (members : ℕ → Option (List Part)) (core : Core) (old full new : Unit) (r : Result (Option WholeTree) CheckFault) → AreFilled tag members old new
+    → full.nodes.items ≡ old.nodes.items → full.entities.items ≡ old.entities.items
+    → IfOk r (λ found. MatchOption found (is_given_core entity (has_literal core) tag core ≡ false) (λ w. IsTree entity tag core full new w.node w.literals.items))
+    → IfOk r (λ found. MatchOption found (IsMissing entity tag members core old) (λ w. IsWhole entity tag members core old new w.node w.literals.items))
+whole_answer entity tag members core old full new (Ok None) filled nodes entities tree = inl tree
+whole_answer entity tag members core old full new (Ok (Some w)) filled nodes entities tree = record { tree = tree_on entity tag core full old new w.node w.literals.items nodes entities tree; filled = filled }
+whole_answer entity tag members core old full new (Err e) filled nodes entities tree = tree

@@ -1,2 +1,4 @@
 pub mod Behind
+pub mod Listing
+pub mod Moved
 pub mod Extending

@@ -1,5 +1,5 @@
 -- What stays of a unit that gets nodes, types and tags.
-use Rattle.std.specs.Prelude.{ℕ, ◌≡◌, ◌<◌, ◌≤◌, ◌⊎◌, List, map, length, IsSome, Option, Some, None, true, false}
+use Rattle.std.specs.Prelude.{ℕ, ◌≡◌, ◌<◌, ◌≤◌, ◌⊎◌, List, map, length, IsSome, Option, Some, None, false}
 use Rattle.c_types.specs.Layout.{Extent}
 use Rattle.c_types.specs.Trees.{Ctype}
 use Rattle.c_types.specs.Table.{type_of, members_in, extent_in}
@@ -8,7 +8,8 @@ use Rattle.core_tree.specs.declared.node.Unit.{Unit}
 use Rattle.c_consts.specs.Core.{Core}
 use Rattle.core_nodes.specs.Standing.{core_at, parts_in}
 use Rattle.carried_types.specs.Members.{number_of, carried_part, are_given_parts}
-use Rattle.carried_trees.specs.Carried.{carried_core, is_given_core}
+use Rattle.carried_trees.specs.Carried.{is_given_core}
+use Rattle.carried_trees.specs.Literals.{has_literal, IsTree}
 
 -- the members of a unit's tag, where it has them
 abbrev pub parts_at : Unit → ℕ → Option (List Part)
@@ -55,10 +56,9 @@ pub record LacksPart (tag : ℕ → Option Ctype) (members : ℕ → Option (Lis
 
 -- the tree of a node can't be carried: an entity or a tag in it isn't given, or a tag lacks a member
 abbrev pub IsMissing : (ℕ → Option ℕ) → (ℕ → Option Ctype) → (ℕ → Option (List Part)) → Core → Unit → Type 0
-IsMissing entity tag members core old = (is_given_core entity tag core ≡ false) ⊎ LacksPart tag members old
+IsMissing entity tag members core old = (is_given_core entity (has_literal core) tag core ≡ false) ⊎ LacksPart tag members old
 
--- it stands in the unit, carried, and the tags have their members
-pub record IsWhole (entity : ℕ → Option ℕ) (tag : ℕ → Option Ctype) (members : ℕ → Option (List Part)) (core : Core) (old new : Unit) (i : ℕ) : Type 0 where
-  pub given : is_given_core entity tag core ≡ true
-  pub carried : core_at new i ≡ carried_core entity tag core
+-- it stands in the unit, carried, with these compound literals, and the tags have their members
+pub record IsWhole (entity : ℕ → Option ℕ) (tag : ℕ → Option Ctype) (members : ℕ → Option (List Part)) (core : Core) (old new : Unit) (i : ℕ) (list : List (ℕ × ℕ)) : Type 0 where
+  pub tree : IsTree entity tag core old new i list
   pub filled : AreFilled tag members old new

@@ -1,3 +1,5 @@
 pub mod Carried
+pub mod Literals
+pub mod Numbered
 pub mod Copied
 pub mod Extends

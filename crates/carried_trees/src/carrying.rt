@@ -2,19 +2,28 @@
 ghost use Rattle.std.specs.Prelude.{◌≡◌, ◌<◌, ◌+◌, ℕ, Option, true, false, length, get_or, IfOk, IfSome, IsOkUnless, MatchOption};
 ghost use Rattle.c_types.specs.Trees.{Ctype};
 ghost use Rattle.core_nodes.specs.Standing.{core_at, IsReady, Builds};
-ghost use Rattle.kept_nodes.specs.Keeps.{Keeps, AllUnder};
+ghost use Rattle.kept_nodes.specs.Keeps.{AllUnder};
 ghost use Rattle.leaf_maps.specs.Numbers.{number_at};
-ghost use Rattle.carried_trees.specs.Carried.{carried_core, is_given_core};
+ghost use Rattle.carried_trees.specs.Carried.{is_given_core};
+ghost use Rattle.carried_trees.specs.Literals.{has_literal, IsTree};
 ghost use Rattle.carried_types.specs.Terms.{AreTagIds, AreTypes, tag_type};
 
+use crate::literals::literals_of;
 use crate::nodes::carried_nodes;
 use c_types::table::TypeTable;
 use carried_types::{CarriedTypes, carried_types};
 use core_nodes::CheckFault;
 use core_tree::node::Unit;
-use kept_nodes::keep_under;
 use leaf_maps::LeafMap;
 use std::alloc::Global;
+
+/// A tree that was carried into a unit: its node there, and its compound literals, each by the leaf that it had and its node there. The
+/// entities of these have the next numbers of the unit, in this order.
+#[derive(Drop)]
+pub struct WholeTree {
+    pub node: u32,
+    pub literals: Vec<(u32, u32)>,
+}
 
 /// The types of a table in a unit, where the type of each tag stands in a list. Only memory may want.
 pub(crate) fn add_types(
@@ -40,40 +49,38 @@ pub(crate) fn add_types(
     }
 }
 
-// Keeps the tree of a node out of those from a number on, where it is flagged.
-fn kept(
-    alloc: Global,
-    unit: &mut Unit,
-    flags: &[bool],
-    from: u32,
-    top: u32,
-) -> Result<Option<u32>, CheckFault>
-    requires ready { IsReady unit.old }
+// The number of a node behind others, where it is flagged.
+fn placed(flags: &[bool], from: u32, top: u32) -> Result<Option<u32>, CheckFault>
     requires top { top < length flags.now }
-    requires count { from + length flags.now ≡ length unit.old.nodes.items }
-    ensures ready { IsReady unit.new }
-    ensures keeps { Keeps from unit.old unit.new }
     ensures given { IfOk result (λ found.
         MatchOption found (get_or flags.now top false ≡ false) (λ i. get_or flags.now top false ≡ true)) }
-    ensures tree { IfOk result (λ found. IfSome found (λ i. core_at unit.new i ≡ core_at unit.old (from + top))) }
-    ensures within { IfOk result (λ found. IfSome found (λ i. i < length unit.new.nodes.items)) }
-    ensures only { IfOk result (λ found. IfSome found (λ i. AllUnder unit.new from i)) }
+    ensures is { IfOk result (λ found. IfSome found (λ i. i ≡ from + top)) }
     ensures memory { IsOkUnless result CheckFault.OutOfMemory }
 {
     if !flags[top as usize] {
         return Ok(None);
     }
-    let Some(place) = from.checked_add(top) else {
-        return Err(CheckFault::OutOfMemory);
-    };
-    let node = keep_under(alloc, unit, from, place)?;
-    Ok(Some(node))
+    match from.checked_add(top) {
+        Some(place) => Ok(Some(place)),
+        None => Err(CheckFault::OutOfMemory),
+    }
 }
 
-/// Carries the tree of a node of one unit into another, in which entities have the numbers of a map, and types those of a list. The
-/// node of the tree there, of whose nodes alone the unit has more; None exactly where the tree holds an entity without a number, a tag
-/// without a type, a compound literal, or a statement that has entities. Only memory may want. After None, or want of memory, the unit is
-/// only fit to be dropped.
+// The number that a list's next element would have.
+fn next_number(length: usize) -> Result<u32, CheckFault>
+    ensures is { IfOk result (λ number. number ≡ length) }
+    ensures memory { IsOkUnless result CheckFault.OutOfMemory }
+{
+    match u32::try_from(length) {
+        Ok(number) => Ok(number),
+        Err(_) => Err(CheckFault::OutOfMemory),
+    }
+}
+
+/// Carries a unit of one tree into another unit, in which entities have the numbers of a map, and types those of a list; its compound
+/// literals get the next numbers of the unit's entities, in the order of their nodes. The tree there, of whose nodes alone the unit has
+/// more; None exactly where the tree holds an entity without a number, a tag without a type, an initialiser of no compound literal in it,
+/// or a statement that has entities. Only memory may want. After None, or want of memory, the unit is only fit to be dropped.
 pub(crate) fn carry(
     alloc: Global,
     unit: &mut Unit,
@@ -81,29 +88,42 @@ pub(crate) fn carry(
     top: u32,
     entities: &LeafMap,
     types: &CarriedTypes,
-) -> Result<Option<u32>, CheckFault>
+) -> Result<Option<WholeTree>, CheckFault>
     requires ready { IsReady unit.old }
     requires walked { IsReady walked }
     requires top { top < length walked.nodes.items }
+    requires alone { AllUnder walked 0 top }
     requires types { (tag : ℕ → Option Ctype) × AreTypes tag walked.types (length walked.types.terms) types.now.ids.items
         types.now.given.items unit.old.types }
     ensures ready { IsReady unit.new }
     ensures builds { Builds unit.old unit.new }
-    ensures given { (tag : ℕ → Option Ctype) →
-        AreTypes tag walked.types (length walked.types.terms) types.now.ids.items types.now.given.items unit.old.types →
-        IfOk result (λ found. MatchOption found
-        (is_given_core (number_at entities.now) tag (core_at walked top) ≡ false)
-        (λ i. is_given_core (number_at entities.now) tag (core_at walked top) ≡ true)) }
     ensures tree { (tag : ℕ → Option Ctype) →
         AreTypes tag walked.types (length walked.types.terms) types.now.ids.items types.now.given.items unit.old.types →
-        IfOk result (λ found. IfSome found (λ i. core_at unit.new i ≡ carried_core (number_at entities.now) tag (core_at walked top))) }
-    ensures within { IfOk result (λ found. IfSome found (λ i. i < length unit.new.nodes.items)) }
-    ensures only { IfOk result (λ found. IfSome found (λ i. AllUnder unit.new (length unit.old.nodes.items) i)) }
+        let core = core_at walked top in
+        IfOk result (λ found. MatchOption found
+        (is_given_core (number_at entities.now) (has_literal core) tag core ≡ false)
+        (λ whole. IsTree (number_at entities.now) tag core unit.old unit.new whole.node whole.literals.items)) }
+    ensures within { IfOk result (λ found. IfSome found (λ whole. whole.node < length unit.new.nodes.items)) }
+    ensures only { IfOk result (λ found. IfSome found (λ whole. AllUnder unit.new (length unit.old.nodes.items) whole.node)) }
     ensures memory { IsOkUnless result CheckFault.OutOfMemory }
 {
-    let Ok(from) = u32::try_from(unit.nodes.len()) else {
-        return Err(CheckFault::OutOfMemory);
-    };
-    let flags = carried_nodes(alloc, unit, entities, types, from, walked.nodes)?;
-    kept(alloc, unit, flags.as_slice(), from, top)
+    let from = next_number(unit.nodes.len())?;
+    let first = next_number(unit.entities.len())?;
+    let own = literals_of(alloc, walked.nodes.as_slice(), from, first)?;
+    let flags = carried_nodes(
+        alloc,
+        unit,
+        entities,
+        &own.numbers,
+        types,
+        from,
+        walked.nodes,
+    )?;
+    match placed(flags.as_slice(), from, top)? {
+        Some(node) => Ok(Some(WholeTree {
+            node,
+            literals: own.list,
+        })),
+        None => Ok(None),
+    }
 }

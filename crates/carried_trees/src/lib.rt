@@ -2,9 +2,11 @@
 #![tactic(auto)]
 
 mod carrying;
+mod literals;
 mod nodes;
 mod tags;
 mod whole;
 
+pub use carrying::WholeTree;
 pub use tags::open_in;
 pub use whole::carry_whole;

@@ -1,5 +1,6 @@
 // The nodes of one unit behind those of another.
-ghost use Rattle.std.specs.Prelude.{◌≡◌, ◌<◌, ◌+◌, ◌&&◌, ℕ, Option, false, length, map, get_or, All, IfOk, OnOk, IsOkUnless, unwrap_or};
+ghost use Rattle.std.specs.Prelude.{◌≡◌, ◌<◌, ◌+◌, ◌++◌, [], ◌∷◌, ◌&&◌, ℕ, Option, false, length, map, get_or, All};
+ghost use Rattle.std.specs.Prelude.{IfOk, OnOk, IsOkUnless, is_some, unwrap_or};
 ghost use Rattle.c_types.specs.Trees.{Ctype};
 ghost use Rattle.c_types.specs.Table.{type_of};
 ghost use Rattle.c_consts.specs.Core.{Of};
@@ -28,24 +29,30 @@ fn entity_at(entities: &LeafMap, leaf: u32) -> u32
 }
 
 // A kind with the number of the entity that it names.
-fn carried_kind(entities: &LeafMap, kind: NodeKind) -> NodeKind
-    ensures { result ≡ carried.carried_kind (number_at entities.now) kind }
+fn carried_kind(entities: &LeafMap, own: &LeafMap, kind: NodeKind) -> NodeKind
+    ensures { result ≡ carried.carried_kind (number_at entities.now) (number_at own.now) kind }
 {
     match kind {
         NodeKind::Named(leaf) => NodeKind::Named(entity_at(entities, leaf)),
         NodeKind::FunctionName(leaf) => NodeKind::FunctionName(entity_at(entities, leaf)),
+        NodeKind::Literal(leaf) => NodeKind::Literal(entity_at(own, leaf)),
+        NodeKind::Initialise { entity, paths } => NodeKind::Initialise {
+            entity: entity_at(own, entity),
+            paths,
+        },
         other => other,
     }
 }
 
 // Whether the entity that a kind names has a number.
-fn is_given_kind(entities: &LeafMap, kind: &NodeKind) -> bool
-    ensures { result ≡ carried.is_given_kind (number_at entities.now) kind.now }
+fn is_given_kind(entities: &LeafMap, own: &LeafMap, kind: &NodeKind) -> bool
+    ensures { result ≡ carried.is_given_kind (number_at entities.now) (λ e. is_some (number_at own.now e)) kind.now }
 {
     match kind {
         NodeKind::Named(leaf) | NodeKind::FunctionName(leaf) => entities.get(*leaf).is_some(),
-        NodeKind::Literal(_) | NodeKind::Block(_) => false,
-        NodeKind::For { .. } | NodeKind::Initialise { .. } => false,
+        NodeKind::Literal(leaf) => own.get(*leaf).is_some(),
+        NodeKind::Initialise { entity, .. } => own.get(*entity).is_some(),
+        NodeKind::Block(_) | NodeKind::For { .. } => false,
         _ => true,
     }
 }
@@ -80,13 +87,19 @@ fn all_flagged(flags: &[bool], children: &[u32]) -> bool
 }
 
 // Whether all that a node names is given.
-fn is_given(entities: &LeafMap, types: &CarriedTypes, flags: &[bool], node: &Node) -> bool
+fn is_given(
+    entities: &LeafMap,
+    own: &LeafMap,
+    types: &CarriedTypes,
+    flags: &[bool],
+    node: &Node,
+) -> bool
     requires ty { node.now.ty.0 < length types.now.given.items }
     requires children { All (λ c. c < length flags.now) node.now.children }
-    ensures { result ≡ ((carried.is_given_kind (number_at entities.now) node.now.kind && get_or types.now.given.items node.now.ty.0 false)
-        && all_flagged flags.now node.now.children) }
+    ensures { result ≡ ((carried.is_given_kind (number_at entities.now) (λ e. is_some (number_at own.now e)) node.now.kind
+        && get_or types.now.given.items node.now.ty.0 false) && all_flagged flags.now node.now.children) }
 {
-    is_given_kind(entities, &node.kind)
+    is_given_kind(entities, own, &node.kind)
         && types.given[node.ty.0 as usize]
         && all_flagged(flags, node.children.as_slice())
 }
@@ -96,6 +109,7 @@ fn push_carried(
     alloc: Global,
     unit: &mut Unit,
     entities: &LeafMap,
+    own: &LeafMap,
     types: &CarriedTypes,
     from: u32,
     node: Node,
@@ -107,16 +121,20 @@ fn push_carried(
     ensures ready { IsReady unit.new }
     ensures builds { Builds unit.old unit.new }
     ensures made { OnOk result (core_at unit.new (length unit.old.nodes.items)
-        ≡ Of (carried.carried_kind (number_at entities.now) node.kind) node.place
+        ≡ Of (carried.carried_kind (number_at entities.now) (number_at own.now) node.kind) node.place
         (type_of unit.old.types (get_or types.now.ids.items node.ty.0 0))
         (cores_at unit.old (map (λ c. from + c) node.children))) }
-    ensures added { OnOk result (length unit.new.nodes.items ≡ length unit.old.nodes.items + 1) }
+    ensures added { OnOk result (unit.new.nodes.items ≡ unit.old.nodes.items ++ record node {
+      kind = carried.carried_kind (number_at entities.now) (number_at own.now) node.kind;
+      ty = record { 0 = get_or types.now.ids.items node.ty.0 0 };
+      children = map (λ c. from + c) node.children;
+    } ∷ []) }
     ensures types { unit.new.types ≡ unit.old.types }
     ensures memory { IsOkUnless result CheckFault.OutOfMemory }
 {
     let children = raised(alloc, from, node.children.as_slice())?;
     let ty = TypeId(types.ids[node.ty.0 as usize]);
-    let kind = carried_kind(entities, node.kind);
+    let kind = carried_kind(entities, own, node.kind);
     match push_node(unit, kind, node.place, ty, children) {
         Ok(_) => Ok(()),
         Err(_) => Err(CheckFault::OutOfMemory),
@@ -128,6 +146,7 @@ pub(crate) fn carried_nodes(
     alloc: Global,
     unit: &mut Unit,
     entities: &LeafMap,
+    own: &LeafMap,
     types: &CarriedTypes,
     from: u32,
     nodes: Vec<Node>,
@@ -144,14 +163,14 @@ pub(crate) fn carried_nodes(
         IsReady old →
         old.nodes.items ≡ nodes.items →
         AreTypes tag old.types (length old.types.terms) types.now.ids.items types.now.given.items unit.old.types →
-        AreCarried (number_at entities.now) tag old from (length nodes.items) flags.items unit.new) }
+        AreCarried (number_at entities.now) (number_at own.now) tag old from (length nodes.items) flags.items unit.new) }
     ensures memory { IsOkUnless result CheckFault.OutOfMemory }
 {
     let mut rest = VecDeque::from_vec(nodes);
     let mut flags = Vec::new(alloc);
     while let Some(node) = rest.pop_front() {
-        let flag = is_given(entities, types, flags.as_slice(), &node);
-        push_carried(alloc, unit, entities, types, from, node)?;
+        let flag = is_given(entities, own, types, flags.as_slice(), &node);
+        push_carried(alloc, unit, entities, own, types, from, node)?;
         flags.push(flag)?;
     }
     Ok(flags)

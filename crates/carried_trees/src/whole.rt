@@ -9,19 +9,21 @@ ghost use Rattle.carried_types.specs.Terms.{AreTagIds, tag_type};
 ghost use Rattle.carried_types.specs.Members.{AreTagged};
 ghost use Rattle.carried_trees.specs.Extends.{Extends, IsMissing, IsWhole};
 
-use crate::carrying::{add_types, carry};
+use crate::carrying::{WholeTree, add_types, carry};
 use crate::tags::complete_in;
 use core_nodes::CheckFault;
 use core_tree::node::Unit;
+use kept_nodes::keep_under;
 use leaf_maps::LeafMap;
 use std::alloc::Global;
 
 /// Carries the tree of a node of one unit into another, in which entities have the numbers of a map, and tags the types of a list; each
-/// of these tags that has members in the first unit, and none in the other, gets them there, with their types carried. The node of the
-/// tree there, of whose nodes alone the unit has more; None exactly where the tree holds an entity without a number, a tag without a type,
-/// a compound literal, or a statement that has entities, or where a tag that would get members has one with a tag without a type. Only
-/// memory may want; a tag that has another keyword there counts as such. After None, or want of memory, the unit is only fit to be
-/// dropped.
+/// of these tags that has members in the first unit, and none in the other, gets them there, with their types carried. The compound
+/// literals in the tree get the next numbers of the unit's entities, in the order of their nodes; the caller makes these entities. The
+/// tree there, of whose nodes alone the unit has more; None exactly where it holds an entity without a number, a tag without a type, an
+/// initialiser of no compound literal in it, or a statement that has entities, or where a tag that would get members has one with a tag
+/// without a type. Only memory may want; a tag that has another keyword there counts as such. After None, or want of memory, the unit is
+/// only fit to be dropped.
 pub fn carry_whole(
     alloc: Global,
     unit: &mut Unit,
@@ -29,7 +31,7 @@ pub fn carry_whole(
     top: u32,
     entities: &LeafMap,
     tags: &[Option<u32>],
-) -> Result<Option<u32>, CheckFault>
+) -> Result<Option<WholeTree>, CheckFault>
     requires ready { IsReady unit.old }
     requires walked { IsReady walked }
     requires top { top < length walked.nodes.items }
@@ -42,14 +44,17 @@ pub fn carry_whole(
         ((k : ℕ) → members k ≡ parts_in walked.types (members_in walked.types k)) →
         IfOk result (λ found. MatchOption found
         (IsMissing (number_at entities.now) (tag_type unit.old.types tags.now) members (core_at walked top) unit.old)
-        (λ i. IsWhole (number_at entities.now) (tag_type unit.old.types tags.now) members (core_at walked top) unit.old unit.new i)) }
-    ensures within { IfOk result (λ found. IfSome found (λ i. i < length unit.new.nodes.items)) }
-    ensures only { IfOk result (λ found. IfSome found (λ i. AllUnder unit.new (length unit.old.nodes.items) i)) }
+        (λ whole. IsWhole (number_at entities.now) (tag_type unit.old.types tags.now) members (core_at walked top) unit.old unit.new
+        whole.node whole.literals.items)) }
+    ensures within { IfOk result (λ found. IfSome found (λ whole. whole.node < length unit.new.nodes.items)) }
+    ensures only { IfOk result (λ found. IfSome found (λ whole. AllUnder unit.new (length unit.old.nodes.items) whole.node)) }
     ensures memory { IsOkUnless result CheckFault.OutOfMemory }
 {
-    let types = add_types(alloc, unit, &walked.types, tags)?;
-    if !complete_in(alloc, unit, &walked.types, tags, &types)? {
+    let mut kept = walked;
+    let node = keep_under(alloc, &mut kept, 0, top)?;
+    let types = add_types(alloc, unit, &kept.types, tags)?;
+    if !complete_in(alloc, unit, &kept.types, tags, &types)? {
         return Ok(None);
     }
-    carry(alloc, unit, walked, top, entities, &types)
+    carry(alloc, unit, kept, node, entities, &types)
 }

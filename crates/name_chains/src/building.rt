@@ -1,7 +1,9 @@
 // What is seen where each declaration is made, from the first declaration to the last.
-ghost use Rattle.std.specs.Prelude.{◌≡◌, ◌++◌, ◌∷◌, [], ◌<◌, ◌^◌, ℕ, List, All, length, IfOk};
+ghost use Rattle.std.specs.Prelude.{◌≡◌, ◌++◌, ◌∷◌, [], ◌<◌, ℕ, List, All, length, IfOk};
 ghost use Rattle.c_scope.specs.declared.kinds.Declared.{Declared as DeclaredSpec};
-ghost use Rattle.c_mentions.specs.Syntax.{nodes_of};
+ghost use Rattle.c_lexer.specs.declared.Token.{Token};
+ghost use Rattle.c_grammar.specs.Reads.{Node};
+ghost use Rattle.c_mentions.specs.Settings.{AreSettings};
 ghost use Rattle.name_chains.specs.Links.{AreBackward};
 ghost use Rattle.name_chains.specs.Chains.{AreWithin};
 ghost use Rattle.name_chains.specs.Seen as spec;
@@ -10,9 +12,7 @@ ghost use Rattle.name_chains.specs.Seen.{AreChains, Stands, scopes_of};
 use crate::chains::{Chains, has_linkage, linked_along, take_in};
 use crate::links::{Links, push_link};
 use crate::scopes::scopes_at;
-use c_grammar::SyntaxNode;
-use c_lexer::Token;
-use c_mentions::settings::{place_of, settings_of};
+use c_mentions::settings::{Settings, place_of};
 use c_scope::Declared;
 use leaf_maps::LeafMap;
 use pta_base::OutOfMemory;
@@ -101,18 +101,17 @@ fn note(
     Ok(())
 }
 
-/// What is seen where each ordinary name of a unit is declared, of the declarations in the order in which they are made.
+/// What is seen where each ordinary name of a unit is declared, of the declarations in the order in which they are made, by where each
+/// node stands (C11 6.2.1, 6.2.2). Only want of memory is refused.
 pub fn name_chains(
     alloc: Global,
-    tokens: &[Token],
-    nodes: &[SyntaxNode],
+    settings: &Settings,
     names: &[Declared],
 ) -> Result<NameChains, OutOfMemory>
-    requires room { length nodes.now < 2 ^ 32 }
-    requires leaves { All (λ d. d.node < length nodes.now) names.now }
-    ensures { IfOk result (AreChains (length nodes.now) (scopes_of tokens.now (nodes_of nodes.now)) names.now) }
+    requires leaves { All (λ d. d.node < length settings.now.list) names.now }
+    ensures { IfOk result (λ chains. (tokens : List Token) (nodes : List Node) →
+        AreSettings tokens nodes settings.now → AreChains (length nodes) (scopes_of tokens nodes) names.now chains) }
 {
-    let settings = settings_of(alloc, tokens, nodes)?;
     let mut places = BTreeMap::new(alloc);
     let mut chains = NameChains {
         positions: LeafMap::new(alloc),
@@ -121,7 +120,7 @@ pub fn name_chains(
         links: Vec::new(alloc),
     };
     for declared in names {
-        let scopes = scopes_at(alloc, &settings, declared.node)?;
+        let scopes = scopes_at(alloc, settings, declared.node)?;
         note(
             alloc,
             &mut chains,

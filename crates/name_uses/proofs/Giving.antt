@@ -181,6 +181,12 @@ senses_named u count [] all i = tt
 senses_named u count (r ∷ rs) all zero = named_to_sense u count r (All-head (IsNamedIn count) r rs all)
 senses_named u count (r ∷ rs) all (suc i) = senses_named u count rs (All-tail (IsNamedIn count) r rs all) i
 
+-- what a part stands for has the part's name
+pub part_named : (u : Unit) (count : ℕ) (rs : List Made) (part : ℕ) (r : Result Made CheckFault) → All (IsNamedIn count) rs → Rowed u r (Fits (sense_in (senses_made u rs) part)) → IfOk r (IsNamedIn count)
+part_named u count rs part r all made =
+    let given : Given Sense = Fits (sense_in (senses_made u rs) part) in
+    IfOk-weaker r (λ m. IsNamedSense count (sense_made u m)) (IsNamedIn count) (λ m h. named_from_sense u count m h) (made_gives (IsNamedSense count) u r given made (senses_named u count rs all part))
+
 -- its name, if it has one, is that of a part
 pub named_made : (w : World) (s : Source) (u v : Unit) (count : ℕ) (rs : List Made) (production at : ℕ) (children : List ℕ) (r : Result Made CheckFault) → All (IsNamedIn count) rs
     → Rowed v r (built_row w s (sense_in (senses_made u rs)) production at children) → IfOk r (IsNamedIn count)

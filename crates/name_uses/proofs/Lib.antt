@@ -1,3 +1,4 @@
+pub mod Passing
 pub mod Giving
 pub mod Looking
 pub mod Parts

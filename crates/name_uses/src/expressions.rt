@@ -15,6 +15,7 @@ ghost use Rattle.expression_rows.specs.Built.{built_row};
 ghost use Rattle.expression_rows.specs.Readable.{IsReadable};
 ghost use Rattle.name_uses.specs.Built.{named_row};
 
+use crate::alone::{again, lone_part};
 use crate::around::around_of;
 use c_meanings::{Linkages, Names};
 use c_results::{Made, Results};
@@ -76,6 +77,9 @@ pub fn expression(
         Rowed unit.new result
         (expression_row (world_at s senses at) s (sense_in senses) (production_at s at) at (children_at s at)) }
 {
+    if let Some(part) = lone_part(syntax, at) {
+        return again(alloc, results, part);
+    }
     match around_of(alloc, unit, syntax, names, results, linkages, at) {
         Ok(around) => row(alloc, unit, syntax, results, &around, at),
         Err(fault) => Err(fault),

@@ -1,8 +1,10 @@
 // Files that are read as units, and a stream that is written as a sink.
-use pta_base::{Failed, FileUnits, Sink, StreamSink, Units};
+use crate::calls::{is_failed, reads, taken};
+use pta_base::{FileUnits, StreamSink};
 use std::alloc::AllocGlobal;
 use std::env::{self, Env};
 use std::path::PathBuf;
+use std::rt::Files;
 use std::test::Fail;
 use std::{fs, io};
 
@@ -11,58 +13,66 @@ fn path_of<R: Env + AllocGlobal>(rt: &R, name: &str) -> io::Result<PathBuf> {
     Ok(env::temp_dir(rt)?.join(rt.alloc(), name)?)
 }
 
+/// Whether a file is read from each place on, and can't be read once it is removed.
+fn is_read<R: Files + AllocGlobal>(rt: &R, path: &str) -> io::Result<bool> {
+    fs::write(rt, path, "int x;")?;
+    let mut units = FileUnits::new(rt);
+    let read = reads(&mut units, path, 0, b"int ")
+        && reads(&mut units, path, 4, b"x;")
+        && reads(&mut units, path, 6, b"");
+    fs::remove_file(rt, path)?;
+    let mut anew = FileUnits::new(rt);
+    Ok(read && is_failed(&mut anew, path, 0))
+}
+
 #[test]
 fn a_file_is_read_from_a_place_on(rt: HostRuntime) -> Result<(), Fail> {
     let path = path_of(&rt, "pta_base_units.i")?;
-    fs::write(&rt, path.as_str(), "int x;")?;
-    let mut units = FileUnits::new(&rt);
-    let mut buf = [0u8; 4];
-    assert_eq!(rt; units.read(path.as_str(), 0, &mut buf), Ok(4));
-    assert_eq!(rt; buf.as_slice(), b"int ".as_slice());
-    assert_eq!(rt; units.read(path.as_str(), 4, &mut buf), Ok(2));
-    assert_eq!(rt; &buf[..2], b"x;".as_slice());
-    assert_eq!(rt; units.read(path.as_str(), 6, &mut buf), Ok(0));
-    fs::remove_file(&rt, path.as_str())?;
-    let mut anew = FileUnits::new(&rt);
-    assert_eq!(rt; anew.read(path.as_str(), 0, &mut buf), Err(Failed));
+    let read = is_read(&rt, path.as_str())?;
+    assert!(rt; read);
     Ok(())
 }
 
-// The open file is read on, though another one has its name by now; another place is sought, and another name opened.
+/// Whether the open file is read on, though another one has its name by now; another place is sought, and another name
+/// opened.
+fn is_read_on<R: Files + AllocGlobal>(rt: &R, path: &str, other: &str) -> io::Result<bool> {
+    fs::write(rt, path, "int x;")?;
+    fs::write(rt, other, "char")?;
+    let mut units = FileUnits::new(rt);
+    let before = reads(&mut units, path, 0, b"int ");
+    fs::remove_file(rt, path)?;
+    fs::write(rt, path, "long y;")?;
+    let after = reads(&mut units, path, 4, b"x;")
+        && reads(&mut units, path, 1, b"nt x")
+        && reads(&mut units, other, 2, b"ar")
+        && reads(&mut units, path, 4, b" y;");
+    fs::remove_file(rt, path)?;
+    fs::remove_file(rt, other)?;
+    Ok(before && after)
+}
+
 #[test]
 fn the_open_file_is_read_on(rt: HostRuntime) -> Result<(), Fail> {
     let path = path_of(&rt, "pta_base_replaced.i")?;
     let other = path_of(&rt, "pta_base_other.i")?;
-    fs::write(&rt, path.as_str(), "int x;")?;
-    fs::write(&rt, other.as_str(), "char")?;
-    let mut units = FileUnits::new(&rt);
-    let mut buf = [0u8; 4];
-    assert_eq!(rt; units.read(path.as_str(), 0, &mut buf), Ok(4));
-    fs::remove_file(&rt, path.as_str())?;
-    fs::write(&rt, path.as_str(), "long y;")?;
-    assert_eq!(rt; units.read(path.as_str(), 4, &mut buf), Ok(2));
-    assert_eq!(rt; &buf[..2], b"x;".as_slice());
-    assert_eq!(rt; units.read(path.as_str(), 1, &mut buf), Ok(4));
-    assert_eq!(rt; buf.as_slice(), b"nt x".as_slice());
-    assert_eq!(rt; units.read(other.as_str(), 2, &mut buf), Ok(2));
-    assert_eq!(rt; &buf[..2], b"ar".as_slice());
-    assert_eq!(rt; units.read(path.as_str(), 4, &mut buf), Ok(3));
-    assert_eq!(rt; &buf[..3], b" y;".as_slice());
-    fs::remove_file(&rt, path.as_str())?;
-    fs::remove_file(&rt, other.as_str())?;
+    let read = is_read_on(&rt, path.as_str(), other.as_str())?;
+    assert!(rt; read);
     Ok(())
+}
+
+/// Whether a stream to a file takes two pieces, which then stand there.
+fn is_written<R: Files + AllocGlobal>(rt: &R, path: &str) -> io::Result<bool> {
+    let mut sink = StreamSink::new(fs::create(rt, path)?);
+    let all = taken(&mut sink, b"pta 1\n") == 6 && taken(&mut sink, b"end\n") == 4;
+    let written = fs::read(rt, path)?;
+    fs::remove_file(rt, path)?;
+    Ok(all && written.as_slice() == b"pta 1\nend\n".as_slice())
 }
 
 #[test]
 fn a_stream_takes_what_is_written(rt: HostRuntime) -> Result<(), Fail> {
     let path = path_of(&rt, "pta_base_sink.txt")?;
-    let mut sink = StreamSink::new(fs::create(&rt, path.as_str())?);
-    assert_eq!(rt; sink.write(b"pta 1\n"), Ok(6));
-    assert_eq!(rt; sink.write(b"end\n"), Ok(4));
-    assert_eq!(rt;
-        fs::read(&rt, path.as_str())?.as_slice(),
-        b"pta 1\nend\n".as_slice()
-    );
-    fs::remove_file(&rt, path.as_str())?;
+    let written = is_written(&rt, path.as_str())?;
+    assert!(rt; written);
     Ok(())
 }

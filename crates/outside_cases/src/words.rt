@@ -40,31 +40,37 @@ fn scripts(rt: HostRuntime) {
     };
     assert!(rt; command.ask == Some("a.i"));
     assert!(rt; command.units.as_slice() == ["a.i"].as_slice());
-    assert!(rt; !is_refused(alloc, &["--ask=s", "a.i"]).expect(&rt, "memory"));
-    assert!(rt; is_refused(alloc, &["--ask", "s"]).expect(&rt, "memory"));
-    assert!(rt; is_refused(alloc, &["--ask", "-s", "a.i"]).expect(&rt, "memory"));
-    assert!(rt; is_refused(alloc, &["--ask", "s$", "a.i"]).expect(&rt, "memory"));
-    assert!(rt; is_refused(alloc, &["--ask", "s", "a.i", "--ask", "s"]).expect(&rt, "memory"));
-    assert!(rt; is_refused(alloc, &["--as", "s", "a.i"]).expect(&rt, "memory"));
 }
 
+/// Words of a command line, and whether they are refused.
+static REFUSED: [(&[&str], bool); 20] = [
+    (&["--ask=s", "a.i"], false),
+    (&["--ask", "s"], true),
+    (&["--ask", "-s", "a.i"], true),
+    (&["--ask", "s$", "a.i"], true),
+    (&["--ask", "s", "a.i", "--ask", "s"], true),
+    (&["--as", "s", "a.i"], true),
+    (&[], true),
+    (&["-"], true),
+    (&[""], true),
+    (&["--help"], true),
+    (&["--workers", "0", "a.i"], true),
+    (&["--workers", "65", "a.i"], true),
+    (&["--workers", "00000000001", "a.i"], true),
+    (&["--workers", "a.i"], true),
+    (&["a.i", "--work", "2"], true),
+    (&["--workers", "2", "a.i", "--workers", "2"], true),
+    (&["a.i", "a.i"], true),
+    (&["a.i", "b$.i"], true),
+    (&["a.i", "--workers", "64"], false),
+    (&["--", "a.i"], false),
+];
+
 #[test]
-fn refused(rt: HostRuntime) {
-    let alloc = rt.alloc();
-    assert!(rt; is_refused(alloc, &[]).expect(&rt, "memory"));
-    assert!(rt; is_refused(alloc, &["-"]).expect(&rt, "memory"));
-    assert!(rt; is_refused(alloc, &[""]).expect(&rt, "memory"));
-    assert!(rt; is_refused(alloc, &["--help"]).expect(&rt, "memory"));
-    assert!(rt; is_refused(alloc, &["--workers", "0", "a.i"]).expect(&rt, "memory"));
-    assert!(rt; is_refused(alloc, &["--workers", "65", "a.i"]).expect(&rt, "memory"));
-    assert!(rt; is_refused(alloc, &["--workers", "00000000001", "a.i"]).expect(&rt, "memory"));
-    assert!(rt; is_refused(alloc, &["--workers", "a.i"]).expect(&rt, "memory"));
-    assert!(rt; is_refused(alloc, &["a.i", "--work", "2"]).expect(&rt, "memory"));
-    assert!(rt;
-        is_refused(alloc, &["--workers", "2", "a.i", "--workers", "2"]).expect(&rt, "memory")
-    );
-    assert!(rt; is_refused(alloc, &["a.i", "a.i"]).expect(&rt, "memory"));
-    assert!(rt; is_refused(alloc, &["a.i", "b$.i"]).expect(&rt, "memory"));
-    assert!(rt; !is_refused(alloc, &["a.i", "--workers", "64"]).expect(&rt, "memory"));
-    assert!(rt; !is_refused(alloc, &["--", "a.i"]).expect(&rt, "memory"));
+fn refused(rt: HostRuntime) -> Result<(), AllocError> {
+    for (texts, wanted) in &REFUSED {
+        let refused = is_refused(rt.alloc(), *texts)?;
+        assert!(rt; refused == *wanted);
+    }
+    Ok(())
 }

@@ -4,7 +4,6 @@ use Rattle.pta_base.specs.declared.kind.Kind.{Kind}
 use Rattle.pta_base.specs.declared.kind.Kind.TheVariants.{Operand}
 use Rattle.c_lexer.specs.declared.Tokens.{Tokens}
 use Rattle.c_lexer.specs.Cut.{IsTokens}
-use Rattle.c_types.specs.Made.{IsMade, AreNamed}
 use Rattle.c_grammar.specs.declared.trees.Tree.{Tree}
 use Rattle.core_nodes.specs.declared.fault.CheckFault.{CheckFault}
 use Rattle.core_nodes.specs.declared.fault.CheckFault.TheVariants as check
@@ -114,9 +113,9 @@ module _ (texts : List NamedText) (units : List Unit) (right : AreRightTexts 0 t
   system_refused given cause fault named h is = let P : List (List ℕ) → Type 0 = λ n. IsSystemRefusal n cause fault in all_refused cause fault h (subst P named is)
 
   -- the program of the units is that which their texts denote
-  pub denoted : (program : Program) (space : List Location) (system : System) → AreLinkedAs units program space system → IsMade program.types → AreNamed program.types → Denotes texts program × IsSystemOf program space system
+  pub denoted : (program : Program) (space : List Location) (system : System) → AreLinkedAs units program space system → Denotes texts program × IsSystemOf program space system
   unfolding Denotes
-  denoted program space system h made named = ((units, right, record { linked = h.linked; made = made; named = named }), h.system_of)
+  denoted program space system h = ((units, right, h.own), h.system_of)
 
 -- the report of a program's system
 pub reported : (program : Program) (space : List Location) (system : System) (report : List ℕ) → IsSystemOf program space system → IsProgramReport program space system report → IsReport program system report

@@ -4,7 +4,6 @@ use Rattle.std.specs.Prelude.{nat_eq}
 use Rattle.std.specs.List.{All, list_all}
 use Rattle.std.proofs.lemmas.Bool.{eqb-true}
 use Rattle.std.proofs.lemmas.Option.{slice_get-get_or, slice_get_within}
-use Rattle.c_types.specs.Made.{IsMade, AreNamed}
 use Rattle.core_tree.specs.declared.node.Unit.{Unit}
 use Rattle.core_tree.specs.declared.node.Program.{Program}
 use Rattle.sol_model.specs.declared.system.System.{System}
@@ -60,8 +59,7 @@ are_named texts units bytes right u x at =
     named_of (0 + u) own.text x own.right (subst P same (bytes u own.text.0 within))
 
 -- and the locations of their program
-pub are_distinct : (units : List Unit) (program : Program) (space : List Location) (system : System) → AreLinkable units → AreNamedUnits units → AreLinkedAs units program space system → IsMade program.types → AreNamed program.types
-    → DistinctNames space
-are_distinct units program space system linkable named h made terms =
+pub are_distinct : (units : List Unit) (program : Program) (space : List Location) (system : System) → AreLinkable units → AreNamedUnits units → AreLinkedAs units program space system → DistinctNames space
+are_distinct units program space system linkable named h =
     let P : List Location → Type 0 = λ locations. DistinctNames locations in
-    subst P (sym h.system_of.space_is) (linked_distinct units program linkable named h.linked made terms)
+    subst P (sym h.system_of.space_is) (linked_distinct units program linkable named h.own.linked h.own.made h.own.named)

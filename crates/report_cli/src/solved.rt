@@ -52,10 +52,7 @@ fn linked(alloc: Global, names: &[&str], units: Vec<Unit>) -> Result<UnitSystem,
     ensures distinct { IfOk result (λ made. DistinctNames made.space) }
 {
     match linked_system(alloc, units) {
-        Ok(made) => {
-            let _types = made.program.types.type_count();
-            Ok(made)
-        }
+        Ok(made) => Ok(made),
         Err(fault) => Err(system_refusal(alloc, names, fault)?),
     }
 }

@@ -3,3 +3,4 @@ pub mod Places
 pub mod Ordering
 pub mod Numbering
 pub mod Knowing
+pub mod Skipping

@@ -24,6 +24,10 @@ pub record AreNumbered (s : Source) (numbers : ℕ → Option ℕ) (firsts : Lis
 abbrev pub AreNumbers : Source → Numbering → ℕ → Type 0
 AreNumbers s n i = AreNumbered s (number_at n.numbers) n.firsts.items i
 
+-- no node from one to another is a specifier
+abbrev pub NoSpecifier : Source → ℕ → ℕ → Type 0
+NoSpecifier s from to = (j : ℕ) → from ≤ j → j < to → is_tag_specifier s j ≡ false
+
 -- the tags that have had a list before a node
 abbrev pub ListedBefore : Source → ℕ → List Bool → Type 0
 ListedBefore s i listed = (d : ℕ) → get_or listed d false ≡ any_where (λ j. has_list s j && (tag_declared s j == d)) (specifiers_before s i)

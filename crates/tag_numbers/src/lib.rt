@@ -4,6 +4,7 @@
 mod declaring;
 mod numbers;
 mod seen;
+mod specifiers;
 mod tags;
 
 pub use declaring::{Declaring, meanings, tag_declared};

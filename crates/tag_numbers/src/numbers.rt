@@ -10,6 +10,7 @@ ghost use Rattle.tag_numbers.specs.Firsts.{Declares};
 ghost use Rattle.tag_numbers.specs.Numbers.{AreNumbers};
 
 use crate::declaring::{Declaring, tag_declared};
+use crate::specifiers::next_specifier;
 use leaf_maps::LeafMap;
 use node_roles::{Role, is_structure_at};
 use pta_base::OutOfMemory;
@@ -83,8 +84,11 @@ pub(crate) fn number_all(
     if syntax.tree.nodes.len() > u32::MAX as usize {
         return Err(OutOfMemory);
     }
-    for node in 0..syntax.tree.nodes.len() {
-        number_node(&mut numbering, syntax, roles, declaring, node as u32)?;
+    let count = syntax.tree.nodes.len() as u32;
+    let mut node = next_specifier(roles, 0, count);
+    while node < count {
+        number_node(&mut numbering, syntax, roles, declaring, node)?;
+        node = next_specifier(roles, node + 1, count);
     }
     Ok(numbering)
 }

@@ -14,6 +14,7 @@ ghost use Rattle.tag_numbers.specs.Numbers.{AreSeen, MarkedBefore, completes, se
 ghost use Rattle.leaf_maps.specs.Numbers.{number_at};
 
 use crate::declaring::{Declaring, tag_declared};
+use crate::specifiers::next_specifier;
 use c_tags::SeenTag;
 use leaf_maps::LeafMap;
 use node_roles::{Role, is_specifier_at, is_structure_at};
@@ -242,9 +243,12 @@ pub(crate) fn seen_tags(
         numbers: LeafMap::new(alloc),
         unfit: LeafMap::new(alloc),
     };
-    for node in 0..count {
-        let tag = see_node(syntax, roles, declaring, &mut listed, node as u32)?;
-        keep_seen(roles, &mut seen, node as u32, tag)?;
+    let end = count as u32;
+    let mut node = next_specifier(roles, 0, end);
+    while node < end {
+        let tag = see_node(syntax, roles, declaring, &mut listed, node)?;
+        keep_seen(roles, &mut seen, node, tag)?;
+        node = next_specifier(roles, node + 1, end);
     }
     Ok(seen)
 }
@@ -295,9 +299,12 @@ pub(crate) fn completed_tags(
     if syntax.tree.nodes.len() > u32::MAX as usize {
         return Err(OutOfMemory);
     }
+    let end = syntax.tree.nodes.len() as u32;
     let mut flags: Vec<bool> = vec![in alloc; false; count]?;
-    for node in 0..syntax.tree.nodes.len() {
-        mark_node(syntax, roles, declaring, &mut flags, node as u32)?;
+    let mut node = next_specifier(roles, 0, end);
+    while node < end {
+        mark_node(syntax, roles, declaring, &mut flags, node)?;
+        node = next_specifier(roles, node + 1, end);
     }
     Ok(flags)
 }

@@ -1,6 +1,6 @@
 //! The program that units are.
 
-ghost use Rattle.std.specs.Prelude.{IfOk, List, MatchResult};
+ghost use Rattle.std.specs.Prelude.{◌+◌, ◌<◌, ◌^◌, IfOk, List, length, MatchResult};
 ghost use Rattle.core_tree.specs.Range.{InRange};
 ghost use Rattle.core_tree.specs.Typed.{trees_in};
 ghost use Rattle.filled_units.specs.Filled.{AreFilled};
@@ -31,17 +31,24 @@ fn fault_of(fault: LinkFault) -> UnitFault
     }
 }
 
-/// The program that units are, whose numbers are all in range, or the first fault of linking them.
+/// The program that units are, whose numbers are all in range, or the first fault of linking them. A table of 2^32 - 2 types or more,
+/// whose signatures would be past numbers of 32 bits, is want of memory.
 pub(crate) fn linked(alloc: Global, units: Vec<Unit>) -> Result<Program, UnitFault>
     requires linkable { AreLinkable units.items }
     requires filled { AreFilled units.items }
     ensures linked { MatchResult result (Linked units.items) (IsFaultOf units.items) }
     ensures range { IfOk result (λ p. InRange (trees_in p)) }
+    ensures room { IfOk result (λ p. length p.types.terms + 2 < 2 ^ 32) }
     ensures tables { AreMade units.items }
 {
     tables_told(units.as_slice());
     match link(alloc, units) {
-        Ok(program) => Ok(program),
+        Ok(program) => {
+            if program.types.type_count() >= u32::MAX - 1 {
+                return Err(UnitFault::OutOfMemory);
+            }
+            Ok(program)
+        }
         Err(fault) => Err(fault_of(fault)),
     }
 }

@@ -21,10 +21,10 @@ returns-in_ok-append-in-Ok-Some-clause-answer c =
     let old = c.args.unit.now in
     let new = c.carried_tree.new.unit in
     let there =
-    subst (λ (o : Option CarriedTree). MatchOption o (IsUnknown s c.args.node list old) (λ (t : CarriedTree). IsCarried s c.args.node list (list ++ t.pairs.items) old new t.node)) c.in-Ok-Some.field-0-is (c.in-Ok-Some.ensures.answer c.requires.walked (c.in-Some.ensures.seen w.unit)) in
+    subst (λ (o : Option CarriedTree). MatchOption o (IsUnknown s c.args.node list old) (λ (t : CarriedTree). IsCarried s c.args.node list (list ++ t.pairs.items) c.args.owner old new t.node)) c.in-Ok-Some.field-0-is (c.in-Ok-Some.ensures.answer c.requires.walked (c.in-Some.ensures.seen w.unit)) in
     let before = c.as_slice.ensures.value in
     let all : list ++ c.in-Ok-Some.tree.pairs.items ≡ c.append.new.list.items =
     ap (λ (l : List (ℕ × Meaning)). l ++ c.in-Ok-Some.tree.pairs.items) before
     ∙ (sym (ap (λ (l : List (ℕ × Meaning)). c.args.list.now.items ++ l) c.as_slice-in-Ok-Some.ensures.value) ∙ sym c.in_ok-append-in-Ok-Some.ensures.ok) in
-    let behind = subst (λ (l : List (ℕ × Meaning)). IsCarried s c.args.node list l old new c.in-Ok-Some.tree.node) all there in
-    subst (λ (l : List (ℕ × Meaning)). IsCarried s c.args.node l c.append.new.list.items old new c.in-Ok-Some.tree.node) before behind
+    let behind = subst (λ (l : List (ℕ × Meaning)). IsCarried s c.args.node list l c.args.owner old new c.in-Ok-Some.tree.node) all there in
+    subst (λ (l : List (ℕ × Meaning)). IsCarried s c.args.node l c.append.new.list.items c.args.owner old new c.in-Ok-Some.tree.node) before behind

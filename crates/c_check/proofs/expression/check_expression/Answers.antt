@@ -47,9 +47,9 @@ returns-in-Ok-clause-answer c =
     let s = source_ground w.ground c.args.bound.now in
     let ok = c.in-Ok.ensures in
     let dense = dense_of n.syntax c.args.tokens.now c.args.tree.now c.args.bound.now ok.tokens ok.tree c.requires.bound s n.tags ok.ground.tags ok.ordered in
-    answered (source_of c.args.tokens.now c.args.tree.now) s (number_in n.syntax.tag_numbers) ok.source dense c.args.node c.args.known.now.list.items c.carried.new.list.items c.args.unit.now c.carried.new.unit c.carried.result c.carried.ensures.answer
+    answered (source_of c.args.tokens.now c.args.tree.now) s (number_in n.syntax.tag_numbers) ok.source dense c.args.node c.args.known.now.list.items c.carried.new.list.items c.args.known.now.owner c.args.unit.now c.carried.new.unit c.carried.result c.carried.ensures.answer
 
 pub returns-in-Err-clause-answer : goal.returns-in-Err-clause-answer
 returns-in-Err-clause-answer c =
     let last : c.in-Some.end ≡ c.args.node + 1 = search rules in
-    refused_early (source_of c.args.tokens.now c.args.tree.now) c.args.node c.in-Some.end c.args.known.now.list.items c.args.known.now.list.items c.args.unit.now c.args.unit.now c.in-Err.fault last c.in-Err.ensures.walked
+    refused_early (source_of c.args.tokens.now c.args.tree.now) c.args.node c.in-Some.end c.args.known.now.list.items c.args.known.now.list.items c.args.known.now.owner c.args.unit.now c.args.unit.now c.in-Err.fault last c.in-Err.ensures.walked

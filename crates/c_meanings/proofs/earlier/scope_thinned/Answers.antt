@@ -1,4 +1,4 @@
-use Rattle.std.proofs.Common.{List, ap, sym, subst, ◌∙◌}
+use Rattle.std.proofs.Common.{false, List, ap, sym, subst, ◌∙◌}
 use Rattle.std.proofs.lemmas.Result.{IfOk-weaker}
 use Rattle.c_scope.specs.declared.kinds.Declared.{Declared}
 use Rattle.c_senses.specs.Sense.{sense_in}
@@ -8,6 +8,7 @@ use Rattle.name_chains.specs.Links.{listed, IsLinkOf}
 use Rattle.tree_reads.specs.Sources.{source_read, source_in}
 use Rattle.c_meanings.specs.Known.{nodes_in}
 use Rattle.c_meanings.specs.Thinned.{IsThin}
+use Rattle.c_meanings.proofs.Thinning.{thin_now}
 use Rattle.c_meanings.proofs.Tests.{some_weaker}
 use Rattle.c_meanings.proofs.earlier.scope_thinned.Goals as goal
 
@@ -22,6 +23,7 @@ returns-clause-thin c =
     (λ v g u uses.
     let s = source_in c.args.syntax.now uses in
     let those = ap (λ (l : List Link). listed l c.in_scope_link-last.result) c.as_slice-links.ensures.value ∙ c.in_scope_link-last.ensures.list s (nodes_in c.args.syntax.now) c.requires.names.chained.chains in
-    subst (λ (ds : List Declared). IsThin s (sense_in (senses_made u c.args.results.now)) ds v.items) those (g u uses))
+    subst (λ (ds : List Declared). IsThin s (sense_in (senses_made u c.args.results.now)) ds v.items) those
+    (thin_now c.args.syntax.now c.args.results.now false (listed c.as_slice-links.result.now c.in_scope_link-last.result) v.items g u uses))
     h)
     c.thinned_now.ensures.list

@@ -26,4 +26,5 @@ returns-clause-linkages c =
       own = h.own;
       typing = h.typing;
       internal = subst (λ (l : List Link). AreThinned syntax results true l c.thin.new.thinned) same thinned;
+      memory = h.memory;
     }

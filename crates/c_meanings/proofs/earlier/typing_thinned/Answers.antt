@@ -1,12 +1,11 @@
 use Rattle.std.proofs.Common.{List, ap, sym, subst, ◌∙◌}
 use Rattle.std.proofs.lemmas.Result.{IfOk-weaker}
 use Rattle.c_scope.specs.declared.kinds.Declared.{Declared}
-use Rattle.c_senses.specs.Sense.{sense_in}
-use Rattle.c_results.specs.Standing.{senses_made}
 use Rattle.name_chains.specs.declared.links.Link.{Link}
 use Rattle.name_chains.specs.Links.{listed, IsLinkOf}
 use Rattle.tree_reads.specs.Sources.{source_read, source_in}
 use Rattle.c_meanings.specs.Known.{nodes_in}
+use Rattle.c_meanings.specs.Later.{later}
 use Rattle.c_meanings.specs.Thinned.{IsThin}
 use Rattle.c_meanings.proofs.Tests.{some_weaker}
 use Rattle.c_meanings.proofs.earlier.typing_thinned.Goals as goal
@@ -19,9 +18,9 @@ pub returns-clause-thin : goal.returns-clause-thin
 returns-clause-thin c =
     IfOk-weaker c.thinned_now.result _ _
     (λ found h. some_weaker _ _ found
-    (λ v g u uses.
+    (λ v g u uses more.
     let s = source_in c.args.syntax.now uses in
     let those = ap (λ (l : List Link). listed l c.typing_link-last.result) c.as_slice-links.ensures.value ∙ c.typing_link-last.ensures.list s (nodes_in c.args.syntax.now) c.requires.names.chained.chains in
-    subst (λ (ds : List Declared). IsThin s (sense_in (senses_made u c.args.results.now)) ds v.items) those (g u uses))
+    subst (λ (ds : List Declared). IsThin s (later u c.args.results.now more) ds v.items) those (g u uses more))
     h)
     c.thinned_now.ensures.list

@@ -45,3 +45,6 @@ returns-then-not-is_linked-clause-now c = λ u uses.
 
 pub returns-then-not-is_linked-clause-stays : goal.returns-then-not-is_linked-clause-stays
 returns-then-not-is_linked-clause-stays c = λ t u uses more. sym c.if-not-is_linked.true ∙ and_else _ _ _ (c.is_linked.ensures uses (later u c.args.results.now more)) c.if-not-is_linked.true
+
+pub internal_with-requires-clause-linked : goal.internal_with-requires-clause-linked
+internal_with-requires-clause-linked c = λ uses sense. sym (c.is_linked.ensures uses sense) ∙ c.if-not-is_linked.false

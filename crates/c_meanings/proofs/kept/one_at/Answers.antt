@@ -43,6 +43,7 @@ returns-clause-linkages c =
       own = h.own;
       typing = h.typing;
       internal = h.internal;
+      memory = h.memory;
     }
 
 pub returns-clause-one : goal.returns-clause-one

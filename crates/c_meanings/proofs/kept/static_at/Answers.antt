@@ -73,6 +73,7 @@ returns-clause-linkages c =
       own = c.requires.linkages.own;
       typing = c.requires.linkages.typing;
       internal = c.requires.linkages.internal;
+      memory = c.requires.linkages.memory;
     }
 
 pub returns-clause-now : goal.returns-clause-now

@@ -31,7 +31,7 @@ returns-in-Some-clause-made c = λ uses.
     let made : type_in u2.types c.in_ok-found.found ≡ type_behind s sense c.args.leaf =
     c.in_ok-found.ensures.made uses ∙ ap (λ (ss : List Sense). type_behind s (sense_in ss) c.args.leaf) (mades_kept u0 u1 c.in_ok-named.ensures.builds rs c.requires.results) in
     let some : Some (type_of u2.types c.in-Some.ty.0) ≡ type_behind s sense c.args.leaf = sym (ap (type_in u2.types) c.in-Some.is) ∙ made in
-    let entity : c.in_ok-entity.entity ≡ entity_of s sense (named_by s sense c.args.leaf) =
+    let entity : c.in_ok-entity.entity.leaf ≡ entity_of s sense (named_by s sense c.args.leaf) =
     c.in_ok-entity.ensures.entity u0 uses ∙ ap (entity_of s sense) (c.in_ok-named.ensures.made uses) in
     c.object_or_function.ensures.gives u2 s sense refl
     ∙ (ap (λ (e : ℕ). Some (object_or_function s sense e (type_of u2.types c.in-Some.ty.0))) entity

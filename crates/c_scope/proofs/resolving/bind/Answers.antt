@@ -1,5 +1,4 @@
-use Rattle.std.proofs.Common.{◌≡◌, ℕ, Option, Result, Ok, Err, List, length, sym, ap, subst, ◌∙◌}
-use Rattle.std.specs.Result.{IfOk}
+use Rattle.std.proofs.Common.{◌≡◌, ℕ, Option, List, length, sym, ap, subst, ◌∙◌}
 use Rattle.c_scope.specs.declared.resolving.Unit.{Unit}
 use Rattle.c_grammar.specs.Reads.{Node}
 use Rattle.c_mentions.specs.Syntax.{nodes_of}
@@ -13,10 +12,6 @@ use Rattle.c_scope.specs.Resolves.{happenings, bindings}
 use Rattle.c_scope.proofs.AllHappen.{all_happen}
 use Rattle.c_scope.proofs.resolving.bind.Goals as goal
 
-if_ok : {T E : Type 0} (r : Result T E) (P Q : T → Type 0) → IfOk r P → ((x : T) → P x → Q x) → IfOk r Q
-if_ok (Ok x) P Q h f = f x h
-if_ok (Err e) P Q h f = tt
-
 pub find_labels-requires : goal.find_labels-requires
 find_labels-requires c = record {
   count = ap (λ (l : List Setting). length l) c.list_of.ensures ∙ c.in_ok-settings.ensures.count;
@@ -29,9 +24,9 @@ bind_all-requires c = record {
   all = c.as_slice-spoken.ensures.value ∙ c.in_ok-list.ensures;
 }
 
-pub returns : goal.returns
+pub returns-clause-binder : goal.returns-clause-binder
 unfolding bindings
-returns c =
+returns-clause-binder c =
     let text = c.args.text.now in
     let tokens = c.args.tokens.now in
     let nodes : List Node = nodes_of c.args.nodes.now in
@@ -41,6 +36,6 @@ returns c =
     let numbers : Numbers text tokens c.as_slice.result.now = subst (λ l. Numbers text tokens l) (sym c.as_slice.ensures.value) c.in_ok-symbols.ensures in
     let happen : AreHappenings unit all = all_happen unit c.in_ok-settings.settings c.as_slice-2.ensures.value c.list_of.ensures file numbers c.in_ok-settings.ensures in
     let labels : (body symbol : ℕ) → label_at c.in_ok-labels.labels body symbol ≡ first_label 0 all body symbol = c.in_ok-labels.ensures all happen in
-    if_ok c.bind_all.result _ _ c.bind_all.ensures (λ binder h.
+    let binder = c.in_ok-binder.binder in
     subst (λ n. Holds binder (known n (first_label 0 all) 0 nothing_known all)) file
-    (subst (λ (f : ℕ → ℕ → Option ℕ). Holds binder (known c.in_ok-file.file f 0 nothing_known all)) (λ i body symbol. labels body symbol i) (h all happen)))
+    (subst (λ (f : ℕ → ℕ → Option ℕ). Holds binder (known c.in_ok-file.file f 0 nothing_known all)) (λ i body symbol. labels body symbol i) (c.in_ok-binder.ensures all happen))

@@ -1,9 +1,11 @@
-use Rattle.std.proofs.Common.{arith, rules, ◌≡◌, ◌<◌, ◌∙◌, ℕ, Bool, true, false, Option, List, IfOk, length, get_or, refl, sym, ap, subst}
+use Rattle.std.proofs.Common.{arith, rules, ◌≡◌, ◌<◌, ◌+◌, ◌∙◌, ℕ, Bool, true, false, Option, List, length, get_or, refl, sym, ap, subst}
 use Rattle.std.specs.Prelude.{IfSome, MatchOption}
-use Rattle.c_consts.specs.Core.{Core}
-use Rattle.core_nodes.specs.Standing.{core_at}
+use Rattle.core_tree.specs.declared.node.Node.{Node}
 use Rattle.kept_nodes.specs.Keeps.{AllUnder}
-use Rattle.carried_trees.proofs.Behind.{keeps_builds, ids_there}
+use Rattle.leaf_maps.specs.Numbers.{number_at}
+use Rattle.carried_trees.specs.Numbered.{AreNumbered}
+use Rattle.carried_trees.proofs.Behind.{ids_there}
+use Rattle.carried_trees.proofs.Moved.{all_moved, tree_there, not_there}
 use Rattle.carried_trees.proofs.carrying.carry.Goals as goal
 
 pub carried_nodes-requires-clause-ids : goal.carried_nodes-requires-clause-ids
@@ -20,37 +22,58 @@ carried_nodes-requires-clause-order c = c.requires.walked.children
 pub carried_nodes-requires-clause-typed : goal.carried_nodes-requires-clause-typed
 carried_nodes-requires-clause-typed c = λ i node at. subst (λ (n : ℕ). node.ty.0 < n) (sym c.requires.types.1.long) (c.requires.walked.types i node at)
 
-pub kept-requires-clause-top : goal.kept-requires-clause-top
-kept-requires-clause-top c =
+pub placed-requires : goal.placed-requires
+placed-requires c =
     let t = c.requires.types in
     let carried = c.in_ok-flags.ensures.carried c.args.walked t.0 c.requires.walked refl t.1 in
-    let long = ap length c.as_slice.ensures.value in
+    let long = ap length c.as_slice-2.ensures.value in
     omega (arith, long, carried.long, c.requires.top)
 
-pub kept-requires-clause-count : goal.kept-requires-clause-count
-kept-requires-clause-count c =
-    let t = c.requires.types in
-    let carried = c.in_ok-flags.ensures.carried c.args.walked t.0 c.requires.walked refl t.1 in
-    let long = ap length c.as_slice.ensures.value in
-    omega (arith, long, carried.long, carried.nodes)
-
-pub returns-clause-builds : goal.returns-clause-builds
-returns-clause-builds c =
-    let from : c.in-Ok.from ≡ length c.args.unit.now.nodes.items = search rules in
-    keeps_builds c.args.unit.now c.carried_nodes.new.unit c.kept.new.unit c.in-Ok.from from c.carried_nodes.ensures.builds c.kept.ensures.keeps
-
-pub returns-clause-given : goal.returns-clause-given
-returns-clause-given c = λ tag types.
-    let carried = c.in_ok-flags.ensures.carried c.args.walked tag c.requires.walked refl types in
-    let same = ap (λ (l : List Bool). get_or l c.args.top false) c.as_slice.ensures.value ∙ carried.given_are c.args.top c.requires.top in
-    subst (λ (b : Bool). IfOk c.kept.result (λ (found : Option ℕ). MatchOption found (b ≡ false) (λ (i : ℕ). b ≡ true))) same c.kept.ensures.given
+pub returns-in-Some-clause-tree : goal.returns-in-Some-clause-tree
+returns-in-Some-clause-tree c = λ tag types.
+    let u = c.args.walked in
+    let top = c.args.top in
+    let from = c.in_ok-from.from in
+    let own = c.in_ok-own.own in
+    let flags = c.in_ok-flags.flags.items in
+    let nodes : from ≡ length c.args.unit.now.nodes.items = search rules in
+    let entities : c.in_ok-first.first ≡ length c.args.unit.now.entities.items = search rules in
+    let numbered : AreNumbered u.nodes.items from c.in_ok-first.first (length u.nodes.items) own = subst (λ (l : List Node). AreNumbered l from c.in_ok-first.first (length l) own) c.as_slice.ensures.value c.in_ok-own.ensures.numbered in
+    let place : c.in-Some.node ≡ from + top = subst (λ (o : Option ℕ). IfSome o (λ (i : ℕ). i ≡ from + top)) c.in-Some.is c.in_ok-node.ensures.is in
+    let read : get_or c.as_slice-2.result.now top false ≡ true = subst (λ (o : Option ℕ). MatchOption o (get_or c.as_slice-2.result.now top false ≡ false) (λ (i : ℕ). get_or c.as_slice-2.result.now top false ≡ true)) c.in-Some.is c.in_ok-node.ensures.given in
+    let flag : get_or flags top false ≡ true = subst (λ (l : List Bool). get_or l top false ≡ true) c.as_slice-2.ensures.value read in
+    let carried = c.in_ok-flags.ensures.carried u tag c.requires.walked refl types in
+    tree_there (number_at c.args.entities.now) tag u c.requires.walked top c.requires.top c.requires.alone from c.in_ok-first.first own numbered flags c.carried_nodes.new.unit carried c.args.unit.now c.in-Some.node nodes entities place flag
 
 pub returns-clause-tree : goal.returns-clause-tree
 returns-clause-tree c = λ tag types.
-    let carried = c.in_ok-flags.ensures.carried c.args.walked tag c.requires.walked refl types in
-    subst (λ (t : Core). IfOk c.kept.result (λ (found : Option ℕ). IfSome found (λ (i : ℕ). core_at c.kept.new.unit i ≡ t))) (carried.trees c.args.top c.requires.top) c.kept.ensures.tree
+    let u = c.args.walked in
+    let top = c.args.top in
+    let from = c.in_ok-from.from in
+    let own = c.in_ok-own.own in
+    let flags = c.in_ok-flags.flags.items in
+    let numbered : AreNumbered u.nodes.items from c.in_ok-first.first (length u.nodes.items) own = subst (λ (l : List Node). AreNumbered l from c.in_ok-first.first (length l) own) c.as_slice.ensures.value c.in_ok-own.ensures.numbered in
+    let read : get_or c.as_slice-2.result.now top false ≡ false = subst (λ (o : Option ℕ). MatchOption o (get_or c.as_slice-2.result.now top false ≡ false) (λ (i : ℕ). get_or c.as_slice-2.result.now top false ≡ true)) c.in-None.is c.in_ok-node.ensures.given in
+    let flag : get_or flags top false ≡ false = subst (λ (l : List Bool). get_or l top false ≡ false) c.as_slice-2.ensures.value read in
+    let carried = c.in_ok-flags.ensures.carried u tag c.requires.walked refl types in
+    not_there (number_at c.args.entities.now) tag u c.requires.walked top c.requires.top c.requires.alone from c.in_ok-first.first own numbered flags c.carried_nodes.new.unit carried flag
 
-pub returns-clause-only : goal.returns-clause-only
-returns-clause-only c =
-    let from : c.in-Ok.from ≡ length c.args.unit.now.nodes.items = search rules in
-    subst (λ (n : ℕ). IfOk c.kept.result (λ (found : Option ℕ). IfSome found (λ (i : ℕ). AllUnder c.kept.new.unit n i))) from c.kept.ensures.only
+pub returns-in-Some-clause-within : goal.returns-in-Some-clause-within
+returns-in-Some-clause-within c =
+    let t = c.requires.types in
+    let from = c.in_ok-from.from in
+    let carried = c.in_ok-flags.ensures.carried c.args.walked t.0 c.requires.walked refl t.1 in
+    let place : c.in-Some.node ≡ from + c.args.top = subst (λ (o : Option ℕ). IfSome o (λ (i : ℕ). i ≡ from + c.args.top)) c.in-Some.is c.in_ok-node.ensures.is in
+    omega (arith, place, carried.nodes, c.requires.top)
+
+pub returns-in-Some-clause-only : goal.returns-in-Some-clause-only
+returns-in-Some-clause-only c =
+    let t = c.requires.types in
+    let u = c.args.walked in
+    let from = c.in_ok-from.from in
+    let new = c.carried_nodes.new.unit in
+    let nodes : from ≡ length c.args.unit.now.nodes.items = search rules in
+    let carried = c.in_ok-flags.ensures.carried u t.0 c.requires.walked refl t.1 in
+    let place : c.in-Some.node ≡ from + c.args.top = subst (λ (o : Option ℕ). IfSome o (λ (i : ℕ). i ≡ from + c.args.top)) c.in-Some.is c.in_ok-node.ensures.is in
+    let all = all_moved (number_at c.args.entities.now) (number_at c.in_ok-own.own.numbers) t.0 u from c.in_ok-flags.flags.items new carried c.args.top c.requires.alone in
+    subst (λ (n : ℕ). AllUnder new n c.in-Some.node) nodes (subst (λ (i : ℕ). AllUnder new from i) (sym place) all)

@@ -1,4 +1,4 @@
-use Rattle.std.proofs.Common.{arith, rules, ◌≡◌, ◌<◌, ◌+◌, ◌∙◌, ◌&&◌, ◌++◌, [], ◌∷◌, zero, suc, ℕ, Bool, false, Option, Some, None, IsSome, List, drop, length, length-append, length-drop, get_or, slice_get, refl, sym, ap, subst}
+use Rattle.std.proofs.Common.{arith, rules, ◌≡◌, ◌<◌, ◌+◌, ◌∙◌, ◌&&◌, ◌++◌, [], ◌∷◌, zero, suc, ℕ, Bool, false, Option, Some, None, IsSome, List, drop, length, length-append, length-drop, get_or, slice_get, is_some, refl, sym, ap, subst}
 use Rattle.std.specs.VecDeque.{deque_len}
 use Rattle.c_types.specs.Table.{Table, type_of}
 use Rattle.core_tree.specs.declared.node.Node.{Node}
@@ -22,6 +22,7 @@ loop-node-preserved c =
     let node : Node = c.in-Some.node in
     let from = c.args.from in
     let entity = number_at c.args.entities.now in
+    let own = number_at c.args.own.now in
     let ids = c.args.types.now.ids.items in
     let given = c.args.types.now.given.items in
     let inv = c.loop-node.invariant in
@@ -29,22 +30,23 @@ loop-node-preserved c =
     let next = next_node nodes c.loop-node.rest.items c.pop_front.new.self.items k node inv.rest c.in-Some.ensures.items in
     let pushed : more ≡ flags ++ flag ∷ [] = c.in_ok-push.ensures.items in
     let long : length more ≡ k + 1 = ap length pushed ∙ length-append flags (flag ∷ []) in
-    let is_flag : flag ≡ ((is_given_kind entity node.kind && get_or given node.ty.0 false) && all_flagged flags node.children) =
-    subst (λ (l : List Bool). flag ≡ ((is_given_kind entity node.kind && get_or given node.ty.0 false) && all_flagged l node.children)) c.as_slice.ensures.value c.is_given-flag.ensures in
+    let is_flag : flag ≡ ((is_given_kind entity (λ e. is_some (own e)) node.kind && get_or given node.ty.0 false) && all_flagged flags node.children) =
+    subst (λ (l : List Bool). flag ≡ ((is_given_kind entity (λ e. is_some (own e)) node.kind && get_or given node.ty.0 false) && all_flagged l node.children)) c.as_slice.ensures.value c.is_given-flag.ensures in
     let added = c.in_ok-push_carried.ensures.added in
+    let longer = ap length added ∙ length-append u.nodes.items _ in
     record {
       ready = c.push_carried.ensures.ready;
       builds = builds_on u0 u v inv.builds c.push_carried.ensures.builds;
       types = c.push_carried.ensures.types ∙ inv.types;
       rest = next.1 ∙ ap (λ (n : ℕ). drop n nodes) (sym long);
       few = omega (arith, long, next.2);
-      count = omega (arith, long, added, inv.count);
+      count = omega (arith, long, longer, inv.count);
       carried = λ old tag ready same types.
           let at : slice_get old.nodes.items k ≡ Some node = ap (λ (l : List Node). slice_get l k) same ∙ next.0 in
           let lt : node.ty.0 < length old.types.terms = ready.types k node at in
           let typed : type_of u.types (get_or ids node.ty.0 0) ≡ carried_type tag (type_of old.types node.ty.0) = ap (λ (t : Table). type_of t (get_or ids node.ty.0 0)) inv.types ∙ types.types node.ty.0 lt in
-          subst (λ (n : ℕ). AreCarried entity tag old from n more v) (sym long)
-          (carried_more entity tag old from k flags u (inv.carried old tag ready same types) ready node at v c.push_carried.ensures.builds (type_of u.types (get_or ids node.ty.0 0)) typed c.in_ok-push_carried.ensures.made added more flag pushed
+          subst (λ (n : ℕ). AreCarried entity own tag old from n more v) (sym long)
+          (carried_more entity own tag old from k flags u (inv.carried old tag ready same types) ready node at v c.push_carried.ensures.builds (type_of u.types (get_or ids node.ty.0 0)) typed c.in_ok-push_carried.ensures.made (get_or ids node.ty.0 0) added more flag pushed
           (get_or given node.ty.0 false) (types.given_are node.ty.0 lt) is_flag);
     }
 
@@ -63,4 +65,4 @@ returns-clause-carried c = λ old tag ready same types.
     let empty : deque_len c.loop-node.rest ≡ 0 = none_left (deque_len c.loop-node.rest) (λ h. not_some c.pop_front.result (λ x e. c.in_default.not-Some x e) (c.pop_front.ensures.variant.1 h)) in
     let left = ap length c.loop-node.invariant.rest ∙ length-drop (length flags) nodes in
     let all : length flags ≡ length nodes = omega (arith, empty, left, c.loop-node.invariant.few) in
-    subst (λ (n : ℕ). AreCarried (number_at c.args.entities.now) tag old c.args.from n flags c.loop-node.unit) all (c.loop-node.invariant.carried old tag ready same types)
+    subst (λ (n : ℕ). AreCarried (number_at c.args.entities.now) (number_at c.args.own.now) tag old c.args.from n flags c.loop-node.unit) all (c.loop-node.invariant.carried old tag ready same types)

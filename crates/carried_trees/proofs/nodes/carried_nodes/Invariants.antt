@@ -17,7 +17,7 @@ invariant-loop-node l = record {
   few : length l.flags.items ≤ length l.fn.nodes.items;
   count : length l.unit.nodes.items ≡ l.from + length l.flags.items;
   carried : (old : Unit) (tag : ℕ → Option Ctype) → IsReady old → old.nodes.items ≡ l.fn.nodes.items → AreTypes tag old.types (length old.types.terms) l.fn.types.ids.items l.fn.types.given.items l.fn.unit.types
-      → AreCarried (number_at l.fn.entities) tag old l.from (length l.flags.items) l.flags.items l.unit;
+      → AreCarried (number_at l.fn.entities) (number_at l.fn.own) tag old l.from (length l.flags.items) l.flags.items l.unit;
 }
 
 abbrev pub decreases-loop-node : goal.decreases-loop-node

@@ -1,4 +1,4 @@
-use Rattle.std.proofs.Common.{[], Err, length, subst}
+use Rattle.std.proofs.Common.{[], Err, length, sym, subst}
 use Rattle.std.specs.Option.{option_copied}
 use Rattle.core_nodes.proofs.Growing.{builds_on, knows_on}
 use Rattle.c_results.specs.Standing.{senses_made, Rowed}
@@ -11,12 +11,52 @@ use Rattle.expression_rows.specs.Fitting.{FitsAround}
 use Rattle.expression_rows.proofs.Readable.{row_whole}
 use Rattle.expression_rows.proofs.Keeping.{named_world, named_knows}
 use Rattle.tree_reads.specs.Sources.{source_in}
+use Rattle.whole_rows.proofs.Keeping.{sense_rows}
+use Rattle.whole_rows.proofs.Prefixes.{made_rows}
+use Rattle.name_uses.proofs.Passing.{whole_alone, built_alone, named_alone}
 use Rattle.name_uses.specs.Built.{names_strangely}
-use Rattle.name_uses.proofs.Giving.{named_made}
+use Rattle.name_uses.proofs.Giving.{part_named, named_made}
 use Rattle.name_uses.proofs.Known.{names_are_usual}
 use Rattle.name_uses.proofs.Looking.{row_refused, never_refused, built_kept, named_kept}
 use Rattle.name_uses.proofs.Worlds.{world_is, around_named}
 use Rattle.name_uses.proofs.expressions.expression.Goals as goal
+
+pub returns-in-Some-clause-within : goal.returns-in-Some-clause-within
+returns-in-Some-clause-within c = c.again.ensures.within c.args.unit.now c.requires.results
+
+pub returns-in-Some-clause-rows : goal.returns-in-Some-clause-rows
+returns-in-Some-clause-rows c =
+    let u = c.args.unit.now in
+    made_rows u c.again.result _ (c.again.ensures.row u) (sense_rows u c.args.results.now c.requires.rows c.in-Some.part)
+
+pub returns-in-Some-clause-named : goal.returns-in-Some-clause-named
+returns-in-Some-clause-named c =
+    let u = c.args.unit.now in
+    part_named u (length c.args.syntax.now.tree.now.nodes.items) c.args.results.now c.in-Some.part c.again.result c.requires.named (c.again.ensures.row u)
+
+pub returns-in-Some-clause-row : goal.returns-in-Some-clause-row
+returns-in-Some-clause-row c = λ uses pairs knows.
+    let u = c.args.unit.now in
+    let senses = senses_made u c.args.results.now in
+    let s = source_in c.args.syntax.now uses in
+    let at = c.args.at in
+    subst (λ (g : Given Sense). Rowed u c.again.result g) (sym (named_alone (world_at s senses at) s (sense_in senses) at c.in-Some.part (c.in-Some.ensures uses))) (c.again.ensures.row u)
+
+pub returns-in-Some-clause-built : goal.returns-in-Some-clause-built
+returns-in-Some-clause-built c = λ uses pairs are knows.
+    let u = c.args.unit.now in
+    let senses = senses_made u c.args.results.now in
+    let s = source_in c.args.syntax.now uses in
+    let at = c.args.at in
+    subst (λ (g : Given Sense). Rowed u c.again.result g) (sym (built_alone (world_at s senses at) s (sense_in senses) at c.in-Some.part (c.in-Some.ensures uses))) (c.again.ensures.row u)
+
+pub returns-in-Some-clause-whole : goal.returns-in-Some-clause-whole
+returns-in-Some-clause-whole c = λ uses pairs are readable knows.
+    let u = c.args.unit.now in
+    let senses = senses_made u c.args.results.now in
+    let s = source_in c.args.syntax.now uses in
+    let at = c.args.at in
+    subst (λ (g : Given Sense). Rowed u c.again.result g) (sym (whole_alone (world_at s senses at) s (sense_in senses) at c.in-Some.part (c.in-Some.ensures uses))) (c.again.ensures.row u)
 
 pub returns-in-Ok-clause-builds : goal.returns-in-Ok-clause-builds
 returns-in-Ok-clause-builds c = builds_on c.args.unit.now c.around_of.new.unit c.row.new.unit c.in-Ok.ensures.builds c.row.ensures.builds

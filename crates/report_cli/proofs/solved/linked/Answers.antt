@@ -6,8 +6,7 @@ use Rattle.report_cli.proofs.solved.linked.Goals as goal
 pub returns-in-Ok-clause-linked : goal.returns-in-Ok-clause-linked
 returns-in-Ok-clause-linked c texts right =
     let made = c.in-Ok.made in
-    let told = c.type_count-types.ensures in
-    denoted texts c.args.units.items right made.program made.space made.system c.in-Ok.ensures told.made told.named
+    denoted texts c.args.units.items right made.program made.space made.system c.in-Ok.ensures
 
 pub returns-in_ok-system_refusal-in-Err-clause-refused : goal.returns-in_ok-system_refusal-in-Err-clause-refused
 returns-in_ok-system_refusal-in-Err-clause-refused c texts named right =
@@ -16,4 +15,4 @@ returns-in_ok-system_refusal-in-Err-clause-refused c texts named right =
 pub returns-in-Ok-clause-distinct : goal.returns-in-Ok-clause-distinct
 returns-in-Ok-clause-distinct c =
     let made = c.in-Ok.made in
-    are_distinct c.args.units.items made.program made.space made.system c.requires.linkable c.requires.named c.in-Ok.ensures c.type_count-types.ensures.made c.type_count-types.ensures.named
+    are_distinct c.args.units.items made.program made.space made.system c.requires.linkable c.requires.named c.in-Ok.ensures

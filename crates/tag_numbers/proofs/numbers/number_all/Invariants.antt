@@ -1,4 +1,4 @@
-use Rattle.std.proofs.Common.{ℕ, List}
+use Rattle.std.proofs.Common.{ℕ, ◌≤◌, ◌-◌, List}
 use Rattle.tree_reads.specs.Sources.{source_in}
 use Rattle.node_roles.specs.Roles.{AreRoles}
 use Rattle.tag_numbers.specs.Firsts.{Declares}
@@ -6,4 +6,10 @@ use Rattle.tag_numbers.specs.Numbers.{AreNumbers}
 use Rattle.tag_numbers.proofs.numbers.number_all.Given as goal
 
 abbrev pub invariant-loop-node : goal.invariant-loop-node
-invariant-loop-node l = (uses : List (ℕ × ℕ)) → AreRoles (source_in l.syntax uses) l.roles → Declares (source_in l.syntax uses) l.declaring → AreNumbers (source_in l.syntax uses) l.numbering l.node
+invariant-loop-node l = record {
+  within : l.node ≤ l.count;
+  numbered : (uses : List (ℕ × ℕ)) → AreRoles (source_in l.syntax uses) l.roles → Declares (source_in l.syntax uses) l.declaring → AreNumbers (source_in l.syntax uses) l.numbering l.node;
+}
+
+abbrev pub decreases-loop-node : goal.decreases-loop-node
+decreases-loop-node l = l.count - l.node

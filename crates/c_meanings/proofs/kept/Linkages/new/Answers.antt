@@ -12,4 +12,5 @@ returns-clause-linkages c = λ syntax results.
       own = c.in_ok-own.ensures.thinned syntax results false names.chains.own.items (let e : length names.chains.own.items ≡ c.len-3.result = omega arith in e);
       typing = c.in_ok-typing.ensures.thinned syntax results false names.chains.links.items (let e : length names.chains.links.items ≡ c.len-4.result = omega arith in e);
       internal = c.in_ok-internal.ensures.thinned syntax results true names.symbols.items (let e : length names.symbols.items ≡ c.len-5.result = omega arith in e);
+      memory = c.in_ok-memory.ensures.none syntax results;
     }

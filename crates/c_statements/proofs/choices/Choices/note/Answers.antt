@@ -5,8 +5,24 @@ use Rattle.c_senses.specs.Statements.{is_case_again}
 use Rattle.c_results.specs.Standing.{senses_made}
 use Rattle.tree_reads.specs.Sources.{source_in}
 use Rattle.c_statements.specs.Labels.{case_at, AreDefaults, AreCases}
-use Rattle.c_statements.proofs.Choosing.{cases_more, defaults_more, on_ok, ok_more}
+use Rattle.c_statements.proofs.Choosing.{cases_more, defaults_more, no_case_there, no_default_there, on_ok, ok_more}
 use Rattle.c_statements.proofs.choices.Choices.note.Goals as goal
+
+pub returns-then-not-is_a-clause-defaults : goal.returns-then-not-is_a-clause-defaults
+returns-then-not-is_a-clause-defaults c = λ before after uses are.
+    let s = source_in c.args.syntax.now uses in
+    let senses = senses_made c.args.unit.now c.args.results.now in
+    let at = c.args.at in
+    let old = c.args.self.now.defaults in
+    defaults_more before after s senses at old old are (no_default_there after s (sense_in senses) at old c.if-not-is_a.ensures)
+
+pub returns-then-not-is_a-clause-cases : goal.returns-then-not-is_a-clause-cases
+returns-then-not-is_a-clause-cases c = λ before after uses are.
+    let s = source_in c.args.syntax.now uses in
+    let senses = senses_made c.args.unit.now c.args.results.now in
+    let at = c.args.at in
+    let old = c.args.self.now.cases in
+    cases_more before after s senses at old old are (no_case_there after s (sense_in senses) at old c.if-not-is_a.ensures)
 
 pub returns-clause-defaults : goal.returns-clause-defaults
 returns-clause-defaults c = λ before after uses are.

@@ -1,0 +1,5 @@
+//! Worked expressions with compound literals, from their texts to their core nodes and the entities of the unit.
+#![tactic(auto)]
+
+#[cfg(test)]
+mod tests;

@@ -1,0 +1,6 @@
+//! The entities of compound literals, from their places in a syntax tree and their core nodes.
+#![tactic(auto)]
+
+mod entities;
+
+pub use entities::push_entities;
