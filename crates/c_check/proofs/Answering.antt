@@ -22,23 +22,23 @@ use Rattle.c_senses.specs.Tags.{tag_declared, tags_below, is_union}
 use Rattle.c_results.specs.declared.made.Made.{Made}
 use Rattle.c_results.specs.Standing.{sense_made, senses_made}
 use Rattle.c_results.specs.Parts.{core_in}
-use Rattle.tag_numbers.specs.declared.tags.Tags.{Tags}
-use Rattle.tag_numbers.specs.Known.{AreTags}
+use Rattle.c_tags.specs.declared.tag_numbers.tags.Tags.{Tags}
+use Rattle.c_tags.specs.tag_numbers.Known.{AreTags}
 use Rattle.unit_walk.specs.Walked.{AreDense}
 use Rattle.unit_walk.specs.Stopping.{IsWalkedTo, RefusedThere, RefusedEarly}
-use Rattle.carried_types.specs.Terms.{IsIdIn, tag_type}
-use Rattle.carried_types.specs.Members.{AreTagged, tag_named}
+use Rattle.carried_trees.specs.carried_types.Terms.{IsIdIn, tag_type}
+use Rattle.carried_trees.specs.carried_types.Members.{AreTagged, tag_named}
 use Rattle.carried_trees.specs.Carried.{is_given_core}
 use Rattle.carried_trees.specs.Literals.{has_literal}
 use Rattle.carried_trees.specs.Extends.{Extends, SameParts, AreFilled, IsMissing, IsWhole}
 use Rattle.carried_trees.proofs.Extending.{filled_between, lacks_first, tree_on}
-use Rattle.leaf_maps.specs.Numbers.{number_at}
-use Rattle.known_tags.specs.declared.known.Meaning.{Meaning}
-use Rattle.known_tags.specs.Known.{entity_known, tag_known, IsTagType}
-use Rattle.known_tags.specs.Given.{IsIdOf}
-use Rattle.known_tags.specs.Own.{AreFirsts, AreTypesGiven, IsOpened, IsTypeGiven, is_own_first, own_number, own_pairs}
-use Rattle.known_tags.specs.Values.{own_values}
-use Rattle.literal_entities.specs.Entities.{literal_entity}
+use Rattle.tree_reads.specs.leaf_maps.Numbers.{number_at}
+use Rattle.c_check.specs.declared.known_tags.known.Meaning.{Meaning}
+use Rattle.c_check.specs.known_tags.Known.{entity_known, tag_known, IsTagType}
+use Rattle.c_check.specs.known_tags.Given.{IsIdOf}
+use Rattle.c_check.specs.known_tags.Own.{AreFirsts, AreTypesGiven, IsOpened, IsTypeGiven, is_own_first, own_number, own_pairs}
+use Rattle.c_check.specs.known_tags.Values.{own_values}
+use Rattle.c_check.specs.literal_entities.Entities.{literal_entity}
 use Rattle.c_check.specs.Expressed.{HasSense, HasTree, IsCarried, IsUnknown, HasNoTree, Answers, AreOwn, Expressed, IsAnswer, members_behind}
 
 -- the type of a tag by the number of the type

@@ -12,7 +12,7 @@ use Rattle.core_tree.specs.declared.node.Unit.{Unit}
 use Rattle.core_tree.specs.Typed.{trees_of}
 use Rattle.core_tree.specs.Range.{child_in, Under, here, below}
 use Rattle.core_nodes.specs.Standing.{core_at, cores_of, cores_grown, no_core, parts_in}
-use Rattle.kept_nodes.specs.Keeps.{AllUnder}
+use Rattle.core_nodes.specs.kept_nodes.Keeps.{AllUnder}
 use Rattle.carried_trees.specs.Literals.{AreLiterals, IsTree}
 use Rattle.carried_trees.specs.Extends.{parts_at, Extends, IsWhole}
 use Rattle.c_check.specs.Expressed.{Grows}

@@ -8,35 +8,35 @@ ghost use Rattle.c_results.specs.Parts.{core_in};
 ghost use Rattle.c_results.specs.Standing.{senses_made};
 ghost use Rattle.c_senses.specs.Names.{source_of};
 ghost use Rattle.c_senses.specs.Sense.{sense_in};
-ghost use Rattle.c_units.specs.Units.{IsUnit};
+ghost use Rattle.c_parser.specs.c_units.Units.{IsUnit};
 ghost use Rattle.core_tree.specs.declared.node.Unit.{Unit as UnitSpec};
 ghost use Rattle.core_nodes.specs.Standing.{IsReady, core_at};
-ghost use Rattle.kept_nodes.specs.Keeps.{AllUnder};
+ghost use Rattle.core_nodes.specs.kept_nodes.Keeps.{AllUnder};
 ghost use Rattle.sense_laws.specs.Senses.{ChildrenFirst};
 ghost use Rattle.tree_reads.specs.Sources.{source_read, source_in};
-ghost use Rattle.unit_rows.specs.Standing.{Stand};
+ghost use Rattle.unit_walk.specs.unit_rows.Standing.{Stand};
 ghost use Rattle.unit_walk.specs.Ground.{IsGround, source_ground, nodes_ground};
 ghost use Rattle.unit_walk.specs.Stopping.{IsWalkedTo};
-ghost use Rattle.carried_types.specs.Terms.{AreTagIds};
+ghost use Rattle.carried_trees.specs.carried_types.Terms.{AreTagIds};
 ghost use Rattle.carried_trees.specs.Extends.{Extends, SameParts};
-ghost use Rattle.known_tags.specs.declared.known.Meaning.{Meaning as MeaningSpec};
-ghost use Rattle.known_tags.specs.Given.{AreGiven};
+ghost use Rattle.c_check.specs.declared.known_tags.known.Meaning.{Meaning as MeaningSpec};
+ghost use Rattle.c_check.specs.known_tags.Given.{AreGiven};
 ghost use Rattle.c_check.specs.Expressed.{Answers, AreOwn, AreOwnNames, Grows, IsAnswer, IsCarried, IsUnknown};
 
+use crate::known_tags::{
+    Given, Known, Meaning, OwnTags, given_of, known_types, nodes_under, own_types, own_values,
+};
+use crate::literal_entities::push_entities;
 use c_grammar::Tree;
 use c_lexer::Tokens;
 use c_results::node_at;
 use c_scope::Bound;
+use c_tags::tag_numbers::{Numbered, meanings};
 use carried_trees::carry_whole;
 use core_nodes::CheckFault;
 use core_tree::node::Unit;
-use known_tags::{
-    Given, Known, Meaning, OwnTags, given_of, known_types, nodes_under, own_types, own_values,
-};
-use literal_entities::push_entities;
 use pta_base::Kind;
 use std::alloc::Global;
-use tag_numbers::{Numbered, meanings};
 use unit_walk::{Walked, walk_to};
 
 /// A tree that was carried into a unit: its node there, and what is known more of declarations.

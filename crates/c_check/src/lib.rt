@@ -2,7 +2,9 @@
 #![tactic(auto)]
 
 mod expression;
+pub mod known_tags;
+pub mod literal_entities;
 
+pub use crate::known_tags::{Known, Meaning};
 pub use core_nodes::CheckFault;
 pub use expression::check_expression;
-pub use known_tags::{Known, Meaning};

@@ -1,5 +1,6 @@
 -- The value of an integer constant expression (C11 6.6), on the expression's tree.
-use Rattle.std.specs.Prelude.{ℕ, ℤ, pos, List, [], ◌∷◌, Bool, true, false, not, ◌&&◌, if◌then◌else◌, Result, Ok, Err}
+use Rattle.std.specs.Prelude.{ℕ, ℤ, pos, List, [], ◌∷◌, Bool, true, false, not, ◌&&◌, if◌then◌else◌, Result, Ok}
+use Rattle.std.specs.Prelude.{Err}
 use Rattle.std.specs.Ordering.{int_eq}
 use Rattle.c_types.specs.Trees.{Ctype, BoolType, IntegerType}
 use Rattle.core_tree.specs.declared.node.Node.{Node}
@@ -67,7 +68,8 @@ abbrev pub rest_of : Form → Ctype → Bool → ℤ → List (Bool → Found) �
 rest_of (Operated op) type live x [] = asked live (unary_in op type x)
 rest_of (Operated op) type live x (b ∷ []) = after 1 (b live) (λ y. asked live (binary_in op type x y))
 rest_of Chosen type live x (a ∷ b ∷ []) =
-    after 1 (a (live && not (is_zero x))) (λ y. after 2 (b (live && is_zero x)) (λ z. Value (if is_zero x then z else y)))
+    after 1 (a (live && not (is_zero x)))
+    (λ y. after 2 (b (live && is_zero x)) (λ z. Value (if is_zero x then z else y)))
 rest_of Converted type live x [] = asked live (Gives (converted type x))
 rest_of form type live x operands = Fails NoForm []
 

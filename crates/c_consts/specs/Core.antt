@@ -1,5 +1,6 @@
 -- A core node with all that is under it, as a tree, whatever the nodes' numbers.
-use Rattle.std.specs.Prelude.{ℕ, zero, suc, ◌≡◌, ◌+◌, ◌<◌, length, List, [], ◌∷◌, Option, Some, None, slice_get, slice_index, All}
+use Rattle.std.specs.Prelude.{ℕ, zero, suc, ◌≡◌, ◌+◌, ◌<◌, length, List, [], ◌∷◌, Option, Some, None, slice_get}
+use Rattle.std.specs.Prelude.{slice_index, All}
 use Rattle.core_tree.specs.PassedOn.{Place}
 use Rattle.c_types.specs.Trees.{Ctype}
 use Rattle.c_types.specs.Table.{Table, type_of}
@@ -46,11 +47,13 @@ over_three kind place type a b c = Of kind place type (MoreCores a (MoreCores b 
 abbrev mutual
   pub Stands : Table → List Node → ℕ → Core → Type 0
   Stands types nodes i (Of kind place type under) =
-      (node : Node) × (slice_get nodes i ≡ Some node) × (node.kind ≡ kind) × (node.place ≡ place) × (type_of types node.ty.0 ≡ type) × StandAll types nodes node.children under
+      (node : Node) × (slice_get nodes i ≡ Some node) × (node.kind ≡ kind) × (node.place ≡ place)
+      × (type_of types node.ty.0 ≡ type) × StandAll types nodes node.children under
 
   pub StandAll : Table → List Node → List ℕ → Cores → Type 0
   StandAll types nodes is NoCores = is ≡ []
-  StandAll types nodes is (MoreCores c rest) = (i : ℕ) × (more : List ℕ) × (is ≡ i ∷ more) × Stands types nodes i c × StandAll types nodes more rest
+  StandAll types nodes is (MoreCores c rest) =
+      (i : ℕ) × (more : List ℕ) × (is ≡ i ∷ more) × Stands types nodes i c × StandAll types nodes more rest
 
 -- how many nodes a tree has
 abbrev mutual

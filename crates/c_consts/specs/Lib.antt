@@ -4,3 +4,4 @@ pub mod Operators
 pub mod Answer
 pub mod Nodes
 pub mod Spine
+pub mod passed

@@ -24,11 +24,19 @@ IsConstantKind kind = ⊥
 -- nodes over nodes of smaller numbers, and each of those kinds in its row
 pub record AreRows (types : Table) (nodes : List Node) : Type 0 where
   pub order : InOrder types nodes
-  pub rows : (n : ℕ) (node : Node) → slice_get nodes n ≡ Some node → IsConstantKind node.kind → RowOf (bare types nodes) node.kind (type_of types node.ty.0) node.children
+  pub rows : (n : ℕ) (node : Node)
+      → slice_get nodes n ≡ Some node
+      → IsConstantKind node.kind
+      → RowOf (bare types nodes) node.kind (type_of types node.ty.0) node.children
 
 -- the nodes under one, and that one, stand in their rows where they are of those kinds
 abbrev pub RowsUnder : Table → List Node → ℕ → Type 0
-RowsUnder types nodes top = (n : ℕ) (node : Node) → Under (bare types nodes) top n → slice_get nodes n ≡ Some node → IsConstantKind node.kind → RowOf (bare types nodes) node.kind (type_of types node.ty.0) node.children
+RowsUnder types nodes top =
+    (n : ℕ) (node : Node)
+    → Under (bare types nodes) top n
+    → slice_get nodes n ≡ Some node
+    → IsConstantKind node.kind
+    → RowOf (bare types nodes) node.kind (type_of types node.ty.0) node.children
 
 -- nodes over nodes of smaller numbers, and each of those kinds under one in its row
 pub record AreRowsUnder (types : Table) (nodes : List Node) (top : ℕ) : Type 0 where

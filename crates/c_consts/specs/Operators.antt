@@ -1,9 +1,13 @@
 -- What an operator makes of numbers of an integer type (C11 6.5.3.3, 6.5.5 to 6.5.12).
-use Rattle.std.specs.Prelude.{ℕ, ◌^◌, ℤ, pos, neg_ℤ, ◌+ℤ◌, ◌-ℤ◌, ◌*ℤ◌, int_lt, int_le, int_div, int_rem, unsigned_abs, bit_and, bit_or, bit_xor, if◌then◌else◌, Bool, true, false, not, ◌&&◌, ⊤, Result, Ok, Err}
+use Rattle.std.specs.Prelude.{ℕ, ◌^◌, ℤ, pos, neg_ℤ, ◌+ℤ◌, ◌-ℤ◌, ◌*ℤ◌, int_lt, int_le, int_div, int_rem}
+use Rattle.std.specs.Prelude.{unsigned_abs, bit_and, bit_or, bit_xor, if◌then◌else◌, Bool, true, false, not, ◌&&◌}
+use Rattle.std.specs.Prelude.{⊤, Result, Ok, Err}
 use Rattle.std.specs.Int.{int_shr}
 use Rattle.std.specs.Ordering.{int_eq}
 use Rattle.core_tree.specs.declared.node.Op.{Op}
-use Rattle.core_tree.specs.declared.node.Op.TheVariants.{Multiply, Divide, Remainder, Plus, Minus, ShiftLeft, ShiftRight, Less, Greater, LessEqual, GreaterEqual, Equal, NotEqual, And, Xor, Or, Complement, Not}
+use Rattle.core_tree.specs.declared.node.Op.TheVariants.{Multiply, Divide, Remainder, Plus, Minus, ShiftLeft}
+use Rattle.core_tree.specs.declared.node.Op.TheVariants.{ShiftRight, Less, Greater, LessEqual, GreaterEqual, Equal}
+use Rattle.core_tree.specs.declared.node.Op.TheVariants.{NotEqual, And, Xor, Or, Complement, Not}
 use Rattle.c_consts.specs.declared.fault.ConstFault.{ConstFault}
 use Rattle.c_consts.specs.declared.fault.ConstFault.TheVariants.{NotConstant, Range, DivideByZero}
 use Rattle.c_consts.specs.Wrapped.{IsHeld, low_of, wrapped, truth, is_signed_in}
@@ -51,12 +55,16 @@ is_count width n = int_le (pos 0) n && int_lt n (pos width)
 
 abbrev pub binary : Op → Bool → ℕ → ℕ → ℤ → ℤ → Step
 binary Multiply signed half width x y = in_type signed half (x *ℤ y)
-binary Divide signed half width x y = if int_eq y (pos 0) then Breaks ZeroDivisor else in_type signed half (int_div x y)
-binary Remainder signed half width x y = if int_eq y (pos 0) then Breaks ZeroDivisor else in_type signed half (int_rem x y)
+binary Divide signed half width x y =
+    if int_eq y (pos 0) then Breaks ZeroDivisor else in_type signed half (int_div x y)
+binary Remainder signed half width x y =
+    if int_eq y (pos 0) then Breaks ZeroDivisor else in_type signed half (int_rem x y)
 binary Plus signed half width x y = in_type signed half (x +ℤ y)
 binary Minus signed half width x y = in_type signed half (x -ℤ y)
-binary ShiftLeft signed half width x y = if is_count width y then in_type signed half (x *ℤ pos (2 ^ unsigned_abs y)) else Breaks OutOfRange
-binary ShiftRight signed half width x y = if is_count width y then in_type signed half (int_shr x (unsigned_abs y)) else Breaks OutOfRange
+binary ShiftLeft signed half width x y =
+    if is_count width y then in_type signed half (x *ℤ pos (2 ^ unsigned_abs y)) else Breaks OutOfRange
+binary ShiftRight signed half width x y =
+    if is_count width y then in_type signed half (int_shr x (unsigned_abs y)) else Breaks OutOfRange
 binary Less signed half width x y = Gives (truth (int_lt x y))
 binary Greater signed half width x y = Gives (truth (int_lt y x))
 binary LessEqual signed half width x y = Gives (truth (int_le x y))

@@ -1,5 +1,6 @@
 -- From a node down its first operands.
-use Rattle.std.specs.Prelude.{ℕ, zero, suc, ℤ, pos, ◌≡◌, Bool, true, false, List, [], ◌∷◌, Option, Some, None, slice_get, Result, Ok, Err}
+use Rattle.std.specs.Prelude.{ℕ, zero, suc, ℤ, pos, ◌≡◌, Bool, true, false, List, [], ◌∷◌, Option, Some, None}
+use Rattle.std.specs.Prelude.{slice_get, Result, Ok, Err}
 use Rattle.c_types.specs.Table.{Table, type_of}
 use Rattle.core_tree.specs.declared.node.Node.{Node}
 use Rattle.core_tree.specs.declared.node.Op.{Op}
@@ -69,16 +70,30 @@ pub record StartsBelow (types : Table) (nodes : List Node) (i k : ℕ) (x : ℤ)
   pub held : HeldAt types nodes below x
 
 -- what is found at a node is that result
-pub record IsAnswer (types : Table) (nodes : List Node) (i : ℕ) (live : Bool) (result : Result ℤ ConstFault) : Type 0 where
+pub record IsAnswer (types : Table) (nodes : List Node) (i : ℕ) (live : Bool)
+    (result : Result ℤ ConstFault) : Type 0 where
   pub tree : (c : Core) → Stands types nodes i c → result ≡ located nodes i (answer c live)
 
 -- what is found there, where the first operand has the value x
-pub record IsRest (types : Table) (nodes : List Node) (i : ℕ) (live : Bool) (x : ℤ) (result : Result ℤ ConstFault) : Type 0 where
-  pub tree : (n : Node) (a : ℕ) (more : List ℕ) (cs : Cores) → slice_get nodes i ≡ Some n → n.children ≡ a ∷ more → StandAll types nodes more cs → result ≡ located nodes i (rest_of (form_of n.kind (type_of types n.ty.0)) (type_of types n.ty.0) live x (answers cs))
+pub record IsRest (types : Table) (nodes : List Node) (i : ℕ) (live : Bool) (x : ℤ)
+    (result : Result ℤ ConstFault) : Type 0 where
+  pub tree : (n : Node) (a : ℕ) (more : List ℕ) (cs : Cores)
+      → slice_get nodes i ≡ Some n
+      → n.children ≡ a ∷ more
+      → StandAll types nodes more cs
+      → result
+      ≡ located nodes i
+      (rest_of (form_of n.kind (type_of types n.ty.0)) (type_of types n.ty.0) live x (answers cs))
 
 -- what is found there, where the node so many first operands down has the value x
-pub record IsClimbed (types : Table) (nodes : List Node) (i k : ℕ) (live : Bool) (x : ℤ) (result : Result ℤ ConstFault) : Type 0 where
-  pub tree : (j : ℕ) (d c : Core) → Leads types nodes i k j → Stands types nodes j d → answer d live ≡ Value x → Stands types nodes i c → result ≡ located nodes i (answer c live)
+pub record IsClimbed (types : Table) (nodes : List Node) (i k : ℕ) (live : Bool) (x : ℤ)
+    (result : Result ℤ ConstFault) : Type 0 where
+  pub tree : (j : ℕ) (d c : Core)
+      → Leads types nodes i k j
+      → Stands types nodes j d
+      → answer d live ≡ Value x
+      → Stands types nodes i c
+      → result ≡ located nodes i (answer c live)
 
 abbrev pub OperandIn : Op → Ctype → ℤ → Type 0
 OperandIn op (IntegerType size rank signed) x = Operand op signed (half_of size) x

@@ -1,5 +1,6 @@
 -- The numbers of an integer type, and a number as one of them (C11 6.3.1.2 and 6.3.1.3).
-use Rattle.std.specs.Prelude.{ℕ, ◌*◌, [], ℤ, pos, neg_ℤ, ◌-ℤ◌, int_lt, int_le, if◌then◌else◌, Bool, true, false, nat_eq, ◌&&◌}
+use Rattle.std.specs.Prelude.{ℕ, ◌*◌, [], ℤ, pos, neg_ℤ, ◌-ℤ◌, int_lt, int_le, if◌then◌else◌, Bool, true, false}
+use Rattle.std.specs.Prelude.{nat_eq, ◌&&◌}
 use Rattle.std.specs.Int.{int_rem_euclid}
 use Rattle.std.specs.Ordering.{int_eq}
 use Rattle.c_types.specs.declared.term.Term.{Term}
@@ -22,7 +23,8 @@ low_of half value = int_rem_euclid value (pos (2 * half))
 -- the number of the range that differs by whole turns: an upper half counts as negative
 abbrev pub wrapped : Bool → ℕ → ℤ → ℤ
 wrapped false half value = low_of half value
-wrapped true half value = if int_lt (low_of half value) (pos half) then low_of half value else low_of half value -ℤ pos (2 * half)
+wrapped true half value =
+    if int_lt (low_of half value) (pos half) then low_of half value else low_of half value -ℤ pos (2 * half)
 
 -- 1 for true, 0 for false
 abbrev pub truth : Bool → ℤ

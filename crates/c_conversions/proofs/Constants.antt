@@ -17,7 +17,7 @@ use Rattle.c_consts.specs.declared.fault.ConstFault.{ConstFault}
 use Rattle.c_consts.specs.Core.{Core, Of, Stands, StandAll, ctype_of, core_sort}
 use Rattle.c_consts.specs.Nodes.{IsConstantKind, RowsUnder, bare}
 use Rattle.c_consts.specs.Answer.{Found, Value, Fails, located}
-use Rattle.c_senses.specs.Nulls.{is_zero_found}
+use Rattle.core_nodes.specs.passed.c_senses.Nulls.{is_zero_found}
 use Rattle.core_nodes.specs.Standing.{core_at, cores_at, IsReady}
 use Rattle.core_nodes.proofs.Reading.{core_is, sort_is, type_is}
 use Rattle.c_conversions.specs.Constants.{IsValueOf, IsTested, ConstantOver, HasRows, HaveRows}

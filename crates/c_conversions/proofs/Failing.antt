@@ -4,9 +4,9 @@ use Rattle.pta_base.specs.declared.kind.Kind.{Kind}
 use Rattle.c_types.specs.Trees.{Ctype}
 use Rattle.core_tree.specs.declared.node.Unit.{Unit}
 use Rattle.c_consts.specs.Core.{Core}
-use Rattle.c_senses.specs.Given.{Given, Refuses}
-use Rattle.c_senses.specs.World.{World}
-use Rattle.c_senses.specs.Conversions.{Target, from_structure, upcast, upcast_or, pointers}
+use Rattle.core_nodes.specs.passed.c_senses.Given.{Given, Refuses}
+use Rattle.core_nodes.specs.passed.c_senses.World.{World}
+use Rattle.core_nodes.specs.passed.c_senses.Conversions.{Target, from_structure, upcast, upcast_or, pointers}
 use Rattle.core_nodes.specs.declared.fault.CheckFault.{CheckFault}
 use Rattle.core_nodes.specs.declared.fault.CheckFault.TheVariants.{BadOperand, Unsupported, OutOfMemory}
 use Rattle.core_nodes.specs.Standing.{Made}

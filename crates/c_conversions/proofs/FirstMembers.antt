@@ -6,8 +6,8 @@ use Rattle.c_types.specs.declared.term.TypeId.{TypeId}
 use Rattle.core_tree.specs.declared.node.Unit.{Unit}
 use Rattle.core_tree.specs.declared.node.NodeKind.TheVariants.{Upcast}
 use Rattle.c_consts.specs.Core.{Core, over, place_of}
-use Rattle.c_senses.specs.World.{World, same_type}
-use Rattle.c_senses.specs.Conversions.{first_member_type, upcast_within, upcast}
+use Rattle.core_nodes.specs.passed.c_senses.World.{World, same_type}
+use Rattle.core_nodes.specs.passed.c_senses.Conversions.{first_member_type, upcast_within, upcast}
 use Rattle.core_nodes.specs.Standing.{core_at, IsReady, Builds, Knows}
 use Rattle.core_nodes.proofs.Growing.{builds_on, knows_on, same_builds}
 use Rattle.c_conversions.specs.Targets.{type_seen}

@@ -7,9 +7,9 @@ use Rattle.core_tree.specs.declared.node.Unit.{Unit}
 use Rattle.core_tree.specs.declared.node.NodeKind.TheVariants.{Fetch, Decay}
 use Rattle.core_tree.specs.Typed.{Sort, NoNode, PlaceNode, ValueNode, StatementNode, decayed}
 use Rattle.c_consts.specs.Core.{Core, ctype_of, core_sort, place_of, over}
-use Rattle.c_senses.specs.Given.{Fits, given_if}
-use Rattle.c_senses.specs.World.{World}
-use Rattle.c_senses.specs.Conversions.{value_of, value_of_sort, fetched_or_decayed, is_fetched, operand_of}
+use Rattle.core_nodes.specs.passed.c_senses.Given.{Fits, given_if}
+use Rattle.core_nodes.specs.passed.c_senses.World.{World}
+use Rattle.core_nodes.specs.passed.c_senses.Conversions.{value_of, value_of_sort, fetched_or_decayed, is_fetched, operand_of}
 use Rattle.core_nodes.specs.Standing.{core_at, Made, Knows, parts_in}
 use Rattle.core_nodes.specs.declared.fault.CheckFault.{CheckFault}
 use Rattle.c_conversions.specs.Constants.{HasRows}

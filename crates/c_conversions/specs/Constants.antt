@@ -20,7 +20,9 @@ NumberOver n t under = ⊥
 
 abbrev pub OperatorOver : Op → Ctype → Cores → Type 0
 OperatorOver op t (MoreCores a NoCores) = (core_sort a ≡ ValueNode) × Unary op (ctype_of a) t
-OperatorOver op t (MoreCores a (MoreCores b NoCores)) = (core_sort a ≡ ValueNode) × (core_sort b ≡ ValueNode) × Binary op (ctype_of a) (ctype_of b) t
+OperatorOver op t (MoreCores a (MoreCores b NoCores)) = (core_sort a ≡ ValueNode)
+    × (core_sort b ≡ ValueNode)
+    × Binary op (ctype_of a) (ctype_of b) t
 OperatorOver op t under = ⊥
 
 abbrev pub ChoiceOver : Ctype → Cores → Type 0

@@ -1,4 +1,5 @@
--- How the code's sorts of what pointers point to, and what the table says of two of them, are those of the definitions.
+-- How the code's sorts of what pointers point to, and what the table says of two of them, are those of the
+-- definitions.
 use Rattle.std.specs.Prelude.{ℕ, Bool, ◌≡◌, ◌<◌, length, ⊤, Option, Some, None, Result, Ok, Err}
 use Rattle.pta_base.specs.declared.kind.Kind.{Kind}
 use Rattle.c_types.specs.Trees.{Ctype, PointerTo}
@@ -6,14 +7,15 @@ use Rattle.c_types.specs.Table.{Table, type_of}
 use Rattle.c_types.specs.declared.term.TypeId.{TypeId}
 use Rattle.core_tree.specs.declared.node.Unit.{Unit}
 use Rattle.c_consts.specs.Core.{Core}
-use Rattle.c_senses.specs.Given.{Given, Fits, Refuses}
-use Rattle.c_senses.specs.World.{World}
-use Rattle.c_senses.specs.Conversions as spec
+use Rattle.core_nodes.specs.passed.c_senses.Given.{Given, Fits, Refuses}
+use Rattle.core_nodes.specs.passed.c_senses.World.{World}
+use Rattle.core_nodes.specs.passed.c_senses.Conversions as spec
 use Rattle.core_nodes.specs.Standing.{core_at, Made}
 use Rattle.core_nodes.specs.declared.fault.CheckFault.{CheckFault}
 use Rattle.core_nodes.specs.declared.fault.CheckFault.TheVariants.{BadOperand, Unsupported, OutOfMemory}
 use Rattle.c_conversions.specs.declared.targets.Target.{Target}
-use Rattle.c_conversions.specs.declared.targets.Target.TheVariants.{Void, Function, Whole, Pointer, Structure, Union, Other}
+use Rattle.c_conversions.specs.declared.targets.Target.TheVariants.{Void, Function, Whole, Pointer, Structure}
+use Rattle.c_conversions.specs.declared.targets.Target.TheVariants.{Union, Other}
 use Rattle.c_conversions.specs.declared.targets.PointerRow.{PointerRow}
 use Rattle.c_conversions.specs.declared.targets.PointerRow.TheVariants.{Converts, Upcasts, Refused}
 
@@ -35,7 +37,9 @@ given_by w cast at v from to (Refused kind) = Refuses kind at
 -- that is what the table gives for them, where the second type is one of characters or isn't
 abbrev pub IsRowOf : spec.Target → spec.Target → Bool → PointerRow → Type 0
 IsRowOf a b character row =
-    (w : World) (cast : Bool) (at : ℕ) (v : Core) (from to : Ctype) → spec.is_character to ≡ character → given_by w cast at v from to row ≡ spec.pointers w cast at v from to a b
+    (w : World) (cast : Bool) (at : ℕ) (v : Core) (from to : Ctype)
+    → spec.is_character to ≡ character
+    → given_by w cast at v from to row ≡ spec.pointers w cast at v from to a b
 
 -- a fault that says of any unit that it is refused so
 pub record IsRefusal (fault : CheckFault) (kind : Kind) (at : ℕ) : Type 0 where

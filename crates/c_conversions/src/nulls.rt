@@ -7,9 +7,9 @@ ghost use Rattle.c_types.specs.Trees.{PointerTo};
 ghost use Rattle.c_types.specs.Table.{type_of};
 ghost use Rattle.c_consts.specs.Core.{kind_of, ctype_of};
 ghost use Rattle.c_consts.specs.Answer.{answer};
-ghost use Rattle.c_senses.specs.Given.{Fits};
-ghost use Rattle.c_senses.specs.Nulls.{is_void_pointer, is_null_pointer, is_zero_found, is_null};
-ghost use Rattle.c_senses.specs.Conversions.{converted as converted_spec, null_value as null_spec};
+ghost use Rattle.core_nodes.specs.passed.c_senses.Given.{Fits};
+ghost use Rattle.core_nodes.specs.passed.c_senses.Nulls.{is_void_pointer, is_null_pointer, is_zero_found, is_null};
+ghost use Rattle.core_nodes.specs.passed.c_senses.Conversions.{converted as converted_spec, null_value as null_spec};
 ghost use Rattle.core_nodes.specs.Standing.{core_at, IsReady, Builds, Made};
 ghost use Rattle.c_conversions.specs.Constants.{HasRows};
 

@@ -5,8 +5,8 @@ ghost use Rattle.std.specs.Prelude.{◌≡◌, ◌<◌, length, IfOk};
 ghost use Rattle.c_types.specs.Trees.{PointerTo};
 ghost use Rattle.c_types.specs.Table.{type_of};
 ghost use Rattle.c_consts.specs.Core.{ctype_of};
-ghost use Rattle.c_senses.specs.World.{World};
-ghost use Rattle.c_senses.specs.Conversions as spec;
+ghost use Rattle.core_nodes.specs.passed.c_senses.World.{World};
+ghost use Rattle.core_nodes.specs.passed.c_senses.Conversions as spec;
 ghost use Rattle.core_nodes.specs.Standing.{core_at, IsReady, Builds, Made, Knows};
 ghost use Rattle.c_conversions.specs.Constants.{HasRows};
 

@@ -4,7 +4,7 @@
 ghost use Rattle.std.specs.Prelude.{◌≡◌, ◌<◌, length, Bool};
 ghost use Rattle.c_types.specs.Trees.{Ctype};
 ghost use Rattle.c_types.specs.Table.{type_of};
-ghost use Rattle.c_senses.specs.Conversions as spec;
+ghost use Rattle.core_nodes.specs.passed.c_senses.Conversions as spec;
 ghost use Rattle.c_conversions.specs.Targets.{target_seen, IsRowOf, IsRefusal};
 
 use c_types::table::TypeTable;

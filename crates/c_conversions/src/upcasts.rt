@@ -7,9 +7,9 @@ ghost use Rattle.c_types.specs.Table.{type_of};
 ghost use Rattle.c_types.specs.declared.term.MemberTerm.{MemberTerm};
 ghost use Rattle.core_tree.specs.declared.node.NodeKind.TheVariants.{Upcast};
 ghost use Rattle.c_consts.specs.Core.{over, place_of};
-ghost use Rattle.c_senses.specs.Given.{Fits};
-ghost use Rattle.c_senses.specs.World.{World};
-ghost use Rattle.c_senses.specs.Conversions as spec;
+ghost use Rattle.core_nodes.specs.passed.c_senses.Given.{Fits};
+ghost use Rattle.core_nodes.specs.passed.c_senses.World.{World};
+ghost use Rattle.core_nodes.specs.passed.c_senses.Conversions as spec;
 ghost use Rattle.core_nodes.specs.Standing.{core_at, IsReady, Builds, Made, Knows};
 ghost use Rattle.c_conversions.specs.Targets.{type_seen, UpcastMade, IsUpcastWithin};
 

@@ -2,8 +2,8 @@
 #![tactic(auto, using(core_nodes::proofs::IntegerTypes::integers))]
 
 ghost use Rattle.std.specs.Prelude.{◌<◌, length, IfOk};
-ghost use Rattle.c_senses.specs.World.{World};
-ghost use Rattle.c_senses.specs.Conversions.{value_of};
+ghost use Rattle.core_nodes.specs.passed.c_senses.World.{World};
+ghost use Rattle.core_nodes.specs.passed.c_senses.Conversions.{value_of};
 ghost use Rattle.core_nodes.specs.Standing.{core_at, IsReady, Builds, Made, Knows};
 ghost use Rattle.c_conversions.specs.Constants.{HasRows};
 

@@ -14,21 +14,21 @@ use Rattle.c_consts.specs.Core.{Core, Cores, Of, Stands, number_at, ctype_of, co
 use Rattle.c_consts.specs.declared.fault.ConstFault.TheVariants.{NotConstant, Range, DivideByZero as ZeroFault}
 use Rattle.c_consts.specs.Operators.{NoForm, OutOfRange, ZeroDivisor}
 use Rattle.c_consts.specs.Answer.{Found, Value, Fails, answer, located}
-use Rattle.c_senses.specs.Tree.{Source, any_where, has_sign, has_word, is_a, child_of}
+use Rattle.core_nodes.specs.passed.c_senses.Tree.{Source, any_where, has_sign, has_word, is_a, child_of}
 use Rattle.c_grammar.specs.Productions.{p_assignment, p_qualifier}
 use Rattle.c_grammar.specs.Words.{word_static, sign_star, sign_left_bracket, sign_ellipsis}
-use Rattle.c_senses.specs.Given.{Given, Fits, Refuses, given_if, ◌>>=◌}
-use Rattle.c_senses.specs.World.{World}
-use Rattle.c_senses.specs.Conversions.{operand_of, value_of_sort}
-use Rattle.c_senses.specs.Constants.{is_whole, leaf_of_place, place_of_part}
-use Rattle.c_senses.specs.Sense.{Sense, Derivation, Elements, IsCore, IsDerivation, value_in}
-use Rattle.c_senses.specs.Declarators.{length_of, length_found, positive, is_parameter_array, array_length, has_array_words, array_suffix, suffix_row, list_of, parameters_in}
+use Rattle.core_nodes.specs.passed.c_senses.Given.{Given, Fits, Refuses, given_if, ◌>>=◌}
+use Rattle.core_nodes.specs.passed.c_senses.World.{World}
+use Rattle.core_nodes.specs.passed.c_senses.Conversions.{operand_of, value_of_sort}
+use Rattle.core_nodes.specs.passed.c_senses.Constants.{is_whole, leaf_of_place, place_of_part}
+use Rattle.core_nodes.specs.passed.c_senses.Sense.{Sense, Derivation, Elements, IsCore, IsDerivation, value_in}
+use Rattle.core_nodes.specs.passed.c_senses.Declarators.{length_of, length_found, positive, is_parameter_array, array_length, has_array_words, array_suffix, suffix_row, list_of, parameters_in}
 use Rattle.core_nodes.specs.declared.fault.CheckFault.{CheckFault}
 use Rattle.core_nodes.specs.declared.fault.CheckFault.TheVariants.{BadOperand, Unsupported, OutOfMemory}
 use Rattle.c_results.specs.Standing.{Rowed}
 use Rattle.c_results.specs.Parts.{core_in}
-use Rattle.constant_values.specs.Constants.{place_in}
-use Rattle.constant_values.proofs.Valuing.{found_value, wrong_place}
+use Rattle.c_conversions.specs.constant_values.Constants.{place_in}
+use Rattle.c_conversions.proofs.constant_values.Valuing.{found_value, wrong_place}
 use Rattle.c_declarators.specs.Suffixes.{LengthMade, open_length, length_by}
 
 -- what is found of a constant that fails

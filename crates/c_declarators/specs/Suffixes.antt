@@ -2,12 +2,12 @@
 use Rattle.std.specs.Prelude.{ℕ, ◌≡◌, Bool, Option, Some, None, Result, Ok, Err, ⊤, if◌then◌else◌}
 use Rattle.pta_base.specs.declared.kind.Kind.TheVariants.{Operand, Vla}
 use Rattle.c_consts.specs.Core.{Core}
-use Rattle.c_senses.specs.Tree.{Source}
-use Rattle.c_senses.specs.Given.{Given, Fits, Refuses, ◌>>=◌}
-use Rattle.c_senses.specs.World.{World}
-use Rattle.c_senses.specs.Conversions.{value_of}
-use Rattle.c_senses.specs.Declarators.{length_of}
-use Rattle.c_senses.specs.Sense.{Sense, Derivation, Elements}
+use Rattle.core_nodes.specs.passed.c_senses.Tree.{Source}
+use Rattle.core_nodes.specs.passed.c_senses.Given.{Given, Fits, Refuses, ◌>>=◌}
+use Rattle.core_nodes.specs.passed.c_senses.World.{World}
+use Rattle.core_nodes.specs.passed.c_senses.Conversions.{value_of}
+use Rattle.core_nodes.specs.passed.c_senses.Declarators.{length_of}
+use Rattle.core_nodes.specs.passed.c_senses.Sense.{Sense, Derivation, Elements}
 use Rattle.core_nodes.specs.declared.fault.CheckFault.{CheckFault}
 use Rattle.core_nodes.specs.declared.fault.CheckFault.TheVariants.{BadOperand, Unsupported, OutOfMemory}
 

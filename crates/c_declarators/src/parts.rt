@@ -1,11 +1,11 @@
 // The parts of declarators.
 ghost use Rattle.std.specs.Prelude.{◌≡◌, ◌<◌, ◌++◌, ℕ, List, [], ◌∷◌, if◌then◌else◌, length, reverse, OnOk, IfOk, IfSome, IsOkUnless, All};
 ghost use Rattle.core_tree.specs.declared.node.Unit.{Unit as UnitSpec};
-ghost use Rattle.c_senses.specs.Tree.{Source, has_sign};
+ghost use Rattle.core_nodes.specs.passed.c_senses.Tree.{Source, has_sign};
 ghost use Rattle.c_grammar.specs.Words.{sign_star};
-ghost use Rattle.c_senses.specs.World.{World};
-ghost use Rattle.c_senses.specs.Sense.{Sense, sense_in};
-ghost use Rattle.c_senses.specs.Declarators as spec;
+ghost use Rattle.core_nodes.specs.passed.c_senses.World.{World};
+ghost use Rattle.core_nodes.specs.passed.c_senses.Sense.{Sense, sense_in};
+ghost use Rattle.core_nodes.specs.passed.c_senses.Declarators as spec;
 ghost use Rattle.c_results.specs.Standing.{derivations_seen, senses_made, IsWithin, IsDerivable, TypeSeen};
 ghost use Rattle.c_results.specs.Parts.{DeclaratorSeen, derivation_in};
 ghost use Rattle.tree_reads.specs.Sources.{source_read};

@@ -3,9 +3,9 @@ ghost use Rattle.std.specs.Prelude.{◌≡◌, ◌<◌, ℕ, List, length, IfOk,
 ghost use Rattle.c_inits.specs.Tables.{part_of};
 ghost use Rattle.c_types.specs.Trees.{Ctype};
 ghost use Rattle.c_types.specs.Table.{type_of};
-ghost use Rattle.c_senses.specs.World.{World};
-ghost use Rattle.c_senses.specs.Limits as limits;
-ghost use Rattle.c_senses.specs.Declarators as spec;
+ghost use Rattle.core_nodes.specs.passed.c_senses.World.{World};
+ghost use Rattle.core_nodes.specs.passed.c_senses.Limits as limits;
+ghost use Rattle.core_nodes.specs.passed.c_senses.Declarators as spec;
 ghost use Rattle.core_nodes.specs.Standing.{IsReady, Builds, TypeMade, Knows};
 ghost use Rattle.c_results.specs.Standing.{derivation_seen, derivations_seen, IsDerivable};
 ghost use Rattle.c_declarators.specs.Limited.{AreFlexible, MayJudge, small_once, fits_from};

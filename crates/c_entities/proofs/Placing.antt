@@ -2,7 +2,7 @@
 use Rattle.std.proofs.Common.{arith, ◌≡◌, ◌∙◌, ℕ, zero, suc, ◌-◌, ◌<◌, ◌≤◌, ◌==◌, Bool, true, false, cond, List, [], ◌∷◌, length, drop, refl, ap}
 use Rattle.std.specs.Prelude.{slice_index}
 use Rattle.std.proofs.lemmas.Bool.Decides.{nat_tests}
-use Rattle.c_senses.specs.Entities.{behind}
+use Rattle.core_nodes.specs.passed.c_senses.Entities.{behind}
 use Rattle.tree_reads.specs.Order.{ascends}
 use Rattle.tree_reads.proofs.Ascending.{first_above, tail_ascends}
 

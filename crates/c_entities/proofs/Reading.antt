@@ -2,11 +2,11 @@
 use Rattle.std.proofs.Common.{◌≡◌, ℕ, Bool, true, false, Option, Some, None, List, [], ◌∷◌, length, eqb, get_or, cond, refl, sym, ap, ◌∙◌}
 use Rattle.c_types.specs.Trees.{Ctype}
 use Rattle.c_grammar.specs.Productions.{p_rest}
-use Rattle.c_senses.specs.Tree.{Source, is_a, children_at}
-use Rattle.c_senses.specs.Sense.{Sense, Nothing, IsCore, IsType, IsSpecified, IsDeclarator, IsDerivation, IsParameter, IsMembers, IsValue, IsRun, IsInitial, Specified, Parameter}
-use Rattle.c_senses.specs.Sense as senses
-use Rattle.c_senses.specs.Declarators.{derived}
-use Rattle.c_senses.specs.Entities.{initialiser_in, in_rest, specified, derived_type}
+use Rattle.core_nodes.specs.passed.c_senses.Tree.{Source, is_a, children_at}
+use Rattle.core_nodes.specs.passed.c_senses.Sense.{Sense, Nothing, IsCore, IsType, IsSpecified, IsDeclarator, IsDerivation, IsParameter, IsMembers, IsValue, IsRun, IsInitial, Specified, Parameter}
+use Rattle.core_nodes.specs.passed.c_senses.Sense as senses
+use Rattle.core_nodes.specs.passed.c_senses.Declarators.{derived}
+use Rattle.core_nodes.specs.passed.c_senses.Entities.{initialiser_in, in_rest, specified, derived_type}
 use Rattle.c_results.specs.Parts.{specified_in, declarator_in, parameter_in}
 use Rattle.c_entities.specs.Words.{storage_in, functions_in}
 

@@ -1,7 +1,7 @@
 -- The words that stand before a declared name, as they have been made.
 use Rattle.std.specs.Prelude.{ℕ, ◌≡◌, Bool, true, false, List, [], ◌∷◌, Option, Some, None}
 use Rattle.std.specs.Borrow.{Bor}
-use Rattle.c_senses.specs.Sense.{Sense, IsSpecified, IsInitial, Specified}
+use Rattle.core_nodes.specs.passed.c_senses.Sense.{Sense, IsSpecified, IsInitial, Specified}
 
 -- the words for storage, and those for functions, of specifiers
 abbrev pub storage_in : Option Specified → Option (List ℕ)

@@ -1,9 +1,9 @@
 // The declaration in which a name is declared.
 ghost use Rattle.std.specs.Prelude.{◌≡◌, ◌<◌, ◌&&◌, ℕ, length, is_some, IfSome};
 ghost use Rattle.c_grammar.specs.Productions.{p_external, p_block};
-ghost use Rattle.c_senses.specs.Tree.{is_a, child_of};
-ghost use Rattle.c_senses.specs.Sense.{Sense};
-ghost use Rattle.c_senses.specs.Entities as spec;
+ghost use Rattle.core_nodes.specs.passed.c_senses.Tree.{is_a, child_of};
+ghost use Rattle.core_nodes.specs.passed.c_senses.Sense.{Sense};
+ghost use Rattle.core_nodes.specs.passed.c_senses.Entities as spec;
 ghost use Rattle.tree_reads.specs.Sources.{source_read};
 
 use c_declarators::declaration_around;

@@ -1,9 +1,9 @@
 // The initialisers of declarators.
 ghost use Rattle.std.specs.Prelude.{◌≡◌, ◌<◌, ℕ, length, None, true, if◌then◌else◌};
 ghost use Rattle.c_grammar.specs.Productions.{p_rest};
-ghost use Rattle.c_senses.specs.Tree.{is_a, children_at};
-ghost use Rattle.c_senses.specs.Sense.{Sense};
-ghost use Rattle.c_senses.specs.Entities as spec;
+ghost use Rattle.core_nodes.specs.passed.c_senses.Tree.{is_a, children_at};
+ghost use Rattle.core_nodes.specs.passed.c_senses.Sense.{Sense};
+ghost use Rattle.core_nodes.specs.passed.c_senses.Entities as spec;
 ghost use Rattle.tree_reads.specs.Order.{ascends};
 ghost use Rattle.tree_reads.specs.Sources.{source_read};
 

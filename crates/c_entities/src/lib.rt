@@ -4,6 +4,7 @@
 mod declaring;
 mod initialisers;
 mod own;
+pub mod remembered_names;
 mod types;
 mod words;
 

@@ -1,9 +1,9 @@
 // The type that a declaration gives its name.
 ghost use Rattle.std.specs.Prelude.{◌≡◌, ◌<◌, length, All, IfOk, IfSome, IsOkUnless};
 ghost use Rattle.core_tree.specs.declared.node.Unit.{Unit as UnitSpec};
-ghost use Rattle.c_senses.specs.Sense.{sense_in};
-ghost use Rattle.c_senses.specs.Entities as spec;
-ghost use Rattle.c_senses.specs.Declarators.{outermost_of};
+ghost use Rattle.core_nodes.specs.passed.c_senses.Sense.{sense_in};
+ghost use Rattle.core_nodes.specs.passed.c_senses.Entities as spec;
+ghost use Rattle.core_nodes.specs.passed.c_senses.Declarators.{outermost_of};
 ghost use Rattle.core_nodes.specs.Standing.{IsReady, Builds};
 ghost use Rattle.c_results.specs.Standing.{sense_made, senses_made, IsWithin, TypeSeen};
 ghost use Rattle.tree_reads.specs.Sources.{source_read};

@@ -1,7 +1,7 @@
 // The types that declarations of one name give together (C11 6.2.7).
 ghost use Rattle.std.specs.Prelude.{◌≡◌, ◌<◌, length, All, IfOk, IfSome};
 ghost use Rattle.c_types.specs.Table.{type_of};
-ghost use Rattle.c_senses.specs.Entities as spec;
+ghost use Rattle.core_nodes.specs.passed.c_senses.Entities as spec;
 ghost use Rattle.core_nodes.specs.Standing.{IsReady, Builds, TypeMade};
 ghost use Rattle.c_entities.specs.Types.{type_in, types_in, is_unspecified};
 

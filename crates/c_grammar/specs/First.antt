@@ -5,11 +5,13 @@ use Rattle.c_grammar.specs.declared.rows.Item.TheVariants.{Token, Use, Choice, R
 use Rattle.c_grammar.specs.Table.{row}
 use Rattle.c_grammar.specs.Terminals.{contains, terminals, sign, plain_name, typeof_name, builtin_name, floating}
 use Rattle.c_grammar.specs.Words.{word_asm, word_generic, sign_both}
-use Rattle.c_grammar.specs.Productions.{p_external, p_type, p_abstract, p_either, p_parameter, p_items, p_statement, p_cast, p_primary, p_nothing, p_either_1, p_array_length}
+use Rattle.c_grammar.specs.Productions.{p_external, p_type, p_abstract, p_either, p_parameter, p_items, p_statement}
+use Rattle.c_grammar.specs.Productions.{p_cast, p_primary, p_nothing, p_either_1, p_array_length}
 
 -- the productions that can take no token
 unfoldable pub can_be_empty : ℕ → Bool
-can_be_empty production = contains (p_abstract ∷ p_either ∷ p_items ∷ p_nothing ∷ p_either_1 ∷ p_array_length ∷ []) production
+can_be_empty production =
+    contains (p_abstract ∷ p_either ∷ p_items ∷ p_nothing ∷ p_either_1 ∷ p_array_length ∷ []) production
 
 -- a token that is refused at its place begins the production that refuses it
 abbrev pub refused_firsts : ℕ → List ℕ
@@ -36,8 +38,10 @@ refused_firsts p =
 abbrev pub row_firsts : (ℕ → List ℕ) → ℕ → List Item → List ℕ
 row_firsts first p [] = []
 row_firsts first p (Token k ∷ items) = terminals p k
-row_firsts first p (Use q ∷ items) = first q ++ elim (can_be_empty q) [ true ↦ row_firsts first p items | false ↦ [] ]
-row_firsts first p (Choice a b ∷ items) = first a ++ (first b ++ elim (can_be_empty a || can_be_empty b) [ true ↦ row_firsts first p items | false ↦ [] ])
+row_firsts first p (Use q ∷ items) =
+    first q ++ elim (can_be_empty q) [ true ↦ row_firsts first p items | false ↦ [] ]
+row_firsts first p (Choice a b ∷ items) =
+    first a ++ (first b ++ elim (can_be_empty a || can_be_empty b) [ true ↦ row_firsts first p items | false ↦ [] ])
 row_firsts first p (Repeat q ∷ items) = first q ++ row_firsts first p items
 row_firsts first p (Scope n ∷ items) = row_firsts first p items
 

@@ -1,14 +1,22 @@
--- The tests of choices and repetitions. Most look at the next token alone; others at two, or at what the production has read
--- so far.
-use Rattle.std.specs.Prelude.{ℕ, ◌+◌, ◌==◌, ◌/◌, ◌%◌, ◌^◌, Bool, true, false, ◌&&◌, ◌||◌, not, nat_le, nat_lt, Option, Some, None, List, [], ◌∷◌, ◌++◌, if◌then◌else◌}
+-- The tests of choices and repetitions. Most look at the next token alone; others at two, or at what the production
+-- has read so far.
+use Rattle.std.specs.Prelude.{ℕ, ◌+◌, ◌==◌, ◌/◌, ◌%◌, ◌^◌, Bool, true, false, ◌&&◌, ◌||◌, not, nat_le, nat_lt}
+use Rattle.std.specs.Prelude.{Option, Some, None, List, [], ◌∷◌, ◌++◌, if◌then◌else◌}
 use Rattle.std.specs.List.{list_any, list_all}
 use Rattle.c_grammar.specs.declared.notes.Shape.{Shape}
 use Rattle.c_grammar.specs.declared.notes.Shape.TheVariants.{Nameless, Bare, Listed, Function, Other}
 use Rattle.c_grammar.specs.First.{firsts, can_be_empty}
-use Rattle.c_grammar.specs.Terminals.{contains, sign, identifiers, type_name, floating_type, typeof_name, builtin_type}
+use Rattle.c_grammar.specs.Terminals.{contains, sign, identifiers, type_name, floating_type, typeof_name}
+use Rattle.c_grammar.specs.Terminals.{builtin_type}
 use Rattle.c_grammar.specs.Notes.{Noted}
-use Rattle.c_grammar.specs.Words.{word_bool, word_char, word_double, word_enum, word_float, word_int, word_long, word_short, word_signed, word_struct, word_union, word_unsigned, word_void, sign_colon, sign_comma, sign_ellipsis, sign_left_brace, sign_left_parenthesis, sign_right_brace, sign_right_bracket, sign_right_parenthesis, sign_star}
-use Rattle.c_grammar.specs.Productions.{p_storage, p_function, p_qualifier, p_align, p_type, p_assert, p_any_length, p_block_declaration, p_body, p_early, p_inner_abstract, p_inner_either, p_label, p_later, p_more_enumerators, p_more_items, p_more_parameters, p_more_type, p_typed_cast, p_typed_size}
+use Rattle.c_grammar.specs.Words.{word_bool, word_char, word_double, word_enum, word_float, word_int, word_long}
+use Rattle.c_grammar.specs.Words.{word_short, word_signed, word_struct, word_union, word_unsigned, word_void}
+use Rattle.c_grammar.specs.Words.{sign_colon, sign_comma, sign_ellipsis, sign_left_brace, sign_left_parenthesis}
+use Rattle.c_grammar.specs.Words.{sign_right_brace, sign_right_bracket, sign_right_parenthesis, sign_star}
+use Rattle.c_grammar.specs.Productions.{p_storage, p_function, p_qualifier, p_align, p_type, p_assert, p_any_length}
+use Rattle.c_grammar.specs.Productions.{p_block_declaration, p_body, p_early, p_inner_abstract, p_inner_either}
+use Rattle.c_grammar.specs.Productions.{p_label, p_later, p_more_enumerators, p_more_items, p_more_parameters}
+use Rattle.c_grammar.specs.Productions.{p_more_type, p_typed_cast, p_typed_size}
 
 -- whether a set of terminals, a bit for each, has one
 unfoldable pub has : ℕ → ℕ → Bool
@@ -18,7 +26,8 @@ has set terminal = nat_lt terminal 128 && set / 2 ^ terminal % 2 == 1
 unfoldable pub begins : ℕ → ℕ → Bool
 begins production terminal = nat_lt production 252 && contains (firsts production) terminal
 
--- a token starts a type where it is a type word, struct, union, enum, a typedef name, typeof, a qualifier or _Alignas
+-- a token starts a type where it is a type word, struct, union, enum, a typedef name, typeof, a qualifier or
+-- _Alignas
 unfoldable pub types : List ℕ
 types = firsts p_type ++ (firsts p_qualifier ++ firsts p_align)
 
@@ -32,8 +41,8 @@ starts_type terminal = contains types terminal
 unfoldable pub starts_declaration : ℕ → Bool
 starts_declaration terminal = contains declarations terminal
 
--- The lists of type words that make a type (C11 6.7.2p2), each line with all words that may be left out; the names of floating
--- types stand alone, and _Complex is refused.
+-- The lists of type words that make a type (C11 6.7.2p2), each line with all words that may be left out; the names
+-- of floating types stand alone, and _Complex is refused.
 unfoldable pub type_words : List (List ℕ)
 type_words =
     (word_void ∷ []) ∷
@@ -75,18 +84,21 @@ combines words word = list_any (is_part_of (word ∷ words)) type_words
 
 -- a parenthesis opens an inner abstract declarator where neither its partner nor a type is behind it
 abbrev pub opens_inner : ℕ → ℕ → Bool
-opens_inner first second = first == sign sign_left_parenthesis && not (second == sign sign_right_parenthesis) && not (starts_type second)
+opens_inner first second =
+    first == sign sign_left_parenthesis && not (second == sign sign_right_parenthesis) && not (starts_type second)
 
 abbrev pub opens_type : ℕ → ℕ → Bool
 opens_type first second = first == sign sign_left_parenthesis && starts_type second
 
 -- a repetition behind a comma ends where a closing brace or an ellipsis follows the comma
 abbrev pub goes_on : ℕ → ℕ → Bool
-goes_on first second = first == sign sign_comma && not (second == sign sign_right_brace) && not (second == sign sign_ellipsis)
+goes_on first second =
+    first == sign sign_comma && not (second == sign sign_right_brace) && not (second == sign sign_ellipsis)
 
 -- a further specifier: typeof is refused there, and a type word has to combine with those before it
 abbrev pub is_specifier : ℕ → List ℕ → Bool
-is_specifier first words = begins p_early first || first == typeof_name || (begins p_more_type first && combines words first)
+is_specifier first words =
+    begins p_early first || first == typeof_name || (begins p_more_type first && combines words first)
 
 abbrev pub is_function : Shape → Bool
 is_function Nameless = false
@@ -102,7 +114,8 @@ fits production first second notes =
     else if production == p_typed_cast || production == p_typed_size then opens_type first second
     else if production == p_block_declaration then starts_declaration first && not (second == sign sign_colon)
     else if production == p_label then contains (identifiers p_label) first && second == sign sign_colon
-    else if production == p_more_enumerators || production == p_more_items || production == p_more_parameters then goes_on first second
+    else if production == p_more_enumerators || production == p_more_items
+    || production == p_more_parameters then goes_on first second
     else if production == p_any_length then first == sign sign_star && second == sign sign_right_bracket
     else if production == p_body then first == sign sign_left_brace && is_function notes.shape
     else if production == p_later then is_specifier first notes.words

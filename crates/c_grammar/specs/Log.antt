@@ -1,4 +1,5 @@
--- How the scopes keep what each name means now: a log of the declarations, each with what its name meant before, and a map.
+-- How the scopes keep what each name means now: a log of the declarations, each with what its name meant before,
+-- and a map.
 use Rattle.std.specs.Prelude.{◌≡◌, ℕ, Bool, Option, Some, None, IsSome, List, [], ◌∷◌, ◌++◌, map, if◌then◌else◌}
 use Rattle.std.specs.Global.{Vec}
 use Rattle.std.specs.BTreeMap.{BTreeMap}
@@ -42,16 +43,19 @@ known current name = flat (entry_of current name)
 
 -- a name that has an entry has another meaning, and every other name has what it had
 abbrev pub Restores : Meanings → List ℕ → Option Bool → Meanings → Type 0
-Restores old name before new = IsSome (entry_of old name) → (q : List ℕ) → known new q ≡ (if bytes_eq name q then before else known old q)
+Restores old name before new =
+    IsSome (entry_of old name) → (q : List ℕ) → known new q ≡ (if bytes_eq name q then before else known old q)
 
 -- each declaration of the second list, which follows the first, has what its name meant before it
 abbrev pub Recorded : List Declared → List Declared → Type 0
 Recorded earlier [] = Unit {0}
-Recorded earlier (d ∷ ds) = (d.before ≡ meaning None (seen_all earlier) d.name.items) × Recorded (earlier ++ d ∷ []) ds
+Recorded earlier (d ∷ ds) =
+    (d.before ≡ meaning None (seen_all earlier) d.name.items) × Recorded (earlier ++ d ∷ []) ds
 
 -- the map says what each name means behind the declarations of both lists, and the second list is recorded
 abbrev pub Says : List Declared → List Declared → Meanings → Type 0
-Says earlier ds current = Recorded earlier ds × ((q : List ℕ) → known current q ≡ meaning None (seen_all (earlier ++ ds)) q)
+Says earlier ds current =
+    Recorded earlier ds × ((q : List ℕ) → known current q ≡ meaning None (seen_all (earlier ++ ds)) q)
 
 abbrev pub Kept : List (Vec Declared) → List Declared → Meanings → Type 0
 Kept enclosing innermost current = Says [] (log enclosing innermost) current

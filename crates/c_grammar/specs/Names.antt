@@ -1,5 +1,6 @@
 -- The names that the open scopes declare (C11 6.2.1).
-use Rattle.std.specs.Prelude.{ℕ, ◌-◌, Bool, nat_lt, Option, Some, None, List, [], ◌∷◌, ◌++◌, take, length, codes, slice_index_or, if◌then◌else◌}
+use Rattle.std.specs.Prelude.{ℕ, ◌-◌, Bool, nat_lt, Option, Some, None, List, [], ◌∷◌, ◌++◌, take, length, codes}
+use Rattle.std.specs.Prelude.{slice_index_or, if◌then◌else◌}
 use Rattle.std.specs.Option.{unwrap_or}
 use Rattle.std.specs.List.{flat_map}
 use Rattle.std.specs.Str.{bytes_eq}
@@ -8,7 +9,8 @@ use Rattle.std.specs.Str.{bytes_eq}
 abbrev pub Declaration : Type 0
 Declaration = List ℕ × Bool
 
--- the declarations of the innermost scope, and of the scopes around it from the file's on, each in the order of the text
+-- the declarations of the innermost scope, and of the scopes around it from the file's on, each in the order of the
+-- text
 pub record Names : Type 0 where
   pub enclosing : List (List Declaration)
   pub innermost : List Declaration
@@ -21,7 +23,11 @@ abbrev pub entered : Names → Names
 entered names = record { enclosing = names.enclosing ++ names.innermost ∷ []; innermost = [] }
 
 abbrev pub left : Names → Names
-left names = record { enclosing = take (length names.enclosing - 1) names.enclosing; innermost = slice_index_or names.enclosing (length names.enclosing - 1) names.innermost }
+left names =
+    record {
+      enclosing = take (length names.enclosing - 1) names.enclosing;
+      innermost = slice_index_or names.enclosing (length names.enclosing - 1) names.innermost;
+    }
 
 -- the declarations of the scope that is closed; the file's scope is none of these
 abbrev pub closing : Names → List Declaration
@@ -42,7 +48,9 @@ abbrev pub meaning : Option Bool → List Declaration → List ℕ → Option Bo
 meaning before [] name = before
 meaning before (d ∷ ds) name = meaning (if bytes_eq d.0 name then Some d.1 else before) ds name
 
--- A name is a typedef name where its innermost declaration says so, which is the last one of those in the scopes that are
--- open. One name is a typedef name without a declaration.
+-- A name is a typedef name where its innermost declaration says so, which is the last one of those in the scopes
+-- that are open. One name is a typedef name without a declaration.
 unfoldable pub is_type : Names → List ℕ → Bool
-is_type names name = unwrap_or (meaning None (flat_map scope_of names.enclosing ++ names.innermost) name) (bytes_eq name (codes "__builtin_va_list"))
+is_type names name =
+    unwrap_or (meaning None (flat_map scope_of names.enclosing ++ names.innermost) name)
+    (bytes_eq name (codes "__builtin_va_list"))

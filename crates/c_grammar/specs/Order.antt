@@ -18,4 +18,6 @@ InOrder s = ChildrenFirst 0 s.nodes × AllBelow (length s.nodes) s.children
 
 -- the last node is the production's, at the token where it began, and its children are new nodes
 abbrev pub EndsWith : ℕ → ℕ → List Node → List Node → Type 0
-EndsWith production place before nodes = (more : List Node) × (children : List ℕ) × (nodes ≡ before ++ (more ++ (record { production = production; token = place; children = children }) ∷ []))
+EndsWith production place before nodes =
+    (more : List Node) × (children : List ℕ)
+    × (nodes ≡ before ++ (more ++ (record { production = production; token = place; children = children }) ∷ []))

@@ -6,4 +6,5 @@ pub use Rattle.c_lexer.specs.declared.numbers.Base.TheVariants.{Decimal, Hexadec
 pub use Rattle.c_lexer.specs.Numbers.{begins_hexadecimal, behind, digit_count, value}
 pub use Rattle.c_lexer.specs.Escapes.{octal_value}
 pub use Rattle.c_lexer.specs.declared.TokenKind.{TokenKind}
-pub use Rattle.c_lexer.specs.declared.TokenKind.TheVariants.{Character, End, Floating, Identifier, Integer, Keyword, Punctuator, Text}
+pub use Rattle.c_lexer.specs.declared.TokenKind.TheVariants.{Character, End, Floating, Identifier, Integer, Keyword}
+pub use Rattle.c_lexer.specs.declared.TokenKind.TheVariants.{Punctuator, Text}

@@ -1,5 +1,5 @@
--- The productions of the grammar by name. The first 48 are the productions of C11's phrase structure that make a node;
--- the others are parts of their rows.
+-- The productions of the grammar by name. The first 48 are the productions of C11's phrase structure that make a
+-- node; the others are parts of their rows.
 use Rattle.std.specs.Prelude.{ℕ}
 
 abbrev pub p_unit : ℕ

@@ -1,12 +1,79 @@
--- The grammar as a table: for each production the items of its row, in order (C11 Annex A.2, with the rows in the form in
--- which at most two tokens decide each choice). Scope 0 opens a scope, Scope 1 closes it, and Scope 2 declares the names
--- that were read.
+-- The grammar as a table: for each production the items of its row, in order (C11 Annex A.2, with the rows in the
+-- form in which at most two tokens decide each choice). Scope 0 opens a scope, Scope 1 closes it, and Scope 2
+-- declares the names that were read.
 use Rattle.std.specs.Prelude.{ℕ, Option, List, [], ◌∷◌, slice_get, slice_index_or}
-use Rattle.c_lexer.specs.declared.TokenKind.TheVariants.{Identifier, Keyword, Punctuator, Integer, Character, Text, End}
+use Rattle.c_lexer.specs.declared.TokenKind.TheVariants.{Identifier, Keyword, Punctuator, Integer, Character, Text}
+use Rattle.c_lexer.specs.declared.TokenKind.TheVariants.{End}
 use Rattle.c_grammar.specs.declared.rows.Item.{Item}
 use Rattle.c_grammar.specs.declared.rows.Item.TheVariants.{Token, Use, Choice, Repeat, Scope}
-use Rattle.c_grammar.specs.Productions.{p_external, p_rest, p_declaration, p_assert, p_asm_name, p_specs, p_storage, p_function, p_qualifier, p_align, p_type, p_struct, p_members, p_member, p_field, p_enum, p_enumerators, p_enumerator, p_declarator, p_abstract, p_either, p_suffix, p_parameter, p_type_name, p_init, p_items, p_item, p_designator, p_block, p_statement, p_expression, p_assignment, p_conditional, p_logical_or, p_logical_and, p_inclusive_or, p_exclusive_or, p_and, p_equality, p_relational, p_shift, p_additive, p_multiplicative, p_cast, p_unary, p_post, p_primary, p_nothing, p_just_semicolon, p_unit_item_1, p_unit_item, p_external_names, p_body, p_initialised, p_more_names, p_declaration_names, p_declared_names, p_just_text, p_early_2, p_early_1, p_early, p_more_type, p_later, p_just_typedef, p_just_extern, p_just_static, p_just_auto, p_just_register, p_storage_3, p_storage_2, p_storage_1, p_just_inline, p_just_noreturn, p_just_const, p_just_volatile, p_just_restrict, p_qualifier_1, p_floating_name, p_typedef_name, p_just_void, p_just_char, p_just_short, p_just_int, p_just_long, p_just_float, p_just_double, p_just_signed, p_just_unsigned, p_just_bool, p_type_12, p_type_11, p_type_10, p_type_9, p_type_8, p_type_7, p_type_6, p_type_5, p_type_4, p_type_3, p_type_2, p_type_1, p_just_struct, p_just_union, p_struct_tag, p_member_1, p_member_fields, p_fields, p_more_fields, p_width, p_field_name, p_enum_tag, p_just_comma, p_more_enumerators, p_enumerator_value, p_star, p_just_ident, p_inner_declarator, p_inner_abstract, p_inner_either, p_either_1, p_array_suffix, p_array_word, p_any_length, p_array_length, p_list_suffix, p_parameters, p_more_parameters, p_further, p_braced_items, p_some_items, p_more_items, p_designators, p_member_designator, p_index_designator, p_range_end, p_block_item, p_block_declaration, p_label, p_case, p_case_end, p_default_case, p_inner_statement, p_if_statement, p_else_part, p_switch_statement, p_while_statement, p_do_statement, p_for_statement, p_goto_statement, p_continue_statement, p_break_statement, p_return_statement, p_expression_statement, p_statement_12, p_statement_11, p_statement_10, p_statement_9, p_statement_8, p_statement_7, p_statement_6, p_statement_5, p_statement_4, p_statement_3, p_statement_2, p_statement_1, p_more_expressions, p_assigned, p_just_assign, p_just_multiply_assign, p_just_divide_assign, p_just_remainder_assign, p_just_add_assign, p_just_subtract_assign, p_just_shift_left_assign, p_just_shift_right_assign, p_just_and_assign, p_just_xor_assign, p_just_or_assign, p_assign_op_9, p_assign_op_8, p_assign_op_7, p_assign_op_6, p_assign_op_5, p_assign_op_4, p_assign_op_3, p_assign_op_2, p_assign_op_1, p_assign_op, p_arms, p_more_logical_or, p_more_logical_and, p_more_inclusive_or, p_more_exclusive_or, p_more_and, p_just_equal, p_just_not_equal, p_more_equality, p_just_less, p_just_greater, p_just_less_equal, p_just_greater_equal, p_op_relational_2, p_op_relational_1, p_more_relational, p_just_shift_left, p_just_shift_right, p_more_shift, p_just_plus, p_just_minus, p_more_additive, p_just_star, p_just_slash, p_just_percent, p_op_multiplicative_1, p_more_multiplicative, p_typed_cast, p_literal_rest, p_just_increment, p_just_decrement, p_just_ampersand, p_just_tilde, p_just_exclamation, p_prefix_6, p_prefix_5, p_prefix_4, p_prefix_3, p_prefix_2, p_prefix_1, p_prefixed, p_sized, p_typed_size, p_aligned, p_postfixed, p_unary_2, p_unary_1, p_index, p_call, p_arguments, p_dot, p_arrow, p_post_4, p_post_3, p_post_2, p_post_1, p_texts, p_enclosed, p_just_integer, p_just_character, p_primary_3, p_primary_2, p_primary_1}
-use Rattle.c_grammar.specs.Words.{sign_add_assign, sign_ampersand, sign_and_assign, sign_arrow, sign_assign, sign_bar, sign_both, sign_caret, sign_colon, sign_comma, sign_decrement, sign_divide_assign, sign_dot, sign_either_or, sign_ellipsis, sign_equal, sign_exclamation, sign_greater, sign_greater_equal, sign_increment, sign_left_brace, sign_left_bracket, sign_left_parenthesis, sign_less, sign_less_equal, sign_minus, sign_multiply_assign, sign_not_equal, sign_or_assign, sign_percent, sign_plus, sign_question, sign_remainder_assign, sign_right_brace, sign_right_bracket, sign_right_parenthesis, sign_semicolon, sign_shift_left, sign_shift_left_assign, sign_shift_right, sign_shift_right_assign, sign_slash, sign_star, sign_subtract_assign, sign_tilde, sign_xor_assign, word_alignas, word_alignof, word_asm, word_auto, word_bool, word_break, word_case, word_char, word_const, word_continue, word_default, word_do, word_double, word_else, word_enum, word_extern, word_float, word_for, word_goto, word_if, word_inline, word_int, word_long, word_noreturn, word_register, word_restrict, word_return, word_short, word_signed, word_sizeof, word_static, word_static_assert, word_struct, word_switch, word_typedef, word_union, word_unsigned, word_void, word_volatile, word_while}
+use Rattle.c_grammar.specs.Productions.{p_external, p_rest, p_declaration, p_assert, p_asm_name, p_specs, p_storage}
+use Rattle.c_grammar.specs.Productions.{p_function, p_qualifier, p_align, p_type, p_struct, p_members, p_member}
+use Rattle.c_grammar.specs.Productions.{p_field, p_enum, p_enumerators, p_enumerator, p_declarator, p_abstract}
+use Rattle.c_grammar.specs.Productions.{p_either, p_suffix, p_parameter, p_type_name, p_init, p_items, p_item}
+use Rattle.c_grammar.specs.Productions.{p_designator, p_block, p_statement, p_expression, p_assignment}
+use Rattle.c_grammar.specs.Productions.{p_conditional, p_logical_or, p_logical_and, p_inclusive_or, p_exclusive_or}
+use Rattle.c_grammar.specs.Productions.{p_and, p_equality, p_relational, p_shift, p_additive, p_multiplicative}
+use Rattle.c_grammar.specs.Productions.{p_cast, p_unary, p_post, p_primary, p_nothing, p_just_semicolon}
+use Rattle.c_grammar.specs.Productions.{p_unit_item_1, p_unit_item, p_external_names, p_body, p_initialised}
+use Rattle.c_grammar.specs.Productions.{p_more_names, p_declaration_names, p_declared_names, p_just_text, p_early_2}
+use Rattle.c_grammar.specs.Productions.{p_early_1, p_early, p_more_type, p_later, p_just_typedef, p_just_extern}
+use Rattle.c_grammar.specs.Productions.{p_just_static, p_just_auto, p_just_register, p_storage_3, p_storage_2}
+use Rattle.c_grammar.specs.Productions.{p_storage_1, p_just_inline, p_just_noreturn, p_just_const, p_just_volatile}
+use Rattle.c_grammar.specs.Productions.{p_just_restrict, p_qualifier_1, p_floating_name, p_typedef_name}
+use Rattle.c_grammar.specs.Productions.{p_just_void, p_just_char, p_just_short, p_just_int, p_just_long}
+use Rattle.c_grammar.specs.Productions.{p_just_float, p_just_double, p_just_signed, p_just_unsigned, p_just_bool}
+use Rattle.c_grammar.specs.Productions.{p_type_12, p_type_11, p_type_10, p_type_9, p_type_8, p_type_7, p_type_6}
+use Rattle.c_grammar.specs.Productions.{p_type_5, p_type_4, p_type_3, p_type_2, p_type_1, p_just_struct}
+use Rattle.c_grammar.specs.Productions.{p_just_union, p_struct_tag, p_member_1, p_member_fields, p_fields}
+use Rattle.c_grammar.specs.Productions.{p_more_fields, p_width, p_field_name, p_enum_tag, p_just_comma}
+use Rattle.c_grammar.specs.Productions.{p_more_enumerators, p_enumerator_value, p_star, p_just_ident}
+use Rattle.c_grammar.specs.Productions.{p_inner_declarator, p_inner_abstract, p_inner_either, p_either_1}
+use Rattle.c_grammar.specs.Productions.{p_array_suffix, p_array_word, p_any_length, p_array_length, p_list_suffix}
+use Rattle.c_grammar.specs.Productions.{p_parameters, p_more_parameters, p_further, p_braced_items, p_some_items}
+use Rattle.c_grammar.specs.Productions.{p_more_items, p_designators, p_member_designator, p_index_designator}
+use Rattle.c_grammar.specs.Productions.{p_range_end, p_block_item, p_block_declaration, p_label, p_case, p_case_end}
+use Rattle.c_grammar.specs.Productions.{p_default_case, p_inner_statement, p_if_statement, p_else_part}
+use Rattle.c_grammar.specs.Productions.{p_switch_statement, p_while_statement, p_do_statement, p_for_statement}
+use Rattle.c_grammar.specs.Productions.{p_goto_statement, p_continue_statement, p_break_statement}
+use Rattle.c_grammar.specs.Productions.{p_return_statement, p_expression_statement, p_statement_12, p_statement_11}
+use Rattle.c_grammar.specs.Productions.{p_statement_10, p_statement_9, p_statement_8, p_statement_7, p_statement_6}
+use Rattle.c_grammar.specs.Productions.{p_statement_5, p_statement_4, p_statement_3, p_statement_2, p_statement_1}
+use Rattle.c_grammar.specs.Productions.{p_more_expressions, p_assigned, p_just_assign, p_just_multiply_assign}
+use Rattle.c_grammar.specs.Productions.{p_just_divide_assign, p_just_remainder_assign, p_just_add_assign}
+use Rattle.c_grammar.specs.Productions.{p_just_subtract_assign, p_just_shift_left_assign, p_just_shift_right_assign}
+use Rattle.c_grammar.specs.Productions.{p_just_and_assign, p_just_xor_assign, p_just_or_assign, p_assign_op_9}
+use Rattle.c_grammar.specs.Productions.{p_assign_op_8, p_assign_op_7, p_assign_op_6, p_assign_op_5, p_assign_op_4}
+use Rattle.c_grammar.specs.Productions.{p_assign_op_3, p_assign_op_2, p_assign_op_1, p_assign_op, p_arms}
+use Rattle.c_grammar.specs.Productions.{p_more_logical_or, p_more_logical_and, p_more_inclusive_or}
+use Rattle.c_grammar.specs.Productions.{p_more_exclusive_or, p_more_and, p_just_equal, p_just_not_equal}
+use Rattle.c_grammar.specs.Productions.{p_more_equality, p_just_less, p_just_greater, p_just_less_equal}
+use Rattle.c_grammar.specs.Productions.{p_just_greater_equal, p_op_relational_2, p_op_relational_1}
+use Rattle.c_grammar.specs.Productions.{p_more_relational, p_just_shift_left, p_just_shift_right, p_more_shift}
+use Rattle.c_grammar.specs.Productions.{p_just_plus, p_just_minus, p_more_additive, p_just_star, p_just_slash}
+use Rattle.c_grammar.specs.Productions.{p_just_percent, p_op_multiplicative_1, p_more_multiplicative, p_typed_cast}
+use Rattle.c_grammar.specs.Productions.{p_literal_rest, p_just_increment, p_just_decrement, p_just_ampersand}
+use Rattle.c_grammar.specs.Productions.{p_just_tilde, p_just_exclamation, p_prefix_6, p_prefix_5, p_prefix_4}
+use Rattle.c_grammar.specs.Productions.{p_prefix_3, p_prefix_2, p_prefix_1, p_prefixed, p_sized, p_typed_size}
+use Rattle.c_grammar.specs.Productions.{p_aligned, p_postfixed, p_unary_2, p_unary_1, p_index, p_call, p_arguments}
+use Rattle.c_grammar.specs.Productions.{p_dot, p_arrow, p_post_4, p_post_3, p_post_2, p_post_1, p_texts, p_enclosed}
+use Rattle.c_grammar.specs.Productions.{p_just_integer, p_just_character, p_primary_3, p_primary_2, p_primary_1}
+use Rattle.c_grammar.specs.Words.{sign_add_assign, sign_ampersand, sign_and_assign, sign_arrow, sign_assign}
+use Rattle.c_grammar.specs.Words.{sign_bar, sign_both, sign_caret, sign_colon, sign_comma, sign_decrement}
+use Rattle.c_grammar.specs.Words.{sign_divide_assign, sign_dot, sign_either_or, sign_ellipsis, sign_equal}
+use Rattle.c_grammar.specs.Words.{sign_exclamation, sign_greater, sign_greater_equal, sign_increment}
+use Rattle.c_grammar.specs.Words.{sign_left_brace, sign_left_bracket, sign_left_parenthesis, sign_less}
+use Rattle.c_grammar.specs.Words.{sign_less_equal, sign_minus, sign_multiply_assign, sign_not_equal, sign_or_assign}
+use Rattle.c_grammar.specs.Words.{sign_percent, sign_plus, sign_question, sign_remainder_assign, sign_right_brace}
+use Rattle.c_grammar.specs.Words.{sign_right_bracket, sign_right_parenthesis, sign_semicolon, sign_shift_left}
+use Rattle.c_grammar.specs.Words.{sign_shift_left_assign, sign_shift_right, sign_shift_right_assign, sign_slash}
+use Rattle.c_grammar.specs.Words.{sign_star, sign_subtract_assign, sign_tilde, sign_xor_assign, word_alignas}
+use Rattle.c_grammar.specs.Words.{word_alignof, word_asm, word_auto, word_bool, word_break, word_case, word_char}
+use Rattle.c_grammar.specs.Words.{word_const, word_continue, word_default, word_do, word_double, word_else}
+use Rattle.c_grammar.specs.Words.{word_enum, word_extern, word_float, word_for, word_goto, word_if, word_inline}
+use Rattle.c_grammar.specs.Words.{word_int, word_long, word_noreturn, word_register, word_restrict, word_return}
+use Rattle.c_grammar.specs.Words.{word_short, word_signed, word_sizeof, word_static, word_static_assert}
+use Rattle.c_grammar.specs.Words.{word_struct, word_switch, word_typedef, word_union, word_unsigned, word_void}
+use Rattle.c_grammar.specs.Words.{word_volatile, word_while}
 
 -- the rows of the table, production by production
 unfoldable pub table : List (List Item)
@@ -20,9 +87,14 @@ table =
     -- 3 declaration
     (Choice p_assert p_declaration_names ∷ []) ∷
     -- 4 assert
-    (Token (Keyword word_static_assert) ∷ Token (Punctuator sign_left_parenthesis) ∷ Use p_conditional ∷ Token (Punctuator sign_comma) ∷ Token Text ∷ Repeat p_just_text ∷ Token (Punctuator sign_right_parenthesis) ∷ Token (Punctuator sign_semicolon) ∷ []) ∷
+    (Token (Keyword word_static_assert) ∷ Token (Punctuator sign_left_parenthesis) ∷ Use p_conditional
+    ∷ Token (Punctuator sign_comma) ∷ Token Text ∷ Repeat p_just_text
+    ∷ Token (Punctuator sign_right_parenthesis) ∷ Token (Punctuator sign_semicolon) ∷ [])
+    ∷
     -- 5 asm_name
-    (Token (Keyword word_asm) ∷ Token (Punctuator sign_left_parenthesis) ∷ Token Text ∷ Repeat p_just_text ∷ Token (Punctuator sign_right_parenthesis) ∷ []) ∷
+    (Token (Keyword word_asm) ∷ Token (Punctuator sign_left_parenthesis) ∷ Token Text ∷ Repeat p_just_text
+    ∷ Token (Punctuator sign_right_parenthesis) ∷ [])
+    ∷
     -- 6 specs
     (Repeat p_early ∷ Use p_type ∷ Repeat p_later ∷ []) ∷
     -- 7 storage
@@ -32,13 +104,17 @@ table =
     -- 9 qualifier
     (Choice p_just_const p_qualifier_1 ∷ []) ∷
     -- 10 align
-    (Token (Keyword word_alignas) ∷ Token (Punctuator sign_left_parenthesis) ∷ Choice p_type_name p_conditional ∷ Token (Punctuator sign_right_parenthesis) ∷ []) ∷
+    (Token (Keyword word_alignas) ∷ Token (Punctuator sign_left_parenthesis)
+    ∷ Choice p_type_name p_conditional ∷ Token (Punctuator sign_right_parenthesis) ∷ [])
+    ∷
     -- 11 type
     (Choice p_just_void p_type_1 ∷ []) ∷
     -- 12 struct
     (Choice p_just_struct p_just_union ∷ Choice p_struct_tag p_members ∷ []) ∷
     -- 13 members
-    (Token (Punctuator sign_left_brace) ∷ Use p_member ∷ Repeat p_member ∷ Token (Punctuator sign_right_brace) ∷ []) ∷
+    (Token (Punctuator sign_left_brace) ∷ Use p_member ∷ Repeat p_member
+    ∷ Token (Punctuator sign_right_brace) ∷ [])
+    ∷
     -- 14 member
     (Choice p_just_semicolon p_member_1 ∷ []) ∷
     -- 15 field
@@ -46,7 +122,9 @@ table =
     -- 16 enum
     (Token (Keyword word_enum) ∷ Choice p_enum_tag p_enumerators ∷ []) ∷
     -- 17 enumerators
-    (Token (Punctuator sign_left_brace) ∷ Use p_enumerator ∷ Repeat p_more_enumerators ∷ Choice p_just_comma p_nothing ∷ Token (Punctuator sign_right_brace) ∷ []) ∷
+    (Token (Punctuator sign_left_brace) ∷ Use p_enumerator ∷ Repeat p_more_enumerators
+    ∷ Choice p_just_comma p_nothing ∷ Token (Punctuator sign_right_brace) ∷ [])
+    ∷
     -- 18 enumerator
     (Token Identifier ∷ Choice p_enumerator_value p_nothing ∷ Scope 2 ∷ []) ∷
     -- 19 declarator
@@ -70,7 +148,9 @@ table =
     -- 28 designator
     (Choice p_member_designator p_index_designator ∷ []) ∷
     -- 29 block
-    (Scope 0 ∷ Token (Punctuator sign_left_brace) ∷ Repeat p_block_item ∷ Token (Punctuator sign_right_brace) ∷ Scope 1 ∷ []) ∷
+    (Scope 0 ∷ Token (Punctuator sign_left_brace) ∷ Repeat p_block_item
+    ∷ Token (Punctuator sign_right_brace) ∷ Scope 1 ∷ [])
+    ∷
     -- 30 statement
     (Choice p_label p_statement_1 ∷ []) ∷
     -- 31 expression
@@ -122,7 +202,9 @@ table =
     -- 54 initialised
     (Token (Punctuator sign_assign) ∷ Use p_init ∷ []) ∷
     -- 55 more_names
-    (Token (Punctuator sign_comma) ∷ Use p_declarator ∷ Scope 2 ∷ Choice p_asm_name p_nothing ∷ Choice p_initialised p_nothing ∷ []) ∷
+    (Token (Punctuator sign_comma) ∷ Use p_declarator ∷ Scope 2 ∷ Choice p_asm_name p_nothing
+    ∷ Choice p_initialised p_nothing ∷ [])
+    ∷
     -- 56 declaration_names
     (Use p_specs ∷ Choice p_just_semicolon p_declared_names ∷ []) ∷
     -- 57 declared_names
@@ -254,7 +336,9 @@ table =
     -- 120 either_1
     (Choice p_inner_either p_nothing ∷ []) ∷
     -- 121 array_suffix
-    (Token (Punctuator sign_left_bracket) ∷ Repeat p_array_word ∷ Choice p_any_length p_array_length ∷ Token (Punctuator sign_right_bracket) ∷ []) ∷
+    (Token (Punctuator sign_left_bracket) ∷ Repeat p_array_word ∷ Choice p_any_length p_array_length
+    ∷ Token (Punctuator sign_right_bracket) ∷ [])
+    ∷
     -- 122 array_word
     (Choice p_just_static p_qualifier ∷ []) ∷
     -- 123 any_length
@@ -262,7 +346,9 @@ table =
     -- 124 array_length
     (Choice p_assignment p_nothing ∷ []) ∷
     -- 125 list_suffix
-    (Token (Punctuator sign_left_parenthesis) ∷ Scope 0 ∷ Choice p_parameters p_nothing ∷ Scope 1 ∷ Token (Punctuator sign_right_parenthesis) ∷ []) ∷
+    (Token (Punctuator sign_left_parenthesis) ∷ Scope 0 ∷ Choice p_parameters p_nothing ∷ Scope 1
+    ∷ Token (Punctuator sign_right_parenthesis) ∷ [])
+    ∷
     -- 126 parameters
     (Use p_parameter ∷ Repeat p_more_parameters ∷ Choice p_further p_nothing ∷ []) ∷
     -- 127 more_parameters
@@ -298,17 +384,31 @@ table =
     -- 142 inner_statement
     (Scope 0 ∷ Use p_statement ∷ Scope 1 ∷ []) ∷
     -- 143 if_statement
-    (Scope 0 ∷ Token (Keyword word_if) ∷ Token (Punctuator sign_left_parenthesis) ∷ Use p_expression ∷ Token (Punctuator sign_right_parenthesis) ∷ Use p_inner_statement ∷ Choice p_else_part p_nothing ∷ Scope 1 ∷ []) ∷
+    (Scope 0 ∷ Token (Keyword word_if) ∷ Token (Punctuator sign_left_parenthesis) ∷ Use p_expression
+    ∷ Token (Punctuator sign_right_parenthesis) ∷ Use p_inner_statement ∷ Choice p_else_part p_nothing
+    ∷ Scope 1 ∷ [])
+    ∷
     -- 144 else_part
     (Token (Keyword word_else) ∷ Use p_inner_statement ∷ []) ∷
     -- 145 switch_statement
-    (Scope 0 ∷ Token (Keyword word_switch) ∷ Token (Punctuator sign_left_parenthesis) ∷ Use p_expression ∷ Token (Punctuator sign_right_parenthesis) ∷ Use p_inner_statement ∷ Scope 1 ∷ []) ∷
+    (Scope 0 ∷ Token (Keyword word_switch) ∷ Token (Punctuator sign_left_parenthesis) ∷ Use p_expression
+    ∷ Token (Punctuator sign_right_parenthesis) ∷ Use p_inner_statement ∷ Scope 1 ∷ [])
+    ∷
     -- 146 while_statement
-    (Scope 0 ∷ Token (Keyword word_while) ∷ Token (Punctuator sign_left_parenthesis) ∷ Use p_expression ∷ Token (Punctuator sign_right_parenthesis) ∷ Use p_inner_statement ∷ Scope 1 ∷ []) ∷
+    (Scope 0 ∷ Token (Keyword word_while) ∷ Token (Punctuator sign_left_parenthesis) ∷ Use p_expression
+    ∷ Token (Punctuator sign_right_parenthesis) ∷ Use p_inner_statement ∷ Scope 1 ∷ [])
+    ∷
     -- 147 do_statement
-    (Scope 0 ∷ Token (Keyword word_do) ∷ Use p_inner_statement ∷ Token (Keyword word_while) ∷ Token (Punctuator sign_left_parenthesis) ∷ Use p_expression ∷ Token (Punctuator sign_right_parenthesis) ∷ Token (Punctuator sign_semicolon) ∷ Scope 1 ∷ []) ∷
+    (Scope 0 ∷ Token (Keyword word_do) ∷ Use p_inner_statement ∷ Token (Keyword word_while)
+    ∷ Token (Punctuator sign_left_parenthesis) ∷ Use p_expression
+    ∷ Token (Punctuator sign_right_parenthesis) ∷ Token (Punctuator sign_semicolon) ∷ Scope 1 ∷ [])
+    ∷
     -- 148 for_statement
-    (Scope 0 ∷ Token (Keyword word_for) ∷ Token (Punctuator sign_left_parenthesis) ∷ Choice p_declaration p_expression_statement ∷ Choice p_expression p_nothing ∷ Token (Punctuator sign_semicolon) ∷ Choice p_expression p_nothing ∷ Token (Punctuator sign_right_parenthesis) ∷ Use p_inner_statement ∷ Scope 1 ∷ []) ∷
+    (Scope 0 ∷ Token (Keyword word_for) ∷ Token (Punctuator sign_left_parenthesis)
+    ∷ Choice p_declaration p_expression_statement ∷ Choice p_expression p_nothing
+    ∷ Token (Punctuator sign_semicolon) ∷ Choice p_expression p_nothing
+    ∷ Token (Punctuator sign_right_parenthesis) ∷ Use p_inner_statement ∷ Scope 1 ∷ [])
+    ∷
     -- 149 goto_statement
     (Token (Keyword word_goto) ∷ Token Identifier ∷ Token (Punctuator sign_semicolon) ∷ []) ∷
     -- 150 continue_statement
@@ -444,7 +544,10 @@ table =
     -- 215 more_multiplicative
     (Choice p_just_star p_op_multiplicative_1 ∷ Use p_cast ∷ []) ∷
     -- 216 typed_cast
-    (Token (Punctuator sign_left_parenthesis) ∷ Use p_type_name ∷ Token (Punctuator sign_right_parenthesis) ∷ Choice p_literal_rest p_cast ∷ []) ∷
+    (Token (Punctuator sign_left_parenthesis) ∷ Use p_type_name
+    ∷ Token (Punctuator sign_right_parenthesis)
+    ∷ Choice p_literal_rest p_cast ∷ [])
+    ∷
     -- 217 literal_rest
     (Token (Punctuator sign_left_brace) ∷ Use p_items ∷ Token (Punctuator sign_right_brace) ∷ Repeat p_post ∷ []) ∷
     -- 218 just_increment
@@ -474,9 +577,14 @@ table =
     -- 230 sized
     (Token (Keyword word_sizeof) ∷ Choice p_typed_size p_cast ∷ []) ∷
     -- 231 typed_size
-    (Token (Punctuator sign_left_parenthesis) ∷ Use p_type_name ∷ Token (Punctuator sign_right_parenthesis) ∷ Choice p_literal_rest p_nothing ∷ []) ∷
+    (Token (Punctuator sign_left_parenthesis) ∷ Use p_type_name
+    ∷ Token (Punctuator sign_right_parenthesis)
+    ∷ Choice p_literal_rest p_nothing ∷ [])
+    ∷
     -- 232 aligned
-    (Token (Keyword word_alignof) ∷ Token (Punctuator sign_left_parenthesis) ∷ Use p_type_name ∷ Token (Punctuator sign_right_parenthesis) ∷ []) ∷
+    (Token (Keyword word_alignof) ∷ Token (Punctuator sign_left_parenthesis) ∷ Use p_type_name
+    ∷ Token (Punctuator sign_right_parenthesis) ∷ [])
+    ∷
     -- 233 postfixed
     (Use p_primary ∷ Repeat p_post ∷ []) ∷
     -- 234 unary_2
@@ -486,7 +594,9 @@ table =
     -- 236 index
     (Token (Punctuator sign_left_bracket) ∷ Use p_expression ∷ Token (Punctuator sign_right_bracket) ∷ []) ∷
     -- 237 call
-    (Token (Punctuator sign_left_parenthesis) ∷ Choice p_arguments p_nothing ∷ Token (Punctuator sign_right_parenthesis) ∷ []) ∷
+    (Token (Punctuator sign_left_parenthesis) ∷ Choice p_arguments p_nothing
+    ∷ Token (Punctuator sign_right_parenthesis) ∷ [])
+    ∷
     -- 238 arguments
     (Use p_assignment ∷ Repeat p_more_expressions ∷ []) ∷
     -- 239 dot

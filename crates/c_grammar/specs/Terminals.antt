@@ -1,11 +1,14 @@
--- What the grammar sees of a token: a terminal. It is the token's kind; of an identifier also whether it is a typedef name or
--- a word with a meaning of its own, and of a literal whether it is one that is refused.
-use Rattle.std.specs.Prelude.{ℕ, ◌+◌, ◌==◌, Bool, true, false, ◌&&◌, ◌||◌, not, nat_le, Option, Some, None, List, [], ◌∷◌, codes, slice_get, slice_index_or, slice_range, take, drop, length, if◌then◌else◌}
+-- What the grammar sees of a token: a terminal. It is the token's kind; of an identifier also whether it is a
+-- typedef name or a word with a meaning of its own, and of a literal whether it is one that is refused.
+use Rattle.std.specs.Prelude.{ℕ, ◌+◌, ◌==◌, Bool, true, false, ◌&&◌, ◌||◌, not, nat_le, Option, Some, None, List}
+use Rattle.std.specs.Prelude.{[], ◌∷◌, codes, slice_get, slice_index_or, slice_range, take, drop, length}
+use Rattle.std.specs.Prelude.{if◌then◌else◌}
 use Rattle.std.specs.Option.{unwrap_or}
 use Rattle.std.specs.Str.{bytes_eq}
 use Rattle.c_lexer.specs.declared.Token.{Token}
 use Rattle.c_lexer.specs.declared.TokenKind.{TokenKind}
-use Rattle.c_lexer.specs.declared.TokenKind.TheVariants.{Identifier, Keyword, Punctuator, Integer, Floating, Character, Text, End}
+use Rattle.c_lexer.specs.declared.TokenKind.TheVariants.{Identifier, Keyword, Punctuator, Integer, Floating}
+use Rattle.c_lexer.specs.declared.TokenKind.TheVariants.{Character, Text, End}
 use Rattle.c_grammar.specs.Names.{Names, is_type}
 use Rattle.c_grammar.specs.Productions.{p_floating_name, p_typedef_name}
 
@@ -72,7 +75,8 @@ thread_word = 107
 
 -- the bytes of a token, or none where it is no part of the text
 abbrev pub bytes_between : List ℕ → ℕ → ℕ → List ℕ
-bytes_between text start end = if nat_le start end && nat_le end (length text) then slice_range text start end else []
+bytes_between text start end =
+    if nat_le start end && nat_le end (length text) then slice_range text start end else []
 
 abbrev pub spelled : List ℕ → Token → List ℕ
 spelled text t = bytes_between text t.start t.end
@@ -103,14 +107,16 @@ is_builtin name = bytes_eq (take 10 name) (codes "__builtin_")
 unfoldable pub name_terminal : Names → List ℕ → ℕ
 name_terminal names name =
     unwrap_or (own_meaning own_words name)
-    (if is_builtin name then (if is_type names name then builtin_type else builtin_name) else (if is_type names name then type_name else plain_name))
+    (if is_builtin name then (if is_type names name then builtin_type else builtin_name)
+    else (if is_type names name then type_name else plain_name))
 
 abbrev pub byte_at : List ℕ → ℕ → ℕ
 byte_at text at = slice_index_or text at 0
 
 -- a literal is wide where it begins with L, U or u (C11 6.4.4.4, 6.4.5), but u8 makes a plain string
 unfoldable pub is_wide : List ℕ → Bool
-is_wide text = (byte_at text 0 == 76) || (byte_at text 0 == 85) || ((byte_at text 0 == 117) && not (byte_at text 1 == 56))
+is_wide text =
+    (byte_at text 0 == 76) || (byte_at text 0 == 85) || ((byte_at text 0 == 117) && not (byte_at text 1 == 56))
 
 abbrev pub is_octal : ℕ → Bool
 is_octal c = nat_le 48 c && nat_le c 55
@@ -123,8 +129,8 @@ abbrev pub leading : (ℕ → Bool) → List ℕ → ℕ
 leading test [] = 0
 leading test (c ∷ cs) = if test c then 1 + leading test cs else 0
 
--- how many bytes the first character within quotes has: one, or those of an escape, which is a backslash with up to three
--- octal digits, with x and all hexadecimal digits that follow, or with one byte (C11 6.4.4.4)
+-- how many bytes the first character within quotes has: one, or those of an escape, which is a backslash with up to
+-- three octal digits, with x and all hexadecimal digits that follow, or with one byte (C11 6.4.4.4)
 unfoldable pub character_length : List ℕ → ℕ
 character_length text =
     if not (byte_at text 0 == 92) then 1
@@ -143,7 +149,8 @@ terminal_of_kind (Keyword k) names bytes = k
 terminal_of_kind (Punctuator p) names bytes = sign p
 terminal_of_kind Integer names bytes = integer
 terminal_of_kind Floating names bytes = floating
-terminal_of_kind Character names bytes = if is_wide bytes then wide_literal else if has_one_character bytes then character else long_character
+terminal_of_kind Character names bytes =
+    if is_wide bytes then wide_literal else if has_one_character bytes then character else long_character
 terminal_of_kind Text names bytes = if is_wide bytes then wide_literal else string
 terminal_of_kind End names bytes = unit_end
 
@@ -155,8 +162,8 @@ terminal_of text names (Some t) = terminal_of_kind t.kind names (spelled text t)
 unfoldable pub terminal : List ℕ → List Token → Names → ℕ → ℕ
 terminal text tokens names place = terminal_of text names (slice_get tokens place)
 
--- the terminals that an item takes. An identifier is any name but a floating type's, which is a type word and nothing else;
--- the two rows for names that are types take these alone.
+-- the terminals that an item takes. An identifier is any name but a floating type's, which is a type word and
+-- nothing else; the two rows for names that are types take these alone.
 abbrev pub identifiers : ℕ → List ℕ
 identifiers production =
     elim (production == p_floating_name) [

@@ -6,10 +6,10 @@ use Rattle.c_inits.specs.Syntax.{Init, Items}
 use Rattle.c_inits.specs.Initial.{NoPlace}
 use Rattle.c_inits.specs.Tables.{shape_in}
 use Rattle.c_inits.specs.View.{Source, AnInit, AList, init_part, list_part, init_at as init_seen, items_at as items_seen}
-use Rattle.c_braces.specs.declared.tree.InitNode.{InitNode}
-use Rattle.c_braces.specs.declared.items.Initialised.{Initialised}
-use Rattle.c_braces.specs.Tree.{AreInits}
-use Rattle.c_braces.specs.Initialised.{IsGiven, outcome_for}
+use Rattle.c_initialise.specs.declared.c_braces.tree.InitNode.{InitNode}
+use Rattle.c_initialise.specs.declared.c_braces.items.Initialised.{Initialised}
+use Rattle.c_initialise.specs.c_braces.Tree.{AreInits}
+use Rattle.c_initialise.specs.c_braces.Initialised.{IsGiven, outcome_for}
 use Rattle.c_initialise.specs.Read.{part_at, Answers}
 
 pub no_inits : (table : Table) (list : List InitNode) → list ≡ [] → AreInits table list

@@ -10,11 +10,11 @@ use Rattle.c_inits.specs.declared.designators.Designator.{Designator as Designat
 use Rattle.c_inits.specs.Syntax.{Designator, Init, Items, Item, NoItems, Value, Braces}
 use Rattle.c_inits.specs.Designated.{designator_of}
 use Rattle.c_inits.specs.View.{Source, SyntaxPart, AnInit, AList, AnItem, ADesignator, all_designators, with_designator, all_items, with_item, braced_or_value, index_or_name, list_part, init_part}
-use Rattle.c_braces.specs.declared.tree.InitNode.{InitNode}
-use Rattle.c_braces.specs.declared.tree.InitEntry.{InitEntry}
-use Rattle.c_braces.specs.Tree.{init_at, items_over, ItemsBefore, Grows}
-use Rattle.c_braces.proofs.Inits.{all_at}
-use Rattle.c_braces.proofs.Grown.{kept_in, longer}
+use Rattle.c_initialise.specs.declared.c_braces.tree.InitNode.{InitNode}
+use Rattle.c_initialise.specs.declared.c_braces.tree.InitEntry.{InitEntry}
+use Rattle.c_initialise.specs.c_braces.Tree.{init_at, items_over, ItemsBefore, Grows}
+use Rattle.c_initialise.proofs.c_braces.Inits.{all_at}
+use Rattle.c_initialise.proofs.c_braces.Grown.{kept_in, longer}
 use Rattle.c_initialise.specs.Nodes.{is_before, first_such}
 use Rattle.c_initialise.specs.Read.{before, IsItem}
 use Rattle.c_initialise.proofs.Viewed.{whole, produced, kids, is_ahead, no_item, no_designator, item_is, init_is, list_is, designator_is, first_list_is, first_init_is, such_is, is_lower, part_in}

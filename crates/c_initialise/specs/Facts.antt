@@ -26,7 +26,8 @@ no_world = record {
 
 -- what the definitions see, over the senses of what was made
 abbrev pub told : Source → view.Source
-told source = seen no_world (source_read source.syntax.now) (sense_in (senses_made source.unit.now source.results.now))
+told source =
+    seen no_world (source_read source.syntax.now) (sense_in (senses_made source.unit.now source.results.now))
 
 -- the value of an index; a negative one is past every array
 abbrev pub index_told : ℤ → ℕ

@@ -1,5 +1,6 @@
 -- The nodes of a tree's list.
-use Rattle.std.specs.Prelude.{ℕ, Bool, ◌&&◌, eqb, nat_lt, List, [], ◌∷◌, Option, Some, None, slice_get, if◌then◌else◌}
+use Rattle.std.specs.Prelude.{ℕ, Bool, ◌&&◌, eqb, nat_lt, List, [], ◌∷◌, Option, Some, None, slice_get}
+use Rattle.std.specs.Prelude.{if◌then◌else◌}
 use Rattle.c_grammar.specs.declared.trees.SyntaxNode.{SyntaxNode}
 pub use Rattle.c_senses.specs.Tree.{production_of, children_of}
 

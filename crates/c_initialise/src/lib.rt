@@ -3,7 +3,10 @@
 //! what they give an object (`whole`).
 #![tactic(auto)]
 
+pub mod c_braces;
 pub mod facts;
+pub mod initial_paths;
 mod nodes;
+pub mod placed_paths;
 pub mod reading;
 pub mod whole;

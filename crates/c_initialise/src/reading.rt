@@ -4,15 +4,15 @@ ghost use Rattle.std.specs.Prelude.{◌≡◌, ◌<◌, ◌++◌, ◌∷◌, [],
 ghost use Rattle.c_grammar.specs.Productions.{p_init, p_items, p_item};
 ghost use Rattle.c_inits.specs.View.{AnInit, AList, all_designators};
 ghost use Rattle.c_inits.specs.Designated.{designator_of};
-ghost use Rattle.c_braces.specs.Tree.{AreInits, ItemsBefore, Grows, init_at, items_over};
+ghost use Rattle.c_initialise.specs.c_braces.Tree.{AreInits, ItemsBefore, Grows, init_at, items_over};
 ghost use Rattle.c_initialise.specs.Facts.{AreKnown, told};
 ghost use Rattle.c_initialise.specs.Nodes.{production_of, children_of};
 ghost use Rattle.c_initialise.specs.Read.{part_at, before, IsItem};
 
+use crate::c_braces::growing::{push_braces, push_value};
+use crate::c_braces::tree::{InitEntry, InitNode};
 use crate::facts::{Source, designator_at, expression_at};
 use crate::nodes::{child_before, is_child};
-use c_braces::growing::{push_braces, push_value};
-use c_braces::tree::{InitEntry, InitNode};
 use c_grammar::productions::{DESIGNATOR, INIT, ITEM, ITEMS};
 use c_inits::designators::Designator;
 use c_types::term::OutOfMemory;

@@ -8,11 +8,11 @@ ghost use Rattle.c_initialise.specs.Facts.{AreKnown, told};
 ghost use Rattle.c_initialise.specs.Nodes.{production_of};
 ghost use Rattle.c_initialise.specs.Read.{Answers};
 
+use crate::c_braces::growing::push_braces;
+use crate::c_braces::items::{Initialised, initialise};
+use crate::c_braces::lists::Walk;
 use crate::facts::Source;
 use crate::reading::{read_init, read_items};
-use c_braces::growing::push_braces;
-use c_braces::items::{Initialised, initialise};
-use c_braces::lists::Walk;
 use c_types::term::{OutOfMemory, TypeId};
 use std::alloc::Global;
 

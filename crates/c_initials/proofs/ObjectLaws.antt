@@ -17,8 +17,8 @@ use Rattle.c_senses.specs.Initialised.{paths_of, placed_cores, initialise_core, 
 use Rattle.c_senses.specs.Entities.{with_length}
 use Rattle.c_senses.specs.Limits.{lacks_a_length}
 use Rattle.c_inits.specs.Tables.{lacks_length}
-use Rattle.c_braces.specs.declared.items.Initialised.{Initialised}
-use Rattle.c_braces.specs.Initialised.{IsGiven}
+use Rattle.c_initialise.specs.declared.c_braces.items.Initialised.{Initialised}
+use Rattle.c_initialise.specs.c_braces.Initialised.{IsGiven}
 use Rattle.core_nodes.specs.Standing.{core_at, Made as CoreMade}
 use Rattle.core_nodes.specs.declared.fault.CheckFault.{CheckFault}
 use Rattle.core_nodes.specs.declared.fault.CheckFault.TheVariants.{BadOperand, Unsupported, OutOfMemory}

@@ -22,7 +22,7 @@ use Rattle.core_nodes.specs.declared.fault.CheckFault.{CheckFault}
 use Rattle.core_nodes.specs.declared.fault.CheckFault.TheVariants.{BadOperand, Unsupported, OutOfMemory}
 use Rattle.core_nodes.proofs.Growing.{knows_on}
 use Rattle.c_conversions.specs.Constants.{HasRows, HaveRows}
-use Rattle.constant_values.specs.Constants.{ConstantMade, SenseHasRows, HasConstants}
+use Rattle.c_conversions.specs.constant_values.Constants.{ConstantMade, SenseHasRows, HasConstants}
 use Rattle.c_results.specs.declared.made.Made.{Made as MadeNode}
 use Rattle.c_results.specs.Standing.{IsWithin, Rowed}
 use Rattle.c_results.proofs.Keeping.{made_kept}

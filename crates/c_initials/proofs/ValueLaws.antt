@@ -22,10 +22,10 @@ use Rattle.core_nodes.proofs.Growing.{knows_on}
 use Rattle.core_nodes.proofs.Failing.{follows, fits_core}
 use Rattle.c_conversions.specs.Constants.{HasRows}
 use Rattle.sense_laws.specs.Sound.{Gives}
-use Rattle.row_trees.specs.Trees.{RowsValue, RowsOf}
-use Rattle.row_trees.proofs.Conversions.{value_rows, conversion_rows}
-use Rattle.constant_values.specs.Constants.{HasConstants}
-use Rattle.constant_values.proofs.Valuing.{rows_read}
+use Rattle.sense_laws.specs.row_trees.Trees.{RowsValue, RowsOf}
+use Rattle.sense_laws.proofs.row_trees.Conversions.{value_rows, conversion_rows}
+use Rattle.c_conversions.specs.constant_values.Constants.{HasConstants}
+use Rattle.c_conversions.proofs.constant_values.Valuing.{rows_read}
 use Rattle.c_results.specs.declared.made.Made.{Made as MadeNode}
 use Rattle.c_results.specs.Standing.{senses_made}
 use Rattle.c_results.specs.Parts.{NodeSeen, core_in}

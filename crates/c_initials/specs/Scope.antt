@@ -12,7 +12,8 @@ use Rattle.c_senses.specs.Sense.{Sense}
 use Rattle.c_senses.specs.Given.{Given, Fits, Refuses, ◌>>=◌, given_some}
 use Rattle.c_senses.specs.Conversions.{value_of, conversion}
 use Rattle.c_senses.specs.Entities.{declares_function}
-use Rattle.c_senses.specs.Initialised.{type_along, expression_of, expression_core, character_core, placed_core, placed_cores, initialise_core, Made}
+use Rattle.c_senses.specs.Initialised.{type_along, expression_of, expression_core, character_core, placed_core}
+use Rattle.c_senses.specs.Initialised.{placed_cores, initialise_core, Made}
 use Rattle.core_nodes.specs.Standing.{core_at, cores_at, Knows}
 use Rattle.core_nodes.specs.declared.fault.CheckFault.{CheckFault}
 use Rattle.core_nodes.specs.declared.fault.CheckFault.TheVariants.{BadOperand, Unsupported, OutOfMemory}
@@ -47,15 +48,23 @@ value_as w at c t = value_of w at c >>= (λ v. conversion w false at v t)
 module _ (w : World) (s : Source) (sense : ℕ → Sense) where
   -- an item's value, before it is asked whether it is fixed
   abbrev pub item_value : Placed → Ctype → Given Core
-  item_value p t = elim p.character [ None ↦ expression_core w s sense p.node t | Some k ↦ character_core w s sense (expression_of w s sense p.node) t k ]
+  item_value p t =
+      elim p.character [
+        | None ↦ expression_core w s sense p.node t
+        | Some k ↦ character_core w s sense
+            (expression_of w s sense p.node) t k
+      ]
 
   -- an item's value in an object of a type
   abbrev pub item_given : Bool → Ctype → Placed → Given Core
-  item_given static t p = given_some (type_along w (Some t) p.path) Operand p.node >>= placed_core w s sense static p
+  item_given static t p =
+      given_some (type_along w (Some t) p.path) Operand p.node >>= placed_core w s sense static p
 
   -- the node that initialises an object of a type by items
   abbrev pub initialised : Bool → ℕ → Place → Ctype → List Placed → Given Core
-  initialised static entity place t items = placed_cores w s sense static t items >>= (λ values. Fits (initialise_core w s sense entity place items values))
+  initialised static entity place t items =
+      placed_cores w s sense static t items >>=
+      (λ values. Fits (initialise_core w s sense entity place items values))
 
   -- what a call answers of an initialised object: its node, with the length that is given
   abbrev pub ObjectMade : Unit → Result ℕ CheckFault → Option ℕ → Given (Made w s sense) → Type 0

@@ -3,10 +3,10 @@ ghost use Rattle.std.specs.Prelude.{◌≡◌, ◌<◌, ℕ, length, IfSome, Som
 ghost use Rattle.c_types.specs.Table.{type_of};
 ghost use Rattle.c_senses.specs.World.{World};
 ghost use Rattle.c_senses.specs.Initialised as spec;
-ghost use Rattle.c_members.specs.Worlds.{IsWorldOf};
+ghost use Rattle.c_operators.specs.c_members.Worlds.{IsWorldOf};
 ghost use Rattle.c_initials.specs.Along.{type_in};
 
-use c_members::member_of;
+use c_operators::c_members::member_of;
 use c_types::table::TypeTable;
 use c_types::term::{PathStep, Term, TypeId};
 

@@ -8,7 +8,7 @@ ghost use Rattle.c_senses.specs.Sense.{sense_in};
 ghost use Rattle.c_senses.specs.Initialised as spec;
 ghost use Rattle.core_nodes.specs.Standing.{core_at, cores_at, IsReady, Builds, Made as CoreMade, Knows};
 ghost use Rattle.c_conversions.specs.Constants.{HasRows, HaveRows};
-ghost use Rattle.constant_values.specs.Constants.{HasConstants};
+ghost use Rattle.c_conversions.specs.constant_values.Constants.{HasConstants};
 ghost use Rattle.c_results.specs.Standing.{senses_made, IsWithin};
 ghost use Rattle.tree_reads.specs.Sources.{source_read};
 ghost use Rattle.c_initials.specs.Fixed.{is_firm as is_firm_base};

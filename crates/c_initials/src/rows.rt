@@ -4,12 +4,12 @@ ghost use Rattle.c_senses.specs.World.{World};
 ghost use Rattle.c_senses.specs.Sense.{sense_in};
 ghost use Rattle.c_senses.specs.Initialised as spec;
 ghost use Rattle.core_nodes.specs.Standing.{IsReady, Knows};
-ghost use Rattle.constant_values.specs.Constants.{HasConstants};
+ghost use Rattle.c_conversions.specs.constant_values.Constants.{HasConstants};
 ghost use Rattle.c_results.specs.Standing.{senses_made, IsWithin, Rowed};
 ghost use Rattle.tree_reads.specs.Sources.{source_in};
 
+use c_conversions::constant_values::constant_in;
 use c_results::{Made, Number, Results};
-use constant_values::constant_in;
 use core_nodes::CheckFault;
 use core_tree::node::Unit;
 use tree_reads::{Syntax, child_of, has_sign};

@@ -12,7 +12,7 @@ ghost use Rattle.c_senses.specs.Sense.{Sense, IsCore, sense_in};
 ghost use Rattle.c_senses.specs.Initialised as spec;
 ghost use Rattle.core_nodes.specs.Standing.{core_at, IsReady, Builds, Made as CoreMade, Knows};
 ghost use Rattle.c_conversions.specs.Constants.{HasRows};
-ghost use Rattle.constant_values.specs.Constants.{HasConstants};
+ghost use Rattle.c_conversions.specs.constant_values.Constants.{HasConstants};
 ghost use Rattle.c_results.specs.Standing.{senses_made, IsWithin};
 ghost use Rattle.c_results.specs.Parts.{NodeSeen, core_in};
 ghost use Rattle.tree_reads.specs.Sources.{source_read};

@@ -16,7 +16,8 @@ pub record IsPart (table : Table) (limit : ℕ) (part : Option Part) (step : Pat
   pub known : id < length table.terms
   pub shaped : HasShape table limit id
 
--- each frame's owner has the shape that stands at the path of the frames before it, and the frame's step is a step of it
+-- each frame's owner has the shape that stands at the path of the frames before it, and the frame's step is a step
+-- of it
 pub record IsFrame (table : Table) (limit : ℕ) (root : Shape) (before : Path) (f : Frame) : Type 0 where
   pub known : f.owner.0 < length table.terms
   pub shaped : HasShape table limit f.owner.0
@@ -25,7 +26,9 @@ pub record IsFrame (table : Table) (limit : ℕ) (root : Shape) (before : Path) 
   pub within : shape_at (type_shape table limit f.owner.0) (f.step ∷ []) ≡ Some part
 
 pub record Stands (table : Table) (limit : ℕ) (root : Shape) (frames : List Frame) : Type 0 where
-  pub each : (i : ℕ) (f : Frame) → slice_get frames i ≡ Some f → IsFrame table limit root (path_of (take i frames)) f
+  pub each : (i : ℕ) (f : Frame)
+      → slice_get frames i ≡ Some f
+      → IsFrame table limit root (path_of (take i frames)) f
 
 -- the shape at the place is that of the type
 pub record IsAt (table : Table) (limit : ℕ) (root : Shape) (path : Path) (id : ℕ) : Type 0 where

@@ -12,7 +12,8 @@ use Rattle.c_inits.specs.Parts.{shape_in, shape_at}
 use Rattle.c_inits.specs.Tables.{HasShape, type_shape}
 
 -- that sub-object is the member in some position among the fields, with the type there
-pub record IsStep (table : Table) (limit : ℕ) (fields : Fields) (place : Option SubObject) (step : PathStep) (id : ℕ) : Type 0 where
+pub record IsStep (table : Table) (limit : ℕ) (fields : Fields) (place : Option SubObject) (step : PathStep)
+    (id : ℕ) : Type 0 where
   pub is : place ≡ Some (record { path = step ∷ []; shape = type_shape table limit id })
   pub position : ℕ
   pub member : step ≡ Member position
@@ -22,13 +23,15 @@ pub record IsStep (table : Table) (limit : ℕ) (fields : Fields) (place : Optio
 
 -- that is the type of the element of that index
 pub record IsElement (table : Table) (limit id index next : ℕ) : Type 0 where
-  pub is : element (type_shape table limit id) index ≡ Some (record { path = Index index ∷ []; shape = type_shape table limit next })
+  pub is : element (type_shape table limit id) index
+      ≡ Some (record { path = Index index ∷ []; shape = type_shape table limit next })
   pub within : shape_at (type_shape table limit id) (Index index ∷ []) ≡ Some (type_shape table limit next)
   pub known : next < length table.terms
   pub shaped : HasShape table limit next
 
 -- one path is another, and then the way to that sub-object, with the type there
-pub record LeadsTo (table : Table) (limit : ℕ) (place : Option SubObject) (before path : Path) (id : ℕ) : Type 0 where
+pub record LeadsTo (table : Table) (limit : ℕ) (place : Option SubObject) (before path : Path)
+    (id : ℕ) : Type 0 where
   pub way : Path
   pub is : place ≡ Some (record { path = way; shape = type_shape table limit id })
   pub along : path ≡ before ++ way

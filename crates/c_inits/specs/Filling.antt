@@ -5,7 +5,8 @@ use Rattle.c_inits.specs.Initial.{Outcome, Places, NoPlace, Action, Puts, acts_u
 
 -- the outcome's actions were put behind the others, at that path; or the node that has no place was given
 abbrev pub Gives : Outcome → Path → List Action → List Action → Option ℕ → Type 0
-Gives outcome path old new None = (actions : List Action) × (outcome ≡ Places actions) × (new ≡ old ++ map (acts_under path) actions)
+Gives outcome path old new None =
+    (actions : List Action) × (outcome ≡ Places actions) × (new ≡ old ++ map (acts_under path) actions)
 Gives outcome path old new (Some bad) = outcome ≡ NoPlace bad
 
 -- an expression for the whole of an object

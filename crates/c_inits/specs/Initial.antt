@@ -1,10 +1,13 @@
 -- What an initialiser initialises, in order.
-use Rattle.std.specs.Prelude.{ℕ, zero, suc, ◌&&◌, min, max, cond, eqb, nat_lt, Bool, true, false, List, [], ◌∷◌, ◌++◌, Option, Some, None, map}
+use Rattle.std.specs.Prelude.{ℕ, zero, suc, ◌&&◌, min, max, cond, eqb, nat_lt, Bool, true, false, List, [], ◌∷◌}
+use Rattle.std.specs.Prelude.{◌++◌, Option, Some, None, map}
 use Rattle.c_types.specs.Trees.{Ctype, IntegerType, ArrayOf, StructureOf, UnionOf}
 use Rattle.c_types.specs.declared.term.PathStep.{PathStep}
 use Rattle.c_types.specs.declared.term.PathStep.TheVariants.{Index, Member}
-use Rattle.c_inits.specs.Shapes.{Shape, Fields, Scalar, Elements, Structured, Overlaid, NoFields, Field, Path, SubObject, whole, inner, from, behind}
-use Rattle.c_inits.specs.Syntax.{Designator, AtIndex, AtName, Init, Items, Value, Braces, NoItems, Item, designator_node, init_node}
+use Rattle.c_inits.specs.Shapes.{Shape, Fields, Scalar, Elements, Structured, Overlaid, NoFields, Field, Path}
+use Rattle.c_inits.specs.Shapes.{SubObject, whole, inner, from, behind}
+use Rattle.c_inits.specs.Syntax.{Designator, AtIndex, AtName, Init, Items, Value, Braces, NoItems, Item}
+use Rattle.c_inits.specs.Syntax.{designator_node, init_node}
 
 -- a path of the object with the initialiser that gives its value; of a string, the position of a character
 pub record Placed : Type 0 where
@@ -41,7 +44,8 @@ abbrev pub moved : Path → Option SubObject → Option SubObject
 moved path None = None
 moved path (Some s) = Some (record s { path = path ++ s.path })
 
--- the member of that name: among a list's own names first, then in its unnamed members, each one whole before the next
+-- the member of that name: among a list's own names first, then in its unnamed members, each one whole before the
+-- next
 abbrev mutual
   pub named : Shape → List ℕ → Option SubObject
   named (Structured type fields) name = or_else (own fields name) (in_unnamed fields name)
@@ -50,15 +54,18 @@ abbrev mutual
 
   pub own : Fields → List ℕ → Option SubObject
   own NoFields name = None
-  own (Field called number shape rest) name = cond (has_name called name) (Some (record { path = Member number ∷ []; shape = shape })) (own rest name)
+  own (Field called number shape rest) name =
+      cond (has_name called name) (Some (record { path = Member number ∷ []; shape = shape })) (own rest name)
 
   pub in_unnamed : Fields → List ℕ → Option SubObject
   in_unnamed NoFields name = None
-  in_unnamed (Field None number shape rest) name = or_else (moved (Member number ∷ []) (named shape name)) (in_unnamed rest name)
+  in_unnamed (Field None number shape rest) name =
+      or_else (moved (Member number ∷ []) (named shape name)) (in_unnamed rest name)
   in_unnamed (Field (Some called) number shape rest) name = in_unnamed rest name
 
 abbrev pub element : Shape → ℕ → Option SubObject
-element (Elements type of length) k = cond (nat_lt k length) (Some (record { path = Index k ∷ []; shape = of })) None
+element (Elements type of length) k =
+    cond (nat_lt k length) (Some (record { path = Index k ∷ []; shape = of })) None
 element _ k = None
 
 abbrev pub designated : Shape → Designator → Option SubObject
@@ -143,11 +150,13 @@ text_size _ = 0
 
 abbrev pub characters : ℕ → ℕ → ℕ → List Action
 characters node k zero = []
-characters node k (suc more) = Puts (record { path = Index k ∷ []; node = node; character = Some k }) ∷ characters node (suc k) more
+characters node k (suc more) =
+    Puts (record { path = Index k ∷ []; node = node; character = Some k }) ∷ characters node (suc k) more
 
 -- a string may lack room for its closing zero alone
 abbrev pub filled : ℕ → ℕ → ℕ → Outcome
-filled node size length = cond (nat_lt (suc length) size) (NoPlace node) (Places (characters node 0 (min size length)))
+filled node size length =
+    cond (nat_lt (suc length) size) (NoPlace node) (Places (characters node 0 (min size length)))
 
 -- what an expression gives to an object that it fits
 abbrev pub given : Shape → ℕ → Ctype → Outcome
@@ -195,7 +204,8 @@ is_braced _ = false
 -- a string in braces fills an array of characters as without them
 abbrev pub or_text : Shape → Option (ℕ × Ctype) → Outcome → Outcome
 or_text t None list = list
-or_text t (Some value) list = cond (fits value.1 true t && (cond (is_scalar t) false true)) (of_value t value.0 value.1 true) list
+or_text t (Some value) list =
+    cond (fits value.1 true t && (cond (is_scalar t) false true)) (of_value t value.0 value.1 true) list
 
 -- what an initialiser initialises of an object; a scalar's braces hold an expression
 abbrev mutual
@@ -207,7 +217,9 @@ abbrev mutual
   pub listed : Shape → Option Path → Items → Outcome
   listed t before NoItems = Places []
   listed t before (Item designators init rest) =
-      at_start (starts t before designators) init (λ s. cond (is_scalar t && is_braced init) (NoPlace (init_node init)) (initial s init)) (λ path. listed t (Some path) rest)
+      at_start (starts t before designators) init
+      (λ s. cond (is_scalar t && is_braced init) (NoPlace (init_node init)) (initial s init))
+      (λ path. listed t (Some path) rest)
 
 -- replacement and length
 

@@ -12,12 +12,19 @@ GoesDown =
 
 -- where it has none, what is behind it follows
 abbrev pub GoesOver : Type 0
-GoesOver = (t : Shape) (path : Path) (s : Shape) → shape_at t path ≡ Some s → first_part s ≡ None → from t path ≡ record { path = path; shape = s } ∷ behind t path
+GoesOver =
+    (t : Shape) (path : Path) (s : Shape)
+    → shape_at t path ≡ Some s
+    → first_part s ≡ None
+    → from t path ≡ record { path = path; shape = s } ∷ behind t path
 
 -- behind another part is the next one, with what is behind that
 abbrev pub GoesAcross : Type 0
 GoesAcross =
-    (t : Shape) (path : Path) (step : PathStep) (s : Shape) (p : Part) → shape_at t path ≡ Some s → DistinctIn s → next_part s step ≡ Some p
+    (t : Shape) (path : Path) (step : PathStep) (s : Shape) (p : Part)
+    → shape_at t path ≡ Some s
+    → DistinctIn s
+    → next_part s step ≡ Some p
     → behind t (path ++ step ∷ []) ≡ from t (path ++ p.step ∷ [])
 
 -- behind the last part is what is behind the whole

@@ -12,3 +12,4 @@ pub mod Items
 pub mod Designated
 pub mod Places
 pub mod Filling
+pub mod passed

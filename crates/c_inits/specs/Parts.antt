@@ -39,7 +39,8 @@ next_field (Field name number shape rest) m = cond (eqb number m) (first_field r
 
 -- the part behind another, in order
 abbrev pub next_part : Shape → PathStep → Option Part
-next_part (Elements type of length) (Index k) = cond (nat_lt (suc k) length) (Some (record { step = Index (suc k); shape = of })) None
+next_part (Elements type of length) (Index k) =
+    cond (nat_lt (suc k) length) (Some (record { step = Index (suc k); shape = of })) None
 next_part (Structured type list) (Member m) = next_field list m
 next_part _ _ = None
 

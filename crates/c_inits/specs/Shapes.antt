@@ -38,7 +38,8 @@ elements k (suc more) of = within (Index k) of ++ elements (suc k) more of
 abbrev pub whole : Shape → SubObject
 whole t = record { path = []; shape = t }
 
--- the sub-objects of an object in order: those of elements by rising index, of members as declared, of a union's first member
+-- the sub-objects of an object in order: those of elements by rising index, of members as declared, of a union's
+-- first member
 abbrev mutual
   pub inner : Shape → List SubObject
   inner (Scalar type) = []
@@ -62,7 +63,8 @@ subs t = whole t ∷ inner t
 abbrev mutual
   pub onward : (start : Shape → List SubObject) (t : Shape) (path : Path) → List SubObject
   onward start t [] = start t
-  onward start (Elements type of length) (Index k ∷ path) = within (Index k) (onward start of path) ++ elements (suc k) (length - suc k) (subs of)
+  onward start (Elements type of length) (Index k ∷ path) =
+      within (Index k) (onward start of path) ++ elements (suc k) (length - suc k) (subs of)
   onward start (Structured type fields) (Member m ∷ path) = onward_in start fields m path
   onward start (Overlaid type fields) (Member m ∷ path) = onward_at start fields m path
   onward start _ _ = []
@@ -70,7 +72,8 @@ abbrev mutual
   pub onward_in : (start : Shape → List SubObject) (fields : Fields) (m : ℕ) (path : Path) → List SubObject
   onward_in start NoFields m path = []
   onward_in start (Field name number shape rest) m path =
-      cond (eqb number m) (within (Member number) (onward start shape path) ++ members rest) (onward_in start rest m path)
+      cond (eqb number m) (within (Member number) (onward start shape path) ++ members rest)
+      (onward_in start rest m path)
 
   pub onward_at : (start : Shape → List SubObject) (fields : Fields) (m : ℕ) (path : Path) → List SubObject
   onward_at start NoFields m path = []

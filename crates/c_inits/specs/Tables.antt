@@ -1,10 +1,12 @@
 -- The shapes of a table's types.
-use Rattle.std.specs.Prelude.{ℕ, ◌≡◌, ◌<◌, Bool, true, false, List, [], map, drop, length, slice_get, Option, Some, None, IsSome, option_map, if◌then◌else◌}
+use Rattle.std.specs.Prelude.{ℕ, ◌≡◌, ◌<◌, Bool, true, false, List, [], map, drop, length, slice_get, Option, Some}
+use Rattle.std.specs.Prelude.{None, IsSome, option_map, if◌then◌else◌}
 use Rattle.c_types.specs.declared.term.MemberTerm.{MemberTerm}
 use Rattle.c_types.specs.Trees.{Ctype, VoidType, ArrayOf, StructureOf, UnionOf}
 use Rattle.c_types.specs.Table.{Table, TagMembers, type_of, members_in}
 use Rattle.c_inits.specs.Shapes.{Shape, Fields, Scalar, NoFields, Field}
-use Rattle.c_inits.specs.Made.{Part, TagParts, Look, looked_up, laid_out, shape_of, shape_for, with_field, fields_of}
+use Rattle.c_inits.specs.Made.{Part, TagParts, Look, looked_up, laid_out, shape_of, shape_for, with_field}
+use Rattle.c_inits.specs.Made.{fields_of}
 
 -- a member with its type
 abbrev pub part_with : MemberTerm → Ctype → Part
@@ -57,7 +59,9 @@ IsMemberType look t = IsSome (shape_of look t)
 -- members that are complete, but for arrays without a length
 pub record AreComplete (table : Table) (members : List MemberTerm) : Type 0 where
   pub known : (k : ℕ) (m : MemberTerm) → slice_get members k ≡ Some m → m.ty.0 < length table.terms
-  pub each : (k : ℕ) (m : MemberTerm) → slice_get members k ≡ Some m → IsMemberType (fillable table) (type_of table m.ty.0)
+  pub each : (k : ℕ) (m : MemberTerm)
+      → slice_get members k ≡ Some m
+      → IsMemberType (fillable table) (type_of table m.ty.0)
 
 -- an array without a length
 abbrev pub lacks_length : Ctype → Bool

@@ -5,7 +5,8 @@ use Rattle.c_grammar.specs.declared.trees.SyntaxNode.{SyntaxNode}
 use Rattle.c_grammar.specs.Productions.{p_init, p_items, p_item, p_designator}
 use Rattle.c_inits.specs.Syntax.{Designator, AtIndex, AtName, Init, Items, Value, Braces, NoItems, Item}
 
--- what the rest of the unit says of a node: an expression's type, whether it is a string, an index, the name behind a dot
+-- what the rest of the unit says of a node: an expression's type, whether it is a string, an index, the name behind
+-- a dot
 pub record Source : Type 0 where
   pub type_at : ℕ → Ctype
   pub is_text : ℕ → Bool
@@ -69,7 +70,8 @@ abbrev pub part_over : Source → (ℕ → SyntaxPart) → ℕ → SyntaxNode �
 part_over s part i n =
     cond (eqb n.production p_init) (AnInit (braced_or_value s i (first_list part n.children.items)))
     (cond (eqb n.production p_items) (AList (all_items part n.children.items))
-    (cond (eqb n.production p_item) (AnItem (all_designators part n.children.items) (first_init part n.children.items))
+    (cond (eqb n.production p_item)
+    (AnItem (all_designators part n.children.items) (first_init part n.children.items))
     (cond (eqb n.production p_designator) (ADesignator (index_or_name s i (s.index_at i))) Other)))
 
 -- all nodes in order, each over those before it

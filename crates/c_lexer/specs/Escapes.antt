@@ -1,5 +1,6 @@
 -- Escape sequences (C11 6.4.4.4).
-use Rattle.std.specs.Prelude.{◌≡◌, ℕ, ◌+◌, ◌==◌, Bool, true, ◌&&◌, ◌||◌, not, nat_lt, min, List, [], ◌∷◌, take, drop, slice_index, if◌then◌else◌}
+use Rattle.std.specs.Prelude.{◌≡◌, ℕ, ◌+◌, ◌==◌, Bool, true, ◌&&◌, ◌||◌, not, nat_lt, min, List, [], ◌∷◌, take}
+use Rattle.std.specs.Prelude.{drop, slice_index, if◌then◌else◌}
 use Rattle.std.specs.List.{list_any}
 use Rattle.c_lexer.specs.declared.numbers.Base.TheVariants.{Octal, Hexadecimal}
 use Rattle.c_lexer.specs.Numbers.{value_on, digit_count, value}
@@ -21,8 +22,8 @@ is_hexadecimal_escape wide xs = nat_lt 0 (digit_count Hexadecimal xs) && (wide |
 unfoldable pub is_simple_escape : ℕ → Bool
 is_simple_escape c = list_any (λ s. s == c) (39 ∷ 34 ∷ 63 ∷ 92 ∷ 97 ∷ 98 ∷ 102 ∷ 110 ∷ 114 ∷ 116 ∷ 118 ∷ [])
 
--- Whether the bytes behind a backslash begin with an escape: up to three octal digits, x and hexadecimal digits, or a byte that
--- stands alone.
+-- Whether the bytes behind a backslash begin with an escape: up to three octal digits, x and hexadecimal digits, or
+-- a byte that stands alone.
 unfoldable pub is_escape : Bool → List ℕ → Bool
 is_escape wide xs =
     if nat_lt 0 (digit_count Octal xs) then is_octal_escape wide xs
@@ -31,7 +32,8 @@ is_escape wide xs =
 
 -- Whether a byte is a backslash that nothing escapes and that begins no escape.
 abbrev pub is_bad : Bool → Bool → List ℕ → ℕ → Bool
-is_bad wide escaped text at = (slice_index text at == 92 && not escaped) && not (is_escape wide (drop (at + 1) text))
+is_bad wide escaped text at =
+    (slice_index text at == 92 && not escaped) && not (is_escape wide (drop (at + 1) text))
 
 -- a bad escape begins n bytes behind the first byte inside a literal
 abbrev pub IsBad : Bool → List ℕ → ℕ → ℕ → Type 0

@@ -12,8 +12,17 @@ use Rattle.c_lexer.specs.Cut.{IsTokens, IsFault}
 -- a text has one list of tokens or one first fault, and not both
 pub record OneCutting : Type 0 where
   pub tokens : (text : List ℕ) (ts us : List Token) → IsTokens text ts → IsTokens text us → ts ≡ us
-  pub fault : (text : List ℕ) (f g : LexFault) → (f ≡ OutOfMemory → ⊥) → (g ≡ OutOfMemory → ⊥) → IsFault text f → IsFault text g → f ≡ g
-  pub either : (text : List ℕ) (ts : List Token) (f : LexFault) → (f ≡ OutOfMemory → ⊥) → IsTokens text ts → IsFault text f → ⊥
+  pub fault : (text : List ℕ) (f g : LexFault)
+      → (f ≡ OutOfMemory → ⊥)
+      → (g ≡ OutOfMemory → ⊥)
+      → IsFault text f
+      → IsFault text g
+      → f ≡ g
+  pub either : (text : List ℕ) (ts : List Token) (f : LexFault)
+      → (f ≡ OutOfMemory → ⊥)
+      → IsTokens text ts
+      → IsFault text f
+      → ⊥
 
 -- each token starts where the one before ended or later, ends where it starts or later, and all end within the text
 abbrev pub Ordered : ℕ → ℕ → List Token → Type 0

@@ -1,5 +1,6 @@
 -- What a piece means for the list of tokens, and its flaws.
-use Rattle.std.specs.Prelude.{◌≡◌, ℕ, ◌+◌, ◌-◌, ◌<◌, ◌⊎◌, Bool, false, ◌||◌, nat_eq, Option, Some, None, List, [], ◌∷◌, codes, slice_range, if◌then◌else◌}
+use Rattle.std.specs.Prelude.{◌≡◌, ℕ, ◌+◌, ◌-◌, ◌<◌, ◌⊎◌, Bool, false, ◌||◌, nat_eq, Option, Some, None, List, []}
+use Rattle.std.specs.Prelude.{◌∷◌, codes, slice_range, if◌then◌else◌}
 use Rattle.std.specs.Cmp.Lexicographic.{pointwise}
 use Rattle.c_lexer.specs.declared.TokenKind.TheVariants as token
 use Rattle.c_lexer.specs.declared.LexFault.{LexFault}
@@ -64,9 +65,12 @@ abbrev pub KindFlaw : Kind → List ℕ → ℕ → ℕ → LexFault → Type 0
 KindFlaw (run White) text from end fault = ⊥
 KindFlaw (run Line) text from end fault = ⊥
 KindFlaw (run Name) text from end fault = ⊥
-KindFlaw (run Number) text from end fault = ((is_integer (slice_range text from end) || is_floating (slice_range text from end)) ≡ false) × (fault ≡ BadNumber from)
+KindFlaw (run Number) text from end fault =
+    ((is_integer (slice_range text from end) || is_floating (slice_range text from end)) ≡ false)
+    × (fault ≡ BadNumber from)
 KindFlaw (sign k) text from end fault = ⊥
-KindFlaw (literal p q) text from end fault = LiteralFlaw (is_wide p) q text (quote_of p from) (end - quote_of p from - 2) fault
+KindFlaw (literal p q) text from end fault =
+    LiteralFlaw (is_wide p) q text (quote_of p from) (end - quote_of p from - 2) fault
 
 abbrev pub Flaw : List ℕ → Piece → LexFault → Type 0
 Flaw text p fault = KindFlaw p.kind text p.from p.end fault

@@ -1,5 +1,6 @@
 -- Integer and floating constants (C11 6.4.4.1, 6.4.4.2).
-use Rattle.std.specs.Prelude.{ℕ, ◌+◌, ◌*◌, ◌^◌, ◌==◌, Bool, true, false, ◌&&◌, ◌||◌, nat_lt, nat_eq, List, [], ◌∷◌, length, take, drop, slice_index, if◌then◌else◌}
+use Rattle.std.specs.Prelude.{ℕ, ◌+◌, ◌*◌, ◌^◌, ◌==◌, Bool, true, false, ◌&&◌, ◌||◌, nat_lt, nat_eq, List, [], ◌∷◌}
+use Rattle.std.specs.Prelude.{length, take, drop, slice_index, if◌then◌else◌}
 use Rattle.std.specs.List.{prefix_len, list_any}
 use Rattle.std.specs.Cmp.Lexicographic.{pointwise}
 use Rattle.c_lexer.specs.declared.numbers.Base.{Base}
@@ -47,11 +48,14 @@ begins_hexadecimal xs = slice_index xs 0 == 48 && (slice_index xs 1 == 120 || sl
 
 -- 6.4.4.1: digits behind 0x are hexadecimal, digits that begin with 0 octal, others decimal
 unfoldable pub is_integer : List ℕ → Bool
-is_integer xs = if begins_hexadecimal xs then is_whole Hexadecimal (drop 2 xs) else is_whole (if slice_index xs 0 == 48 then Octal else Decimal) xs
+is_integer xs =
+    if begins_hexadecimal xs then is_whole Hexadecimal (drop 2 xs)
+    else is_whole (if slice_index xs 0 == 48 then Octal else Decimal) xs
 
 -- nothing, or one of f, F, l and L
 unfoldable pub is_floating_suffix : List ℕ → Bool
-is_floating_suffix xs = length xs == 0 || (length xs == 1 && list_any (λ c. c == slice_index xs 0) (102 ∷ 70 ∷ 108 ∷ 76 ∷ []))
+is_floating_suffix xs =
+    length xs == 0 || (length xs == 1 && list_any (λ c. c == slice_index xs 0) (102 ∷ 70 ∷ 108 ∷ 76 ∷ []))
 
 -- whether a byte begins the exponent of digits of this base: e or E, p or P
 unfoldable pub begins_exponent : Base → ℕ → Bool
@@ -69,7 +73,9 @@ is_exponent xs = nat_lt 0 (digit_count Decimal xs) && is_floating_suffix (behind
 
 -- an exponent, which may lack where that is said, and a suffix
 unfoldable pub is_floating_end : Base → Bool → List ℕ → Bool
-is_floating_end base lacks xs = if begins_exponent base (slice_index xs 0) then is_exponent (unsigned (drop 1 xs)) else lacks && is_floating_suffix xs
+is_floating_end base lacks xs =
+    if begins_exponent base (slice_index xs 0) then is_exponent (unsigned (drop 1 xs)) else lacks
+    && is_floating_suffix xs
 
 -- only a decimal constant with a dot may lack the exponent
 unfoldable pub may_lack_exponent : Base → Bool
@@ -79,7 +85,8 @@ may_lack_exponent Hexadecimal = false
 
 -- what stands behind the dot: digits, which may lack where some stand before the dot, and the end
 unfoldable pub is_fraction_end : Base → Bool → List ℕ → Bool
-is_fraction_end base whole xs = (whole || nat_lt 0 (digit_count base xs)) && is_floating_end base (may_lack_exponent base) (behind base xs)
+is_fraction_end base whole xs =
+    (whole || nat_lt 0 (digit_count base xs)) && is_floating_end base (may_lack_exponent base) (behind base xs)
 
 -- digits, with a dot before, among or behind them, or without one; then the exponent and the suffix
 unfoldable pub is_fraction : Base → List ℕ → Bool

@@ -1,5 +1,6 @@
 -- How a text is cut into pieces (C11 5.1.1.2, 6.4): each is the longest run of bytes that can stand there.
-use Rattle.std.specs.Prelude.{◌≡◌, ℕ, ◌+◌, ◌-◌, ◌<◌, ◌≤◌, ◌==◌, ◌⊎◌, Bool, true, ◌&&◌, ◌||◌, not, List, length, slice_index}
+use Rattle.std.specs.Prelude.{◌≡◌, ℕ, ◌+◌, ◌-◌, ◌<◌, ◌≤◌, ◌==◌, ◌⊎◌, Bool, true, ◌&&◌, ◌||◌, not, List, length}
+use Rattle.std.specs.Prelude.{slice_index}
 use Rattle.c_lexer.specs.declared.runs.Run.{Run}
 use Rattle.c_lexer.specs.declared.runs.Run.TheVariants.{White, Line, Name, Number}
 use Rattle.c_lexer.specs.declared.pieces.Found.{Found}
@@ -19,14 +20,18 @@ follows White before byte = is_white byte
 follows Line before byte = not (byte == 10)
 follows Name before byte = is_letter byte || is_digit byte
 -- a preprocessing number (6.4.8): a sign goes on directly behind e, E, p and P
-follows Number before byte = is_letter byte || is_digit byte || byte == 46 || ((byte == 43 || byte == 45) && (before == 101 || before == 69 || before == 112 || before == 80))
+follows Number before byte =
+    is_letter byte || is_digit byte || byte == 46
+    || ((byte == 43 || byte == 45) && (before == 101 || before == 69 || before == 112 || before == 80))
 
 -- whether a run may begin at a place; a dropped line begins with a # before which only blanks stand
 abbrev pub Begins : Run → List ℕ → ℕ → Type 0
 Begins White text at = is_white (slice_index text at) ≡ true
 Begins Line text at = (slice_index text at ≡ 35) × (begins_line text at ≡ true)
 Begins Name text at = is_letter (slice_index text at) ≡ true
-Begins Number text at = (is_digit (slice_index text at) ≡ true) ⊎ ((slice_index text at ≡ 46) × (at + 1 < length text) × (is_digit (slice_index text (at + 1)) ≡ true))
+Begins Number text at =
+    (is_digit (slice_index text at) ≡ true)
+    ⊎ ((slice_index text at ≡ 46) × (at + 1 < length text) × (is_digit (slice_index text (at + 1)) ≡ true))
 
 -- a run, a punctuator by the number of its spelling, or a literal
 pub data Kind : Type 0 where
@@ -40,9 +45,14 @@ quote_of p from = from + length (prefix p)
 
 -- Stands k text from end: the bytes from one place to the other can be a piece of the kind k.
 abbrev pub Stands : Kind → List ℕ → ℕ → ℕ → Type 0
-Stands (run r) text from end = (from < end) × Begins r text from × ((i : ℕ) → from < i → i < end → follows r (slice_index text (i - 1)) (slice_index text i) ≡ true)
-Stands (sign k) text from end = ((slice_index text from ≡ 35) × (begins_line text from ≡ true) → ⊥) × (k < 54) × (end ≡ from + length (spelling k)) × Spells text from (spelling k)
-Stands (literal p q) text from end = Opens text from p q × ((n : ℕ) × (end ≡ quote_of p from + n + 2) × Closed text (quote_of p from) n)
+Stands (run r) text from end =
+    (from < end) × Begins r text from
+    × ((i : ℕ) → from < i → i < end → follows r (slice_index text (i - 1)) (slice_index text i) ≡ true)
+Stands (sign k) text from end =
+    ((slice_index text from ≡ 35) × (begins_line text from ≡ true) → ⊥) × (k < 54)
+    × (end ≡ from + length (spelling k)) × Spells text from (spelling k)
+Stands (literal p q) text from end =
+    Opens text from p q × ((n : ℕ) × (end ≡ quote_of p from + n + 2) × Closed text (quote_of p from) n)
 
 pub record Piece : Type 0 where
   pub kind : Kind

@@ -1,5 +1,6 @@
 -- Lines and columns.
-use Rattle.std.specs.Prelude.{◌≡◌, ℕ, zero, suc, ◌+◌, ◌≤◌, ◌==◌, Bool, true, ◌&&◌, ◌||◌, List, slice_index, if◌then◌else◌}
+use Rattle.std.specs.Prelude.{◌≡◌, ℕ, zero, suc, ◌+◌, ◌≤◌, ◌==◌, Bool, true, ◌&&◌, ◌||◌, List, slice_index}
+use Rattle.std.specs.Prelude.{if◌then◌else◌}
 use Rattle.c_lexer.specs.declared.places.Place.{Place}
 use Rattle.c_lexer.specs.Bytes.{is_blank}
 

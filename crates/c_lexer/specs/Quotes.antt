@@ -1,5 +1,6 @@
 -- Literals between quotes (C11 6.4.4.4, 6.4.5).
-use Rattle.std.specs.Prelude.{◌≡◌, ℕ, zero, suc, ◌+◌, ◌<◌, ◌≤◌, ◌==◌, Bool, true, false, ◌&&◌, not, List, [], codes, length, slice_index}
+use Rattle.std.specs.Prelude.{◌≡◌, ℕ, zero, suc, ◌+◌, ◌<◌, ◌≤◌, ◌==◌, Bool, true, false, ◌&&◌, not, List, [], codes}
+use Rattle.std.specs.Prelude.{length, slice_index}
 use Rattle.c_lexer.specs.Spells.{Spells}
 use Rattle.c_lexer.specs.declared.quotes.Prefix.{Prefix}
 use Rattle.c_lexer.specs.declared.quotes.Prefix.TheVariants.{Plain, Wide, Char16, Char32, Utf8}
@@ -43,15 +44,16 @@ pub record Opens (text : List ℕ) (from : ℕ) (p : Prefix) (q : Quote) : Type 
   pub within : from + length (prefix p) < length text
   pub quote : slice_index text (from + length (prefix p)) ≡ mark q
 
--- Whether a backslash escapes the byte that stands n bytes behind a literal's first one: the byte before it is then a
--- backslash that isn't escaped itself.
+-- Whether a backslash escapes the byte that stands n bytes behind a literal's first one: the byte before it is then
+-- a backslash that isn't escaped itself.
 unfoldable pub is_escaped : List ℕ → ℕ → ℕ → Bool
 is_escaped text inside zero = false
 is_escaped text inside (suc n) = slice_index text (inside + n) == 92 && not (is_escaped text inside n)
 
 -- the byte that stands n bytes behind a literal's first one is its quote, and closes it
 abbrev pub Closes : List ℕ → ℕ → ℕ → Type 0
-Closes text quote n = (slice_index text (quote + 1 + n) ≡ slice_index text quote) × (is_escaped text (quote + 1) n ≡ false)
+Closes text quote n =
+    (slice_index text (quote + 1 + n) ≡ slice_index text quote) × (is_escaped text (quote + 1) n ≡ false)
 
 -- the literal whose opening quote stands at a place has n bytes between its quotes, none of which ends the line
 pub record Closed (text : List ℕ) (quote n : ℕ) : Type 0 where

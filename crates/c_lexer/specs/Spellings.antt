@@ -1,9 +1,10 @@
 -- The spellings of punctuators, keywords and integer suffixes.
-use Rattle.std.specs.Prelude.{ℕ, ◌+◌, ◌==◌, Bool, true, ◌&&◌, ◌||◌, not, nat_le, List, [], ◌∷◌, codes, slice_index, slice_index_or}
+use Rattle.std.specs.Prelude.{ℕ, ◌+◌, ◌==◌, Bool, true, ◌&&◌, ◌||◌, not, nat_le, List, [], ◌∷◌, codes, slice_index}
+use Rattle.std.specs.Prelude.{slice_index_or}
 
--- The punctuators with the digraphs (C11 6.4.6), each with the position of the token that it means: the positions go through the
--- list of 6.4.6 in order, and a digraph has that of the punctuator it stands for. Those that begin with one byte stand together,
--- longer ones first.
+-- The punctuators with the digraphs (C11 6.4.6), each with the position of the token that it means: the positions
+-- go through the list of 6.4.6 in order, and a digraph has that of the punctuator it stands for. Those that begin
+-- with one byte stand together, longer ones first.
 unfoldable pub punctuators : List (List ℕ × ℕ)
 punctuators =
     (codes "<<=", 40) ∷
@@ -68,12 +69,15 @@ spelling k = (slice_index_or punctuators k ([], 0)).0
 unfoldable pub position : ℕ → ℕ
 position k = (slice_index_or punctuators k ([], 0)).1
 
--- whether none of the entries, which have the numbers from one on, has a number below a limit and begins with a byte
+-- whether none of the entries, which have the numbers from one on, has a number below a limit and begins with a
+-- byte
 abbrev pub none_before : ℕ → ℕ → ℕ → List (List ℕ × ℕ) → Bool
 none_before byte limit n [] = true
-none_before byte limit n (e ∷ es) = (nat_le limit n || not (slice_index e.0 0 == byte)) && none_before byte limit (n + 1) es
+none_before byte limit n (e ∷ es) =
+    (nat_le limit n || not (slice_index e.0 0 == byte)) && none_before byte limit (n + 1) es
 
--- The 44 keywords in the order of C11 6.4.1, then asm, then the other spellings of some of them, each with its position.
+-- The 44 keywords in the order of C11 6.4.1, then asm, then the other spellings of some of them, each with its
+-- position.
 unfoldable pub keywords : List (List ℕ × ℕ)
 keywords =
     (codes "auto", 0) ∷

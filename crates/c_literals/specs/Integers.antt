@@ -6,7 +6,8 @@ use Rattle.c_types.specs.Trees.{Ctype}
 use Rattle.core_tree.specs.Rows.{int, long}
 use Rattle.c_senses.specs.Literals.{unsigned_int, unsigned_long, long_long, unsigned_long_long}
 use Rattle.c_literals.specs.declared.integers.ConstantType.{ConstantType}
-use Rattle.c_literals.specs.declared.integers.ConstantType.TheVariants.{Int, UnsignedInt, Long, UnsignedLong, LongLong, UnsignedLongLong}
+use Rattle.c_literals.specs.declared.integers.ConstantType.TheVariants.{Int, UnsignedInt, Long, UnsignedLong}
+use Rattle.c_literals.specs.declared.integers.ConstantType.TheVariants.{LongLong, UnsignedLongLong}
 
 abbrev pub type_seen : ConstantType → Ctype
 type_seen Int = int

@@ -14,7 +14,13 @@ NotWide text tokens i = (t : Token) → slice_get tokens i ≡ Some t → t.kind
 
 -- no string among the tokens that a reading takes is wide
 abbrev pub StringsAreNarrow : Type 0
-StringsAreNarrow = (text : List ℕ) (tokens : List Token) (q d : ℕ) (s t : State) → Opens text tokens q d s (Ok t) → (i : ℕ) → s.place ≤ i → i < t.place → NotWide text tokens i
+StringsAreNarrow =
+    (text : List ℕ) (tokens : List Token) (q d : ℕ) (s t : State)
+    → Opens text tokens q d s (Ok t)
+    → (i : ℕ)
+    → s.place ≤ i
+    → i < t.place
+    → NotWide text tokens i
 
 -- a token can be evaluated: an integer constant is below 2^64, and a string stands for bytes
 pub record IsReadable (text : List ℕ) (t : Token) : Type 0 where

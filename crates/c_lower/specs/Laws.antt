@@ -6,8 +6,8 @@ use Rattle.core_tree.specs.declared.node.Unit.{Unit}
 use Rattle.core_nodes.specs.declared.fault.CheckFault.{CheckFault}
 use Rattle.core_nodes.specs.declared.fault.CheckFault.TheVariants.{BadOperand, Unsupported, OutOfMemory}
 use Rattle.c_senses.specs.Tree.{Source}
-use Rattle.unit_lowering.specs.PassedOn.{RefusedIn}
-use Rattle.unit_lowering.specs.Lowered.{IsLowered}
+use Rattle.c_lower.specs.unit_lowering.PassedOn.{RefusedIn}
+use Rattle.c_lower.specs.unit_lowering.Lowered.{IsLowered}
 
 -- a refusal of a kind at a node; want of memory is none
 abbrev pub IsRefusal : CheckFault → Kind → ℕ → Type 0
@@ -17,7 +17,15 @@ IsRefusal OutOfMemory kind node = ⊥
 
 pub record OneAnswer : Type 0 where
   -- a text that is lowered is refused by no row
-  pub either : (s : Source) (name : List ℕ) (u : Unit) (fault : CheckFault) (kind : Kind) (node : ℕ) → IsLowered s name u → IsRefusal fault kind node → RefusedIn s fault → ⊥
+  pub either : (s : Source) (name : List ℕ) (u : Unit) (fault : CheckFault) (kind : Kind) (node : ℕ)
+      → IsLowered s name u
+      → IsRefusal fault kind node
+      → RefusedIn s fault
+      → ⊥
   -- a text that is refused by a row is refused by that one alone
   pub refusal : (s : Source) (fault other : CheckFault) (kind why : Kind) (node there : ℕ)
-      → IsRefusal fault kind node → IsRefusal other why there → RefusedIn s fault → RefusedIn s other → (kind ≡ why) × (node ≡ there)
+      → IsRefusal fault kind node
+      → IsRefusal other why there
+      → RefusedIn s fault
+      → RefusedIn s other
+      → (kind ≡ why) × (node ≡ there)

@@ -1,2 +1,5 @@
 pub mod Laws
 pub mod PassedOn
+pub mod unit_lowering
+pub mod passed
+pub mod refusal_laws

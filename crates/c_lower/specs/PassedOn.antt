@@ -1,2 +1,2 @@
 -- What this crate passes on, from those below it to those above it.
-pub use Rattle.unit_lowering.specs.Lowered.{HasTags, IsLowered}
+pub use Rattle.c_lower.specs.unit_lowering.Lowered.{HasTags, IsLowered}

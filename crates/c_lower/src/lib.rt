@@ -3,5 +3,7 @@
 
 pub mod laws;
 mod lowering;
+pub mod refusal_laws;
+pub mod unit_lowering;
 
 pub use lowering::lower_unit;

@@ -7,7 +7,7 @@ use Rattle.c_senses.specs.Sense.{Sense}
 use Rattle.c_senses.specs.World.{TypeName}
 use Rattle.c_senses.specs.Entities.{declared_meaning, is_typedef, own_type, type_behind, named_by, has_earlier_length, entity_of, object_or_function, all_together, types_of, is_open, initialiser_for, last_of}
 use Rattle.c_senses.specs.Names.{linked_before, ordinary_at}
-use Rattle.remembered_names.specs.Remembering.{named}
+use Rattle.c_entities.specs.remembered_names.Remembering.{named}
 
 -- a list of one
 pub single : (ds : List Declared) (z : Declared) → length ds ≡ 1 → ds ≡ get_or ds 0 z ∷ []

@@ -19,7 +19,7 @@ use Rattle.tree_reads.specs.Sources.{source_read, source_in}
 use Rattle.name_chains.specs.declared.links.Link.{Link}
 use Rattle.name_chains.specs.Links.{listed, AreBackward}
 use Rattle.name_chains.proofs.Linked.{no_link, listed-none, listed-step}
-use Rattle.remembered_names.proofs.Onward.{memory_more}
+use Rattle.c_entities.proofs.remembered_names.Onward.{memory_more}
 use Rattle.c_meanings.specs.declared.names.Names.{Names}
 use Rattle.c_meanings.specs.declared.kept.Linkages.{Linkages}
 use Rattle.c_meanings.specs.Statics.{some_static}

@@ -8,7 +8,8 @@ use Rattle.c_senses.specs.Entities.{some_such, keep, first_of, is_static_at_file
 
 -- one of those that are seen where a name is declared is `static` at file scope
 abbrev pub sees_static : Source → (ℕ → Sense) → ℕ → Bool
-sees_static s sense leaf = some_such s sense (λ d. is_static_at_file s sense d.node) (linked_before s (ordinary_at s leaf))
+sees_static s sense leaf =
+    some_such s sense (λ d. is_static_at_file s sense d.node) (linked_before s (ordinary_at s leaf))
 
 -- the leaf of a declaration with internal linkage, or else another
 abbrev pub internal_or : Source → (ℕ → Sense) → ℕ → ℕ → ℕ

@@ -4,7 +4,7 @@ use Rattle.core_tree.specs.declared.node.Unit.{Unit}
 use Rattle.c_scope.specs.declared.resolving.Bound.{Bound}
 use Rattle.c_results.specs.declared.made.Made.{Made}
 use Rattle.c_senses.specs.Tree.{paired}
-use Rattle.leaf_maps.specs.Numbers.{number_at}
+use Rattle.tree_reads.specs.leaf_maps.Numbers.{number_at}
 use Rattle.tree_reads.specs.declared.syntax.Syntax.{Syntax}
 use Rattle.tree_reads.specs.Sources.{source_read}
 use Rattle.name_chains.specs.Seen.{AreChainsOf}

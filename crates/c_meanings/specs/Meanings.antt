@@ -7,7 +7,7 @@ use Rattle.c_senses.specs.Entities.{declared_meaning, entity_of, own_type}
 use Rattle.c_results.specs.declared.made.Made.{Made}
 use Rattle.tree_reads.specs.declared.syntax.Syntax.{Syntax}
 use Rattle.tree_reads.specs.Sources.{source_in}
-use Rattle.remembered_names.specs.Remembering.{named}
+use Rattle.c_entities.specs.remembered_names.Remembering.{named}
 use Rattle.c_meanings.specs.Later.{later}
 use Rattle.c_meanings.specs.declared.meanings.Meaning.{Meaning}
 use Rattle.c_meanings.specs.declared.meanings.Meaning.TheVariants.{Object, Function, TypeName, Value}
@@ -33,4 +33,7 @@ abbrev pub IsMeantBy : Syntax → List Made → Bool → ℕ → ℕ → Type 0
 IsMeantBy syntax results is_type leaf by =
     (u : Unit) (uses : List (ℕ × ℕ)) (more : List Made) →
     declared_meaning (source_in syntax uses) (later u results more) leaf
-    ≡ option_map (named (source_in syntax uses) (later u results more) is_type (entity_of (source_in syntax uses) (later u results more) leaf)) (own_type (source_in syntax uses) (later u results more) by)
+    ≡ option_map
+    (named (source_in syntax uses) (later u results more) is_type
+    (entity_of (source_in syntax uses) (later u results more) leaf))
+    (own_type (source_in syntax uses) (later u results more) by)

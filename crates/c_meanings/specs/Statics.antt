@@ -21,7 +21,10 @@ some_static s sense ds = some_such s sense (λ d. is_static_at_file s sense d.no
 -- the flag says that of the list that ends with the link
 pub record IsStaticSeen (syntax : Syntax) (results : List Made) (names : Names) (seen : StaticSeen) : Type 0 where
   pub last : IsLinkOf names.chains.links.items seen.last
-  pub flag : (u : Unit) (uses : List (ℕ × ℕ)) → seen.is_static ≡ some_static (source_in syntax uses) (sense_in (senses_made u results)) (listed names.chains.links.items seen.last)
+  pub flag : (u : Unit) (uses : List (ℕ × ℕ))
+      → seen.is_static
+      ≡ some_static (source_in syntax uses) (sense_in (senses_made u results))
+      (listed names.chains.links.items seen.last)
 
 -- a list is another without its last declaration, and of that one none is
 pub record IsFront (links : List Link) (seen : StaticSeen) (last : Option ℕ) : Type 0 where

@@ -7,9 +7,9 @@ ghost use Rattle.c_meanings.specs.Thinned.{AreParts, AreMadeAlike, StaysAlike};
 
 use crate::storage::has_initialiser;
 use c_declarators::specs_of;
+use c_entities::remembered_names::same_ids;
 use c_entities::{is_defined, is_parameter};
 use c_results::{Derivation, Results, declarator_at, specified_at};
-use remembered_names::same_ids;
 use tree_reads::{Above, Syntax, nearest_above};
 
 // The nodes that give a name its type: its specifiers and its declarator.

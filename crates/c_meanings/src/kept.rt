@@ -21,10 +21,10 @@ use crate::names::{Names, is_linked, link_at};
 use crate::statics::{has_static, is_static_at_file, nothing_seen};
 use crate::thinned::Thinned;
 use c_declarators::specs_of;
+use c_entities::remembered_names::{Memory, nothing_remembered};
 use c_results::Results;
 use core_nodes::CheckFault;
 use name_chains::{Link, in_scope_link, linked_link};
-use remembered_names::{Memory, nothing_remembered};
 use std::alloc::Global;
 use tree_reads::{Above, Syntax, nearest_above};
 

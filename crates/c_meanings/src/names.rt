@@ -9,11 +9,11 @@ ghost use Rattle.tree_reads.specs.Sources.{source_in};
 ghost use Rattle.c_meanings.specs.Known.{AreLeaves, AreChained, AreNames, ArePaired};
 
 use c_scope::{Bound, Declared, Kind};
-use leaf_maps::LeafMap;
 use name_chains::{Link, Links, NameChains, in_scope_link, list_of, name_chains, symbol_chains};
 use pta_base::OutOfMemory;
 use std::alloc::Global;
 use tree_reads::Syntax;
+use tree_reads::leaf_maps::LeafMap;
 
 /// The declarations of a unit's names with those that are seen at each, and the pairs of uses and declarations by leaf.
 #[derive(Drop)]

@@ -1,5 +1,6 @@
 -- Declarators: their names, and what they make of them (C11 6.7.6).
-use Rattle.std.specs.Prelude.{ℕ, zero, suc, Bool, false, ◌&&◌, ◌||◌, nat_lt, Option, Some, None, List, if◌then◌else◌}
+use Rattle.std.specs.Prelude.{ℕ, zero, suc, Bool, false, ◌&&◌, ◌||◌, nat_lt, Option, Some, None, List}
+use Rattle.std.specs.Prelude.{if◌then◌else◌}
 use Rattle.std.specs.List.{find, list_any}
 use Rattle.std.specs.Option.{option_or}
 use Rattle.c_lexer.specs.declared.Token.{Token}
@@ -19,7 +20,8 @@ is_inner nodes outer n = (is_of nodes p_declarator n || is_of nodes p_either n) 
 unfoldable pub inner_of : List Node → ℕ → Option ℕ
 inner_of nodes n = find (λ child. is_inner nodes n child) (children_at nodes n)
 
--- At a declarator's own level: the leaf of the name, whether a star stands there, and the derivation that is applied first
+-- At a declarator's own level: the leaf of the name, whether a star stands there, and the derivation that is
+-- applied first
 unfoldable pub name_of : List Token → List Node → ℕ → Option ℕ
 name_of tokens nodes n = find (λ child. is_name tokens nodes child) (children_at nodes n)
 
@@ -56,7 +58,12 @@ around tokens nodes n inner = record {
 }
 
 abbrev pub level : List Token → List Node → (ℕ → Declarator) → ℕ → Option ℕ → Declarator
-level tokens nodes deeper n None = record { name = name_of tokens nodes n; derivation = derivation_of tokens nodes n; suffix = first_part nodes n p_suffix }
+level tokens nodes deeper n None =
+    record {
+      name = name_of tokens nodes n;
+      derivation = derivation_of tokens nodes n;
+      suffix = first_part nodes n p_suffix;
+    }
 level tokens nodes deeper n (Some inner) = around tokens nodes n (deeper inner)
 
 -- what a declarator says through so many levels

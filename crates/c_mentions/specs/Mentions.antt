@@ -1,5 +1,6 @@
 -- What a node does to names: it declares one, uses one, or neither.
-use Rattle.std.specs.Prelude.{ℕ, ◌==◌, Bool, false, ◌&&◌, ◌||◌, Option, Some, None, List, codes, filter, length, slice_get, if◌then◌else◌}
+use Rattle.std.specs.Prelude.{ℕ, ◌==◌, Bool, false, ◌&&◌, ◌||◌, Option, Some, None, List, codes, filter, length}
+use Rattle.std.specs.Prelude.{slice_get, if◌then◌else◌}
 use Rattle.std.specs.List.{range_with_len}
 use Rattle.std.specs.Str.{bytes_eq}
 use Rattle.c_lexer.specs.declared.Token.{Token}
@@ -8,7 +9,8 @@ use Rattle.c_grammar.specs.Productions.{p_declarator, p_either, p_enumerator}
 use Rattle.c_grammar.specs.Reads as reads
 use Rattle.c_mentions.specs.declared.roles.Specifiers.{Specifiers}
 use Rattle.c_mentions.specs.declared.roles.Role.{Role}
-use Rattle.c_mentions.specs.declared.roles.Role.TheVariants.{Elsewhere, Name, Alone, Tag, Statement, Declaration, Parameter}
+use Rattle.c_mentions.specs.declared.roles.Role.TheVariants.{Elsewhere, Name, Alone, Tag, Statement, Declaration}
+use Rattle.c_mentions.specs.declared.roles.Role.TheVariants.{Parameter}
 use Rattle.c_mentions.specs.declared.declarators.Derivation.{Derivation}
 use Rattle.c_mentions.specs.declared.declarators.Derivation.TheVariants.{Other}
 use Rattle.c_mentions.specs.declared.declarators.Declarator.{Declarator}
@@ -33,18 +35,23 @@ symbol_at symbols token = symbol_or token (slice_get symbols token)
 -- the names of floating types, which are type words
 unfoldable pub is_type_word : List ℕ → Bool
 is_type_word name =
-    bytes_eq name (codes "_Float32") || bytes_eq name (codes "_Float64") || bytes_eq name (codes "_Float128") || bytes_eq name (codes "_Float32x") || bytes_eq name (codes "_Float64x")
+    bytes_eq name (codes "_Float32") || bytes_eq name (codes "_Float64")
+    || bytes_eq name (codes "_Float128")
+    || bytes_eq name (codes "_Float32x") || bytes_eq name (codes "_Float64x")
 
 -- the names that stand for the function around them (C11 6.4.2.2)
 unfoldable pub is_function_name : List ℕ → Bool
-is_function_name name = bytes_eq name (codes "__func__") || bytes_eq name (codes "__FUNCTION__") || bytes_eq name (codes "__PRETTY_FUNCTION__")
+is_function_name name =
+    bytes_eq name (codes "__func__") || bytes_eq name (codes "__FUNCTION__")
+    || bytes_eq name (codes "__PRETTY_FUNCTION__")
 
 -- the names that need no declaration
 unfoldable pub is_exempt : List ℕ → Bool → Bool
 is_exempt name in_body = (in_body && is_function_name name) || bytes_eq name (codes "__builtin_va_list")
 
 unfoldable pub name_used : List ℕ → ℕ → Bool → Mention
-name_used name symbol in_body = if is_type_word name then mention.Nothing else mention.Use symbol (is_exempt name in_body)
+name_used name symbol in_body =
+    if is_type_word name then mention.Nothing else mention.Use symbol (is_exempt name in_body)
 
 -- an identifier that stands first in a statement is its label, another one the label of a goto
 abbrev pub label_used : Option ℕ → ℕ → ℕ → Mention
@@ -66,7 +73,8 @@ linkage_of specifiers = if specifiers.is_typedef then Typedef else if specifiers
 
 -- the declaration of the name at a leaf: in a declaration by its specifiers, and of a parameter
 abbrev pub name_declared : ℕ → ℕ → Derivation → Role → Mention
-name_declared leaf symbol derivation (Declaration specifiers) = mention.Declares leaf symbol (linkage_of specifiers) derivation specifiers.type_name
+name_declared leaf symbol derivation (Declaration specifiers) =
+    mention.Declares leaf symbol (linkage_of specifiers) derivation specifiers.type_name
 name_declared leaf symbol derivation Parameter = mention.Declares leaf symbol Never Other None
 name_declared leaf symbol derivation _ = mention.Nothing
 
@@ -84,11 +92,14 @@ enumerator_leaf symbol nodes (Some leaf) = mention.Declares leaf (symbol (token_
 unfoldable pub enumerator_mention : (ℕ → ℕ) → List Node → ℕ → Mention
 enumerator_mention symbol nodes n = enumerator_leaf symbol nodes (first_child nodes n)
 
--- what the end of a node does that is no leaf of an identifier: an enumerator and an outermost declarator declare their name
+-- what the end of a node does that is no leaf of an identifier: an enumerator and an outermost declarator declare
+-- their name
 unfoldable pub end_mention : List Token → (ℕ → ℕ) → List Node → ℕ → Role → Mention
 end_mention tokens symbol nodes n role =
     if production_at nodes n == p_enumerator then enumerator_mention symbol nodes n
-    else if production_at nodes n == p_declarator || production_at nodes n == p_either then declarator_mention symbol nodes (declarator tokens nodes n) role
+    else if production_at nodes n == p_declarator
+    || production_at nodes n == p_either
+    then declarator_mention symbol nodes (declarator tokens nodes n) role
     else mention.Nothing
 
 -- the productions whose end declares a name
@@ -97,7 +108,8 @@ ends_name production = production == p_enumerator || (production == p_declarator
 
 -- a node that may do something to names: the leaf of an identifier, an enumerator or a declarator
 abbrev pub node_speaks : List Token → Node → Bool
-node_speaks tokens n = if n.production == reads.leaf then is_identifier (token_kind tokens n.token) else ends_name n.production
+node_speaks tokens n =
+    if n.production == reads.leaf then is_identifier (token_kind tokens n.token) else ends_name n.production
 
 abbrev pub speaks_of : List Token → Option Node → Bool
 speaks_of tokens None = false
@@ -113,5 +125,6 @@ speaking tokens nodes = filter (speaks tokens nodes) (range_with_len 0 (length n
 -- what a node does to names, that stands in a function's body or not, and in a role below its parent
 unfoldable pub mention_at : List ℕ → List Token → (ℕ → ℕ) → List Node → ℕ → Bool → Role → Mention
 mention_at text tokens symbol nodes n in_body role =
-    if is_name tokens nodes n then leaf_mention (name_at text tokens (token_at nodes n)) (symbol (token_at nodes n)) n in_body role
+    if is_name tokens nodes n
+    then leaf_mention (name_at text tokens (token_at nodes n)) (symbol (token_at nodes n)) n in_body role
     else end_mention tokens symbol nodes n role

@@ -1,15 +1,20 @@
 -- How a node stands below its parent, as far as names ask for it, and which scopes it opens.
-use Rattle.std.specs.Prelude.{ℕ, ◌==◌, Bool, true, false, ◌&&◌, ◌||◌, not, Option, Some, None, List, [], ◌∷◌, if◌then◌else◌}
+use Rattle.std.specs.Prelude.{ℕ, ◌==◌, Bool, true, false, ◌&&◌, ◌||◌, not, Option, Some, None, List, [], ◌∷◌}
+use Rattle.std.specs.Prelude.{if◌then◌else◌}
 use Rattle.std.specs.List.{find, list_any}
 use Rattle.c_lexer.specs.declared.Token.{Token}
 use Rattle.c_grammar.specs.Reads.{Node}
-use Rattle.c_grammar.specs.Productions.{p_external, p_rest, p_declaration, p_specs, p_storage, p_type, p_struct, p_members, p_enum, p_enumerators, p_declarator, p_suffix, p_parameter, p_block, p_statement, p_primary}
+use Rattle.c_grammar.specs.Productions.{p_external, p_rest, p_declaration, p_specs, p_storage, p_type, p_struct}
+use Rattle.c_grammar.specs.Productions.{p_members, p_enum, p_enumerators, p_declarator, p_suffix, p_parameter}
+use Rattle.c_grammar.specs.Productions.{p_block, p_statement, p_primary}
 use Rattle.c_grammar.specs.Words.{word_do, word_extern, word_for, word_if, word_switch, word_typedef, word_while}
 use Rattle.c_mentions.specs.declared.roles.Specifiers.{Specifiers}
 use Rattle.c_mentions.specs.declared.roles.TagUse.TheVariants.{Declares, Refers, Uses}
 use Rattle.c_mentions.specs.declared.roles.Role.{Role}
-use Rattle.c_mentions.specs.declared.roles.Role.TheVariants.{Elsewhere, Name, Alone, Tag, Statement, Declaration, Parameter}
-use Rattle.c_mentions.specs.Syntax.{production_at, children_at, first_child, first_part, has_part, is_leaf, is_name, is_of, is_word}
+use Rattle.c_mentions.specs.declared.roles.Role.TheVariants.{Elsewhere, Name, Alone, Tag, Statement, Declaration}
+use Rattle.c_mentions.specs.declared.roles.Role.TheVariants.{Parameter}
+use Rattle.c_mentions.specs.Syntax.{production_at, children_at, first_child, first_part, has_part, is_leaf, is_name}
+use Rattle.c_mentions.specs.Syntax.{is_of, is_word}
 use Rattle.c_mentions.specs.Declarators.{declarator, is_list}
 
 abbrev pub word_first : List Token → List Node → ℕ → Option ℕ → Bool
@@ -29,11 +34,13 @@ begins_with_name tokens nodes n = name_first tokens nodes (first_child nodes n)
 
 -- specifiers with a storage-class specifier
 unfoldable pub has_storage : List Token → List Node → ℕ → ℕ → Bool
-has_storage tokens nodes specs word = list_any (λ child. is_of nodes p_storage child && begins_with tokens nodes child word) (children_at nodes specs)
+has_storage tokens nodes specs word =
+    list_any (λ child. is_of nodes p_storage child && begins_with tokens nodes child word) (children_at nodes specs)
 
 -- among specifiers the type specifier that is an identifier, and its leaf
 unfoldable pub named_type : List Token → List Node → ℕ → Option ℕ
-named_type tokens nodes specs = find (λ child. is_of nodes p_type child && begins_with_name tokens nodes child) (children_at nodes specs)
+named_type tokens nodes specs =
+    find (λ child. is_of nodes p_type child && begins_with_name tokens nodes child) (children_at nodes specs)
 
 abbrev pub first_child_of : List Node → Option ℕ → Option ℕ
 first_child_of nodes None = None
@@ -56,7 +63,8 @@ suffix_of tokens nodes (Some n) = (declarator tokens nodes n).suffix
 
 -- in the definition of a function the parameter list that belongs to its name
 unfoldable pub list_of : List Token → List Node → ℕ → Option ℕ
-list_of tokens nodes n = if has_part nodes n p_block then suffix_of tokens nodes (first_part nodes n p_declarator) else None
+list_of tokens nodes n =
+    if has_part nodes n p_block then suffix_of tokens nodes (first_part nodes n p_declarator) else None
 
 -- what a declaration says of its names by its specifiers
 unfoldable pub specified : List Token → List Node → ℕ → ℕ → Specifiers
@@ -72,8 +80,8 @@ abbrev pub by_specs : List Token → List Node → ℕ → Option ℕ → Role
 by_specs tokens nodes n None = Elsewhere
 by_specs tokens nodes n (Some specs) = Declaration (specified tokens nodes n specs)
 
--- the roles of what stands in a declaration, in specifiers, in a type specifier, in a structure or union specifier, in an
--- enumeration specifier, and in a statement
+-- the roles of what stands in a declaration, in specifiers, in a type specifier, in a structure or union specifier,
+-- in an enumeration specifier, and in a statement
 unfoldable pub in_declaration : List Token → List Node → ℕ → Role
 in_declaration tokens nodes n = by_specs tokens nodes n (first_child nodes n)
 
@@ -97,7 +105,9 @@ in_enum nodes n = if has_part nodes n p_enumerators then Tag Declares else Tag U
 -- selection and iteration statements (C11 6.8.4, 6.8.5)
 unfoldable pub selects : List Token → List Node → ℕ → Bool
 selects tokens nodes n =
-    begins_with tokens nodes n word_if || begins_with tokens nodes n word_switch || begins_with tokens nodes n word_while || begins_with tokens nodes n word_do || begins_with tokens nodes n word_for
+    begins_with tokens nodes n word_if || begins_with tokens nodes n word_switch
+    || begins_with tokens nodes n word_while || begins_with tokens nodes n word_do
+    || begins_with tokens nodes n word_for
 
 unfoldable pub in_statement : List Token → List Node → ℕ → Role
 in_statement tokens nodes n = Statement (first_child nodes n) (selects tokens nodes n)
@@ -135,8 +145,8 @@ abbrev pub is_selected : Role → Bool
 is_selected (Statement first selects) = selects
 is_selected _ = false
 
--- The scope that a node opens for what stands in it: a block, a parameter list, a selection or iteration statement, and a
--- statement that stands directly in one open a scope (C11 6.2.1p4, 6.8.4p3, 6.8.5p5).
+-- The scope that a node opens for what stands in it: a block, a parameter list, a selection or iteration statement,
+-- and a statement that stands directly in one open a scope (C11 6.2.1p4, 6.8.4p3, 6.8.5p5).
 unfoldable pub opened : List Token → List Node → ℕ → Role → Option ℕ
 opened tokens nodes n role =
     let p = production_at nodes n in

@@ -1,5 +1,6 @@
 -- In which scopes each node stands (C11 6.2.1).
-use Rattle.std.specs.Prelude.{◌≡◌, ℕ, ◌+◌, ◌<◌, ◌≤◌, Option, Some, None, List, [], ◌∷◌, ◌++◌, length, slice_get, slice_index_or, if◌then◌else◌}
+use Rattle.std.specs.Prelude.{◌≡◌, ℕ, ◌+◌, ◌<◌, ◌≤◌, Option, Some, None, List, [], ◌∷◌, ◌++◌, length, slice_get}
+use Rattle.std.specs.Prelude.{slice_index_or, if◌then◌else◌}
 use Rattle.c_lexer.specs.declared.Token.{Token}
 use Rattle.c_grammar.specs.Reads.{Node}
 use Rattle.c_grammar.specs.Terminals.{contains}
@@ -10,8 +11,9 @@ use Rattle.c_mentions.specs.declared.roles.Role.{Role}
 use Rattle.c_mentions.specs.declared.roles.Role.TheVariants.{Elsewhere}
 use Rattle.c_mentions.specs.Roles.{handed, opened, is_body}
 
--- Where a node stands: the scopes around it, the innermost one first, each by the number of the node that opens it and the
--- file's by the number of nodes; the body of the function around it, or else the number of nodes; and its role below its parent.
+-- Where a node stands: the scopes around it, the innermost one first, each by the number of the node that opens it
+-- and the file's by the number of nodes; the body of the function around it, or else the number of nodes; and its
+-- role below its parent.
 pub record Standing : Type 0 where
   pub scopes : List ℕ
   pub body : ℕ
@@ -34,7 +36,8 @@ module _ (tokens : List Token) (nodes : List Node) where
     role = handed tokens nodes n s.role;
   }
 
-  -- where node i stands by the nodes behind it, from number m on: its parent is the first of them that has it as a child
+  -- where node i stands by the nodes behind it, from number m on: its parent is the first of them that has it as a
+  -- child
   abbrev pub standing : ℕ → ℕ → List Node → List Standing → Standing
   standing i m [] ss = outermost (length nodes)
   standing i m (n ∷ ns) [] = outermost (length nodes)
@@ -49,7 +52,9 @@ module _ (tokens : List Token) (nodes : List Node) where
 abbrev pub IsChain : List Scope → ℕ → List ℕ → Type 0
 IsChain scopes at [] = ⊥
 IsChain scopes at (scope ∷ []) = slice_get scopes at ≡ Some (record { number = scope; outer = at })
-IsChain scopes at (scope ∷ next ∷ others) = (outer : ℕ) × (outer < at) × (slice_get scopes at ≡ Some (record { number = scope; outer = outer })) × IsChain scopes outer (next ∷ others)
+IsChain scopes at (scope ∷ next ∷ others) =
+    (outer : ℕ) × (outer < at) × (slice_get scopes at ≡ Some (record { number = scope; outer = outer }))
+    × IsChain scopes outer (next ∷ others)
 
 -- the code's setting says where a node stands
 pub record Stands (scopes : List Scope) (setting : Setting) (s : Standing) : Type 0 where
@@ -64,11 +69,15 @@ Extends old new = (more : List Scope) × (new ≡ old ++ more)
 -- the children of a node, as far as they have smaller numbers, got something
 pub record Hands {X : Type 0} (children : List ℕ) (node : ℕ) (x : X) (old new : List X) : Type 0 where
   pub count : length new ≡ length old
-  pub before : (i : ℕ) (d : X) → i < node → slice_index_or new i d ≡ (if contains children i then x else slice_index_or old i d)
+  pub before : (i : ℕ) (d : X)
+      → i < node
+      → slice_index_or new i d ≡ (if contains children i then x else slice_index_or old i d)
   pub behind : (i : ℕ) (d : X) → node ≤ i → slice_index_or new i d ≡ slice_index_or old i d
 
--- the children of a node with a setting, as far as they have smaller numbers, got a setting that says where they stand
-pub record HandsDown (tokens : List Token) (nodes : List Node) (scopes now : List Scope) (children : List ℕ) (node : ℕ) (setting : Setting) (old new : List Setting) : Type 0 where
+-- the children of a node with a setting, as far as they have smaller numbers, got a setting that says where they
+-- stand
+pub record HandsDown (tokens : List Token) (nodes : List Node) (scopes now : List Scope) (children : List ℕ)
+    (node : ℕ) (setting : Setting) (old new : List Setting) : Type 0 where
   pub within : Setting
   pub extends : Extends scopes now
   pub stands : (s : Standing) → Stands scopes setting s → Stands now within (handed_down tokens nodes node s)
@@ -77,4 +86,7 @@ pub record HandsDown (tokens : List Token) (nodes : List Node) (scopes now : Lis
 -- settings say where all nodes stand
 pub record AreSettings (tokens : List Token) (nodes : List Node) (settings : Settings) : Type 0 where
   pub count : length settings.list ≡ length nodes
-  pub each : (i : ℕ) (d : Setting) → i < length nodes → Stands settings.scopes.items (slice_index_or settings.list i d) (slice_index_or (standings tokens nodes 0 nodes) i (outermost (length nodes)))
+  pub each : (i : ℕ) (d : Setting)
+      → i < length nodes
+      → Stands settings.scopes.items (slice_index_or settings.list i d)
+      (slice_index_or (standings tokens nodes 0 nodes) i (outermost (length nodes)))

@@ -1,5 +1,6 @@
 -- Symbols: a name is known by the first token that spells it.
-use Rattle.std.specs.Prelude.{◌≡◌, ℕ, ◌<◌, Bool, ◌&&◌, Option, Some, None, List, length, slice_get, slice_index, if◌then◌else◌}
+use Rattle.std.specs.Prelude.{◌≡◌, ℕ, ◌<◌, Bool, ◌&&◌, Option, Some, None, List, length, slice_get, slice_index}
+use Rattle.std.specs.Prelude.{if◌then◌else◌}
 use Rattle.std.specs.List.{position_from}
 use Rattle.std.specs.Option.{unwrap_or}
 use Rattle.std.specs.Str.{bytes_eq}
@@ -19,9 +20,12 @@ spells text name t = is_identifier t.kind && bytes_eq name (spelled text t)
 abbrev pub first_token : List ℕ → List Token → List ℕ → Option ℕ
 first_token text tokens name = position_from (spells text name) 0 tokens
 
--- the symbol of a token: of an identifier the number of the first identifier that is spelled so, of any other its own number
+-- the symbol of a token: of an identifier the number of the first identifier that is spelled so, of any other its
+-- own number
 unfoldable pub symbol_of : List ℕ → List Token → ℕ → ℕ
-symbol_of text tokens token = if is_identifier (token_kind tokens token) then unwrap_or (first_token text tokens (name_at text (slice_get tokens token))) token else token
+symbol_of text tokens token =
+    if is_identifier (token_kind tokens token)
+    then unwrap_or (first_token text tokens (name_at text (slice_get tokens token))) token else token
 
 -- a list of the symbols of all tokens
 pub record Numbers (text : List ℕ) (tokens : List Token) (symbols : List ℕ) : Type 0 where
@@ -38,11 +42,13 @@ first_or (Some first) token = first
 
 -- the first tokens with one token more, which counts where its name hasn't stood before
 abbrev pub known_after : (List ℕ → Option ℕ) → List ℕ → ℕ → List ℕ → Option ℕ
-known_after before name token other = if bytes_eq name other then Some (first_or (before name) token) else before other
+known_after before name token other =
+    if bytes_eq name other then Some (first_or (before name) token) else before other
 
 -- the symbol of a token behind those before it, and the first tokens with it
 abbrev pub numbered : List ℕ → (List ℕ → Option ℕ) → Token → ℕ → ℕ
 numbered text before t token = if is_identifier t.kind then first_or (before (spelled text t)) token else token
 
 abbrev pub known_with : List ℕ → (List ℕ → Option ℕ) → Token → ℕ → List ℕ → Option ℕ
-known_with text before t token other = if is_identifier t.kind then known_after before (spelled text t) token other else before other
+known_with text before t token other =
+    if is_identifier t.kind then known_after before (spelled text t) token other else before other

@@ -6,7 +6,8 @@ use Rattle.c_senses.specs.Names.{before_in_scope, ordinary_at}
 use Rattle.c_senses.specs.World.{World}
 use Rattle.c_senses.specs.Sense.{Sense}
 use Rattle.c_senses.specs.Declarators.{name_in}
-use Rattle.c_senses.specs.Entities.{is_typedef, is_linked, declares_function, is_internal, has_one_linkage, internal_before, all_same, all_together, types_of, some_such, defines}
+use Rattle.c_senses.specs.Entities.{is_typedef, is_linked, declares_function, is_internal, has_one_linkage}
+use Rattle.c_senses.specs.Entities.{internal_before, all_same, all_together, types_of, some_such, defines}
 use Rattle.c_named.specs.declared.said.Said.{Said}
 use Rattle.c_named.specs.Lists.{all_of, types_at, some_defines}
 
@@ -19,13 +20,16 @@ pub record IsSaid (w : World) (s : Source) (sense : ℕ → Sense) (leaf : ℕ) 
   pub one_linkage : said.one_linkage ≡ has_one_linkage w s sense leaf
   pub in_scope :
       is_typedef s sense leaf ≡ true
-      → (t : Ctype) → all_of s sense t said.in_scope.items ≡ all_same w s sense t (before_in_scope s (ordinary_at s leaf))
+      → (t : Ctype)
+      → all_of s sense t said.in_scope.items ≡ all_same w s sense t (before_in_scope s (ordinary_at s leaf))
   pub types :
       is_internal s sense leaf ≡ true
-      → all_together None (types_at s sense said.internal_before.items) ≡ all_together None (types_of s sense (internal_before w s sense leaf))
+      → all_together None (types_at s sense said.internal_before.items)
+      ≡ all_together None (types_of s sense (internal_before w s sense leaf))
   pub defined :
       is_internal s sense leaf ≡ true
-      → some_defines s sense said.internal_before.items ≡ some_such s sense (λ d. defines w s sense d.node) (internal_before w s sense leaf)
+      → some_defines s sense said.internal_before.items
+      ≡ some_such s sense (λ d. defines w s sense d.node) (internal_before w s sense leaf)
 
 -- the leaves are those of nodes, in a tree of so many
 pub record IsSaidIn (count : ℕ) (said : Said) : Type 0 where

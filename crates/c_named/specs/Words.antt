@@ -2,8 +2,9 @@
 use Rattle.std.specs.Prelude.{Bool, ◌&&◌, ◌||◌, not}
 use Rattle.c_named.specs.declared.words.Wording.{Wording}
 
--- the words for functions go with functions alone; a typedef name, a function, and in a block what is `extern`, have no initialiser; a
--- function in a block is `extern` or has no word; a typedef defines no function; in a `for` stand objects without `static` and `extern`
+-- the words for functions go with functions alone; a typedef name, a function, and in a block what is `extern`,
+-- have no initialiser; a function in a block is `extern` or has no word; a typedef defines no function; in a `for`
+-- stand objects without `static` and `extern`
 abbrev pub go_well : Wording → Bool
 go_well a =
     not (a.for_function && (a.is_typedef || not a.is_function))

@@ -15,8 +15,8 @@ use Rattle.c_senses.specs.Objects.{lacks_length, is_array, is_place_sort, member
 use Rattle.core_nodes.specs.Standing.{core_at, Knows, Made}
 use Rattle.core_nodes.specs.declared.fault.CheckFault.{CheckFault}
 use Rattle.core_nodes.proofs.Failing.{made_same, fails}
-use Rattle.c_members.specs.Worlds.{IsWorldOf}
-use Rattle.c_members.specs.Steps.{member_refusal, unless_refused}
+use Rattle.c_operators.specs.c_members.Worlds.{IsWorldOf}
+use Rattle.c_operators.specs.c_members.Steps.{member_refusal, unless_refused}
 use Rattle.c_operators.specs.Members.{stepped, pointed}
 
 pub world_is : (w : World) (u : Unit) → Knows w u → IsWorldOf w u.types

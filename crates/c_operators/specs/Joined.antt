@@ -1,5 +1,5 @@
--- Pointers as operands of one type, as far as it is built: whether an integer that is computed is a null constant isn't told yet
--- (C11 6.3.2.3p3, 6.5.9, 6.5.15).
+-- Pointers as operands of one type, as far as it is built: whether an integer that is computed is a null constant
+-- isn't told yet (C11 6.3.2.3p3, 6.5.9, 6.5.15).
 use Rattle.std.specs.Prelude.{ℕ, pos, Bool, ◌&&◌, Option, Some, None, if◌then◌else◌}
 use Rattle.std.specs.Ordering.{int_eq}
 use Rattle.pta_base.specs.declared.kind.Kind.TheVariants.{Operand, NotBuilt}
@@ -40,7 +40,9 @@ abbrev pub left_joined : ℕ → Core → Core → Ctype → Ctype → Bool → 
 left_joined at a b x y null = if null then Fits (pair (null_value (ctype_of b) a) b) else void_joined at a b x y
 
 abbrev pub right_joined : ℕ → Core → Core → Ctype → Ctype → Bool → Given Both
-right_joined at a b x y null = if null then Fits (pair a (null_value (ctype_of a) b)) else given_known (null_known a) at (left_joined at a b x y)
+right_joined at a b x y null =
+    if null then Fits (pair a (null_value (ctype_of a) b))
+    else given_known (null_known a) at (left_joined at a b x y)
 
 abbrev pub apart_joined : ℕ → Core → Core → Ctype → Ctype → Given Both
 apart_joined at a b x y = given_known (null_known b) at (right_joined at a b x y)
@@ -51,10 +53,12 @@ built_joined at a b x y = if same_type x y then Fits (pair a b) else apart_joine
 
 -- a pointer beside an integer, which must be a null constant
 abbrev pub built_null_right : ℕ → Core → Core → Given Both
-built_null_right at a b = given_known (null_known b) at (λ null. given_if null Operand at (Fits (pair a (null_value (ctype_of a) b))))
+built_null_right at a b =
+    given_known (null_known b) at (λ null. given_if null Operand at (Fits (pair a (null_value (ctype_of a) b))))
 
 abbrev pub built_null_left : ℕ → Core → Core → Given Both
-built_null_left at a b = given_known (null_known a) at (λ null. given_if null Operand at (Fits (pair (null_value (ctype_of b) a) b)))
+built_null_left at a b =
+    given_known (null_known a) at (λ null. given_if null Operand at (Fits (pair (null_value (ctype_of b) a) b)))
 
 abbrev pub built_pointers_joined : ℕ → Core → Core → OperandSort → OperandSort → Given Both
 built_pointers_joined at a b (Address x) (Address y) = built_joined at a b x y

@@ -11,8 +11,10 @@ use Rattle.c_senses.specs.Objects.{part_at, member_step, member_row}
 
 -- one step on the way to a member
 abbrev pub stepped : World → Place → ℕ → Core → ℕ → Given Core
-stepped w place at c k = given_some (part_at (members_of w (ctype_of c)) k) Operand at >>= (λ m. member_step place at c k m)
+stepped w place at c k =
+    given_some (part_at (members_of w (ctype_of c)) k) Operand at >>= (λ m. member_step place at c k m)
 
 -- a member of what a pointer points to
 abbrev pub pointed : World → Place → ℕ → List ℕ → Core → Ctype → Given Core
-pointed w place at name v to = given_if (is_some (members_of w to)) Operand at (member_row w place at name (over Deref place to v))
+pointed w place at name v to =
+    given_if (is_some (members_of w to)) Operand at (member_row w place at name (over Deref place to v))

@@ -9,7 +9,9 @@ use Rattle.core_nodes.specs.Standing.{core_at}
 use Rattle.core_nodes.specs.declared.fault.CheckFault.{CheckFault}
 use Rattle.core_nodes.specs.declared.fault.CheckFault.TheVariants.{BadOperand, Unsupported, OutOfMemory}
 use Rattle.c_operators.specs.declared.operators.Operator.{Operator}
-use Rattle.c_operators.specs.declared.operators.Operator.TheVariants.{Numeric, Shifting, Adding, Subtracting, Ordering, Equating, BothTrue, EitherTrue, Following, NoOperator}
+use Rattle.c_operators.specs.declared.operators.Operator.TheVariants.{Numeric, Shifting, Adding, Subtracting}
+use Rattle.c_operators.specs.declared.operators.Operator.TheVariants.{Ordering, Equating, BothTrue, EitherTrue}
+use Rattle.c_operators.specs.declared.operators.Operator.TheVariants.{Following, NoOperator}
 
 abbrev pub operator_seen : Operator → Between
 operator_seen (Numeric op) = between.Numeric op

@@ -2,6 +2,7 @@
 //! 6.5.17).
 #![tactic(auto)]
 
+pub mod c_members;
 pub mod joined;
 pub mod members;
 pub mod objects;

@@ -9,10 +9,10 @@ ghost use Rattle.c_senses.specs.World.{World};
 ghost use Rattle.c_senses.specs.Objects as spec;
 ghost use Rattle.core_nodes.specs.Standing.{core_at, IsReady, Builds, Made, Knows};
 ghost use Rattle.core_nodes.specs.Sorts.{sort_seen, IsWithin};
-ghost use Rattle.c_members.specs.Steps.{member_refusal as refusal_spec, unless_refused};
+ghost use Rattle.c_operators.specs.c_members.Steps.{member_refusal as refusal_spec, unless_refused};
 ghost use Rattle.c_operators.specs.Members.{stepped, pointed};
 
-use c_members::{has_members, member_of, member_refusal, way_to};
+use crate::c_members::{has_members, member_of, member_refusal, way_to};
 use c_types::term::TypeId;
 use core_nodes::CheckFault;
 use core_nodes::reads::{is_place, type_of_node};

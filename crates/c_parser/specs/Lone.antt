@@ -1,5 +1,6 @@
 -- Operands that stand alone: what reading one as a level of expressions gives.
-use Rattle.std.specs.Prelude.{◌≡◌, ℕ, zero, suc, ◌+◌, ◌-◌, ◌==◌, Bool, ◌&&◌, ◌||◌, nat_le, nat_lt, List, [], ◌∷◌, ◌++◌, length, slice_index}
+use Rattle.std.specs.Prelude.{◌≡◌, ℕ, zero, suc, ◌+◌, ◌-◌, ◌==◌, Bool, ◌&&◌, ◌||◌, nat_le, nat_lt, List, [], ◌∷◌}
+use Rattle.std.specs.Prelude.{◌++◌, length, slice_index}
 use Rattle.c_grammar.specs.Productions.{p_expression, p_unary, p_primary}
 use Rattle.c_grammar.specs.Reads.{Node, State, leaf}
 use Rattle.c_grammar.specs.Terminals.{plain_name, integer, character, string}
@@ -16,9 +17,12 @@ level_of t = slice_index LEVELS t
 abbrev pub ends_within : ℕ → ℕ → Bool
 ends_within production t = nat_lt t 128 && nat_lt (level_of t) production
 
--- A level of expressions has an operand alone: no level from it on inwards goes on behind the operand. The levels nest three deep.
+-- A level of expressions has an operand alone: no level from it on inwards goes on behind the operand. The levels
+-- nest three deep.
 unfoldable pub is_lone : ℕ → ℕ → ℕ → ℕ → Bool
-is_lone production first second depth = (nat_le p_expression production && nat_le production p_unary) && (is_operand first && (ends_within production second && nat_le depth 253))
+is_lone production first second depth =
+    (nat_le p_expression production && nat_le production p_unary)
+    && (is_operand first && (ends_within production second && nat_le depth 253))
 
 -- some nodes, and the number of the last one
 abbrev pub Grown : Type 0
@@ -29,7 +33,8 @@ leaf_at token = record { production = leaf; token = token; children = [] }
 
 -- a node more, at a token, over the last one
 abbrev pub over : ℕ → ℕ → Grown → Grown
-over token production g = (g.0 ++ (record { production = production; token = token; children = g.1 ∷ [] }) ∷ [], length g.0)
+over token production g =
+    (g.0 ++ (record { production = production; token = token; children = g.1 ∷ [] }) ∷ [], length g.0)
 
 -- a leaf, a primary expression over it, and so many levels over that, each over the one before
 abbrev pub levels : ℕ → ℕ → List Node → Grown

@@ -1,6 +1,7 @@
 //! Reads the productions of the grammar by its table.
 #![tactic(auto)]
 
+pub mod c_units;
 mod lone;
 mod reader;
 

@@ -6,11 +6,13 @@ use Rattle.c_types.specs.declared.term.MemberTerm.{MemberTerm}
 use Rattle.c_types.specs.Trees.{Ctype}
 use Rattle.c_types.specs.Table.{type_of}
 use Rattle.core_tree.specs.declared.node.Unit.{Unit}
-use Rattle.c_senses.specs.PassedOn.{Core}
+use Rattle.core_nodes.specs.passed.c_senses.PassedOn.{Core}
 use Rattle.c_inits.specs.Made.{Part}
 use Rattle.c_inits.specs.Tables.{part_of}
-use Rattle.c_senses.specs.Sense.{Sense, Nothing, IsCore, IsType, IsSpecified, IsDeclarator, IsDerivation, IsParameter, IsMembers, IsValue, IsRun, IsInitial, Parameter}
-use Rattle.c_senses.specs.Sense as sense
+use Rattle.core_nodes.specs.passed.c_senses.Sense.{Sense, Nothing, IsCore, IsType, IsSpecified, IsDeclarator}
+use Rattle.core_nodes.specs.passed.c_senses.Sense.{IsDerivation, IsParameter, IsMembers, IsValue, IsRun, IsInitial}
+use Rattle.core_nodes.specs.passed.c_senses.Sense.{Parameter}
+use Rattle.core_nodes.specs.passed.c_senses.Sense as sense
 use Rattle.core_nodes.specs.Standing.{core_at}
 use Rattle.c_results.specs.declared.derivation.Derivation.{Derivation}
 use Rattle.c_results.specs.Standing.{derivation_seen, derivations_seen}
@@ -55,7 +57,10 @@ abbrev pub DerivationSeen : Unit → Option (Bor Derivation) → Option sense.De
 DerivationSeen u None d = d ≡ None
 DerivationSeen u (Some made) d = d ≡ Some (derivation_seen u.types made.now)
 
-abbrev pub DeclaratorSeen : Unit → Option (Option ℕ × Bor (List Derivation)) → Option (Option ℕ × List sense.Derivation) → Type 0
+abbrev pub DeclaratorSeen : Unit
+    → Option (Option ℕ × Bor (List Derivation))
+    → Option (Option ℕ × List sense.Derivation)
+    → Type 0
 DeclaratorSeen u None d = d ≡ None
 DeclaratorSeen u (Some made) d = d ≡ Some (made.0, derivations_seen u.types made.1.now)
 

@@ -1,7 +1,7 @@
 // Copies of what has been made.
 ghost use Rattle.std.specs.Prelude.{◌≡◌, ℕ, IfOk, All};
 ghost use Rattle.core_tree.specs.declared.node.Unit.{Unit as UnitSpec};
-ghost use Rattle.c_senses.specs.Sense.{sense_in};
+ghost use Rattle.core_nodes.specs.passed.c_senses.Sense.{sense_in};
 ghost use Rattle.c_results.specs.Standing.{sense_made, senses_made, IsWithin};
 
 use crate::boxed::{BoxedDerivation, BoxedList, WordList};

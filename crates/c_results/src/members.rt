@@ -1,7 +1,7 @@
 // Enumerators' values and members that have been made.
 ghost use Rattle.std.specs.Prelude.{◌≡◌, ◌<◌, length, IfSome, All};
 ghost use Rattle.core_tree.specs.declared.node.Unit.{Unit as UnitSpec};
-ghost use Rattle.c_senses.specs.Sense.{sense_in};
+ghost use Rattle.core_nodes.specs.passed.c_senses.Sense.{sense_in};
 ghost use Rattle.c_results.specs.Standing.{sense_made, senses_made, IsWithin};
 ghost use Rattle.c_results.specs.Parts as spec;
 ghost use Rattle.c_results.specs.Parts.{MembersSeen};

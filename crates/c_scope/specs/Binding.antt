@@ -1,5 +1,6 @@
 -- How the code's values stand for what is known of names.
-use Rattle.std.specs.Prelude.{◌≡◌, ℕ, ◌==◌, Bool, true, false, ◌&&◌, Option, Some, None, List, [], ◌∷◌, ◌++◌, if◌then◌else◌}
+use Rattle.std.specs.Prelude.{◌≡◌, ℕ, ◌==◌, Bool, true, false, ◌&&◌, Option, Some, None, List, [], ◌∷◌, ◌++◌}
+use Rattle.std.specs.Prelude.{if◌then◌else◌}
 use Rattle.std.specs.BTreeMap.{BTreeMap}
 use Rattle.std.specs.BTreeSet.{BTreeSet}
 use Rattle.std.specs.List.{list_any}
@@ -22,11 +23,13 @@ abbrev pub label_at : BTreeMap (ℕ × ℕ) ℕ → ℕ → ℕ → Option ℕ
 label_at labels body symbol = lookup (λ k. body == k.0 && symbol == k.1) labels.entries
 
 abbrev pub label_put : BTreeMap (ℕ × ℕ) ℕ → ℕ → ℕ → ℕ → ℕ → ℕ → Option ℕ
-label_put before body symbol node other sign = if body == other && symbol == sign then Some node else label_at before other sign
+label_put before body symbol node other sign =
+    if body == other && symbol == sign then Some node else label_at before other sign
 
 -- with a label more, which counts where it is the first
 abbrev pub label_more : BTreeMap (ℕ × ℕ) ℕ → ℕ → ℕ → ℕ → ℕ → ℕ → Option ℕ
-label_more before body symbol node other sign = or_first (label_at before other sign) (if body == other && symbol == sign then Some node else None)
+label_more before body symbol node other sign =
+    or_first (label_at before other sign) (if body == other && symbol == sign then Some node else None)
 
 abbrev pub label_after : BTreeMap (ℕ × ℕ) ℕ → ℕ → ℕ → Mention → ℕ → ℕ → Option ℕ
 label_after before body node (Label symbol) other sign = label_more before body symbol node other sign
@@ -34,7 +37,9 @@ label_after before body node _ other sign = label_at before other sign
 
 -- a node leaves the same labels by either of two mentions
 abbrev pub LeaveSameLabels : ℕ → Mention → Mention → Type 0
-LeaveSameLabels node a b = (before : BTreeMap (ℕ × ℕ) ℕ) (body other sign : ℕ) → label_after before body node a other sign ≡ label_after before body node b other sign
+LeaveSameLabels node a b =
+    (before : BTreeMap (ℕ × ℕ) ℕ) (body other sign : ℕ)
+    → label_after before body node a other sign ≡ label_after before body node b other sign
 
 abbrev pub has : BTreeSet ℕ → ℕ → Bool
 has set n = list_any (λ k. n == k) set.keys

@@ -4,3 +4,4 @@ pub mod Binding
 pub mod Happens
 pub mod Resolves
 pub mod PassedOn
+pub mod passed

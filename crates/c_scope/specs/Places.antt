@@ -1,5 +1,6 @@
 -- How a map of declarations by scope and symbol stands for the list of declarations.
-use Rattle.std.specs.Prelude.{◌≡◌, ℕ, ◌==◌, Bool, false, ◌&&◌, not, Option, Some, None, List, [], ◌∷◌, if◌then◌else◌}
+use Rattle.std.specs.Prelude.{◌≡◌, ℕ, ◌==◌, Bool, false, ◌&&◌, not, Option, Some, None, List, [], ◌∷◌}
+use Rattle.std.specs.Prelude.{if◌then◌else◌}
 use Rattle.std.specs.BTreeMap.{BTreeMap}
 use Rattle.std.specs.Map.{lookup}
 use Rattle.c_scope.specs.declared.kinds.Kind.{Kind}
@@ -21,7 +22,8 @@ merged _ _ = Plain
 
 abbrev pub joined : Option Entry → Entry → Entry
 joined None entry = entry
-joined (Some before) entry = record { node = entry.node; kind = merged before.kind entry.kind; is_function = entry.is_function }
+joined (Some before) entry =
+    record { node = entry.node; kind = merged before.kind entry.kind; is_function = entry.is_function }
 
 abbrev pub clash : Option Entry → Kind → Bool
 clash None kind = false
@@ -36,14 +38,16 @@ together before [] = before
 together before (d ∷ ds) = together (Some (joined before (entry_of d))) ds
 
 abbrev pub declared_at : ℕ → ℕ → Entry → Declared
-declared_at scope symbol entry = record { node = entry.node; symbol = symbol; scope = scope; kind = entry.kind; is_function = entry.is_function }
+declared_at scope symbol entry =
+    record { node = entry.node; symbol = symbol; scope = scope; kind = entry.kind; is_function = entry.is_function }
 
 -- what a map says of a symbol in a scope
 abbrev pub entry_at : BTreeMap (ℕ × ℕ) Entry → ℕ → ℕ → Option Entry
 entry_at places scope symbol = lookup (λ k. scope == k.0 && symbol == k.1) places.entries
 
 abbrev pub entry_after : BTreeMap (ℕ × ℕ) Entry → ℕ → ℕ → Entry → ℕ → ℕ → Option Entry
-entry_after before scope symbol entry other sign = if scope == other && symbol == sign then Some entry else entry_at before other sign
+entry_after before scope symbol entry other sign =
+    if scope == other && symbol == sign then Some entry else entry_at before other sign
 
 -- a map says of each symbol in each scope what its declarations there are together
 abbrev pub Says : BTreeMap (ℕ × ℕ) Entry → List Declared → Type 0

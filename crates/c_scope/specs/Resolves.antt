@@ -1,5 +1,6 @@
 -- What it is to resolve the names of a unit (C11 6.2.1, 6.2.3).
-use Rattle.std.specs.Prelude.{Contains, slice_get, take, false, ◌≡◌, ◌≢◌, ℕ, ◌+◌, nat_lt, Option, Some, None, List, [], ◌∷◌, length}
+use Rattle.std.specs.Prelude.{Contains, slice_get, take, false, ◌≡◌, ◌≢◌, ℕ, ◌+◌, nat_lt, Option, Some, None, List}
+use Rattle.std.specs.Prelude.{[], ◌∷◌, length}
 use Rattle.c_lexer.specs.declared.Token.{Token}
 use Rattle.c_lexer.specs.declared.Tokens.{Tokens}
 use Rattle.c_grammar.specs.Reads.{Node}
@@ -44,7 +45,8 @@ first_of text tokens nodes = first_fault None (bindings text tokens nodes).fault
 abbrev pub fault_of : Tokens → Tree → Option NameFault
 fault_of tokens tree = first_of tokens.text.now tokens.list.items (nodes_of tree.nodes.items)
 
--- no name is at fault, and these are the uses and the gotos, in order, with what they mean, the declarations, and where the nodes stand
+-- no name is at fault, and these are the uses and the gotos, in order, with what they mean, the declarations, and
+-- where the nodes stand
 pub record IsBound (tokens : Tokens) (tree : Tree) (bound : Bound) : Type 0 where
   pub right : fault_of tokens tree ≡ None
   pub uses : bound.uses.items ≡ (bindings tokens.text.now tokens.list.items (nodes_of tree.nodes.items)).uses
@@ -59,22 +61,47 @@ IsNameFault tokens tree (Undeclared n) = fault_of tokens tree ≡ Some (Undeclar
 IsNameFault tokens tree (Redeclared n) = fault_of tokens tree ≡ Some (Redeclared n)
 IsNameFault tokens tree OutOfMemory = Unit {0}
 
--- A unit has one answer: two bounds have the same pairs, two faults that aren't want of memory are the same, and a unit whose
--- names are bound has none.
+-- A unit has one answer: two bounds have the same pairs, two faults that aren't want of memory are the same, and a
+-- unit whose names are bound has none.
 pub record OneAnswer : Type 0 where
-  pub bound : (tokens : Tokens) (tree : Tree) (one other : Bound) → IsBound tokens tree one → IsBound tokens tree other → (one.uses.items ≡ other.uses.items) × (one.labels.items ≡ other.labels.items)
-  pub fault : (tokens : Tokens) (tree : Tree) (one other : NameFault) → one ≢ OutOfMemory → other ≢ OutOfMemory → IsNameFault tokens tree one → IsNameFault tokens tree other → one ≡ other
-  pub either : (tokens : Tokens) (tree : Tree) (bound : Bound) (fault : NameFault) → fault ≢ OutOfMemory → IsBound tokens tree bound → IsNameFault tokens tree fault → ⊥
+  pub bound : (tokens : Tokens) (tree : Tree) (one other : Bound)
+      → IsBound tokens tree one
+      → IsBound tokens tree other
+      → (one.uses.items ≡ other.uses.items) × (one.labels.items ≡ other.labels.items)
+  pub fault : (tokens : Tokens) (tree : Tree) (one other : NameFault)
+      → one ≢ OutOfMemory
+      → other ≢ OutOfMemory
+      → IsNameFault tokens tree one
+      → IsNameFault tokens tree other
+      → one ≡ other
+  pub either : (tokens : Tokens) (tree : Tree) (bound : Bound) (fault : NameFault)
+      → fault ≢ OutOfMemory
+      → IsBound tokens tree bound
+      → IsNameFault tokens tree fault
+      → ⊥
 
 -- what is known when a node is reached
 unfoldable pub known_before : List ℕ → List Token → List Node → ℕ → Known
-known_before text tokens nodes n = known (length nodes) (first_label 0 (happenings text tokens nodes)) 0 nothing_known (take n (happenings text tokens nodes))
+known_before text tokens nodes n =
+    known (length nodes) (first_label 0 (happenings text tokens nodes)) 0 nothing_known
+    (take n (happenings text tokens nodes))
 
 -- a use of an ordinary name that needs a declaration
 abbrev pub IsUse : Tokens → Tree → ℕ → Happening → ℕ → Type 0
-IsUse tokens tree n h symbol = (slice_get (happenings tokens.text.now tokens.list.items (nodes_of tree.nodes.items)) n ≡ Some h) × (h.mention ≡ Use symbol false)
+IsUse tokens tree n h symbol =
+    (slice_get (happenings tokens.text.now tokens.list.items (nodes_of tree.nodes.items)) n ≡ Some h)
+    × (h.mention ≡ Use symbol false)
 
--- In a unit whose names are bound each such use has its pair: the innermost of the declarations that are known there.
+-- In a unit whose names are bound each such use has its pair: the innermost of the declarations that are known
+-- there.
 abbrev pub UsesArePaired : Type 0
-UsesArePaired = (tokens : Tokens) (tree : Tree) (bound : Bound) → IsBound tokens tree bound → (n : ℕ) (h : Happening) (symbol : ℕ) → IsUse tokens tree n h symbol
-    → (d : Declared) × (innermost h.scopes symbol (known_before tokens.text.now tokens.list.items (nodes_of tree.nodes.items) n).names ≡ Some d) × Contains bound.uses.items (n, d.node)
+UsesArePaired =
+    (tokens : Tokens) (tree : Tree) (bound : Bound)
+    → IsBound tokens tree bound
+    → (n : ℕ) (h : Happening) (symbol : ℕ)
+    → IsUse tokens tree n h symbol
+    → (d : Declared)
+    × (innermost h.scopes symbol
+    (known_before tokens.text.now tokens.list.items (nodes_of tree.nodes.items) n).names
+    ≡ Some d)
+    × Contains bound.uses.items (n, d.node)

@@ -1,8 +1,8 @@
 -- Expressions that must be integer constants (C11 6.6).
 use Rattle.std.specs.Prelude.{ℕ, ◌==◌, ℤ, Bool, true, false, ◌&&◌, Some, None, List}
-use Rattle.pta_base.specs.declared.kind.Kind.{Kind}
-use Rattle.pta_base.specs.declared.kind.Kind.TheVariants.{Constant, ConstantRange, DivideByZero}
-use Rattle.pta_base.specs.declared.place.Place.{Place}
+use Rattle.c_scope.specs.passed.pta_base.declared.kind.Kind.{Kind}
+use Rattle.c_scope.specs.passed.pta_base.declared.kind.Kind.TheVariants.{Constant, ConstantRange, DivideByZero}
+use Rattle.c_scope.specs.passed.pta_base.declared.place.Place.{Place}
 use Rattle.c_consts.specs.Core.{Core, place_of, part_at}
 use Rattle.c_consts.specs.Operators.{Wrong, NoForm, OutOfRange, ZeroDivisor}
 use Rattle.c_consts.specs.Answer.{Found, Value, Fails, answer}
@@ -22,7 +22,9 @@ same_place p q = (p.unit == q.unit) && ((p.line == q.line) && (p.column == q.col
 
 -- the leaf whose token stands at a place: each core node has the place of one
 abbrev pub leaf_of_place : Source → ℕ → Place → ℕ
-leaf_of_place s at place = elim (first_where (λ i. is_leaf s i && same_place (place_at s i) place) (all_nodes s)) [ None ↦ at | Some i ↦ i ]
+leaf_of_place s at place =
+    elim
+    (first_where (λ i. is_leaf s i && same_place (place_at s i) place) (all_nodes s)) [ None ↦ at | Some i ↦ i ]
 
 abbrev pub place_of_part : Core → List ℕ → Place
 place_of_part c path = elim (part_at c path) [ None ↦ place_of c | Some d ↦ place_of d ]

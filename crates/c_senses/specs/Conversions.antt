@@ -1,11 +1,16 @@
 -- Values of places, promotions, usual conversions, and the table of conversions (C11 6.3).
-use Rattle.std.specs.Prelude.{ℕ, zero, suc, ◌==◌, Bool, true, false, ◌&&◌, ◌||◌, not, nat_lt, List, Option, Some, None, slice_get, is_some, if◌then◌else◌}
-use Rattle.pta_base.specs.declared.kind.Kind.{Kind}
-use Rattle.pta_base.specs.declared.kind.Kind.TheVariants.{Operand, NumberToPointer, StructureCast, IntegerSizeCast, CharacterCast, Floating, Builtin}
-use Rattle.c_types.specs.Trees.{Ctype, VoidType, BoolType, IntegerType, FloatingType, VaListType, PointerTo, ArrayOf, FunctionFrom, StructureOf, UnionOf}
-use Rattle.core_tree.specs.declared.node.NodeKind.TheVariants.{NullValue, Fetch, Decay, Convert, Member, MemberOfValue, Upcast}
-use Rattle.core_tree.specs.Typed.{Sort, NoNode, PlaceNode, ValueNode, StatementNode, decayed}
-use Rattle.core_tree.specs.Rows.{int}
+use Rattle.std.specs.Prelude.{ℕ, zero, suc, ◌==◌, Bool, true, false, ◌&&◌, ◌||◌, not, nat_lt, List, Option, Some}
+use Rattle.std.specs.Prelude.{None, slice_get, is_some, if◌then◌else◌}
+use Rattle.c_scope.specs.passed.pta_base.declared.kind.Kind.{Kind}
+use Rattle.c_scope.specs.passed.pta_base.declared.kind.Kind.TheVariants.{Operand, NumberToPointer, StructureCast}
+use Rattle.c_scope.specs.passed.pta_base.declared.kind.Kind.TheVariants.{IntegerSizeCast, CharacterCast, Floating}
+use Rattle.c_scope.specs.passed.pta_base.declared.kind.Kind.TheVariants.{Builtin}
+use Rattle.c_inits.specs.passed.c_types.Trees.{Ctype, VoidType, BoolType, IntegerType, FloatingType, VaListType}
+use Rattle.c_inits.specs.passed.c_types.Trees.{PointerTo, ArrayOf, FunctionFrom, StructureOf, UnionOf}
+use Rattle.c_consts.specs.passed.core_tree.declared.node.NodeKind.TheVariants.{NullValue, Fetch, Decay, Convert}
+use Rattle.c_consts.specs.passed.core_tree.declared.node.NodeKind.TheVariants.{Member, MemberOfValue, Upcast}
+use Rattle.c_consts.specs.passed.core_tree.Typed.{Sort, NoNode, PlaceNode, ValueNode, StatementNode, decayed}
+use Rattle.c_consts.specs.passed.core_tree.Rows.{int}
 use Rattle.c_consts.specs.Core.{Core, Of, NoCores, MoreCores, place_of, ctype_of, core_sort, leaf, over}
 use Rattle.c_inits.specs.Made.{Part}
 use Rattle.c_senses.specs.Given.{Given, Fits, Refuses, given_if}
@@ -33,8 +38,8 @@ is_scalar (Address to) = true
 is_scalar (Aggregate tag) = false
 is_scalar Other = false
 
--- 6.3.2.1: the value of a place. An array or a function decays; a scalar, and a structure or union that is complete, is
--- fetched; any other place has no value.
+-- 6.3.2.1: the value of a place. An array or a function decays; a scalar, and a structure or union that is
+-- complete, is fetched; any other place has no value.
 abbrev pub is_fetched : World → OperandSort → Bool
 is_fetched w Whole = true
 is_fetched w (Address to) = true
@@ -43,7 +48,8 @@ is_fetched w Other = false
 
 abbrev pub fetched_or_decayed : World → ℕ → Core → Option Ctype → Given Core
 fetched_or_decayed w at c (Some pointer) = Fits (over Decay (place_of c) pointer c)
-fetched_or_decayed w at c None = given_if (is_fetched w (operand_of (ctype_of c))) Operand at (Fits (over Fetch (place_of c) (ctype_of c) c))
+fetched_or_decayed w at c None =
+    given_if (is_fetched w (operand_of (ctype_of c))) Operand at (Fits (over Fetch (place_of c) (ctype_of c) c))
 
 abbrev pub value_of_sort : World → ℕ → Core → Sort → Given Core
 value_of_sort w at c NoNode = Refuses Operand at
@@ -83,7 +89,8 @@ is_narrow (Some bits) = nat_lt bits 32
 -- 6.3.1.1p2: what an integer is promoted to. A bit-field of type unsigned int whose width is below 32 becomes int.
 abbrev pub promoted : Ctype → Bool → Ctype
 promoted BoolType narrow = int
-promoted (IntegerType size rank signed) narrow = if nat_lt size 4 || ((size == 4) && (not signed && narrow)) then int else IntegerType size rank signed
+promoted (IntegerType size rank signed) narrow =
+    if nat_lt size 4 || ((size == 4) && (not signed && narrow)) then int else IntegerType size rank signed
 promoted t narrow = t
 
 abbrev pub promotion : World → Core → Core
@@ -95,12 +102,18 @@ higher true a b = b
 higher false a b = a
 
 abbrev pub common : Ctype → Ctype → Ctype
-common (IntegerType size rank true) (IntegerType other r true) = higher (nat_lt rank r) (IntegerType size rank true) (IntegerType other r true)
-common (IntegerType size rank false) (IntegerType other r false) = higher (nat_lt rank r) (IntegerType size rank false) (IntegerType other r false)
+common (IntegerType size rank true) (IntegerType other r true) =
+    higher (nat_lt rank r) (IntegerType size rank true) (IntegerType other r true)
+common (IntegerType size rank false) (IntegerType other r false) =
+    higher (nat_lt rank r) (IntegerType size rank false) (IntegerType other r false)
 common (IntegerType size rank false) (IntegerType other r true) =
-    if nat_lt rank r then (if nat_lt size other then IntegerType other r true else IntegerType other r false) else IntegerType size rank false
+    if nat_lt rank r
+    then (if nat_lt size other then IntegerType other r true else IntegerType other r false)
+    else IntegerType size rank false
 common (IntegerType size rank true) (IntegerType other r false) =
-    if nat_lt r rank then (if nat_lt other size then IntegerType size rank true else IntegerType size rank false) else IntegerType other r false
+    if nat_lt r rank
+    then (if nat_lt other size then IntegerType size rank true else IntegerType size rank false)
+    else IntegerType other r false
 common a b = a
 
 -- the sorts of types that pointers point to
@@ -139,7 +152,10 @@ null_value t v = leaf NullValue (place_of v) t
 
 -- the pointers on the way from a structure down to the first member's type, and so on, that is sought
 abbrev pub first_member_type : World → Ctype → Option Ctype
-first_member_type w (StructureOf tag) = elim (w.members tag) [ None ↦ None | Some members ↦ elim (slice_get members 0) [ None ↦ None | Some m ↦ Some m.type ] ]
+first_member_type w (StructureOf tag) =
+    elim
+    (w.members tag)
+    [ None ↦ None | Some members ↦ elim (slice_get members 0) [ None ↦ None | Some m ↦ Some m.type ] ]
 first_member_type w t = None
 
 abbrev pub upcast_within : World → ℕ → Ctype → Option Ctype → Core → Option Core
@@ -171,7 +187,8 @@ pointers w cast at v from to ToFunction other = Refuses Operand at
 pointers w cast at v from to other ToFunction = Refuses Operand at
 pointers w cast at v from to ToVoid other = Fits (converted (PointerTo to) v)
 pointers w cast at v from to other ToVoid = Fits (converted (PointerTo to) v)
-pointers w cast at v from to (ToWhole a) (ToWhole b) = given_if (a == b) IntegerSizeCast at (Fits (converted (PointerTo to) v))
+pointers w cast at v from to (ToWhole a) (ToWhole b) =
+    given_if (a == b) IntegerSizeCast at (Fits (converted (PointerTo to) v))
 pointers w cast at v from to ToPointer ToPointer = Fits (converted (PointerTo to) v)
 pointers w cast at v from to (ToStructure a) (ToStructure b) = from_structure w cast at v from to StructureCast
 pointers w cast at v from to (ToStructure a) (ToUnion b) = from_structure w cast at v from to StructureCast
@@ -199,11 +216,14 @@ to_whole pointer at v t Other = Refuses Operand at
 abbrev pub to_other : World → Bool → ℕ → Core → Ctype → Given Core
 to_other w cast at v VoidType = given_if cast Operand at (Fits (converted VoidType v))
 to_other w cast at v BoolType = to_whole true at v BoolType (operand_of (ctype_of v))
-to_other w cast at v (IntegerType size rank signed) = to_whole cast at v (IntegerType size rank signed) (operand_of (ctype_of v))
-to_other w cast at v (PointerTo to) = if is_null v then Fits (null_value (PointerTo to) v) else to_pointer w cast at v to (operand_of (ctype_of v))
+to_other w cast at v (IntegerType size rank signed) =
+    to_whole cast at v (IntegerType size rank signed) (operand_of (ctype_of v))
+to_other w cast at v (PointerTo to) =
+    if is_null v then Fits (null_value (PointerTo to) v) else to_pointer w cast at v to (operand_of (ctype_of v))
 to_other w cast at v t = Refuses Operand at
 
--- the row of the table of conversions from a value to a type, for syntax node `at`; some rows are those of a cast alone
+-- the row of the table of conversions from a value to a type, for syntax node `at`; some rows are those of a cast
+-- alone
 abbrev pub conversion : World → Bool → ℕ → Core → Ctype → Given Core
 conversion w cast at v t = if same_type (ctype_of v) t then Fits v else to_other w cast at v t
 

@@ -1,19 +1,29 @@
--- What declarations declare: linkage, storage, and the types that declarations of one name give together (C11 6.2.2, 6.2.4, 6.2.7,
--- 6.7, 6.9.1, 6.9.2).
-use Rattle.std.specs.Prelude.{ℕ, ◌==◌, Bool, true, false, ◌&&◌, ◌||◌, not, nat_lt, List, [], ◌∷◌, Option, Some, None, is_some, is_none, option_and_then, option_map, if◌then◌else◌}
-use Rattle.pta_base.specs.declared.kind.Kind.TheVariants.{Operand, InlineDefinition, VariadicDefinition}
-use Rattle.c_types.specs.declared.term.Form.TheVariants.{Fixed, Variadic, Unspecified}
-use Rattle.c_types.specs.Trees.{Ctype, VoidType, ArrayOf, FunctionFrom, StructureOf, UnionOf}
-use Rattle.core_tree.specs.declared.node.Linkage.{Linkage}
-use Rattle.core_tree.specs.declared.node.Linkage.TheVariants.{External, Internal, Local}
-use Rattle.core_tree.specs.declared.node.Storage.{Storage}
-use Rattle.core_tree.specs.declared.node.Storage.TheVariants.{Static, Automatic, FunctionBody, Parameter as ParameterStorage, Declared}
-use Rattle.c_grammar.specs.Terminals.{contains}
-use Rattle.c_grammar.specs.Productions.{p_external, p_rest, p_asm_name, p_align, p_field, p_enumerator, p_declarator, p_suffix, p_parameter, p_init, p_designator, p_block, p_statement, p_unary, p_assert, p_struct, p_members}
-use Rattle.c_grammar.specs.Words.{word_extern, word_static, word_inline, word_sizeof, word_alignof, sign_assign}
-use Rattle.c_senses.specs.Tree.{Source, is_a, has_sign, has_word, children_at, paired, last_where, any_where, child_of, parent_of, nearest_above, all_nodes}
+-- What declarations declare: linkage, storage, and the types that declarations of one name give together (C11
+-- 6.2.2, 6.2.4, 6.2.7, 6.7, 6.9.1, 6.9.2).
+use Rattle.std.specs.Prelude.{ℕ, ◌==◌, Bool, true, false, ◌&&◌, ◌||◌, not, nat_lt, List, [], ◌∷◌, Option, Some}
+use Rattle.std.specs.Prelude.{None, is_some, is_none, option_and_then, option_map, if◌then◌else◌}
+use Rattle.c_scope.specs.passed.pta_base.declared.kind.Kind.TheVariants.{Operand, InlineDefinition}
+use Rattle.c_scope.specs.passed.pta_base.declared.kind.Kind.TheVariants.{VariadicDefinition}
+use Rattle.c_inits.specs.passed.c_types.declared.term.Form.TheVariants.{Fixed, Variadic, Unspecified}
+use Rattle.c_inits.specs.passed.c_types.Trees.{Ctype, VoidType, ArrayOf, FunctionFrom, StructureOf, UnionOf}
+use Rattle.c_consts.specs.passed.core_tree.declared.node.Linkage.{Linkage}
+use Rattle.c_consts.specs.passed.core_tree.declared.node.Linkage.TheVariants.{External, Internal, Local}
+use Rattle.c_consts.specs.passed.core_tree.declared.node.Storage.{Storage}
+use Rattle.c_consts.specs.passed.core_tree.declared.node.Storage.TheVariants.{Static, Automatic, FunctionBody}
+use Rattle.c_consts.specs.passed.core_tree.declared.node.Storage.TheVariants.{Parameter as ParameterStorage}
+use Rattle.c_consts.specs.passed.core_tree.declared.node.Storage.TheVariants.{Declared}
+use Rattle.c_inits.specs.passed.c_grammar.Terminals.{contains}
+use Rattle.c_inits.specs.passed.c_grammar.Productions.{p_external, p_rest, p_asm_name, p_align, p_field}
+use Rattle.c_inits.specs.passed.c_grammar.Productions.{p_enumerator, p_declarator, p_suffix, p_parameter, p_init}
+use Rattle.c_inits.specs.passed.c_grammar.Productions.{p_designator, p_block, p_statement, p_unary, p_assert}
+use Rattle.c_inits.specs.passed.c_grammar.Productions.{p_struct, p_members}
+use Rattle.c_inits.specs.passed.c_grammar.Words.{word_extern, word_static, word_inline, word_sizeof, word_alignof}
+use Rattle.c_inits.specs.passed.c_grammar.Words.{sign_assign}
+use Rattle.c_senses.specs.Tree.{Source, is_a, has_sign, has_word, children_at, paired, last_where, any_where}
+use Rattle.c_senses.specs.Tree.{child_of, parent_of, nearest_above, all_nodes}
 use Rattle.c_scope.specs.declared.kinds.Declared.{Declared as Declaration}
-use Rattle.c_senses.specs.Names.{has_linkage, names_type, made_before, linked_before, before_in_scope, typing_declarations, ordinary_at}
+use Rattle.c_senses.specs.Names.{has_linkage, names_type, made_before, linked_before, before_in_scope}
+use Rattle.c_senses.specs.Names.{typing_declarations, ordinary_at}
 use Rattle.c_senses.specs.Given.{Given, given_if}
 use Rattle.c_senses.specs.World.{World, Meaning, Object, Function, TypeName, Value, has_size, same_type}
 use Rattle.c_senses.specs.Limits.{is_function_type, lacks_a_length}
@@ -21,8 +31,8 @@ use Rattle.c_senses.specs.Declarators.{outermost_of, specs_of, declaration_aroun
 use Rattle.c_senses.specs.Tags.{tag_of}
 use Rattle.c_senses.specs.Sense.{Sense, IsSpecified, IsDeclarator, IsParameter, IsValue, IsInitial, Specified}
 
--- 6.2.7: types agree at their top, and of two that agree the one with the list or the length is the type of both; where they don't, a
--- declaration has its own
+-- 6.2.7: types agree at their top, and of two that agree the one with the list or the length is the type of both;
+-- where they don't, a declaration has its own
 abbrev pub agree : Ctype → Ctype → Bool
 agree (FunctionFrom r ps Unspecified) (FunctionFrom q qs g) = same_type r q
 agree (FunctionFrom r ps f) (FunctionFrom q qs Unspecified) = same_type r q
@@ -65,7 +75,8 @@ module _ (s : Source) (sense : ℕ → Sense) where
   is_parameter leaf = elim (declaration_of leaf) [ None ↦ false | Some p ↦ is_a s p_parameter p ]
 
   abbrev pub is_defined : ℕ → Bool
-  is_defined leaf = elim (declaration_of leaf) [ None ↦ false | Some p ↦ is_a s p_external p && is_some (child_of s p_block p) ]
+  is_defined leaf =
+      elim (declaration_of leaf) [ None ↦ false | Some p ↦ is_a s p_external p && is_some (child_of s p_block p) ]
 
   abbrev pub specified : Option ℕ → Option Specified
   specified None = None
@@ -107,7 +118,9 @@ module _ (s : Source) (sense : ℕ → Sense) where
   initialiser_of declarator =
       elim (parent_of s declarator) [
         | None ↦ None
-        | Some p ↦ let list = without_asm (behind declarator (children_at s p)) in if is_a s p_rest p then initialiser_in list else in_rest list
+        | Some p ↦ let list =
+            without_asm (behind declarator (children_at s p)) in if is_a s p_rest p then initialiser_in list
+            else in_rest list
       ]
 
   abbrev pub initialiser_for : ℕ → Option ℕ
@@ -119,7 +132,9 @@ module _ (s : Source) (sense : ℕ → Sense) where
       elim (parent_of s init) [
         | None ↦ None
         | Some p ↦
-            elim (last_where (λ c. is_a s p_declarator c && nat_lt c init) (children_at s p)) [ Some d ↦ Some d | None ↦ option_and_then (child_of s p_declarator) (parent_of s p) ]
+            elim
+            (last_where (λ c. is_a s p_declarator c && nat_lt c init) (children_at s p))
+            [ Some d ↦ Some d | None ↦ option_and_then (child_of s p_declarator) (parent_of s p) ]
       ]
 
   abbrev pub length_given_by : Option ℕ → Option ℕ
@@ -139,7 +154,8 @@ module _ (s : Source) (sense : ℕ → Sense) where
   abbrev pub own_type : ℕ → Option Ctype
   own_type leaf =
       if is_parameter leaf then parameter_type (declaration_of leaf)
-      else option_map (with_length (length_given_by (initialiser_for leaf))) (derived_type (specified_of leaf) (outermost_of s leaf))
+      else option_map (with_length (length_given_by (initialiser_for leaf)))
+      (derived_type (specified_of leaf) (outermost_of s leaf))
 
   -- some of a list of declarations
   abbrev pub keep : (Declaration → Bool) → List Declaration → List Declaration
@@ -150,10 +166,11 @@ module _ (s : Source) (sense : ℕ → Sense) where
   some_such test [] = false
   some_such test (d ∷ rest) = test d || some_such test rest
 
-  -- 6.2.2p3, p4: an identifier has internal linkage where it is declared `static` at file scope, and where it is declared `extern`, or as a
-  -- function without a storage word, and a declaration that is seen there has
+  -- 6.2.2p3, p4: an identifier has internal linkage where it is declared `static` at file scope, and where it is
+  -- declared `extern`, or as a function without a storage word, and a declaration that is seen there has
   abbrev pub is_without_storage : ℕ → Bool
-  is_without_storage leaf = elim (specified_of leaf) [ None ↦ true | Some x ↦ elim x.storage [ [] ↦ true | word ∷ rest ↦ false ] ]
+  is_without_storage leaf =
+      elim (specified_of leaf) [ None ↦ true | Some x ↦ elim x.storage [ [] ↦ true | word ∷ rest ↦ false ] ]
 
   abbrev pub takes_over : ℕ → Bool
   takes_over leaf = has_storage word_extern leaf || (declares_function leaf && is_without_storage leaf)
@@ -164,7 +181,9 @@ module _ (s : Source) (sense : ℕ → Sense) where
   abbrev pub is_internal : ℕ → Bool
   is_internal leaf =
       is_linked leaf
-      && (is_static_at_file leaf || (takes_over leaf && some_such (λ d. is_static_at_file d.node) (linked_before s (ordinary_at s leaf))))
+      && (is_static_at_file leaf
+      || (takes_over leaf
+      && some_such (λ d. is_static_at_file d.node) (linked_before s (ordinary_at s leaf))))
 
   abbrev pub linkage_of : ℕ → Linkage
   linkage_of leaf = if is_internal leaf then Internal else (if is_linked leaf then External else Local)
@@ -177,14 +196,15 @@ module _ (s : Source) (sense : ℕ → Sense) where
   internal_among ds None = []
   internal_among ds (Some d) = keep (is_internal_of d.symbol) ds
 
-  -- the declarations of one internal object or function share one entity, known by the first of them; any other declaration has its
-  -- own
+  -- the declarations of one internal object or function share one entity, known by the first of them; any other
+  -- declaration has its own
   abbrev pub first_of : ℕ → List Declaration → ℕ
   first_of leaf [] = leaf
   first_of leaf (d ∷ rest) = d.node
 
   abbrev pub entity_of : ℕ → ℕ
-  entity_of leaf = if is_internal leaf then first_of leaf (internal_among s.declared.ordinary (ordinary_at s leaf)) else leaf
+  entity_of leaf =
+      if is_internal leaf then first_of leaf (internal_among s.declared.ordinary (ordinary_at s leaf)) else leaf
 
   -- 6.2.4: an object's or a function's storage
   abbrev pub is_static_object : ℕ → Bool
@@ -208,19 +228,20 @@ module _ (s : Source) (sense : ℕ → Sense) where
   types_of [] = []
   types_of (d ∷ rest) = elim (own_type d.node) [ None ↦ types_of rest | Some t ↦ t ∷ types_of rest ]
 
-  -- the type of a declared name behind its declaration: of one with linkage the type that the declarations of it that are seen there give
-  -- together
+  -- the type of a declared name behind its declaration: of one with linkage the type that the declarations of it
+  -- that are seen there give together
   abbrev pub type_behind : ℕ → Option Ctype
   type_behind leaf = all_together None (types_of (typing_declarations s (ordinary_at s leaf)))
 
-  -- an array that waits for its initialiser to give it a length has, in that initialiser, the length that the declarations before it give, if
-  -- they do; there the name is still the last one of them
+  -- an array that waits for its initialiser to give it a length has, in that initialiser, the length that the
+  -- declarations before it give, if they do; there the name is still the last one of them
   abbrev pub is_open : Option Ctype → Bool
   is_open None = false
   is_open (Some t) = lacks_a_length t
 
   abbrev pub has_earlier_length : ℕ → Bool
-  has_earlier_length leaf = is_some (initialiser_for leaf) && (is_open (own_type leaf) && not (is_open (type_behind leaf)))
+  has_earlier_length leaf =
+      is_some (initialiser_for leaf) && (is_open (own_type leaf) && not (is_open (type_behind leaf)))
 
   abbrev pub last_of : ℕ → List Declaration → ℕ
   last_of leaf [] = leaf
@@ -229,55 +250,80 @@ module _ (s : Source) (sense : ℕ → Sense) where
   abbrev pub named_by : ℕ → ℕ
   named_by leaf = if has_earlier_length leaf then last_of leaf (linked_before s (ordinary_at s leaf)) else leaf
 
-  -- what a use of a name means, by the leaf that declares it: an external name has the entity of that declaration, the latest one that is
-  -- seen
+  -- what a use of a name means, by the leaf that declares it: an external name has the entity of that declaration,
+  -- the latest one that is seen
   abbrev pub object_or_function : ℕ → Ctype → Meaning
   object_or_function entity t = if is_function_type t then Function entity t else Object entity t
 
   abbrev pub declared_meaning : ℕ → Option Meaning
-  declared_meaning leaf = if is_typedef leaf then option_map TypeName (own_type leaf) else option_map (object_or_function (entity_of (named_by leaf))) (type_behind leaf)
+  declared_meaning leaf =
+      if is_typedef leaf then option_map TypeName (own_type leaf)
+      else option_map (object_or_function (entity_of (named_by leaf))) (type_behind leaf)
 
   abbrev pub enumerated : ℕ → Option Meaning
   enumerated i = elim (sense i) [ IsValue n ↦ Some (Value n) | _ ↦ None ]
 
   abbrev pub meaning_of : ℕ → Option Meaning
-  meaning_of leaf = elim (parent_of s leaf) [ None ↦ None | Some p ↦ if is_a s p_enumerator p then enumerated p else declared_meaning leaf ]
+  meaning_of leaf =
+      elim
+      (parent_of s leaf)
+      [ None ↦ None | Some p ↦ if is_a s p_enumerator p then enumerated p else declared_meaning leaf ]
 
   abbrev pub meaning_at : ℕ → Option Meaning
   meaning_at i = option_and_then meaning_of (paired s.uses i)
 
   -- the function in whose definition a node stands, by the leaf of its name
   abbrev pub defined_name : ℕ → Option ℕ
-  defined_name p = option_and_then (λ d. elim (sense d) [ IsDeclarator name ds ↦ name | _ ↦ None ]) (child_of s p_declarator p)
+  defined_name p =
+      option_and_then (λ d. elim (sense d) [ IsDeclarator name ds ↦ name | _ ↦ None ]) (child_of s p_declarator p)
 
   abbrev pub function_around : ℕ → Option ℕ
-  function_around i = option_and_then defined_name (nearest_above s (λ p. is_a s p_external p && is_some (child_of s p_block p)) i)
+  function_around i =
+      option_and_then defined_name (nearest_above s (λ p. is_a s p_external p && is_some (child_of s p_block p)) i)
 
-  -- a node in the initialiser of an object that has its place for the whole run, and in no operand that isn't evaluated
+  -- a node in the initialiser of an object that has its place for the whole run, and in no operand that isn't
+  -- evaluated
   abbrev pub is_operand_word : ℕ → Bool
-  is_operand_word i = is_a s p_unary i && any_where (λ c. has_word s word_sizeof c || has_word s word_alignof c) (children_at s i)
+  is_operand_word i =
+      is_a s p_unary i && any_where (λ c. has_word s word_sizeof c || has_word s word_alignof c) (children_at s i)
 
   abbrev pub is_object_initialiser : ℕ → Bool
   is_object_initialiser i = is_a s p_init i && elim (parent_of s i) [ None ↦ false | Some p ↦ is_a s p_rest p ]
 
   abbrev pub is_boundary : ℕ → Bool
   is_boundary i =
-      is_operand_word i || (is_a s p_suffix i || (is_a s p_align i || (is_a s p_enumerator i || (is_a s p_field i || (is_a s p_designator i || (is_a s p_statement i || (is_a s p_assert i || is_object_initialiser i)))))))
+      is_operand_word i
+      || (is_a s p_suffix i
+      || (is_a s p_align i
+      || (is_a s p_enumerator i
+      || (is_a s p_field i
+      || (is_a s p_designator i
+      || (is_a s p_statement i || (is_a s p_assert i || is_object_initialiser i)))))))
 
   abbrev pub initialises_static : ℕ → Bool
   initialises_static i =
-      elim (option_and_then (λ d. elim (sense d) [ IsDeclarator name ds ↦ name | _ ↦ None ]) (initialised_by i)) [ None ↦ false | Some leaf ↦ is_static_object leaf ]
+      elim
+      (option_and_then (λ d. elim (sense d) [ IsDeclarator name ds ↦ name | _ ↦ None ])
+      (initialised_by i))
+      [ None ↦ false | Some leaf ↦ is_static_object leaf ]
 
   abbrev pub is_in_static : ℕ → Bool
-  is_in_static i = elim (nearest_above s is_boundary i) [ None ↦ false | Some b ↦ is_object_initialiser b && initialises_static b ]
+  is_in_static i =
+      elim
+      (nearest_above s is_boundary i) [ None ↦ false | Some b ↦ is_object_initialiser b && initialises_static b ]
 
 module _ (w : World) (s : Source) (sense : ℕ → Sense) where
   -- words that don't go with what is declared
   abbrev pub is_in_for : ℕ → Bool
-  is_in_for leaf = elim (option_and_then (parent_of s) (declaration_of s sense leaf)) [ None ↦ false | Some p ↦ is_a s p_statement p ]
+  is_in_for leaf =
+      elim
+      (option_and_then (parent_of s) (declaration_of s sense leaf))
+      [ None ↦ false | Some p ↦ is_a s p_statement p ]
 
   abbrev pub has_function_words : ℕ → Bool
-  has_function_words leaf = elim (specified_of s sense leaf) [ None ↦ false | Some x ↦ elim x.functions [ [] ↦ false | word ∷ rest ↦ true ] ]
+  has_function_words leaf =
+      elim
+      (specified_of s sense leaf) [ None ↦ false | Some x ↦ elim x.functions [ [] ↦ false | word ∷ rest ↦ true ] ]
 
   abbrev pub only_extern : ℕ → Bool
   only_extern leaf = is_without_storage s sense leaf || has_storage s sense word_extern leaf
@@ -291,12 +337,17 @@ module _ (w : World) (s : Source) (sense : ℕ → Sense) where
       && (not (initialised && (typedefs || (function || (not file && has_storage s sense word_extern leaf))))
       && (not (function && (not file && not (only_extern leaf)))
       && (not (typedefs && is_defined s sense leaf)
-      && not (is_in_for leaf && (typedefs || (function || (has_storage s sense word_static leaf || has_storage s sense word_extern leaf)))))))
+      && not
+      (is_in_for leaf
+      && (typedefs
+      || (function
+      || (has_storage s sense word_static leaf || has_storage s sense word_extern leaf)))))))
 
   -- 6.7p3: a typedef again in one scope is of the same type
   abbrev pub all_same : Ctype → List Declaration → Bool
   all_same t [] = true
-  all_same t (d ∷ rest) = elim (own_type s sense d.node) [ None ↦ false | Some other ↦ same_type other t ] && all_same t rest
+  all_same t (d ∷ rest) =
+      elim (own_type s sense d.node) [ None ↦ false | Some other ↦ same_type other t ] && all_same t rest
 
   abbrev pub is_same_again : Ctype → ℕ → Bool
   is_same_again t leaf = not (is_typedef s sense leaf) || all_same t (before_in_scope s (ordinary_at s leaf))
@@ -304,10 +355,13 @@ module _ (w : World) (s : Source) (sense : ℕ → Sense) where
   -- 6.2.2p7: one name has one linkage in a scope
   abbrev pub same_internal : Bool → List Declaration → Bool
   same_internal internal [] = true
-  same_internal internal (d ∷ rest) = (if is_internal s sense d.node then internal else not internal) && same_internal internal rest
+  same_internal internal (d ∷ rest) =
+      (if is_internal s sense d.node then internal else not internal) && same_internal internal rest
 
   abbrev pub has_one_linkage : ℕ → Bool
-  has_one_linkage leaf = not (is_linked s sense leaf) || same_internal (is_internal s sense leaf) (before_in_scope s (ordinary_at s leaf))
+  has_one_linkage leaf =
+      not (is_linked s sense leaf)
+      || same_internal (is_internal s sense leaf) (before_in_scope s (ordinary_at s leaf))
 
   -- a declaration of an internal name agrees with those before, and defines it only once
   abbrev pub agrees_with : Ctype → Option Ctype → Bool
@@ -324,14 +378,18 @@ module _ (w : World) (s : Source) (sense : ℕ → Sense) where
   one_definition again leaf = not (again && some_such s sense (λ d. defines d.node) (internal_before leaf))
 
   abbrev pub internal_agrees : Ctype → ℕ → Bool
-  internal_agrees t leaf = not (is_internal s sense leaf) || agrees_with t (all_together None (types_of s sense (internal_before leaf)))
+  internal_agrees t leaf =
+      not (is_internal s sense leaf) || agrees_with t (all_together None (types_of s sense (internal_before leaf)))
 
   abbrev pub internal_fits : Bool → Ctype → ℕ → Bool
-  internal_fits defined t leaf = internal_agrees t leaf && (not (is_internal s sense leaf) || one_definition defined leaf)
+  internal_fits defined t leaf =
+      internal_agrees t leaf && (not (is_internal s sense leaf) || one_definition defined leaf)
 
-  -- the type of an object is complete at the unit's end: it has a size, or will have one, or the object is only declared
+  -- the type of an object is complete at the unit's end: it has a size, or will have one, or the object is only
+  -- declared
   abbrev pub is_completed_somewhere : ℕ → Bool
-  is_completed_somewhere tag = any_where (λ i. is_a s p_struct i && (is_some (child_of s p_members i) && (tag_of s i == tag))) (all_nodes s)
+  is_completed_somewhere tag =
+      any_where (λ i. is_a s p_struct i && (is_some (child_of s p_members i) && (tag_of s i == tag))) (all_nodes s)
 
   abbrev pub will_have_size : Ctype → Bool
   will_have_size (StructureOf tag) = is_completed_somewhere tag
@@ -355,7 +413,8 @@ module _ (w : World) (s : Source) (sense : ℕ → Sense) where
       || (will_have_size t || (may_stay_open t && (has_storage s sense word_extern leaf && not initialised))))
 
   abbrev pub is_name_complete : Bool → Ctype → ℕ → Bool
-  is_name_complete initialised t leaf = is_typedef s sense leaf || (declares_function s sense leaf || is_object_complete initialised t leaf)
+  is_name_complete initialised t leaf =
+      is_typedef s sense leaf || (declares_function s sense leaf || is_object_complete initialised t leaf)
 
   -- 6.9.1: a function definition
   abbrev pub result_of : Ctype → Ctype
@@ -374,7 +433,9 @@ module _ (w : World) (s : Source) (sense : ℕ → Sense) where
   definition_row t leaf g =
       if is_defined s sense leaf then
       given_if (is_void_type (result_of t) || has_size w (result_of t)) Operand leaf
-      (given_if (not (has_function_word s sense word_inline leaf && not (has_storage s sense word_static leaf))) InlineDefinition leaf
+      (given_if
+      (not (has_function_word s sense word_inline leaf && not (has_storage s sense word_static leaf)))
+      InlineDefinition leaf
       (given_if (not (is_variadic t)) VariadicDefinition leaf g))
       else g
 
@@ -393,7 +454,10 @@ module _ (w : World) (s : Source) (sense : ℕ → Sense) where
   is_parameter_complete t = has_size w t || will_have_size t
 
   abbrev pub defined_parameter : ℕ → Bool
-  defined_parameter at = elim (option_and_then (parent_of s) (parent_of s at)) [ None ↦ false | Some suffix ↦ is_defined_list w s sense suffix ]
+  defined_parameter at =
+      elim
+      (option_and_then (parent_of s) (parent_of s at))
+      [ None ↦ false | Some suffix ↦ is_defined_list w s sense suffix ]
 
   abbrev pub parameter_named : ℕ → ℕ → Ctype → Given Sense → Given Sense
   parameter_named at leaf t g = given_if (not (defined_parameter at) || is_parameter_complete t) Operand leaf g
@@ -402,5 +466,6 @@ module _ (w : World) (s : Source) (sense : ℕ → Sense) where
   by_place at leaf t adjusted g =
       elim (parent_of s at) [
         | None ↦ g
-        | Some p ↦ if is_a s p_field p then g else (if is_a s p_parameter p then parameter_named at leaf adjusted g else named_row at leaf t g)
+        | Some p ↦ if is_a s p_field p then g
+            else (if is_a s p_parameter p then parameter_named at leaf adjusted g else named_row at leaf t g)
       ]

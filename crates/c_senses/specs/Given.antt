@@ -1,6 +1,6 @@
 -- What a row gives: something, or a refusal.
 use Rattle.std.specs.Prelude.{ℕ, Bool, true, false, Option, Some, None}
-use Rattle.pta_base.specs.declared.kind.Kind.{Kind}
+use Rattle.c_scope.specs.passed.pta_base.declared.kind.Kind.{Kind}
 
 -- what a row gives, or the kind of its refusal and the syntax node that it names
 pub data Given (A : Type 0) : Type 0 where

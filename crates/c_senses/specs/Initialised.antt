@@ -1,14 +1,20 @@
 -- Initialised objects and compound literals (C11 6.5.2.5, 6.7.9).
-use Rattle.std.specs.Prelude.{ℕ, pos, Bool, true, false, ◌&&◌, ◌||◌, not, List, [], ◌∷◌, Option, Some, None, is_some, slice_index, if◌then◌else◌}
-use Rattle.pta_base.specs.declared.kind.Kind.TheVariants.{Operand, Initialiser}
-use Rattle.pta_base.specs.declared.place.Place.{Place}
-use Rattle.c_types.specs.declared.term.PathStep.{PathStep}
-use Rattle.c_types.specs.declared.term.PathStep.TheVariants.{Index, Member as MemberStep}
-use Rattle.c_types.specs.Trees.{Ctype, VoidType, BoolType, IntegerType, PointerTo, ArrayOf}
-use Rattle.core_tree.specs.declared.node.NodeKind.{NodeKind}
-use Rattle.core_tree.specs.declared.node.NodeKind.TheVariants.{Named, Text, Literal, FunctionName, Deref, Member, Number, NullValue, AddressOf, Decay, PointerAdd, Convert, Upcast, Choose, Arith, Initialise}
-use Rattle.c_grammar.specs.Productions.{p_rest, p_type_name, p_assignment, p_block, p_conditional, p_cast, p_unary}
-use Rattle.c_grammar.specs.Words.{sign_left_parenthesis, sign_left_brace, sign_left_bracket}
+use Rattle.std.specs.Prelude.{ℕ, pos, Bool, true, false, ◌&&◌, ◌||◌, not, List, [], ◌∷◌, Option, Some, None}
+use Rattle.std.specs.Prelude.{is_some, slice_index, if◌then◌else◌}
+use Rattle.c_scope.specs.passed.pta_base.declared.kind.Kind.TheVariants.{Operand, Initialiser}
+use Rattle.c_scope.specs.passed.pta_base.declared.place.Place.{Place}
+use Rattle.c_inits.specs.passed.c_types.declared.term.PathStep.{PathStep}
+use Rattle.c_inits.specs.passed.c_types.declared.term.PathStep.TheVariants.{Index, Member as MemberStep}
+use Rattle.c_inits.specs.passed.c_types.Trees.{Ctype, VoidType, BoolType, IntegerType, PointerTo, ArrayOf}
+use Rattle.c_consts.specs.passed.core_tree.declared.node.NodeKind.{NodeKind}
+use Rattle.c_consts.specs.passed.core_tree.declared.node.NodeKind.TheVariants.{Named, Text, Literal, FunctionName}
+use Rattle.c_consts.specs.passed.core_tree.declared.node.NodeKind.TheVariants.{Deref, Member, Number, NullValue}
+use Rattle.c_consts.specs.passed.core_tree.declared.node.NodeKind.TheVariants.{AddressOf, Decay, PointerAdd}
+use Rattle.c_consts.specs.passed.core_tree.declared.node.NodeKind.TheVariants.{Convert, Upcast, Choose, Arith}
+use Rattle.c_consts.specs.passed.core_tree.declared.node.NodeKind.TheVariants.{Initialise}
+use Rattle.c_inits.specs.passed.c_grammar.Productions.{p_rest, p_type_name, p_assignment, p_block, p_conditional}
+use Rattle.c_inits.specs.passed.c_grammar.Productions.{p_cast, p_unary}
+use Rattle.c_inits.specs.passed.c_grammar.Words.{sign_left_parenthesis, sign_left_brace, sign_left_bracket}
 use Rattle.c_consts.specs.Core.{Core, Cores, Of, NoCores, MoreCores, kind_of, place_of, ctype_of, leaf, over}
 use Rattle.c_consts.specs.Wrapped.{converted}
 use Rattle.c_inits.specs.Made.{shape_for}
@@ -16,7 +22,8 @@ use Rattle.c_inits.specs.Shapes.{Shape, Path}
 use Rattle.c_inits.specs.Syntax.{Init, Items, Braces}
 use Rattle.c_inits.specs.View as view
 use Rattle.c_inits.specs.Initial.{Outcome, Places, NoPlace, Action, Placed, initial, lasting, length_given}
-use Rattle.c_senses.specs.Tree.{Source, is_a, is_name, has_sign, place_at, spelling_at, children_at, first_where, child_of, parent_of, nearest_above}
+use Rattle.c_senses.specs.Tree.{Source, is_a, is_name, has_sign, place_at, spelling_at, children_at, first_where}
+use Rattle.c_senses.specs.Tree.{child_of, parent_of, nearest_above}
 use Rattle.c_senses.specs.Given.{Given, Fits, Refuses, ◌>>=◌, given_if, given_some}
 use Rattle.c_senses.specs.World.{World, members_of}
 use Rattle.c_senses.specs.Literals.{char_value}
@@ -25,7 +32,8 @@ use Rattle.c_senses.specs.Objects.{part_at}
 use Rattle.c_senses.specs.Constants.{constant_in}
 use Rattle.c_senses.specs.Limits.{within_limits, lacks_a_length}
 use Rattle.c_senses.specs.Places.{own_place}
-use Rattle.c_senses.specs.Entities.{with_length, internal_agrees, initialised_by, derived_type, specified_of, entity_of, is_static_object, is_in_static, is_automatic_storage, storage_of}
+use Rattle.c_senses.specs.Entities.{with_length, internal_agrees, initialised_by, derived_type, specified_of}
+use Rattle.c_senses.specs.Entities.{entity_of, is_static_object, is_in_static, is_automatic_storage, storage_of}
 use Rattle.c_senses.specs.Sense.{Sense, Nothing, IsCore, IsType, IsDeclarator, IsInitial, IsValue, value_in, fits}
 
 -- a number, a place or a pointer that is fixed before the program runs: what a static object's initialiser may hold
@@ -75,7 +83,10 @@ pointer_form kind = Never
 
 abbrev mutual
   pub is_fixed_number : Core → Bool
-  is_fixed_number (Of kind place type under) = elim (number_form kind) [ Always ↦ true | OfNumbers ↦ is_integer_type type && are_fixed_numbers under | _ ↦ false ]
+  is_fixed_number (Of kind place type under) =
+      elim
+      (number_form kind)
+      [ Always ↦ true | OfNumbers ↦ is_integer_type type && are_fixed_numbers under | _ ↦ false ]
 
   pub are_fixed_numbers : Cores → Bool
   are_fixed_numbers NoCores = true
@@ -85,11 +96,27 @@ module _ (automatic : ℕ → Bool) where
   abbrev mutual
     pub is_fixed_place : Core → Bool
     is_fixed_place (Of kind place type under) =
-        elim (place_form kind) [ Always ↦ true | OfEntity e ↦ not (automatic e) | OfPlace ↦ first_place under | OfPointer ↦ first_pointer under | _ ↦ false ]
+        elim
+        (place_form kind) [
+          | Always ↦ true
+          | OfEntity e ↦ not
+              (automatic e)
+          | OfPlace ↦ first_place under
+          | OfPointer ↦ first_pointer under
+          | _ ↦ false
+        ]
 
     pub is_fixed_pointer : Core → Bool
     is_fixed_pointer (Of kind place type under) =
-        elim (pointer_form kind) [ Always ↦ true | OfPlace ↦ first_place under | OfPointer ↦ is_pointer_type type && first_pointer under | OfMoved ↦ first_moved under | _ ↦ false ]
+        elim
+        (pointer_form kind) [
+          | Always ↦ true
+          | OfPlace ↦ first_place under
+          | OfPointer ↦ is_pointer_type type
+              && first_pointer under
+          | OfMoved ↦ first_moved under
+          | _ ↦ false
+        ]
 
     pub first_place : Cores → Bool
     first_place NoCores = false
@@ -148,7 +175,8 @@ module _ (w : World) (s : Source) (sense : ℕ → Sense) where
   index_of x = None
 
   abbrev pub name_behind_dot : ℕ → List ℕ
-  name_behind_dot i = elim (first_where (is_name s) (children_at s i)) [ None ↦ [] | Some leaf ↦ spelling_at s leaf ]
+  name_behind_dot i =
+      elim (first_where (is_name s) (children_at s i)) [ None ↦ [] | Some leaf ↦ spelling_at s leaf ]
 
   -- what an initialiser's tree is
   abbrev pub seen : view.Source
@@ -163,7 +191,9 @@ module _ (w : World) (s : Source) (sense : ℕ → Sense) where
   designator_row at [] = Refuses Operand at
   designator_row at (first ∷ rest) =
       if has_sign s sign_left_bracket first
-      then (given_some (child_of s p_conditional at) Operand at >>= (λ c. constant_in w s at (sense c) >>= (λ n. Fits (IsValue n))))
+      then
+      (given_some (child_of s p_conditional at) Operand at >>=
+      (λ c. constant_in w s at (sense c) >>= (λ n. Fits (IsValue n))))
       else Fits Nothing
 
   -- a value at its path: an expression is converted to the type there, and of a string each character is a number
@@ -172,7 +202,8 @@ module _ (w : World) (s : Source) (sense : ℕ → Sense) where
   text_bytes kind = []
 
   abbrev pub character_core : Sense → Ctype → ℕ → Given Core
-  character_core (IsCore c) t k = Fits (leaf (Number (converted t (char_value (slice_index (text_bytes (kind_of c)) k)))) (place_of c) t)
+  character_core (IsCore c) t k =
+      Fits (leaf (Number (converted t (char_value (slice_index (text_bytes (kind_of c)) k)))) (place_of c) t)
   character_core x t k = Refuses Operand 0
 
   abbrev pub expression_core : ℕ → Ctype → Given Core
@@ -216,20 +247,25 @@ module _ (w : World) (s : Source) (sense : ℕ → Sense) where
   abbrev pub initialise_core : ℕ → Place → List Placed → Cores → Core
   initialise_core entity place items values = Of (Initialise entity (paths_of items)) place VoidType values
 
-  -- an initialiser: first where each value goes, the first node without a place being refused; then the values in order
+  -- an initialiser: first where each value goes, the first node without a place being refused; then the values in
+  -- order
   abbrev pub made_of : Bool → ℕ → Place → Ctype → Outcome → Given Made
   made_of static entity place t (NoPlace node) = Refuses Initialiser node
   made_of static entity place t (Places actions) =
       placed_cores static (with_length (new_length t actions) t) (lasting [] actions) >>= (λ values.
-      Fits (record { initial = initialise_core entity place (lasting [] actions) values; length = new_length t actions }))
+      Fits
+      (record {
+        initial = initialise_core entity place (lasting [] actions) values;
+        length = new_length t actions;
+      }))
 
   abbrev pub outcome_of : ℕ → Option Shape → Option Init → Given Outcome
   outcome_of at None init = Refuses Initialiser at
   outcome_of at shape None = Refuses Operand at
   outcome_of at (Some shape) (Some init) = Fits (initial shape init)
 
-  -- an object's initialiser; a length that makes its type one past the limits, or one that doesn't agree with an earlier declaration of an
-  -- internal name, is refused at the declarator
+  -- an object's initialiser; a length that makes its type one past the limits, or one that doesn't agree with an
+  -- earlier declaration of an internal name, is refused at the declarator
   abbrev pub initialised_fits : Ctype → ℕ → Bool
   initialised_fits t leaf = within_limits w t && internal_agrees w s sense t leaf
 
@@ -237,7 +273,8 @@ module _ (w : World) (s : Source) (sense : ℕ → Sense) where
   object_initialiser at declarator leaf t =
       outcome_of at (shape_for w.fillable most_elements t) (view.init_at seen s.nodes at) >>= (λ outcome.
       made_of (is_static_object s sense leaf) (entity_of s sense leaf) (own_place s at) t outcome >>= (λ made.
-      given_if (initialised_fits (with_length made.length t) leaf) Operand leaf (Fits (IsInitial made.initial made.length))))
+      given_if (initialised_fits (with_length made.length t) leaf) Operand leaf
+      (Fits (IsInitial made.initial made.length))))
 
   abbrev pub name_of_declarator : Sense → Option ℕ
   name_of_declarator (IsDeclarator name ds) = name
@@ -246,7 +283,10 @@ module _ (w : World) (s : Source) (sense : ℕ → Sense) where
   abbrev pub initialised_object : ℕ → ℕ → Option ℕ → Given Sense
   initialised_object at declarator None = Refuses Operand at
   initialised_object at declarator (Some leaf) =
-      given_some (derived_type s sense (specified_of s sense leaf) (Some declarator)) Operand at >>= object_initialiser at declarator leaf
+      given_some
+      (derived_type s sense (specified_of s sense leaf) (Some declarator)) Operand at >>=
+      object_initialiser
+      at declarator leaf
 
   abbrev pub init_in : ℕ → Option ℕ → Given Sense
   init_in at None = Refuses Operand at
@@ -254,11 +294,19 @@ module _ (w : World) (s : Source) (sense : ℕ → Sense) where
 
   -- an initialiser within braces has no sense of its own: the outermost one has them all
   abbrev pub init_row : ℕ → Given Sense
-  init_row at = elim (parent_of s at) [ None ↦ Fits Nothing | Some p ↦ if is_a s p_rest p then init_in at (initialised_by s sense at) else Fits Nothing ]
+  init_row at =
+      elim
+      (parent_of s at) [
+        | None ↦ Fits Nothing
+        | Some p ↦ if is_a s p_rest p then init_in at (initialised_by s sense at)
+            else Fits Nothing
+      ]
 
-  -- 6.5.2.5: a compound literal. Its object is known by the leaf of its parenthesis; it has automatic storage in a function's body.
+  -- 6.5.2.5: a compound literal. Its object is known by the leaf of its parenthesis; it has automatic storage in a
+  -- function's body.
   abbrev pub opening : ℕ → ℕ
-  opening p = elim (first_where (has_sign s sign_left_parenthesis) (children_at s p)) [ None ↦ p | Some leaf ↦ leaf ]
+  opening p =
+      elim (first_where (has_sign s sign_left_parenthesis) (children_at s p)) [ None ↦ p | Some leaf ↦ leaf ]
 
   abbrev pub brace : ℕ → ℕ
   brace p = elim (first_where (has_sign s sign_left_brace) (children_at s p)) [ None ↦ p | Some leaf ↦ leaf ]
@@ -268,13 +316,18 @@ module _ (w : World) (s : Source) (sense : ℕ → Sense) where
   braced node (Some items) = Some (Braces node items)
 
   abbrev pub literal_core : ℕ → Ctype → Made → Core
-  literal_core p t made = over (Literal (opening p)) (place_at s (opening p)) (with_length made.length t) made.initial
+  literal_core p t made =
+      over (Literal (opening p)) (place_at s (opening p)) (with_length made.length t) made.initial
 
   abbrev pub literal_of : ℕ → ℕ → Ctype → Given Core
   literal_of at p t =
-      outcome_of (brace p) (shape_for w.fillable most_elements t) (braced (brace p) (view.items_at seen s.nodes at)) >>= (λ outcome.
+      outcome_of (brace p) (shape_for w.fillable most_elements t)
+      (braced (brace p) (view.items_at seen s.nodes at)) >>= (λ outcome.
       made_of (not (is_in_body at)) (opening p) (place_at s (brace p)) t outcome >>= (λ made.
-      given_if (within_limits w (with_length made.length t) && not (is_in_body at && is_in_static s sense at)) Operand (opening p) (Fits (literal_core p t made))))
+      given_if
+      (within_limits w (with_length made.length t) && not (is_in_body at && is_in_static s sense at))
+      Operand
+      (opening p) (Fits (literal_core p t made))))
 
   abbrev pub literal_type : ℕ → Sense → Given Ctype
   literal_type at (IsType t) = Fits t
@@ -282,8 +335,14 @@ module _ (w : World) (s : Source) (sense : ℕ → Sense) where
 
   abbrev pub literal_in : ℕ → ℕ → Option ℕ → Given Sense
   literal_in at p None = Refuses Operand at
-  literal_in at p (Some t) = literal_type at (sense t) >>= (λ type. typed (opening p) type (literal_of at p type)) >>= fits
+  literal_in at p (Some t) =
+      literal_type at (sense t) >>= (λ type. typed (opening p) type (literal_of at p type)) >>= fits
 
   abbrev pub items_row : ℕ → Given Sense
   items_row at =
-      elim (parent_of s at) [ None ↦ Fits Nothing | Some p ↦ if is_a s p_cast p || is_a s p_unary p then literal_in at p (child_of s p_type_name p) else Fits Nothing ]
+      elim
+      (parent_of s at) [
+        | None ↦ Fits Nothing
+        | Some p ↦ if is_a s p_cast p
+            || is_a s p_unary p then literal_in at p (child_of s p_type_name p) else Fits Nothing
+      ]

@@ -1,9 +1,13 @@
 -- The keys by which units share structures and unions.
-use Rattle.std.specs.Prelude.{ℕ, zero, suc, ◌+◌, ◌==◌, Bool, false, ◌&&◌, ◌||◌, nat_lt, List, [], ◌∷◌, ◌++◌, length, codes, decimal, Option, Some, None, is_some, is_none, option_and_then, option_map, if◌then◌else◌}
+use Rattle.std.specs.Prelude.{ℕ, zero, suc, ◌+◌, ◌==◌, Bool, false, ◌&&◌, ◌||◌, nat_lt, List, [], ◌∷◌, ◌++◌, length}
+use Rattle.std.specs.Prelude.{codes, decimal, Option, Some, None, is_some, is_none, option_and_then, option_map}
+use Rattle.std.specs.Prelude.{if◌then◌else◌}
 use Rattle.std.specs.Str.{bytes_eq}
-use Rattle.c_grammar.specs.Productions.{p_external, p_rest, p_specs, p_struct, p_member, p_declarator, p_suffix, p_block}
-use Rattle.c_grammar.specs.Words.{sign_left_parenthesis}
-use Rattle.c_senses.specs.Tree.{Source, is_a, has_sign, spelling_at, children_at, any_where, parent_of, nearest_above, numbers_from}
+use Rattle.c_inits.specs.passed.c_grammar.Productions.{p_external, p_rest, p_specs, p_struct, p_member}
+use Rattle.c_inits.specs.passed.c_grammar.Productions.{p_declarator, p_suffix, p_block}
+use Rattle.c_inits.specs.passed.c_grammar.Words.{sign_left_parenthesis}
+use Rattle.c_senses.specs.Tree.{Source, is_a, has_sign, spelling_at, children_at, any_where, parent_of}
+use Rattle.c_senses.specs.Tree.{nearest_above, numbers_from}
 use Rattle.c_senses.specs.Tags.{tag_leaf, is_union}
 use Rattle.c_senses.specs.Sense.{Sense, IsDeclarator, IsMembers}
 
@@ -21,7 +25,9 @@ module _ (s : Source) (sense : ℕ → Sense) where
 
   -- the specifiers, and what is declared, around a structure's specifier
   abbrev pub specs_around : ℕ → Option ℕ
-  specs_around i = option_and_then (λ t. option_and_then (λ p. if is_a s p_specs p then Some p else None) (parent_of s t)) (parent_of s i)
+  specs_around i =
+      option_and_then (λ t. option_and_then (λ p. if is_a s p_specs p then Some p else None) (parent_of s t))
+      (parent_of s i)
 
   abbrev pub declaration_with : ℕ → Option ℕ
   declaration_with i = option_and_then (parent_of s) (specs_around i)
@@ -29,7 +35,11 @@ module _ (s : Source) (sense : ℕ → Sense) where
   abbrev pub names_among : List ℕ → List (List ℕ)
   names_among [] = []
   names_among (c ∷ rest) =
-      if is_a s p_declarator c then (elim (sense c) [ IsDeclarator (Some leaf) ds ↦ spelling_at s leaf ∷ names_among rest | _ ↦ names_among rest ])
+      if is_a s p_declarator c
+      then
+      (elim
+      (sense c)
+      [ IsDeclarator (Some leaf) ds ↦ spelling_at s leaf ∷ names_among rest | _ ↦ names_among rest ])
       else names_among rest
 
   abbrev pub names_in_rest : List ℕ → List (List ℕ)
@@ -39,7 +49,12 @@ module _ (s : Source) (sense : ℕ → Sense) where
   -- the names that are declared at file scope with a specifier, in order
   abbrev pub names_with : ℕ → List (List ℕ)
   names_with i =
-      elim (declaration_with i) [ None ↦ [] | Some p ↦ if is_a s p_external p then names_among (children_at s p) ++ names_in_rest (children_at s p) else [] ]
+      elim
+      (declaration_with i) [
+        | None ↦ []
+        | Some p ↦ if is_a s p_external p then names_among (children_at s p)
+            ++ names_in_rest (children_at s p) else []
+      ]
 
   abbrev pub has_bytes : List ℕ → List (List ℕ) → Bool
   has_bytes name [] = false
@@ -74,13 +89,18 @@ module _ (s : Source) (sense : ℕ → Sense) where
 
   abbrev pub position_in : ℕ → ℕ
   position_in i =
-      elim (member_around i) [ None ↦ 0 | Some member ↦ elim (parent_of s member) [ None ↦ 0 | Some list ↦ parts_before member (children_at s list) ] ]
+      elim
+      (member_around i) [
+        | None ↦ 0
+        | Some member ↦ elim
+            (parent_of s member) [ None ↦ 0 | Some list ↦ parts_before member (children_at s list) ]
+      ]
 
   abbrev pub has_members : ℕ → Bool
   has_members i = elim (member_around i) [ None ↦ false | Some member ↦ nat_lt 0 (parts_of (sense member)) ]
 
-  -- the key of a specifier: by its tag; else by the first free name that is declared with it; else, as the specifier of members, by
-  -- the key of the structure around and the position
+  -- the key of a specifier: by its tag; else by the first free name that is declared with it; else, as the
+  -- specifier of members, by the key of the structure around and the position
   abbrev pub key_within : ℕ → ℕ → Option (List ℕ)
   key_within zero i = None
   key_within (suc depth) i =
@@ -92,7 +112,9 @@ module _ (s : Source) (sense : ℕ → Sense) where
               | Some name ↦ Some (word_of_key s i ++ (codes ":" ++ name))
               | None ↦
                   if has_members i
-                  then option_map (λ key. word_of_key s i ++ (key ++ (codes ":" ++ decimal (position_in i)))) (option_and_then (key_within depth) (option_and_then (parent_of s) (list_around i)))
+                  then option_map
+                  (λ key. word_of_key s i ++ (key ++ (codes ":" ++ decimal (position_in i))))
+                  (option_and_then (key_within depth) (option_and_then (parent_of s) (list_around i)))
                   else None
             ]
       ])

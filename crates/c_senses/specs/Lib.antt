@@ -22,3 +22,4 @@ pub mod Rows
 pub mod Keys
 pub mod Right
 pub mod PassedOn
+pub mod passed

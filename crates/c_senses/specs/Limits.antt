@@ -1,8 +1,10 @@
 -- Limits of types: how large a type may be, and where a flexible array may end a structure.
-use Rattle.std.specs.Prelude.{ℕ, zero, suc, Bool, true, false, ◌&&◌, ◌||◌, List, [], ◌∷◌, length, Option, Some, None, is_some}
-use Rattle.c_types.specs.Trees.{Ctype, Ctypes, NoTypes, MoreTypes, PointerTo, ArrayOf, FunctionFrom, StructureOf, UnionOf}
-use Rattle.c_types.specs.Layout.{Extent}
-use Rattle.c_types.specs.Table.{size_below, nodes_within}
+use Rattle.std.specs.Prelude.{ℕ, zero, suc, Bool, true, false, ◌&&◌, ◌||◌, List, [], ◌∷◌, length, Option, Some}
+use Rattle.std.specs.Prelude.{None, is_some}
+use Rattle.c_inits.specs.passed.c_types.Trees.{Ctype, Ctypes, NoTypes, MoreTypes, PointerTo, ArrayOf, FunctionFrom}
+use Rattle.c_inits.specs.passed.c_types.Trees.{StructureOf, UnionOf}
+use Rattle.c_inits.specs.passed.c_types.Layout.{Extent}
+use Rattle.c_inits.specs.passed.c_types.Table.{size_below, nodes_within}
 use Rattle.c_inits.specs.Made.{Part}
 use Rattle.c_senses.specs.World.{World, extent}
 
@@ -52,7 +54,8 @@ members_flexible test (Some members) = test members
 abbrev pub flexible_within : World → ℕ → Ctype → Bool
 flexible_within w zero t = false
 flexible_within w (suc depth) (StructureOf tag) = members_flexible last_lacks_length (w.members tag)
-flexible_within w (suc depth) (UnionOf tag) = members_flexible (some_flexible (flexible_within w depth)) (w.members tag)
+flexible_within w (suc depth) (UnionOf tag) =
+    members_flexible (some_flexible (flexible_within w depth)) (w.members tag)
 flexible_within w (suc depth) t = false
 
 abbrev pub ends_flexible : World → Ctype → Bool

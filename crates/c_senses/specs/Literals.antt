@@ -1,16 +1,18 @@
 -- What constants and string literals mean (C11 6.4.4.1, 6.4.4.4, 6.4.5).
-use Rattle.std.specs.Prelude.{ℕ, zero, suc, ◌+◌, ◌-◌, ◌==◌, ℤ, pos, neg_ℤ, Bool, true, false, ◌&&◌, ◌||◌, not, nat_lt, min, List, [], ◌∷◌, take, drop, length, slice_index, if◌then◌else◌}
+use Rattle.std.specs.Prelude.{ℕ, zero, suc, ◌+◌, ◌-◌, ◌==◌, ℤ, pos, neg_ℤ, Bool, true, false, ◌&&◌, ◌||◌, not}
+use Rattle.std.specs.Prelude.{nat_lt, min, List, [], ◌∷◌, take, drop, length, slice_index, if◌then◌else◌}
 use Rattle.std.specs.List.{list_any, prefix_len}
-use Rattle.c_grammar.specs.PassedOn.{Base}
-use Rattle.c_grammar.specs.PassedOn.{Octal, Decimal, Hexadecimal}
-use Rattle.c_grammar.specs.PassedOn.{value, behind, digit_count, begins_hexadecimal}
-use Rattle.c_grammar.specs.PassedOn.{octal_value}
-use Rattle.c_types.specs.Trees.{Ctype, IntegerType}
-use Rattle.core_tree.specs.Rows.{int, long}
+use Rattle.c_inits.specs.passed.c_grammar.PassedOn.{Base}
+use Rattle.c_inits.specs.passed.c_grammar.PassedOn.{Octal, Decimal, Hexadecimal}
+use Rattle.c_inits.specs.passed.c_grammar.PassedOn.{value, behind, digit_count, begins_hexadecimal}
+use Rattle.c_inits.specs.passed.c_grammar.PassedOn.{octal_value}
+use Rattle.c_inits.specs.passed.c_types.Trees.{Ctype, IntegerType}
+use Rattle.c_consts.specs.passed.core_tree.Rows.{int, long}
 
 -- 6.4.4.1: the base, the digits, the value and the suffix of an integer constant
 abbrev pub base_of : List ℕ → Base
-base_of bytes = if begins_hexadecimal bytes then Hexadecimal else (if slice_index bytes 0 == 48 then Octal else Decimal)
+base_of bytes =
+    if begins_hexadecimal bytes then Hexadecimal else (if slice_index bytes 0 == 48 then Octal else Decimal)
 
 abbrev pub digits_of : List ℕ → List ℕ
 digits_of bytes = if begins_hexadecimal bytes then drop 2 bytes else bytes
@@ -48,8 +50,8 @@ long_long = IntegerType 8 6 true
 abbrev pub unsigned_long_long : Ctype
 unsigned_long_long = IntegerType 8 6 false
 
--- 6.4.4.1p5: the first type of the list for the suffix and base that holds the value. A decimal constant without u that is in
--- none of them has the type unsigned long long.
+-- 6.4.4.1p5: the first type of the list for the suffix and base that holds the value. A decimal constant without u
+-- that is in none of them has the type unsigned long long.
 abbrev pub plain_type : Bool → ℕ → Ctype
 plain_type decimal n =
     if nat_lt n 2147483648 then int
@@ -68,7 +70,8 @@ abbrev pub long_long_type : ℕ → Ctype
 long_long_type n = if nat_lt n 9223372036854775808 then long_long else unsigned_long_long
 
 abbrev pub signed_type : ℕ → Bool → ℕ → Ctype
-signed_type longs decimal n = if longs == 0 then plain_type decimal n else (if longs == 1 then long_type decimal n else long_long_type n)
+signed_type longs decimal n =
+    if longs == 0 then plain_type decimal n else (if longs == 1 then long_type decimal n else long_long_type n)
 
 abbrev pub unsigned_type : ℕ → ℕ → Ctype
 unsigned_type longs n =
@@ -77,7 +80,9 @@ unsigned_type longs n =
     else unsigned_long_long
 
 abbrev pub type_with_suffix : List ℕ → Bool → ℕ → Ctype
-type_with_suffix suffix decimal n = if says_unsigned suffix then unsigned_type (count_of_long suffix) n else signed_type (count_of_long suffix) decimal n
+type_with_suffix suffix decimal n =
+    if says_unsigned suffix then unsigned_type (count_of_long suffix) n
+    else signed_type (count_of_long suffix) decimal n
 
 abbrev pub type_of_integer : List ℕ → Ctype
 type_of_integer bytes = type_with_suffix (suffix_of bytes) (is_decimal (base_of bytes)) (value_of_integer bytes)
@@ -106,8 +111,8 @@ escape_length xs =
     else if slice_index xs 0 == 120 then 1 + digit_count Hexadecimal (drop 1 xs)
     else 1
 
--- the bytes that stand for those between the quotes; a byte or an escape takes at least one of them, so `most` is enough where
--- it is their number
+-- the bytes that stand for those between the quotes; a byte or an escape takes at least one of them, so `most` is
+-- enough where it is their number
 abbrev pub bytes_within : (most : ℕ) → List ℕ → List ℕ
 bytes_within zero xs = []
 bytes_within (suc most) [] = []
@@ -122,7 +127,8 @@ abbrev pub prefix_length : ℕ → List ℕ → ℕ
 prefix_length quote bytes = prefix_len (λ c. not (c == quote)) bytes
 
 abbrev pub between_quotes : ℕ → List ℕ → List ℕ
-between_quotes quote bytes = let behind_prefix = drop (prefix_length quote bytes + 1) bytes in take (length behind_prefix - 1) behind_prefix
+between_quotes quote bytes =
+    let behind_prefix = drop (prefix_length quote bytes + 1) bytes in take (length behind_prefix - 1) behind_prefix
 
 -- a string literal's bytes, without the closing zero
 abbrev pub bytes_of_string : List ℕ → List ℕ

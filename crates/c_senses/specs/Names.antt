@@ -1,10 +1,12 @@
--- What a unit's declarations say of its names (C11 6.2.1 to 6.2.3), and the source that its tokens and its tree are.
-use Rattle.std.specs.Prelude.{ℕ, ◌==◌, Bool, true, false, ◌&&◌, List, [], ◌∷◌, ◌++◌, map, get_or, Option, Some, None, if◌then◌else◌}
+-- What a unit's declarations say of its names (C11 6.2.1 to 6.2.3), and the source that its tokens and its tree
+-- are.
+use Rattle.std.specs.Prelude.{ℕ, ◌==◌, Bool, true, false, ◌&&◌, List, [], ◌∷◌, ◌++◌, map, get_or, Option, Some}
+use Rattle.std.specs.Prelude.{None, if◌then◌else◌}
 use Rattle.std.specs.List.{find}
-use Rattle.c_grammar.specs.PassedOn.{Token}
-use Rattle.c_grammar.specs.PassedOn.{Tokens}
-use Rattle.c_grammar.specs.declared.trees.SyntaxNode.{SyntaxNode}
-use Rattle.c_grammar.specs.declared.trees.Tree.{Tree}
+use Rattle.c_inits.specs.passed.c_grammar.PassedOn.{Token}
+use Rattle.c_inits.specs.passed.c_grammar.PassedOn.{Tokens}
+use Rattle.c_inits.specs.passed.c_grammar.declared.trees.SyntaxNode.{SyntaxNode}
+use Rattle.c_inits.specs.passed.c_grammar.declared.trees.Tree.{Tree}
 use Rattle.c_scope.specs.PassedOn.{nodes_of}
 use Rattle.c_scope.specs.PassedOn.{standings}
 use Rattle.c_scope.specs.declared.kinds.Kind.{Kind}
@@ -36,7 +38,8 @@ source_with tokens tree uses = record {
 
 -- the source of a unit
 unfoldable pub source_of : Tokens → Tree → Source
-source_of tokens tree = source_with tokens tree (bindings tokens.text.now tokens.list.items (nodes_of tree.nodes.items)).uses
+source_of tokens tree =
+    source_with tokens tree (bindings tokens.text.now tokens.list.items (nodes_of tree.nodes.items)).uses
 
 -- the same source with other numbers of tags
 abbrev pub numbered : (ℕ → ℕ) → Source → Source
@@ -65,8 +68,8 @@ abbrev pub made_before : ℕ → List Declared → List Declared
 made_before leaf [] = []
 made_before leaf (d ∷ rest) = if d.node == leaf then [] else d ∷ made_before leaf rest
 
--- Along the scopes around a node, the innermost first: the declarations of a name with linkage, those of the outermost scope first. One
--- without linkage hides those of the scopes around its own (6.2.1p4).
+-- Along the scopes around a node, the innermost first: the declarations of a name with linkage, those of the
+-- outermost scope first. One without linkage hides those of the scopes around its own (6.2.1p4).
 abbrev pub all_linked : List Declared → Bool
 all_linked [] = true
 all_linked (d ∷ rest) = has_linkage d && all_linked rest
@@ -91,7 +94,8 @@ abbrev pub before_in_scope : Source → Option Declared → List Declared
 before_in_scope s None = []
 before_in_scope s (Some d) = those_at d.scope d.symbol (made_before d.node s.declared.ordinary)
 
--- 6.2.7p4: those that together give a declared name its type: a name without linkage has its own declaration's alone
+-- 6.2.7p4: those that together give a declared name its type: a name without linkage has its own declaration's
+-- alone
 abbrev pub typing_declarations : Source → Option Declared → List Declared
 typing_declarations s None = []
 typing_declarations s (Some d) = if has_linkage d then linked_before s (Some d) ++ d ∷ [] else d ∷ []
@@ -100,8 +104,8 @@ typing_declarations s (Some d) = if has_linkage d then linked_before s (Some d) 
 abbrev pub ordinary_at : Source → ℕ → Option Declared
 ordinary_at s leaf = entry_of s.declared.ordinary leaf
 
--- 6.2.3, 6.7.2.3: the node of the first declaration of a tag in its scope, by which the tag is known; a leaf that uses a tag has the one
--- that it is paired with
+-- 6.2.3, 6.7.2.3: the node of the first declaration of a tag in its scope, by which the tag is known; a leaf that
+-- uses a tag has the one that it is paired with
 abbrev pub first_node : ℕ → List Declared → ℕ
 first_node leaf [] = leaf
 first_node leaf (d ∷ rest) = d.node
@@ -115,4 +119,6 @@ declaring_leaf leaf None = leaf
 declaring_leaf leaf (Some declaring) = declaring
 
 abbrev pub tag_of_leaf : Source → ℕ → ℕ
-tag_of_leaf s leaf = let declaring = declaring_leaf leaf (paired s.uses leaf) in first_in_scope s.declared.tags declaring (entry_of s.declared.tags declaring)
+tag_of_leaf s leaf =
+    let declaring = declaring_leaf leaf (paired s.uses leaf) in first_in_scope s.declared.tags declaring
+    (entry_of s.declared.tags declaring)

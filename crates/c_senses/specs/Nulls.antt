@@ -1,9 +1,9 @@
 -- Null constants (C11 6.3.2.3p3).
 use Rattle.std.specs.Prelude.{pos, Bool, true, false, ◌||◌}
 use Rattle.std.specs.Ordering.{int_eq}
-use Rattle.core_tree.specs.declared.node.NodeKind.{NodeKind}
-use Rattle.core_tree.specs.declared.node.NodeKind.TheVariants.{NullValue}
-use Rattle.c_types.specs.Trees.{Ctype, VoidType, PointerTo}
+use Rattle.c_consts.specs.passed.core_tree.declared.node.NodeKind.{NodeKind}
+use Rattle.c_consts.specs.passed.core_tree.declared.node.NodeKind.TheVariants.{NullValue}
+use Rattle.c_inits.specs.passed.c_types.Trees.{Ctype, VoidType, PointerTo}
 use Rattle.c_consts.specs.Core.{Core, kind_of, ctype_of}
 use Rattle.c_consts.specs.Answer.{Found, Value, Fails, answer}
 

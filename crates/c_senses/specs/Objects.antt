@@ -1,24 +1,34 @@
 -- Names, objects and their parts, assignments, calls and casts (C11 6.5.1 to 6.5.4, 6.5.16).
-use Rattle.std.specs.Prelude.{ℕ, zero, suc, ◌+◌, ◌==◌, pos, Bool, true, false, ◌&&◌, not, List, [], ◌∷◌, length, Option, Some, None, slice_get, is_some, is_none, if◌then◌else◌}
-use Rattle.pta_base.specs.declared.kind.Kind.TheVariants.{Operand, ArrayOfValue, FlexibleMember}
-use Rattle.pta_base.specs.declared.place.Place.{Place}
-use Rattle.c_types.specs.declared.term.Form.{Form}
-use Rattle.c_types.specs.declared.term.Form.TheVariants.{Fixed, Variadic, Unspecified}
-use Rattle.c_types.specs.Trees.{Ctype, Ctypes, NoTypes, MoreTypes, VoidType, PointerTo, ArrayOf, FunctionFrom}
-use Rattle.c_types.specs.Layout.{Extent}
-use Rattle.c_types.specs.Table.{size_below}
-use Rattle.core_tree.specs.declared.node.Op.{Op}
-use Rattle.core_tree.specs.declared.node.Op.TheVariants.{Multiply, Divide, Remainder, Plus, Minus, ShiftLeft, ShiftRight, And, Xor, Or}
-use Rattle.core_tree.specs.declared.node.NodeKind.TheVariants.{Named, Text, FunctionName, Deref, Member, Number, AddressOf, Assign, Update, CallNode, MemberOfValue}
-use Rattle.core_tree.specs.Typed.{Sort, PlaceNode}
-use Rattle.core_tree.specs.Rows.{int, character}
-use Rattle.c_grammar.specs.Words.{sign_multiply_assign, sign_divide_assign, sign_remainder_assign, sign_add_assign, sign_subtract_assign, sign_shift_left_assign, sign_shift_right_assign, sign_and_assign, sign_xor_assign, sign_or_assign}
+use Rattle.std.specs.Prelude.{ℕ, zero, suc, ◌+◌, ◌==◌, pos, Bool, true, false, ◌&&◌, not, List, [], ◌∷◌, length}
+use Rattle.std.specs.Prelude.{Option, Some, None, slice_get, is_some, is_none, if◌then◌else◌}
+use Rattle.c_scope.specs.passed.pta_base.declared.kind.Kind.TheVariants.{Operand, ArrayOfValue, FlexibleMember}
+use Rattle.c_scope.specs.passed.pta_base.declared.place.Place.{Place}
+use Rattle.c_inits.specs.passed.c_types.declared.term.Form.{Form}
+use Rattle.c_inits.specs.passed.c_types.declared.term.Form.TheVariants.{Fixed, Variadic, Unspecified}
+use Rattle.c_inits.specs.passed.c_types.Trees.{Ctype, Ctypes, NoTypes, MoreTypes, VoidType, PointerTo, ArrayOf}
+use Rattle.c_inits.specs.passed.c_types.Trees.{FunctionFrom}
+use Rattle.c_inits.specs.passed.c_types.Layout.{Extent}
+use Rattle.c_inits.specs.passed.c_types.Table.{size_below}
+use Rattle.c_consts.specs.passed.core_tree.declared.node.Op.{Op}
+use Rattle.c_consts.specs.passed.core_tree.declared.node.Op.TheVariants.{Multiply, Divide, Remainder, Plus, Minus}
+use Rattle.c_consts.specs.passed.core_tree.declared.node.Op.TheVariants.{ShiftLeft, ShiftRight, And, Xor, Or}
+use Rattle.c_consts.specs.passed.core_tree.declared.node.NodeKind.TheVariants.{Named, Text, FunctionName, Deref}
+use Rattle.c_consts.specs.passed.core_tree.declared.node.NodeKind.TheVariants.{Member, Number, AddressOf, Assign}
+use Rattle.c_consts.specs.passed.core_tree.declared.node.NodeKind.TheVariants.{Update, CallNode, MemberOfValue}
+use Rattle.c_consts.specs.passed.core_tree.Typed.{Sort, PlaceNode}
+use Rattle.c_consts.specs.passed.core_tree.Rows.{int, character}
+use Rattle.c_inits.specs.passed.c_grammar.Words.{sign_multiply_assign, sign_divide_assign, sign_remainder_assign}
+use Rattle.c_inits.specs.passed.c_grammar.Words.{sign_add_assign, sign_subtract_assign, sign_shift_left_assign}
+use Rattle.c_inits.specs.passed.c_grammar.Words.{sign_shift_right_assign, sign_and_assign, sign_xor_assign}
+use Rattle.c_inits.specs.passed.c_grammar.Words.{sign_or_assign}
 use Rattle.c_consts.specs.Core.{Core, Cores, Of, NoCores, MoreCores, ctype_of, core_sort, leaf, over, over_two}
 use Rattle.c_inits.specs.Made.{Part}
 use Rattle.c_senses.specs.Given.{Given, Fits, Refuses, ◌>>=◌, given_if, given_some}
-use Rattle.c_senses.specs.World.{World, Meaning, Object, Function, TypeName, Tag, Value, extent, has_size, members_of, way_to}
+use Rattle.c_senses.specs.World.{World, Meaning, Object, Function, TypeName, Tag, Value, extent, has_size}
+use Rattle.c_senses.specs.World.{members_of, way_to}
 use Rattle.c_senses.specs.Literals.{unsigned_long}
-use Rattle.c_senses.specs.Conversions.{OperandSort, Whole, Address, Aggregate, Other, operand_of, value_of, promotion, conversion, place_width, width_in, typed}
+use Rattle.c_senses.specs.Conversions.{OperandSort, Whole, Address, Aggregate, Other, operand_of, value_of}
+use Rattle.c_senses.specs.Conversions.{promotion, conversion, place_width, width_in, typed}
 use Rattle.c_senses.specs.Operators.{moved}
 
 -- a string literal, or a function's own name: an array of its bytes and a closing zero
@@ -27,7 +37,8 @@ text_core place bytes = leaf (Text bytes) place (ArrayOf character (Some (length
 
 -- 6.5.1: a name by what it means. An object with automatic storage has its name in its own function's body alone.
 abbrev pub object_name : World → Place → ℕ → ℕ → Ctype → Given Core
-object_name w place at entity t = typed at t (given_if (w.may_name entity) Operand at (Fits (leaf (Named entity) place t)))
+object_name w place at entity t =
+    typed at t (given_if (w.may_name entity) Operand at (Fits (leaf (Named entity) place t)))
 
 -- a word for the own name of the function whose body is read
 abbrev pub own_name_row : World → Place → ℕ → Given Core
@@ -43,7 +54,8 @@ name_row w place at (Some (Value n)) = Fits (leaf (Number n) place int)
 
 -- 6.5.3.2: the address of a place that is no bit-field
 abbrev pub address_row : World → Place → ℕ → Core → Sort → Given Core
-address_row w place at c PlaceNode = given_if (is_none (place_width w c)) Operand at (Fits (over AddressOf place (PointerTo (ctype_of c)) c))
+address_row w place at c PlaceNode =
+    given_if (is_none (place_width w c)) Operand at (Fits (over AddressOf place (PointerTo (ctype_of c)) c))
 address_row w place at c sort = Refuses Operand at
 
 -- what a pointer points to, unless it is void
@@ -94,13 +106,16 @@ part_at (Some members) k = slice_get members k
 abbrev pub along : World → Place → ℕ → List ℕ → Core → Given Core
 along w place at [] c = Fits c
 along w place at (k ∷ way) c =
-    given_some (part_at (members_of w (ctype_of c)) k) Operand at >>= (λ m. member_step place at c k m >>= along w place at way)
+    given_some (part_at (members_of w (ctype_of c)) k) Operand at >>=
+    (λ m. member_step place at c k m >>= along w place at way)
 
 abbrev pub member_row : World → Place → ℕ → List ℕ → Core → Given Core
-member_row w place at name c = given_some (way_to w name (ctype_of c)) Operand at >>= (λ way. along w place at way c)
+member_row w place at name c =
+    given_some (way_to w name (ctype_of c)) Operand at >>= (λ way. along w place at way c)
 
 abbrev pub arrow_row : World → Place → ℕ → List ℕ → Core → OperandSort → Given Core
-arrow_row w place at name v (Address to) = given_if (is_some (members_of w to)) Operand at (member_row w place at name (over Deref place to v))
+arrow_row w place at name v (Address to) =
+    given_if (is_some (members_of w to)) Operand at (member_row w place at name (over Deref place to v))
 arrow_row w place at name v x = Refuses Operand at
 
 -- 6.5.16: a place of scalar type, or of a structure or union that is complete
@@ -140,13 +155,15 @@ updated w op post place p v = over_two (Update op post) place (ctype_of p) p v
 
 abbrev pub update_sorts : World → Op → Bool → Place → ℕ → Core → Core → OperandSort → OperandSort → Given Core
 update_sorts w op post place at p v Whole Whole = Fits (updated w op post place p (promotion w v))
-update_sorts w op post place at p v (Address to) Whole = given_if (moves_pointer op) Operand at (Fits (updated w op post place p (promotion w v)))
+update_sorts w op post place at p v (Address to) Whole =
+    given_if (moves_pointer op) Operand at (Fits (updated w op post place p (promotion w v)))
 update_sorts w op post place at p v x y = Refuses Operand at
 
 -- p op= v, and ++ and -- with the number 1
 abbrev pub update_row : World → Op → Bool → Place → ℕ → Core → Core → Given Core
 update_row w op post place at p v =
-    given_if (is_place_sort (core_sort p)) Operand at (update_sorts w op post place at p v (operand_of (ctype_of p)) (operand_of (ctype_of v)))
+    given_if (is_place_sort (core_sort p)) Operand at
+    (update_sorts w op post place at p v (operand_of (ctype_of p)) (operand_of (ctype_of v)))
 
 -- 6.5.2.2: a call
 abbrev pub count_of : Ctypes → ℕ
@@ -176,9 +193,12 @@ one_more c cs = MoreCores c cs
 abbrev pub arguments : World → ℕ → Ctypes → List Core → Given Cores
 arguments w at ps [] = Fits NoCores
 arguments w at NoTypes (a ∷ rest) =
-    value_of w at a >>= (λ v. further w at v (operand_of (ctype_of v)) >>= (λ x. arguments w at NoTypes rest >>= (λ more. Fits (one_more x more))))
+    value_of w at a >>=
+    (λ v. further w at v (operand_of (ctype_of v)) >>=
+    (λ x. arguments w at NoTypes rest >>= (λ more. Fits (one_more x more))))
 arguments w at (MoreTypes t ps) (a ∷ rest) =
-    value_of w at a >>= (λ v. conversion w false at v t >>= (λ x. arguments w at ps rest >>= (λ more. Fits (one_more x more))))
+    value_of w at a >>=
+    (λ v. conversion w false at v t >>= (λ x. arguments w at ps rest >>= (λ more. Fits (one_more x more))))
 
 abbrev pub is_returned : World → Ctype → Bool
 is_returned w VoidType = true
@@ -187,11 +207,13 @@ is_returned w t = has_size w t
 abbrev pub call_of : World → Place → ℕ → Core → Ctype → Ctypes → Form → List Core → Given Core
 call_of w place at c r ps form args =
     given_if (takes_so_many form (count_of ps) (length args)) Operand at
-    (arguments w at ps args >>= (λ cores. given_if (is_returned w r) Operand at (Fits (Of CallNode place r (MoreCores c cores)))))
+    (arguments w at ps args >>=
+    (λ cores. given_if (is_returned w r) Operand at (Fits (Of CallNode place r (MoreCores c cores)))))
 
 -- a call stands in a function's body, or where it isn't evaluated; what its own type decides comes before that
 abbrev pub callee_row : World → Place → ℕ → Core → List Core → Ctype → Given Core
-callee_row w place at c args (PointerTo (FunctionFrom r ps form)) = typed at r (given_if w.may_call Operand at (call_of w place at c r ps form args))
+callee_row w place at c args (PointerTo (FunctionFrom r ps form)) = typed at r
+    (given_if w.may_call Operand at (call_of w place at c r ps form args))
 callee_row w place at c args t = Refuses Operand at
 
 abbrev pub call_row : World → Place → ℕ → Core → List Core → Given Core

@@ -1,18 +1,27 @@
 -- Operators on values (C11 6.5.3.3, 6.5.5 to 6.5.15).
 use Rattle.std.specs.Prelude.{ℕ, ◌==◌, pos, Bool, true, false, ◌&&◌, not, if◌then◌else◌}
-use Rattle.pta_base.specs.declared.kind.Kind.TheVariants.{Operand}
-use Rattle.pta_base.specs.declared.place.Place.{Place}
-use Rattle.c_types.specs.Trees.{Ctype, VoidType}
-use Rattle.core_tree.specs.declared.node.Op.{Op}
-use Rattle.core_tree.specs.declared.node.Op.TheVariants.{Multiply, Divide, Remainder, Plus, Minus, ShiftLeft, ShiftRight, Less, Greater, LessEqual, GreaterEqual, Equal, NotEqual, And, Xor, Or, Not}
-use Rattle.core_tree.specs.declared.node.NodeKind.TheVariants.{Number, PointerAdd, Choose, Sequence, Arith}
-use Rattle.core_tree.specs.Rows.{int, long}
-use Rattle.c_grammar.specs.Words.{sign_star, sign_slash, sign_percent, sign_plus, sign_minus, sign_shift_left, sign_shift_right, sign_less, sign_greater, sign_less_equal, sign_greater_equal, sign_equal, sign_not_equal, sign_ampersand, sign_caret, sign_bar, sign_both, sign_either_or, sign_comma}
+use Rattle.c_scope.specs.passed.pta_base.declared.kind.Kind.TheVariants.{Operand}
+use Rattle.c_scope.specs.passed.pta_base.declared.place.Place.{Place}
+use Rattle.c_inits.specs.passed.c_types.Trees.{Ctype, VoidType}
+use Rattle.c_consts.specs.passed.core_tree.declared.node.Op.{Op}
+use Rattle.c_consts.specs.passed.core_tree.declared.node.Op.TheVariants.{Multiply, Divide, Remainder, Plus, Minus}
+use Rattle.c_consts.specs.passed.core_tree.declared.node.Op.TheVariants.{ShiftLeft, ShiftRight, Less, Greater}
+use Rattle.c_consts.specs.passed.core_tree.declared.node.Op.TheVariants.{LessEqual, GreaterEqual, Equal, NotEqual}
+use Rattle.c_consts.specs.passed.core_tree.declared.node.Op.TheVariants.{And, Xor, Or, Not}
+use Rattle.c_consts.specs.passed.core_tree.declared.node.NodeKind.TheVariants.{Number, PointerAdd, Choose, Sequence}
+use Rattle.c_consts.specs.passed.core_tree.declared.node.NodeKind.TheVariants.{Arith}
+use Rattle.c_consts.specs.passed.core_tree.Rows.{int, long}
+use Rattle.c_inits.specs.passed.c_grammar.Words.{sign_star, sign_slash, sign_percent, sign_plus, sign_minus}
+use Rattle.c_inits.specs.passed.c_grammar.Words.{sign_shift_left, sign_shift_right, sign_less, sign_greater}
+use Rattle.c_inits.specs.passed.c_grammar.Words.{sign_less_equal, sign_greater_equal, sign_equal, sign_not_equal}
+use Rattle.c_inits.specs.passed.c_grammar.Words.{sign_ampersand, sign_caret, sign_bar, sign_both, sign_either_or}
+use Rattle.c_inits.specs.passed.c_grammar.Words.{sign_comma}
 use Rattle.c_consts.specs.Core.{Core, ctype_of, leaf, over, over_two, over_three}
 use Rattle.c_senses.specs.Given.{Given, Fits, Refuses, ◌>>=◌, given_if}
 use Rattle.c_senses.specs.World.{World, has_size, same_type}
 use Rattle.c_senses.specs.Nulls.{is_null}
-use Rattle.c_senses.specs.Conversions.{OperandSort, Whole, Address, operand_of, is_scalar, promotion, common, made, converted, null_value, target_of, is_function_target}
+use Rattle.c_senses.specs.Conversions.{OperandSort, Whole, Address, operand_of, is_scalar, promotion, common, made}
+use Rattle.c_senses.specs.Conversions.{converted, null_value, target_of, is_function_target}
 
 -- 6.5.5 and on: both operands are promoted and converted to their common type
 abbrev pub common_of : World → Core → Core → Ctype
@@ -43,7 +52,8 @@ shift_row w op place at a b x y = Refuses Operand at
 
 -- 6.5.6: a pointer to a complete object type and an integer, which isn't promoted; the pointer comes first
 abbrev pub moved : World → Bool → Place → ℕ → Core → Core → Ctype → Given Core
-moved w minus place at p n to = given_if (has_size w to) Operand at (Fits (over_two (PointerAdd minus) place (ctype_of p) p n))
+moved w minus place at p n to =
+    given_if (has_size w to) Operand at (Fits (over_two (PointerAdd minus) place (ctype_of p) p n))
 
 abbrev pub plus_row : World → Place → ℕ → Core → Core → OperandSort → OperandSort → Given Core
 plus_row w place at a b Whole Whole = Fits (arithmetic w Plus place a b)
@@ -76,8 +86,8 @@ order_row w op place at a b Whole Whole = Fits (comparison w op place a b)
 order_row w op place at a b (Address x) (Address y) = pointers_compared op place at a b x y
 order_row w op place at a b x y = Refuses Operand at
 
--- two pointers of types that differ, as operands of one type: a null constant takes the other one's type, and a pointer to an
--- object is converted to void * beside one
+-- two pointers of types that differ, as operands of one type: a null constant takes the other one's type, and a
+-- pointer to an object is converted to void * beside one
 abbrev pub is_void : Ctype → Bool
 is_void VoidType = true
 is_void t = false
@@ -115,7 +125,8 @@ pointers_joined at a b x y = Refuses Operand at
 -- 6.5.9
 abbrev pub equality_row : World → Op → Place → ℕ → Core → Core → OperandSort → OperandSort → Given Core
 equality_row w op place at a b Whole Whole = Fits (comparison w op place a b)
-equality_row w op place at a b x y = pointers_joined at a b x y >>= (λ both. Fits (compared op place both.left both.right))
+equality_row w op place at a b x y =
+    pointers_joined at a b x y >>= (λ both. Fits (compared op place both.left both.right))
 
 -- 6.5.13, 6.5.14: the right operand is evaluated only where the left one doesn't decide
 abbrev pub number_core : ℕ → Place → Core
@@ -131,10 +142,14 @@ abbrev pub either_core : Place → Core → Core → Core
 either_core place a b = over_three Choose place int a (number_core 1 place) (truth place b)
 
 abbrev pub both_row : Place → ℕ → Core → Core → Given Core
-both_row place at a b = given_if (is_scalar (operand_of (ctype_of a)) && is_scalar (operand_of (ctype_of b))) Operand at (Fits (both_core place a b))
+both_row place at a b =
+    given_if (is_scalar (operand_of (ctype_of a)) && is_scalar (operand_of (ctype_of b))) Operand at
+    (Fits (both_core place a b))
 
 abbrev pub either_row : Place → ℕ → Core → Core → Given Core
-either_row place at a b = given_if (is_scalar (operand_of (ctype_of a)) && is_scalar (operand_of (ctype_of b))) Operand at (Fits (either_core place a b))
+either_row place at a b =
+    given_if (is_scalar (operand_of (ctype_of a)) && is_scalar (operand_of (ctype_of b))) Operand at
+    (Fits (either_core place a b))
 
 -- 6.5.17
 abbrev pub sequence : Place → Core → Core → Core
@@ -155,12 +170,16 @@ pub data Between : Type 0 where
 
 -- the row of an operator over two values
 abbrev pub between : World → Between → Place → ℕ → Core → Core → Given Core
-between w (Numeric op) place at a b = numeric_row w op place at a b (operand_of (ctype_of a)) (operand_of (ctype_of b))
-between w (Shifting op) place at a b = shift_row w op place at a b (operand_of (ctype_of a)) (operand_of (ctype_of b))
+between w (Numeric op) place at a b =
+    numeric_row w op place at a b (operand_of (ctype_of a)) (operand_of (ctype_of b))
+between w (Shifting op) place at a b =
+    shift_row w op place at a b (operand_of (ctype_of a)) (operand_of (ctype_of b))
 between w Adding place at a b = plus_row w place at a b (operand_of (ctype_of a)) (operand_of (ctype_of b))
 between w Subtracting place at a b = minus_row w place at a b (operand_of (ctype_of a)) (operand_of (ctype_of b))
-between w (Ordering op) place at a b = order_row w op place at a b (operand_of (ctype_of a)) (operand_of (ctype_of b))
-between w (Equating op) place at a b = equality_row w op place at a b (operand_of (ctype_of a)) (operand_of (ctype_of b))
+between w (Ordering op) place at a b =
+    order_row w op place at a b (operand_of (ctype_of a)) (operand_of (ctype_of b))
+between w (Equating op) place at a b =
+    equality_row w op place at a b (operand_of (ctype_of a)) (operand_of (ctype_of b))
 between w BothTrue place at a b = both_row place at a b
 between w EitherTrue place at a b = either_row place at a b
 between w Following place at a b = Fits (sequence place a b)
@@ -211,7 +230,9 @@ chosen place c both = over_three Choose place (ctype_of both.left) c both.left b
 
 abbrev pub branches : World → ℕ → Core → Core → OperandSort → OperandSort → Given Both
 branches w at a b Whole Whole = Fits (record { left = in_common w a b a; right = in_common w a b b })
-branches w at a b x y = if same_type (ctype_of a) (ctype_of b) then Fits (record { left = a; right = b }) else pointers_joined at a b x y
+branches w at a b x y =
+    if same_type (ctype_of a) (ctype_of b) then Fits (record { left = a; right = b })
+    else pointers_joined at a b x y
 
 abbrev pub choice_row : World → Place → ℕ → Core → Core → Core → Given Core
 choice_row w place at c a b =

@@ -1,8 +1,8 @@
 -- What syntax nodes stand for.
 use Rattle.std.specs.Prelude.{ℕ, ℤ, List, [], ◌∷◌, Option, get_or}
-use Rattle.pta_base.specs.declared.kind.Kind.TheVariants.{Operand}
-use Rattle.c_types.specs.declared.term.Form.{Form}
-use Rattle.c_types.specs.Trees.{Ctype, Ctypes}
+use Rattle.c_scope.specs.passed.pta_base.declared.kind.Kind.TheVariants.{Operand}
+use Rattle.c_inits.specs.passed.c_types.declared.term.Form.{Form}
+use Rattle.c_inits.specs.passed.c_types.Trees.{Ctype, Ctypes}
 use Rattle.c_consts.specs.Core.{Core}
 use Rattle.c_inits.specs.Made.{Part}
 use Rattle.c_senses.specs.Given.{Given, Fits, Refuses, ◌>>=◌}
@@ -26,9 +26,10 @@ pub record Parameter : Type 0 where
   pub name : Option ℕ
   pub type : Ctype
 
--- what a syntax node stands for: nothing of its own; a core tree, of an expression or a statement; a type; specifiers; the name
--- and the derivations of a declarator; one derivation; a parameter; members; an enumerator's value; the initialisers that a
--- declaration runs; or an initialiser, with the number of elements that it gives to an array
+-- what a syntax node stands for: nothing of its own; a core tree, of an expression or a statement; a type;
+-- specifiers; the name and the derivations of a declarator; one derivation; a parameter; members; an enumerator's
+-- value; the initialisers that a declaration runs; or an initialiser, with the number of elements that it gives to
+-- an array
 pub data Sense : Type 0 where
   Nothing : Sense
   IsCore : Core → Sense

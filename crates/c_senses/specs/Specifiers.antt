@@ -1,14 +1,19 @@
 -- Specifiers of declarations (C11 6.7.1 to 6.7.5).
-use Rattle.std.specs.Prelude.{ℕ, suc, ◌==◌, Bool, true, false, ◌&&◌, ◌||◌, not, nat_le, List, [], ◌∷◌, length, Option, Some, None, is_some, if◌then◌else◌}
-use Rattle.pta_base.specs.declared.kind.Kind.TheVariants.{Operand}
-use Rattle.c_grammar.specs.PassedOn.{TokenKind}
-use Rattle.c_grammar.specs.PassedOn.{Keyword}
-use Rattle.c_types.specs.Trees.{Ctype, VoidType, BoolType, IntegerType, FloatingType, VaListType}
-use Rattle.core_tree.specs.Rows.{int, long, character}
-use Rattle.c_grammar.specs.Terminals.{contains, own_meaning, own_words}
-use Rattle.c_grammar.specs.Productions.{p_external, p_declaration, p_storage, p_function, p_type, p_declarator, p_parameter}
-use Rattle.c_grammar.specs.Words.{word_auto, word_register, word_void, word_bool, word_float, word_double, word_char, word_short, word_long, word_signed, word_unsigned}
-use Rattle.c_senses.specs.Tree.{Source, is_a, is_leaf, kind_at, spelling_at, word_at, last_where, all_where, child_of, parent_of}
+use Rattle.std.specs.Prelude.{ℕ, suc, ◌==◌, Bool, true, false, ◌&&◌, ◌||◌, not, nat_le, List, [], ◌∷◌, length}
+use Rattle.std.specs.Prelude.{Option, Some, None, is_some, if◌then◌else◌}
+use Rattle.c_scope.specs.passed.pta_base.declared.kind.Kind.TheVariants.{Operand}
+use Rattle.c_inits.specs.passed.c_grammar.PassedOn.{TokenKind}
+use Rattle.c_inits.specs.passed.c_grammar.PassedOn.{Keyword}
+use Rattle.c_inits.specs.passed.c_types.Trees.{Ctype, VoidType, BoolType, IntegerType, FloatingType, VaListType}
+use Rattle.c_consts.specs.passed.core_tree.Rows.{int, long, character}
+use Rattle.c_inits.specs.passed.c_grammar.Terminals.{contains, own_meaning, own_words}
+use Rattle.c_inits.specs.passed.c_grammar.Productions.{p_external, p_declaration, p_storage, p_function, p_type}
+use Rattle.c_inits.specs.passed.c_grammar.Productions.{p_declarator, p_parameter}
+use Rattle.c_inits.specs.passed.c_grammar.Words.{word_auto, word_register, word_void, word_bool, word_float}
+use Rattle.c_inits.specs.passed.c_grammar.Words.{word_double, word_char, word_short, word_long, word_signed}
+use Rattle.c_inits.specs.passed.c_grammar.Words.{word_unsigned}
+use Rattle.c_senses.specs.Tree.{Source, is_a, is_leaf, kind_at, spelling_at, word_at, last_where, all_where}
+use Rattle.c_senses.specs.Tree.{child_of, parent_of}
 use Rattle.c_senses.specs.Given.{Given, Fits, Refuses, ◌>>=◌, given_if}
 use Rattle.c_senses.specs.World.{World, Meaning, TypeName, has_size}
 use Rattle.c_senses.specs.Literals.{unsigned_int, unsigned_long, long_long, unsigned_long_long}
@@ -25,7 +30,8 @@ short_type unsigned = IntegerType 2 3 (not unsigned)
 
 abbrev pub char_type : List ℕ → Ctype
 char_type words =
-    if contains words word_unsigned then IntegerType 1 2 false else (if contains words word_signed then IntegerType 1 2 true else character)
+    if contains words word_unsigned then IntegerType 1 2 false
+    else (if contains words word_signed then IntegerType 1 2 true else character)
 
 abbrev pub long_types : Bool → ℕ → Ctype
 long_types unsigned longs =
@@ -71,8 +77,8 @@ stands_in s production i = elim (parent_of s i) [ None ↦ false | Some p ↦ is
 abbrev pub has_declarator : Source → ℕ → Bool
 has_declarator s i = elim (parent_of s i) [ None ↦ false | Some p ↦ is_some (child_of s p_declarator p) ]
 
--- 6.7.1, 6.7.4: at most one storage word; none of auto and register at file scope; none in a member or a type name, and none but
--- register in a parameter; a word for functions only where there is a declarator
+-- 6.7.1, 6.7.4: at most one storage word; none of auto and register at file scope; none in a member or a type name,
+-- and none but register in a parameter; a word for functions only where there is a declarator
 abbrev pub only_register : List ℕ → Bool
 only_register [] = true
 only_register (word ∷ rest) = (word == word_register) && only_register rest
@@ -84,7 +90,8 @@ is_plain (word ∷ rest) = false
 abbrev pub words_fit : Source → ℕ → List ℕ → List ℕ → Bool
 words_fit s at storage functions =
     nat_le (length storage) 1
-    && (if stands_in s p_external at then not (contains storage word_auto || contains storage word_register) && (is_plain functions || has_declarator s at)
+    && (if stands_in s p_external at then not (contains storage word_auto || contains storage word_register)
+    && (is_plain functions || has_declarator s at)
     else if stands_in s p_declaration at then is_plain functions || has_declarator s at
     else if stands_in s p_parameter at then only_register storage && is_plain functions
     else is_plain storage && is_plain functions)
@@ -96,13 +103,17 @@ module _ (w : World) (s : Source) (sense : ℕ → Sense) where
   align_operand at x = constant_in w s at x >>= (λ n. Fits Nothing)
 
   abbrev pub align_specifier : ℕ → List ℕ → Given Sense
-  align_specifier at children = elim (last_where (λ c. not (is_leaf s c)) children) [ None ↦ Refuses Operand at | Some c ↦ align_operand at (sense c) ]
+  align_specifier at children =
+      elim
+      (last_where (λ c. not (is_leaf s c)) children)
+      [ None ↦ Refuses Operand at | Some c ↦ align_operand at (sense c) ]
 
-  -- 6.7.2, 6.7.8: a type specifier: a word, which means something beside the others alone; the name of a floating type or of a
-  -- typedef; or a structure, union or enumeration
+  -- 6.7.2, 6.7.8: a type specifier: a word, which means something beside the others alone; the name of a floating
+  -- type or of a typedef; or a structure, union or enumeration
   abbrev pub named_type : ℕ → ℕ → Option Meaning → Given Sense
   named_type at c (Some (TypeName t)) = Fits (IsType t)
-  named_type at c None = Fits (IsType (if is_some (own_meaning own_words (spelling_at s c)) then FloatingType else VaListType))
+  named_type at c None =
+      Fits (IsType (if is_some (own_meaning own_words (spelling_at s c)) then FloatingType else VaListType))
   named_type at c (Some other) = Refuses Operand at
 
   abbrev pub type_leaf : ℕ → ℕ → Bool → Given Sense
@@ -126,4 +137,10 @@ module _ (w : World) (s : Source) (sense : ℕ → Sense) where
   specs_row at children =
       let types = all_where (is_a s p_type) children in
       given_if (words_fit s at (storage_words s children) (function_words s children)) Operand at
-      (Fits (IsSpecified (record { storage = storage_words s children; functions = function_words s children; type = specified_type types (first_type types) })))
+      (Fits
+      (IsSpecified
+      (record {
+        storage = storage_words s children;
+        functions = function_words s children;
+        type = specified_type types (first_type types);
+      })))

@@ -1,14 +1,20 @@
--- Structures, unions and enumerations: their tags, members and enumerators, and the keys by which units share them (C11 6.7.2.1 to
--- 6.7.2.3).
-use Rattle.std.specs.Prelude.{ℕ, suc, ◌*◌, ◌==◌, max, ℤ, pos, neg_ℤ, ◌+ℤ◌, int_le, Bool, true, false, ◌&&◌, ◌||◌, not, nat_lt, nat_le, List, [], ◌∷◌, ◌++◌, map, length, Option, Some, None, is_some, is_none, option_and_then, if◌then◌else◌}
-use Rattle.pta_base.specs.declared.kind.Kind.TheVariants.{Operand}
-use Rattle.c_types.specs.Trees.{Ctype, BoolType, IntegerType, ArrayOf, StructureOf, UnionOf}
-use Rattle.c_types.specs.Layout.{Extent, Look, structure_of, union_of, member_extent, looked_up, laid_out, Completed}
-use Rattle.core_tree.specs.Rows.{int}
-use Rattle.c_grammar.specs.Productions.{p_specs, p_struct, p_members, p_field, p_enum, p_enumerators, p_enumerator, p_declarator, p_conditional}
-use Rattle.c_grammar.specs.Words.{word_union, sign_colon}
+-- Structures, unions and enumerations: their tags, members and enumerators, and the keys by which units share them
+-- (C11 6.7.2.1 to 6.7.2.3).
+use Rattle.std.specs.Prelude.{ℕ, suc, ◌*◌, ◌==◌, max, ℤ, pos, neg_ℤ, ◌+ℤ◌, int_le, Bool, true, false, ◌&&◌, ◌||◌}
+use Rattle.std.specs.Prelude.{not, nat_lt, nat_le, List, [], ◌∷◌, ◌++◌, map, length, Option, Some, None, is_some}
+use Rattle.std.specs.Prelude.{is_none, option_and_then, if◌then◌else◌}
+use Rattle.c_scope.specs.passed.pta_base.declared.kind.Kind.TheVariants.{Operand}
+use Rattle.c_inits.specs.passed.c_types.Trees.{Ctype, BoolType, IntegerType, ArrayOf, StructureOf, UnionOf}
+use Rattle.c_inits.specs.passed.c_types.Layout.{Extent, Look, structure_of, union_of, member_extent, looked_up}
+use Rattle.c_inits.specs.passed.c_types.Layout.{laid_out, Completed}
+use Rattle.c_consts.specs.passed.core_tree.Rows.{int}
+use Rattle.c_inits.specs.passed.c_grammar.Productions.{p_specs, p_struct, p_members, p_field, p_enum, p_enumerators}
+use Rattle.c_inits.specs.passed.c_grammar.Productions.{p_enumerator, p_declarator, p_conditional}
+use Rattle.c_inits.specs.passed.c_grammar.Words.{word_union, sign_colon}
 use Rattle.c_inits.specs.Made.{Part, TagParts}
-use Rattle.c_senses.specs.Tree.{Source, is_a, is_leaf, is_name, has_sign, has_word, children_at, spelling_at, word_at, first_where, last_where, all_where, any_where, child_of, parent_of, numbers_from, all_nodes}
+use Rattle.c_senses.specs.Tree.{Source, is_a, is_leaf, is_name, has_sign, has_word, children_at, spelling_at}
+use Rattle.c_senses.specs.Tree.{word_at, first_where, last_where, all_where, any_where, child_of, parent_of}
+use Rattle.c_senses.specs.Tree.{numbers_from, all_nodes}
 use Rattle.c_senses.specs.Names.{tag_of_leaf}
 use Rattle.c_senses.specs.Given.{Given, Fits, Refuses, ◌>>=◌, given_if, given_some}
 use Rattle.c_senses.specs.World.{World, has_size, has_name, same_length}
@@ -45,7 +51,8 @@ declaring_specifier s tag = if is_leaf s tag then parent_of s tag else Some tag
 -- a number above those of the tags of some nodes, and of all structures and unions
 abbrev pub tags_among : Source → List ℕ → ℕ
 tags_among s [] = 0
-tags_among s (i ∷ rest) = if is_a s p_struct i then max (suc (tag_of s i)) (tags_among s rest) else tags_among s rest
+tags_among s (i ∷ rest) =
+    if is_a s p_struct i then max (suc (tag_of s i)) (tags_among s rest) else tags_among s rest
 
 abbrev pub tags_below : Source → ℕ
 tags_below s = tags_among s (all_nodes s)
@@ -60,7 +67,8 @@ specifiers_before s i = all_where (is_tag_specifier s) (numbers_from 0 i)
 
 -- 6.7.2.3: one list, and one keyword, for each tag
 abbrev pub is_listed_before : Source → ℕ → Bool
-is_listed_before s i = any_where (λ j. has_list s j && (tag_declared s j == tag_declared s i)) (specifiers_before s i)
+is_listed_before s i =
+    any_where (λ j. has_list s j && (tag_declared s j == tag_declared s i)) (specifiers_before s i)
 
 abbrev pub has_other_keyword : Source → ℕ → Bool
 has_other_keyword s i = not (same_length (keyword_of s (tag_declared s i)) (word_at s i))
@@ -91,7 +99,8 @@ bits_in (IntegerType size rank signed) = Some (8 * size)
 bits_in t = None
 
 abbrev pub width_fits : ℕ → Bool → ℤ → Option ℕ
-width_fits most named n = elim n [ pos k ↦ if nat_le k most && (nat_lt 0 k || not named) then Some k else None | _ ↦ None ]
+width_fits most named n =
+    elim n [ pos k ↦ if nat_le k most && (nat_lt 0 k || not named) then Some k else None | _ ↦ None ]
 
 module _ (w : World) (s : Source) (sense : ℕ → Sense) where
   abbrev pub members_in_sense : Sense → List Part
@@ -106,7 +115,10 @@ module _ (w : World) (s : Source) (sense : ℕ → Sense) where
   abbrev pub struct_type : ℕ → Option ℕ → Given Sense
   struct_type at None = Fits (IsType (aggregate_type s at))
   struct_type at (Some list) =
-      given_if (is_small (Some (laid w (is_union s at) (aggregate_type s at) (members_in_sense (sense list))))) Operand at (Fits (IsType (aggregate_type s at)))
+      given_if
+      (is_small (Some (laid w (is_union s at) (aggregate_type s at) (members_in_sense (sense list)))))
+      Operand at
+      (Fits (IsType (aggregate_type s at)))
 
   abbrev pub struct_row : ℕ → Given Sense
   struct_row at = given_if (tag_fits s at) Operand (named_tag s at) (struct_type at (child_of s p_members at))
@@ -121,18 +133,23 @@ module _ (w : World) (s : Source) (sense : ℕ → Sense) where
   -- specifiers alone are a member where they are an untagged structure or union
   abbrev pub untagged_in : ℕ → Option ℕ
   untagged_in specs =
-      option_and_then (λ t. first_where (λ c. is_a s p_struct c && is_none (tag_leaf s c)) (children_at s t)) (first_where (λ t. any_where (is_a s p_struct) (children_at s t)) (children_at s specs))
+      option_and_then
+      (λ t. first_where (λ c. is_a s p_struct c && is_none (tag_leaf s c)) (children_at s t))
+      (first_where (λ t. any_where (is_a s p_struct) (children_at s t)) (children_at s specs))
 
   abbrev pub type_in_sense : Sense → Option Ctype
   type_in_sense (IsType t) = Some t
   type_in_sense x = None
 
   abbrev pub is_in_union : ℕ → Bool
-  is_in_union member = elim (option_and_then (parent_of s) (parent_of s member)) [ None ↦ false | Some i ↦ is_union s i ]
+  is_in_union member =
+      elim (option_and_then (parent_of s) (parent_of s member)) [ None ↦ false | Some i ↦ is_union s i ]
 
   abbrev pub unnamed_member : ℕ → Option Ctype → Given Sense
   unnamed_member at None = Fits (IsMembers [])
-  unnamed_member at (Some t) = given_if (is_in_union at || not (ends_flexible w t)) Operand at (Fits (IsMembers (record { name = None; type = t; bits = None } ∷ [])))
+  unnamed_member at (Some t) =
+      given_if (is_in_union at || not (ends_flexible w t)) Operand at
+      (Fits (IsMembers (record { name = None; type = t; bits = None } ∷ [])))
 
   abbrev pub member_specs : ℕ → List ℕ → Option ℕ → Given Sense
   member_specs at children None = Fits (IsMembers [])
@@ -152,7 +169,9 @@ module _ (w : World) (s : Source) (sense : ℕ → Sense) where
       elim (parent_of s i) [
         | None ↦ []
         | Some member ↦
-            elim (parent_of s member) [ None ↦ [] | Some list ↦ members_among (all_where (is_before member) (children_at s list)) ]
+            elim
+            (parent_of s member)
+            [ None ↦ [] | Some list ↦ members_among (all_where (is_before member) (children_at s list)) ]
             ++ members_among (all_where (is_before i) (children_at s member))
       ]
 
@@ -160,8 +179,8 @@ module _ (w : World) (s : Source) (sense : ℕ → Sense) where
   has_part_named name [] = false
   has_part_named name (m ∷ rest) = has_name name m.name || has_part_named name rest
 
-  -- the last field of its declaration, with no further declaration of members; one of specifiers alone declares a member only where they
-  -- are an untagged structure or union
+  -- the last field of its declaration, with no further declaration of members; one of specifiers alone declares a
+  -- member only where they are an untagged structure or union
   abbrev pub is_last_in : (ℕ → Bool) → ℕ → ℕ → Bool
   is_last_in test p i = elim (last_where test (children_at s p)) [ None ↦ false | Some last ↦ last == i ]
 
@@ -177,7 +196,9 @@ module _ (w : World) (s : Source) (sense : ℕ → Sense) where
       elim (parent_of s i) [
         | None ↦ false
         | Some member ↦
-            is_last_in (is_a s p_field) member i && elim (parent_of s member) [ None ↦ false | Some list ↦ is_last_in declares_members list member ]
+            is_last_in (is_a s p_field) member i
+            && elim
+            (parent_of s member) [ None ↦ false | Some list ↦ is_last_in declares_members list member ]
       ]
 
   abbrev pub in_union : ℕ → Bool
@@ -190,7 +211,12 @@ module _ (w : World) (s : Source) (sense : ℕ → Sense) where
   -- an array without a length may end a structure that has another member
   abbrev pub is_flexible_end : ℕ → Ctype → Bool
   is_flexible_end i t =
-      elim (element_of t) [ None ↦ false | Some of ↦ has_size w of && (not (in_union i) && (is_last_field i && nat_lt 0 (length (earlier_parts i)))) ]
+      elim
+      (element_of t) [
+        | None ↦ false
+        | Some of ↦ has_size w of
+            && (not (in_union i) && (is_last_field i && nat_lt 0 (length (earlier_parts i))))
+      ]
 
   abbrev pub may_be_member : ℕ → Ctype → Bool
   may_be_member i t = is_flexible_end i t || (has_size w t && (in_union i || not (ends_flexible w t)))
@@ -198,7 +224,8 @@ module _ (w : World) (s : Source) (sense : ℕ → Sense) where
   abbrev pub bit_field : ℕ → Option (List ℕ) → Ctype → ℤ → ℕ → Given Sense
   bit_field named name t n most =
       given_some (width_fits most (is_some name) n) Operand named >>= (λ k.
-      if k == 0 then Fits (IsMembers []) else Fits (IsMembers (record { name = name; type = t; bits = Some k } ∷ [])))
+      if k == 0 then Fits (IsMembers [])
+      else Fits (IsMembers (record { name = name; type = t; bits = Some k } ∷ [])))
 
   abbrev pub field_name : Option ℕ → Option (List ℕ)
   field_name None = None
@@ -211,7 +238,8 @@ module _ (w : World) (s : Source) (sense : ℕ → Sense) where
   -- a field is named by its name, and one without by its colon
   abbrev pub named_field : ℕ → Option ℕ → ℕ
   named_field at (Some leaf) = leaf
-  named_field at None = elim (first_where (has_sign s sign_colon) (children_at s at)) [ None ↦ at | Some colon ↦ colon ]
+  named_field at None =
+      elim (first_where (has_sign s sign_colon) (children_at s at)) [ None ↦ at | Some colon ↦ colon ]
 
   abbrev pub field_typed : ℕ → Option ℕ → Ctype → Option ℕ → Given Sense
   field_typed at leaf t None =
@@ -220,20 +248,26 @@ module _ (w : World) (s : Source) (sense : ℕ → Sense) where
   field_typed at leaf t (Some width) =
       given_some (bits_in t) Operand (named_field at leaf) >>= (λ most.
       constant_in w s at (sense width) >>= (λ n.
-      given_if (is_new_name at (field_name leaf)) Operand (named_field at leaf) (bit_field (named_field at leaf) (field_name leaf) t n most)))
+      given_if (is_new_name at (field_name leaf)) Operand (named_field at leaf)
+      (bit_field (named_field at leaf) (field_name leaf) t n most)))
 
   abbrev pub field_of : ℕ → Option Ctype → Sense → Given Sense
   field_of at None x = Refuses Operand at
-  field_of at (Some base) (IsDeclarator leaf ds) = field_typed at leaf (derived ds base) (child_of s p_conditional at)
+  field_of at (Some base) (IsDeclarator leaf ds) =
+      field_typed at leaf (derived ds base) (child_of s p_conditional at)
   field_of at (Some base) x = field_typed at None base (child_of s p_conditional at)
 
   abbrev pub field_row : ℕ → Given Sense
-  field_row at = field_of at (specified_at w s sense (option_and_then (child_of s p_specs) (parent_of s at))) (sense_of_child w s sense p_declarator at)
+  field_row at =
+      field_of at (specified_at w s sense (option_and_then (child_of s p_specs) (parent_of s at)))
+      (sense_of_child w s sense p_declarator at)
 
   -- 6.7.2.2: an enumerator's value is in the range of int; without an expression it is one more than the one before
   abbrev pub before_enumerator : ℕ → Option ℕ
   before_enumerator at =
-      option_and_then (λ list. last_where (λ c. is_a s p_enumerator c && is_before at c) (children_at s list)) (parent_of s at)
+      option_and_then
+      (λ list. last_where (λ c. is_a s p_enumerator c && is_before at c) (children_at s list))
+      (parent_of s at)
 
   abbrev pub value_before : Option ℕ → ℤ
   value_before None = neg_ℤ (pos 1)
@@ -259,7 +293,12 @@ completed_from s [] sense i = []
 completed_from s (x ∷ rest) sense i =
     elim (if is_a s p_struct i then child_of s p_members i else None) [
       | None ↦ completed_from s rest sense (suc i)
-      | Some list ↦ elim (sense list) [ IsMembers parts ↦ record { tag = tag_of s i; members = parts } ∷ completed_from s rest sense (suc i) | _ ↦ completed_from s rest sense (suc i) ]
+      | Some list ↦ elim
+          (sense list) [
+            | IsMembers parts ↦ record { tag = tag_of s i; members = parts }
+                ∷ completed_from s rest sense (suc i)
+            | _ ↦ completed_from s rest sense (suc i)
+          ]
     ]
 
 abbrev pub members_under : List TagParts → ℕ → Option (List Part)

@@ -1,23 +1,24 @@
 -- A unit's text, its tokens and its syntax tree, with what its names mean.
-use Rattle.std.specs.Prelude.{ℕ, zero, suc, ◌-◌, ◌==◌, Bool, true, false, ◌&&◌, ◌||◌, List, [], ◌∷◌, Option, Some, None, slice_get, length, if◌then◌else◌}
-use Rattle.pta_base.specs.declared.place.Place.{Place}
-use Rattle.c_grammar.specs.PassedOn.{Token}
-use Rattle.c_grammar.specs.PassedOn.{TokenKind}
-use Rattle.c_grammar.specs.PassedOn.{Identifier, Keyword, Punctuator, End}
-use Rattle.c_grammar.specs.declared.trees.SyntaxNode.{SyntaxNode}
-use Rattle.c_grammar.specs.Reads.{leaf}
-use Rattle.c_grammar.specs.Terminals.{spelled, contains}
+use Rattle.std.specs.Prelude.{ℕ, zero, suc, ◌-◌, ◌==◌, Bool, true, false, ◌&&◌, ◌||◌, List, [], ◌∷◌, Option, Some}
+use Rattle.std.specs.Prelude.{None, slice_get, length, if◌then◌else◌}
+use Rattle.c_scope.specs.passed.pta_base.declared.place.Place.{Place}
+use Rattle.c_inits.specs.passed.c_grammar.PassedOn.{Token}
+use Rattle.c_inits.specs.passed.c_grammar.PassedOn.{TokenKind}
+use Rattle.c_inits.specs.passed.c_grammar.PassedOn.{Identifier, Keyword, Punctuator, End}
+use Rattle.c_inits.specs.passed.c_grammar.declared.trees.SyntaxNode.{SyntaxNode}
+use Rattle.c_inits.specs.passed.c_grammar.Reads.{leaf}
+use Rattle.c_inits.specs.passed.c_grammar.Terminals.{spelled, contains}
 use Rattle.c_scope.specs.declared.kinds.Declared.{Declared}
 
--- what is found of a unit's names: the declarations of ordinary names and those of tags (C11 6.2.3), each in the order in which they are
--- made, and for each node the scopes around it, the innermost first
+-- what is found of a unit's names: the declarations of ordinary names and those of tags (C11 6.2.3), each in the
+-- order in which they are made, and for each node the scopes around it, the innermost first
 pub record Names : Type 0 where
   pub ordinary : List Declared
   pub tags : List Declared
   pub scopes : List (List ℕ)
 
--- `uses` pairs the leaf of each use of a name with the leaf, or the specifier, that declares it; `tag_number` gives a tag, by the node of its
--- first declaration, the number by which types name it
+-- `uses` pairs the leaf of each use of a name with the leaf, or the specifier, that declares it; `tag_number` gives
+-- a tag, by the node of its first declaration, the number by which types name it
 pub record Source : Type 0 where
   pub unit : ℕ
   pub text : List ℕ
@@ -162,7 +163,7 @@ abbrev pub paired : List (ℕ × ℕ) → ℕ → Option ℕ
 paired [] name = None
 paired (p ∷ rest) name = if p.0 == name then Some p.1 else paired rest name
 
--- the sibling to the left of a node whose first token has the leaf `first`: in the tree's order it stands directly before that
--- leaf, but for the brace that closes a compound literal's list
+-- the sibling to the left of a node whose first token has the leaf `first`: in the tree's order it stands directly
+-- before that leaf, but for the brace that closes a compound literal's list
 abbrev pub left_of : Source → ℕ → ℕ
 left_of s first = if is_leaf s (first - 1) then first - 2 else first - 1

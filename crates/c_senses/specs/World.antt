@@ -1,15 +1,18 @@
 -- What the declarations around an expression give.
-use Rattle.std.specs.Prelude.{ℕ, zero, suc, ◌==◌, Bool, true, false, ◌&&◌, List, [], ◌∷◌, ℤ, Option, Some, None, is_some, if◌then◌else◌}
+use Rattle.std.specs.Prelude.{ℕ, zero, suc, ◌==◌, Bool, true, false, ◌&&◌, List, [], ◌∷◌, ℤ, Option, Some, None}
+use Rattle.std.specs.Prelude.{is_some, if◌then◌else◌}
 use Rattle.std.specs.Str.{bytes_eq}
-use Rattle.c_types.specs.declared.term.Form.{Form}
-use Rattle.c_types.specs.declared.term.Form.TheVariants.{Fixed, Variadic, Unspecified}
-use Rattle.c_types.specs.Trees.{Ctype, Ctypes, NoTypes, MoreTypes, VoidType, BoolType, IntegerType, FloatingType, VaListType, PointerTo, ArrayOf, FunctionFrom, StructureOf, UnionOf}
-use Rattle.c_types.specs.Layout.{Extent, Look, extent_of}
-use Rattle.c_types.specs.Table.{size_below}
+use Rattle.c_inits.specs.passed.c_types.declared.term.Form.{Form}
+use Rattle.c_inits.specs.passed.c_types.declared.term.Form.TheVariants.{Fixed, Variadic, Unspecified}
+use Rattle.c_inits.specs.passed.c_types.Trees.{Ctype, Ctypes, NoTypes, MoreTypes, VoidType, BoolType, IntegerType}
+use Rattle.c_inits.specs.passed.c_types.Trees.{FloatingType, VaListType, PointerTo, ArrayOf, FunctionFrom}
+use Rattle.c_inits.specs.passed.c_types.Trees.{StructureOf, UnionOf}
+use Rattle.c_inits.specs.passed.c_types.Layout.{Extent, Look, extent_of}
+use Rattle.c_inits.specs.passed.c_types.Table.{size_below}
 use Rattle.c_inits.specs.Made.{Part, Look as Fillable}
 
--- what a use of a name means: an object or a function, with the type that its visible declarations give together; a type; a tag;
--- or an enumerator's value
+-- what a use of a name means: an object or a function, with the type that its visible declarations give together; a
+-- type; a tag; or an enumerator's value
 pub data Meaning : Type 0 where
   Object : (entity : ℕ) (type : Ctype) → Meaning
   Function : (entity : ℕ) (type : Ctype) → Meaning
@@ -17,9 +20,9 @@ pub data Meaning : Type 0 where
   Tag : (tag : ℕ) → Meaning
   Value : (value : ℤ) → Meaning
 
--- what each use means, by its leaf; the members of each complete tag, what they take, and what can be initialised in them; how many
--- tags there are at most; which entities may be named here, and whether a function may be called; and the name of the function
--- whose body is read
+-- what each use means, by its leaf; the members of each complete tag, what they take, and what can be initialised
+-- in them; how many tags there are at most; which entities may be named here, and whether a function may be called;
+-- and the name of the function whose body is read
 pub record World : Type 0 where
   pub meaning : ℕ → Option Meaning
   pub members : ℕ → Option (List Part)
@@ -65,7 +68,8 @@ abbrev mutual
   pub same_type : Ctype → Ctype → Bool
   same_type VoidType VoidType = true
   same_type BoolType BoolType = true
-  same_type (IntegerType size rank signed) (IntegerType size' rank' signed') = (size == size') && ((rank == rank') && same_sign signed signed')
+  same_type (IntegerType size rank signed) (IntegerType size' rank' signed') =
+      (size == size') && ((rank == rank') && same_sign signed signed')
   same_type FloatingType FloatingType = true
   same_type VaListType VaListType = true
   same_type (PointerTo a) (PointerTo b) = same_type a b
@@ -80,8 +84,8 @@ abbrev mutual
   same_types (MoreTypes a as') (MoreTypes b bs) = same_type a b && same_types as' bs
   same_types a b = false
 
--- where the member of a name stands: a way of positions, one for each level. A list's own names come first, then its unnamed
--- members in order, each one whole before the next. Unnamed members nest no deeper than there are tags.
+-- where the member of a name stands: a way of positions, one for each level. A list's own names come first, then
+-- its unnamed members in order, each one whole before the next. Unnamed members nest no deeper than there are tags.
 abbrev pub has_name : List ℕ → Option (List ℕ) → Bool
 has_name name None = false
 has_name name (Some own) = bytes_eq own name
@@ -110,7 +114,8 @@ in_unnamed search k (m ∷ rest) =
 
 abbrev pub in_members : (Ctype → Option (List ℕ)) → List ℕ → Option (List Part) → Option (List ℕ)
 in_members search name None = None
-in_members search name (Some members) = or_else (one_step (own_position name 0 members)) (in_unnamed search 0 members)
+in_members search name (Some members) =
+    or_else (one_step (own_position name 0 members)) (in_unnamed search 0 members)
 
 abbrev pub way_within : World → ℕ → List ℕ → Ctype → Option (List ℕ)
 way_within w zero name t = None

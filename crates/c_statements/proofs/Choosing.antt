@@ -12,7 +12,7 @@ use Rattle.c_senses.specs.World.{World, or_else}
 use Rattle.c_senses.specs.Sense.{Sense, IsCore, sense_in}
 use Rattle.c_results.specs.Parts.{core_in}
 use Rattle.c_senses.specs.Statements.{is_case_again, is_default_again, is_statement_of, switch_around, case_value, is_default}
-use Rattle.leaf_maps.specs.Numbers.{number_at}
+use Rattle.tree_reads.specs.leaf_maps.Numbers.{number_at}
 use Rattle.c_statements.specs.Labels.{case_at, AreDefaults, AreCases}
 
 -- keys that compare equal are equal

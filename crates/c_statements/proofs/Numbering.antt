@@ -17,7 +17,7 @@ use Rattle.c_senses.specs.Statements.{switch_around, switched, expression_in, is
 use Rattle.core_nodes.specs.declared.fault.CheckFault.{CheckFault}
 use Rattle.core_nodes.specs.declared.fault.CheckFault.TheVariants.{BadOperand, Unsupported, OutOfMemory}
 use Rattle.core_nodes.specs.Standing.{Made}
-use Rattle.constant_values.specs.Constants.{ConstantMade}
+use Rattle.c_conversions.specs.constant_values.Constants.{ConstantMade}
 use Rattle.c_statements.specs.Labels.{number_for}
 
 -- a switch whose value is refused gives a case no type

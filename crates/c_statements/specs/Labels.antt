@@ -11,14 +11,15 @@ use Rattle.c_senses.specs.Tree.{Source, any_where, numbers_from}
 use Rattle.c_senses.specs.World.{World}
 use Rattle.c_senses.specs.Sense.{Sense}
 use Rattle.c_senses.specs.Statements.{is_default_again, is_case_again}
-use Rattle.leaf_maps.specs.Numbers.{number_at}
+use Rattle.tree_reads.specs.leaf_maps.Numbers.{number_at}
 
 abbrev pub IsAscii : List ℕ → Type 0
 IsAscii bytes = All (λ b. b < 128) bytes
 
 -- the case that is kept for a switch and a number
 abbrev pub case_at : List ((ℕ × ℤ) × ℕ) → ℕ → ℤ → Option ℕ
-case_at entries switch number = lookup (λ k. is_eq (ordering_then (nat_cmp switch k.0) (int_cmp number k.1))) entries
+case_at entries switch number =
+    lookup (λ k. is_eq (ordering_then (nat_cmp switch k.0) (int_cmp number k.1))) entries
 
 -- the number of a case, and whether a node is a default
 abbrev pub case_number : NodeKind → Option ℤ
@@ -36,10 +37,14 @@ is_choice (Some found) switch number = (found.0 == switch) && int_eq found.1 num
 
 -- the switches that have a default among the nodes before one, and the cases of each
 abbrev pub AreDefaults : World → Source → (ℕ → Sense) → ℕ → List (ℕ × ℕ) → Type 0
-AreDefaults w s sense at defaults = (switch : ℕ) → is_some (number_at defaults switch) ≡ any_where (is_default_again w s sense switch) (numbers_from 0 at)
+AreDefaults w s sense at defaults =
+    (switch : ℕ)
+    → is_some (number_at defaults switch) ≡ any_where (is_default_again w s sense switch) (numbers_from 0 at)
 
 abbrev pub AreCases : World → Source → (ℕ → Sense) → ℕ → List ((ℕ × ℤ) × ℕ) → Type 0
-AreCases w s sense at cases = (switch : ℕ) (n : ℤ) → is_some (case_at cases switch n) ≡ any_where (is_case_again w s sense switch n) (numbers_from 0 at)
+AreCases w s sense at cases =
+    (switch : ℕ) (n : ℤ)
+    → is_some (case_at cases switch n) ≡ any_where (is_case_again w s sense switch n) (numbers_from 0 at)
 
 -- the number of a case as one of the type of its switch's value, if that is an integer
 abbrev pub number_for : Given Core → ℤ → Option ℤ

@@ -8,17 +8,17 @@ ghost use Rattle.c_senses.specs.Statements as spec;
 ghost use Rattle.core_nodes.specs.Standing.{IsReady};
 ghost use Rattle.c_results.specs.Standing.{senses_made, IsWithin};
 ghost use Rattle.tree_reads.specs.Sources.{source_in};
-ghost use Rattle.leaf_maps.specs.Numbers.{number_at};
+ghost use Rattle.tree_reads.specs.leaf_maps.Numbers.{number_at};
 ghost use Rattle.c_statements.specs.Labels as labels;
 ghost use Rattle.c_statements.specs.Labels.{case_at, is_choice, AreDefaults, AreCases};
 
 use c_results::{Results, node_at};
 use core_nodes::reads::kind_of_node;
 use core_tree::node::{NodeKind, Unit};
-use leaf_maps::LeafMap;
 use std::alloc::{AllocError, Global};
 use std::collections::BTreeMap;
 use std::marker::Model;
+use tree_reads::leaf_maps::LeafMap;
 use tree_reads::{Above, Syntax, children_of, has_word, is_a, nearest_above};
 
 const P_STATEMENT: u32 = 30;

@@ -16,9 +16,9 @@ use core_nodes::CheckFault;
 use core_nodes::trees::{push_leaf, push_over};
 use core_tree::held::HeldText;
 use core_tree::node::{NodeKind, Unit};
-use leaf_maps::LeafMap;
 use pta_base::Text;
 use std::alloc::{AllocError, Global};
+use tree_reads::leaf_maps::LeafMap;
 use tree_reads::{Above, Syntax, Test, first_where, nearest_above, place_of, spelling_of};
 
 // A text of bytes that are below 128.

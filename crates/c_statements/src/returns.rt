@@ -6,7 +6,7 @@ ghost use Rattle.c_senses.specs.Sense.{sense_in};
 ghost use Rattle.c_senses.specs.Statements as spec;
 ghost use Rattle.core_nodes.specs.Standing.{IsReady, Builds, Made as CoreMade, Knows};
 ghost use Rattle.c_results.specs.Standing.{senses_made, IsWithin, TypeSeen};
-ghost use Rattle.constant_values.specs.Constants.{HasConstants};
+ghost use Rattle.c_conversions.specs.constant_values.Constants.{HasConstants};
 ghost use Rattle.tree_reads.specs.Sources.{source_in};
 ghost use Rattle.c_statements.specs.Others.{returned};
 

@@ -1,5 +1,6 @@
 -- The members of the nodes that stand before one in a list, by their names.
-use Rattle.std.specs.Prelude.{ℕ, ◌≡◌, ◌<◌, ◌≤◌, Bool, true, ◌&&◌, ◌||◌, Option, Some, None, List, [], ◌∷◌, length, take, nat_lt, All}
+use Rattle.std.specs.Prelude.{ℕ, ◌≡◌, ◌<◌, ◌≤◌, Bool, true, ◌&&◌, ◌||◌, Option, Some, None, List, [], ◌∷◌, length}
+use Rattle.std.specs.Prelude.{take, nat_lt, All}
 use Rattle.core_tree.specs.declared.node.Unit.{Unit}
 use Rattle.c_inits.specs.Made.{Part}
 use Rattle.c_senses.specs.Tree.{Source, all_where, children_at}
@@ -22,11 +23,14 @@ ascends (x ∷ y ∷ rest) = nat_lt x y && ascends (y ∷ rest)
 pub record Covers (results : List Made) (nodes : List ℕ) (c : Cursor) : Type 0 where
   pub within : c.done ≤ length nodes
   pub made : All (λ n. n < length results) (take c.done nodes)
-  pub names : (u : Unit) (w : World) (s : Source) → SaysNames c.names (members_among w s (sense_in (senses_made u results)) (take c.done nodes))
+  pub names : (u : Unit) (w : World) (s : Source)
+      → SaysNames c.names (members_among w s (sense_in (senses_made u results)) (take c.done nodes))
 
 -- both together have the names of some members
 pub record SaysEarlier (b : MembersBefore) (parts : List Part) : Type 0 where
-  pub named : (w : World) (s : Source) (sense : ℕ → Sense) (name : List ℕ) → (is_among b.whole.names.names name || is_among b.part.names.names name) ≡ has_part_named w s sense name parts
+  pub named : (w : World) (s : Source) (sense : ℕ → Sense) (name : List ℕ)
+      → (is_among b.whole.names.names name || is_among b.part.names.names name)
+      ≡ has_part_named w s sense name parts
   pub any_are : (b.whole.names.any || b.part.names.any) ≡ nat_lt 0 (length parts)
 
 module _ (w : World) (s : Source) (sense : ℕ → Sense) where

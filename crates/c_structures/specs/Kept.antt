@@ -7,4 +7,7 @@ use Rattle.c_structures.specs.Listed.{AreLists}
 
 -- where one thing more has been made
 abbrev pub ListsKept : Type 0
-ListsKept = (syntax : Syntax) (results : List Made) (m : Made) (lists : MemberLists) → AreLists syntax results lists → AreLists syntax (results ++ m ∷ []) lists
+ListsKept =
+    (syntax : Syntax) (results : List Made) (m : Made) (lists : MemberLists)
+    → AreLists syntax results lists
+    → AreLists syntax (results ++ m ∷ []) lists

@@ -20,5 +20,6 @@ is_among set name = list_any (λ k. bytes_eq name k.items) set.keys
 
 -- these are the names of some members
 pub record SaysNames (names : MemberNames) (parts : List Part) : Type 0 where
-  pub named : (w : World) (s : Source) (sense : ℕ → Sense) (name : List ℕ) → is_among names.names name ≡ has_part_named w s sense name parts
+  pub named : (w : World) (s : Source) (sense : ℕ → Sense) (name : List ℕ)
+      → is_among names.names name ≡ has_part_named w s sense name parts
   pub any_are : names.any ≡ nat_lt 0 (length parts)

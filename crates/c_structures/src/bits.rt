@@ -7,7 +7,7 @@ ghost use Rattle.c_senses.specs.Sense.{Sense};
 ghost use Rattle.c_senses.specs.Constants.{constant_in};
 ghost use Rattle.c_senses.specs.Tags as spec;
 ghost use Rattle.c_results.specs.Standing.{IsWithin, Rowed};
-ghost use Rattle.constant_values.specs.Constants.{ConstantMade};
+ghost use Rattle.c_conversions.specs.constant_values.Constants.{ConstantMade};
 ghost use Rattle.tree_reads.specs.Sources.{source_in, source_read};
 ghost use Rattle.c_structures.specs.Before.{SaysEarlier};
 

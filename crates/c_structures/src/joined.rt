@@ -9,7 +9,7 @@ ghost use Rattle.c_senses.specs.Rows.{declaring_row};
 ghost use Rattle.core_nodes.specs.Standing.{IsReady, Knows, Builds};
 ghost use Rattle.c_results.specs.Standing.{senses_made, IsWithin, Rowed};
 ghost use Rattle.c_declarators.specs.Limited.{AreFlexible};
-ghost use Rattle.constant_values.specs.Constants.{HasConstants};
+ghost use Rattle.c_conversions.specs.constant_values.Constants.{HasConstants};
 ghost use Rattle.tree_reads.specs.Sources.{source_read, source_in};
 ghost use Rattle.c_structures.specs.Listed.{AreLists};
 

@@ -17,7 +17,7 @@ use Rattle.core_nodes.specs.declared.fault.CheckFault.{CheckFault}
 use Rattle.core_nodes.specs.declared.fault.CheckFault.TheVariants.{BadOperand, Unsupported, OutOfMemory}
 use Rattle.c_results.specs.Standing.{Rowed}
 use Rattle.c_results.specs.Parts.{type_in}
-use Rattle.constant_values.specs.Constants.{ConstantMade}
+use Rattle.c_conversions.specs.constant_values.Constants.{ConstantMade}
 
 module _ (w : World) (s : Source) (sense : ℕ → Sense) (at : ℕ) where
   abbrev holding : Given ℤ → Given Sense

@@ -14,7 +14,7 @@ use Rattle.core_nodes.specs.declared.fault.CheckFault.{CheckFault}
 use Rattle.core_nodes.specs.declared.fault.CheckFault.TheVariants.{BadOperand, Unsupported, OutOfMemory}
 use Rattle.c_results.specs.Standing.{Rowed}
 use Rattle.c_results.specs.Parts.{number_in}
-use Rattle.constant_values.specs.Constants.{ConstantMade}
+use Rattle.c_conversions.specs.constant_values.Constants.{ConstantMade}
 
 numbered : (x : Sense) (n : ℤ) → Some n ≡ number_in x → n ≡ (elim x [ IsValue m ↦ m | _ ↦ pos 0 ])
 numbered (IsValue m) n e = cc

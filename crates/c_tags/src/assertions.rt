@@ -8,13 +8,13 @@ ghost use Rattle.c_senses.specs.Specifiers as spec;
 ghost use Rattle.core_nodes.specs.Standing.{IsReady, Knows};
 ghost use Rattle.c_results.specs.Standing.{senses_made, IsWithin, Rowed};
 ghost use Rattle.tree_reads.specs.Sources.{source_in};
-ghost use Rattle.constant_values.specs.Constants.{HasConstants};
+ghost use Rattle.c_conversions.specs.constant_values.Constants.{HasConstants};
 ghost use Rattle.c_senses.specs.Tree.{last_where, is_leaf};
 ghost use Rattle.tree_reads.specs.Sources.{source_read};
 ghost use Rattle.std.specs.Prelude.{not};
 
+use c_conversions::constant_values::constant_in;
 use c_results::{Made, Results, type_at};
-use constant_values::constant_in;
 use core_nodes::CheckFault;
 use core_nodes::sorts::has_size;
 use core_tree::node::Unit;

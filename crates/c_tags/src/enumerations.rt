@@ -11,10 +11,10 @@ ghost use Rattle.core_nodes.specs.Standing.{IsReady, Knows};
 ghost use Rattle.c_results.specs.Standing.{senses_made, IsWithin, Rowed};
 ghost use Rattle.tree_reads.specs.Order.{ascends};
 ghost use Rattle.tree_reads.specs.Sources.{source_read, source_in};
-ghost use Rattle.constant_values.specs.Constants.{HasConstants};
+ghost use Rattle.c_conversions.specs.constant_values.Constants.{HasConstants};
 
+use c_conversions::constant_values::constant_in;
 use c_results::{Made, Number, Results, value_at};
-use constant_values::constant_in;
 use core_nodes::CheckFault;
 use core_tree::node::Unit;
 use tree_reads::{Syntax, child_of, children_of, first_from, is_a};

@@ -4,6 +4,7 @@
 mod assertions;
 mod enumerations;
 mod specifiers;
+pub mod tag_numbers;
 
 pub use assertions::{align_specifier, assert_row};
 pub use enumerations::enumerator_row;

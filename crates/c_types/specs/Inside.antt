@@ -1,5 +1,6 @@
 -- What the table keeps beside each term.
-use Rattle.std.specs.Prelude.{ℕ, ◌≡◌, ◌<◌, ◌≤◌, ◌*◌, ◌^◌, ◌+◌, List, [], ◌∷◌, ◌++◌, Option, Some, None, map, length, All, slice_get, slice_index}
+use Rattle.std.specs.Prelude.{ℕ, ◌≡◌, ◌<◌, ◌≤◌, ◌*◌, ◌^◌, ◌+◌, List, [], ◌∷◌, ◌++◌, Option, Some, None, map, length}
+use Rattle.std.specs.Prelude.{All, slice_get, slice_index}
 use Rattle.std.specs.Option.{option_and_then}
 use Rattle.c_types.specs.declared.term.MemberTerm.{MemberTerm}
 use Rattle.c_types.specs.Parts.{unless_flexible}
@@ -27,13 +28,17 @@ IsPlain t = Unit {0}
 
 -- the place of a member that has a node
 abbrev pub member_place : List Ctype → List MemberTerm → ℕ → ℕ → Option ℕ
-member_place types members k n = option_and_then (λ m. unless_flexible (tree_at types m.ty.0) n) (slice_get members k)
+member_place types members k n =
+    option_and_then (λ m. unless_flexible (tree_at types m.ty.0) n) (slice_get members k)
 
 -- a node lies in the member of position k, whose element is `part` and whose nodes start at `start`
-pub record LiesIn (types : List Ctype) (members : List MemberTerm) (positions : List ℕ) (node k part start : ℕ) : Type 0 where
+pub record LiesIn (types : List Ctype) (members : List MemberTerm) (positions : List ℕ)
+    (node k part start : ℕ) : Type 0 where
   pub within : k < length members
   pub before : part < length types
-  pub element : (m : MemberTerm) → slice_get members k ≡ Some m → tree_at types part ≡ element_of (tree_at types m.ty.0)
+  pub element : (m : MemberTerm)
+      → slice_get members k ≡ Some m
+      → tree_at types part ≡ element_of (tree_at types m.ty.0)
   pub begin : start ≡ slice_index positions k
   pub up_to : (j : ℕ) → j < k + 1 → slice_index positions j ≤ node
   pub past : (j : ℕ) → k + 1 ≤ j → j < length positions → node < slice_index positions j
@@ -75,19 +80,26 @@ pub record AreEntries (entries : List Entry) (tags : ℕ) : Type 0 where
 -- what is known of the entry that comes next
 pub record IsNext (entries : List Entry) (e : Entry) : Type 0 where
   pub after : IsAfter (length entries) e.term
-  pub element : tree_at (grown [] (terms_of entries) ++ grow (grown [] (terms_of entries)) e.term ∷ []) e.element ≡ element_of (grow (grown [] (terms_of entries)) e.term)
+  pub element : tree_at
+      (grown [] (terms_of entries) ++ grow (grown [] (terms_of entries)) e.term ∷ []) e.element
+      ≡ element_of (grow (grown [] (terms_of entries)) e.term)
   pub element_before : e.element ≤ length entries
   pub count : e.count ≡ capped (count_of (grow (grown [] (terms_of entries)) e.term))
   pub first_before : e.first ≤ length entries
-  pub first : e.first < length entries → tree_at (grown [] (terms_of entries)) e.first ≡ grow (grown [] (terms_of entries)) e.term
-  pub first_least : (j : ℕ) → j < e.first → tree_at (grown [] (terms_of entries)) j ≡ grow (grown [] (terms_of entries)) e.term → ⊥
+  pub first : e.first < length entries
+      → tree_at (grown [] (terms_of entries)) e.first ≡ grow (grown [] (terms_of entries)) e.term
+  pub first_least : (j : ℕ)
+      → j < e.first
+      → tree_at (grown [] (terms_of entries)) j ≡ grow (grown [] (terms_of entries)) e.term
+      → ⊥
 
 abbrev pub members_of : TagLayout → TagMembers
 members_of l = record { tag = l.tag; members = l.members.items }
 
 -- the table that these entries, tags and layouts are
 abbrev pub table_of : List Entry → List (Option ℕ) → List TagLayout → Table
-table_of entries tags completed = record { terms = terms_of entries; tags = length tags; completed = map members_of completed }
+table_of entries tags completed =
+    record { terms = terms_of entries; tags = length tags; completed = map members_of completed }
 
 abbrev pub seen : Inside → Table
 seen t = table_of t.entries.items t.tags.items t.completed.items
@@ -102,14 +114,23 @@ abbrev pub kept_of : TagLayout → ℕ × Bounds × Bounds × List ℕ
 kept_of l = (l.tag, l.structure, l.union, l.positions.items)
 
 abbrev pub bounds_of : ℕ × List Extent → ℕ × Bounds × Bounds × List ℕ
-bounds_of entry = (entry.0, bounds (structure_of (StructureOf entry.0) entry.1), bounds (union_of (UnionOf entry.0) entry.1), starts 1 entry.1)
+bounds_of entry = (
+  entry.0,
+  bounds (structure_of (StructureOf entry.0) entry.1),
+  bounds (union_of (UnionOf entry.0) entry.1),
+  starts 1 entry.1,
+)
 
 pub record AreLayouts (table : Table) (tags : List (Option ℕ)) (completed : List TagLayout) : Type 0 where
   pub room : length completed < 2 ^ 32
   pub many : length tags < 2 ^ 32
   pub tagged : (k : ℕ) (l : TagLayout) → slice_get completed k ≡ Some l → slice_get tags l.tag ≡ Some (Some k)
-  pub known : (t k : ℕ) → slice_get tags t ≡ Some (Some k) → (l : TagLayout) × (slice_get completed k ≡ Some l) × (l.tag ≡ t)
-  pub before : (k : ℕ) (l : TagLayout) → slice_get completed k ≡ Some l → All (λ m. m.ty.0 < length table.terms) l.members.items
+  pub known : (t k : ℕ)
+      → slice_get tags t ≡ Some (Some k)
+      → (l : TagLayout) × (slice_get completed k ≡ Some l) × (l.tag ≡ t)
+  pub before : (k : ℕ) (l : TagLayout)
+      → slice_get completed k ≡ Some l
+      → All (λ m. m.ty.0 < length table.terms) l.members.items
   pub laid : map kept_of completed ≡ map bounds_of (laid_out [] (completions table))
 
 -- what is kept of a complete tag

@@ -1,6 +1,7 @@
 -- Sizes, alignments and node trees.
 use Rattle.std.specs.Prelude.{ℕ, ◌+◌, ◌-◌, ◌*◌, ◌/◌, max, cond, eqb, List, [], ◌∷◌, ◌++◌, Option, Some, None, map}
-use Rattle.c_types.specs.Trees.{Ctype, VoidType, BoolType, IntegerType, FloatingType, VaListType, PointerTo, ArrayOf, FunctionFrom, StructureOf, UnionOf}
+use Rattle.c_types.specs.Trees.{Ctype, VoidType, BoolType, IntegerType, FloatingType, VaListType, PointerTo}
+use Rattle.c_types.specs.Trees.{ArrayOf, FunctionFrom, StructureOf, UnionOf}
 
 -- what a type takes: its bytes, its alignment, and the types of its nodes in preorder
 pub record Extent : Type 0 where

@@ -1,11 +1,13 @@
 -- What is true of every table of types.
-use Rattle.std.specs.Prelude.{◌≡◌, ℕ, ◌+◌, ◌*◌, ◌<◌, ◌≤◌, ◌⊎◌, Bool, ◌||◌, nat_eq, IsTrue, IsSome, List, take, Option, Some, None, length, slice_get}
+use Rattle.std.specs.Prelude.{◌≡◌, ℕ, ◌+◌, ◌*◌, ◌<◌, ◌≤◌, ◌⊎◌, Bool, ◌||◌, nat_eq, IsTrue, IsSome, List, take}
+use Rattle.std.specs.Prelude.{Option, Some, None, length, slice_get}
 use Rattle.std.specs.Option.{option_map}
 use Rattle.c_types.specs.declared.term.Term.{Term}
 use Rattle.c_types.specs.declared.term.Term.TheVariants.{Integer, Structure, Union}
 use Rattle.c_types.specs.declared.term.MemberTerm.{MemberTerm}
 use Rattle.c_types.specs.Trees.{Ctype, BoolType, IntegerType, ArrayOf}
-use Rattle.c_types.specs.Table.{Table, TagMembers, IsAfter, HasTag, type_of, look_in, extent_in, members_in, extents_in}
+use Rattle.c_types.specs.Table.{Table, TagMembers, IsAfter, HasTag, type_of, look_in, extent_in, members_in}
+use Rattle.c_types.specs.Table.{extents_in}
 
 -- the sizes of integer types
 abbrev pub is_integer_size : ℕ → Bool
@@ -65,7 +67,9 @@ pub record IsMember (table : Table) (tag : ℕ) (members : List MemberTerm) (k :
 
 abbrev pub AreMembers : Table → ℕ → List MemberTerm → Type 0
 AreMembers table tag members =
-    (k : ℕ) (m : MemberTerm) → slice_get members k ≡ Some m → (m.ty.0 < length table.terms) × IsMember table tag members k m
+    (k : ℕ) (m : MemberTerm)
+    → slice_get members k ≡ Some m
+    → (m.ty.0 < length table.terms) × IsMember table tag members k m
 
 -- a tag that stands in no term and isn't complete
 pub record IsFresh (table : Table) (tag : ℕ) : Type 0 where
@@ -76,7 +80,9 @@ pub record IsFresh (table : Table) (tag : ℕ) : Type 0 where
 -- members of complete types without bit-fields
 abbrev pub ArePlain : Table → List MemberTerm → Type 0
 ArePlain table members =
-    (k : ℕ) (m : MemberTerm) → slice_get members k ≡ Some m → (m.ty.0 < length table.terms) × IsComplete table (type_of table m.ty.0) × (m.bits ≡ None)
+    (k : ℕ) (m : MemberTerm)
+    → slice_get members k ≡ Some m
+    → (m.ty.0 < length table.terms) × IsComplete table (type_of table m.ty.0) × (m.bits ≡ None)
 
 -- each term's types come before it, and its tag is the table's
 abbrev pub AreNamed : Table → Type 0
@@ -90,9 +96,15 @@ earlier table k = record table { completed = take k table.completed }
 pub record IsMade (table : Table) : Type 0 where
   pub sizes : (i : ℕ) (t : Term) → slice_get table.terms i ≡ Some t → IsSized t
   pub apart : TagsApart table.terms
-  pub stands : (tag : ℕ) (members : List MemberTerm) → members_in table tag ≡ Some members → StandsAsStructure table.terms tag ⊎ StandsAsUnion table.terms tag
-  pub members : (tag : ℕ) (members : List MemberTerm) → members_in table tag ≡ Some members → AreMembers table tag members
+  pub stands : (tag : ℕ) (members : List MemberTerm)
+      → members_in table tag ≡ Some members
+      → StandsAsStructure table.terms tag ⊎ StandsAsUnion table.terms tag
+  pub members : (tag : ℕ) (members : List MemberTerm)
+      → members_in table tag ≡ Some members
+      → AreMembers table tag members
   -- what a tag has as members was complete before the tag was
-  pub ordered : (k : ℕ) (c : TagMembers) → slice_get table.completed k ≡ Some c → AreMembers (earlier table k) c.tag c.members
+  pub ordered : (k : ℕ) (c : TagMembers)
+      → slice_get table.completed k ≡ Some c
+      → AreMembers (earlier table k) c.tag c.members
   -- a tag is laid out from its members as they are in this very table
   pub laid : (tag : ℕ) → look_in table tag ≡ option_map (extents_in table) (members_in table tag)

@@ -1,11 +1,17 @@
 -- The parts of a type: its members and its nodes.
-use Rattle.std.specs.Prelude.{ℕ, ◌+◌, ◌^◌, nat_lt, if◌then◌else◌, List, [], ◌∷◌, Option, Some, None, length, take, slice_get}
+use Rattle.std.specs.Prelude.{ℕ, ◌+◌, ◌^◌, nat_lt, if◌then◌else◌, List, [], ◌∷◌, Option, Some, None, length, take}
+use Rattle.std.specs.Prelude.{slice_get}
 use Rattle.std.specs.Option.{option_and_then}
 use Rattle.c_types.specs.declared.term.Class.{Class}
-use Rattle.c_types.specs.declared.term.Class.TheVariants.{Pointer as PointerClass, Integer as IntegerClass, Structure as StructureClass, Union as UnionClass, Array as ArrayClass, Function as FunctionClass, Floating as FloatingClass, VaList as VaListClass, Void as VoidClass}
+use Rattle.c_types.specs.declared.term.Class.TheVariants.{Pointer as PointerClass, Integer as IntegerClass}
+use Rattle.c_types.specs.declared.term.Class.TheVariants.{Structure as StructureClass, Union as UnionClass}
+use Rattle.c_types.specs.declared.term.Class.TheVariants.{Array as ArrayClass, Function as FunctionClass}
+use Rattle.c_types.specs.declared.term.Class.TheVariants.{Floating as FloatingClass, VaList as VaListClass}
+use Rattle.c_types.specs.declared.term.Class.TheVariants.{Void as VoidClass}
 use Rattle.c_types.specs.declared.term.TypeId.{TypeId}
 use Rattle.c_types.specs.declared.term.MemberTerm.{MemberTerm}
-use Rattle.c_types.specs.Trees.{Ctype, VoidType, BoolType, IntegerType, FloatingType, VaListType, PointerTo, ArrayOf, FunctionFrom, StructureOf, UnionOf}
+use Rattle.c_types.specs.Trees.{Ctype, VoidType, BoolType, IntegerType, FloatingType, VaListType, PointerTo}
+use Rattle.c_types.specs.Trees.{ArrayOf, FunctionFrom, StructureOf, UnionOf}
 use Rattle.c_types.specs.Layout.{Extent, all_nodes}
 use Rattle.c_types.specs.Table.{Table, type_of, members_in, extents_in}
 
@@ -43,11 +49,13 @@ unless_flexible t n = Some n
 
 abbrev pub member_node : Table → (List MemberTerm → ℕ) → Option (List MemberTerm) → ℕ → Option ℕ
 member_node table place None k = None
-member_node table place (Some members) k = option_and_then (λ m. unless_flexible (type_of table m.ty.0) (place members)) (slice_get members k)
+member_node table place (Some members) k =
+    option_and_then (λ m. unless_flexible (type_of table m.ty.0) (place members)) (slice_get members k)
 
 -- the position of a member's node in its structure, and 0 in a union
 abbrev pub field_in : Table → Ctype → ℕ → Option ℕ
-field_in table (StructureOf tag) k = member_node table (λ members. position (extents_in table members) k) (members_in table tag) k
+field_in table (StructureOf tag) k =
+    member_node table (λ members. position (extents_in table members) k) (members_in table tag) k
 field_in table (UnionOf tag) k = member_node table (λ members. 0) (members_in table tag) k
 field_in table t k = None
 

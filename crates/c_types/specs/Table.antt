@@ -1,5 +1,6 @@
 -- What a table of types is to its callers.
-use Rattle.std.specs.Prelude.{◌≡◌, ℕ, ◌<◌, ◌^◌, ◌+◌, cond, eqb, slice_get, nat_lt, if◌then◌else◌, List, [], ◌∷◌, Option, Some, None, map, length, All}
+use Rattle.std.specs.Prelude.{◌≡◌, ℕ, ◌<◌, ◌^◌, ◌+◌, cond, eqb, slice_get, nat_lt, if◌then◌else◌, List, [], ◌∷◌}
+use Rattle.std.specs.Prelude.{Option, Some, None, map, length, All}
 use Rattle.c_types.specs.declared.term.Term.{Term}
 use Rattle.c_types.specs.declared.term.Term.TheVariants.{Pointer, Array, Function, Structure, Union}
 use Rattle.c_types.specs.declared.term.MemberTerm.{MemberTerm}
@@ -40,7 +41,8 @@ HasTag tags term = Unit {0}
 
 -- the completed tags, each with its members' types
 abbrev pub completions : Table → List Completed
-completions table = map (λ c. record { tag = c.tag; types = map (λ m. type_of table m.ty.0) c.members }) table.completed
+completions table =
+    map (λ c. record { tag = c.tag; types = map (λ m. type_of table m.ty.0) c.members }) table.completed
 
 abbrev pub look_in : Table → Look
 look_in table = looked_up (laid_out [] (completions table))

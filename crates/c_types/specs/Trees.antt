@@ -2,7 +2,8 @@
 use Rattle.std.specs.Prelude.{◌≡◌, ◌<◌, ℕ, Bool, List, [], ◌∷◌, ◌++◌, Option}
 use Rattle.std.proofs.Common.{get_or}
 use Rattle.c_types.specs.declared.term.Term.{Term}
-use Rattle.c_types.specs.declared.term.Term.TheVariants.{Void, Bool as BoolTerm, Integer, Floating, VaList, Pointer, Array, Function, Structure, Union}
+use Rattle.c_types.specs.declared.term.Term.TheVariants.{Void, Bool as BoolTerm, Integer, Floating, VaList, Pointer}
+use Rattle.c_types.specs.declared.term.Term.TheVariants.{Array, Function, Structure, Union}
 use Rattle.c_types.specs.declared.term.TypeId.{TypeId}
 use Rattle.c_types.specs.declared.term.Form.{Form}
 
@@ -40,7 +41,8 @@ grow trees Floating = FloatingType
 grow trees VaList = VaListType
 grow trees (Pointer to) = PointerTo (tree_at trees to.0)
 grow trees (Array of length) = ArrayOf (tree_at trees of.0) length
-grow trees (Function result parameters form) = FunctionFrom (tree_at trees result.0) (trees_at trees parameters) form
+grow trees (Function result parameters form) =
+    FunctionFrom (tree_at trees result.0) (trees_at trees parameters) form
 grow trees (Structure tag) = StructureOf tag
 grow trees (Union tag) = UnionOf tag
 
@@ -52,4 +54,6 @@ grown trees (term ∷ rest) = grown (trees ++ grow trees term ∷ []) rest
 -- the first so many ids of two lists name the same types
 abbrev pub SameBefore : List Ctype → List TypeId → List TypeId → ℕ → Type 0
 SameBefore trees a b n =
-    (k : ℕ) → k < n → tree_at trees (get_or a k (record { 0 = 0 })).0 ≡ tree_at trees (get_or b k (record { 0 = 0 })).0
+    (k : ℕ)
+    → k < n
+    → tree_at trees (get_or a k (record { 0 = 0 })).0 ≡ tree_at trees (get_or b k (record { 0 = 0 })).0

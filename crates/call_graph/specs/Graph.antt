@@ -29,7 +29,8 @@ pub record IsHeld (system : System) (F : Family) (row signature number : ℕ) (f
 
 -- a caller, with each such function
 abbrev pub IsFrom : System → Family → ℕ → ℕ → ℕ → ℕ → ℕ → Type 0
-IsFrom system F row signature caller a b = (a ≡ caller) × ((function : Function) × IsHeld system F row signature b function)
+IsFrom system F row signature caller a b =
+    (a ≡ caller) × ((function : Function) × IsHeld system F row signature b function)
 
 -- a function of a signature that stands at a location
 pub record IsFunctionAt (system : System) (location signature number : ℕ) (function : Function) : Type 0 where
@@ -39,27 +40,34 @@ pub record IsFunctionAt (system : System) (location signature number : ℕ) (fun
 
 -- a caller, with such a function
 abbrev pub IsTo : System → ℕ → ℕ → ℕ → ℕ → ℕ → Type 0
-IsTo system signature caller location a b = (a ≡ caller) × ((function : Function) × IsFunctionAt system location signature b function)
+IsTo system signature caller location a b =
+    (a ≡ caller) × ((function : Function) × IsFunctionAt system location signature b function)
 
 -- a library function, with a function that one of its effects calls back
 abbrev pub IsBackIn : System → Family → CallSite → Effect → ℕ → ℕ → ℕ → Type 0
-IsBackIn system F call (CallsBack k passed) library a b = (a ≡ library) × ((called : Function) × IsCalledBack system F call k passed b called)
+IsBackIn system F call (CallsBack k passed) library a b =
+    (a ≡ library) × ((called : Function) × IsCalledBack system F call k passed b called)
 IsBackIn system F call _ library a b = ⊥
 
 -- a library function, with a function that it calls back
 abbrev pub IsBackBy : System → Family → CallSite → ℕ → Function → ℕ → ℕ → Type 0
-IsBackBy system F call library function a b = (effect : Effect) × Contains function.effects effect × IsBackIn system F call effect library a b
+IsBackBy system F call library function a b =
+    (effect : Effect) × Contains function.effects effect × IsBackIn system F call effect library a b
 
 -- the same where that library function is a target of the call
 abbrev pub IsBackEdge : System → Family → CallSite → ℕ → ℕ → ℕ → Type 0
 IsBackEdge system F call target a b =
-    (function : Function) × IsTarget system F call target function × IsSome function.library × IsBackBy system F call target function a b
+    (function : Function) × IsTarget system F call target function × IsSome function.library
+    × IsBackBy system F call target function a b
 
 -- the call backs of the function at a location
 abbrev pub IsBackAt : System → Family → CallSite → ℕ → ℕ → ℕ → Type 0
 IsBackAt system F call location a b =
-    (target : ℕ) × (function : Function) × (slice_get system.functions target ≡ Some function) × (function.location ≡ location) × IsBackEdge system F call target a b
+    (target : ℕ) × (function : Function) × (slice_get system.functions target ≡ Some function)
+    × (function.location ≡ location) × IsBackEdge system F call target a b
 
 -- the edges of a call
 abbrev pub IsCallEdge : System → Family → CallSite → ℕ → ℕ → Type 0
-IsCallEdge system F call a b = IsFrom system F call.callee call.signature call.caller a b ⊎ ((target : ℕ) × IsBackEdge system F call target a b)
+IsCallEdge system F call a b =
+    IsFrom system F call.callee call.signature call.caller a b
+    ⊎ ((target : ℕ) × IsBackEdge system F call target a b)

@@ -4,8 +4,8 @@ ghost use Rattle.sol_model.specs.Families.{Has, members};
 ghost use Rattle.sol_model.specs.Systems.{IsValid, Fits, IsCallValid, IsLocation, IsRow};
 ghost use Rattle.call_graph.specs.Graph.{Gains, IsTo, IsFrom, IsBackIn, IsBackBy, IsBackAt, IsBackEdge, IsCallEdge};
 
+use crate::row_members::members_of;
 use pta_base::{Effect, OutOfMemory};
-use row_members::members_of;
 use sol_model::locations::location_fact;
 use sol_model::sites::{argument_row, back_signature, effect_at, function_at};
 use sol_model::{CallSite, Function, Rows, System};

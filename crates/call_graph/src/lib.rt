@@ -4,6 +4,8 @@
 
 mod edges;
 mod order;
+pub mod row_members;
+pub mod system_check;
 mod targets;
 mod whole;
 

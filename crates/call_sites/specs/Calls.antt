@@ -1,5 +1,6 @@
 -- The calls of a program in order of node (C11 6.5.2.2).
-use Rattle.std.specs.Prelude.{◌≡◌, ℕ, ◌+◌, ◌==◌, ◌||◌, Bool, true, false, if◌then◌else◌, List, [], ◌∷◌, Option, Some, None, length, map, slice_get, option_and_then}
+use Rattle.std.specs.Prelude.{◌≡◌, ℕ, ◌+◌, ◌==◌, ◌||◌, Bool, true, false, if◌then◌else◌, List, [], ◌∷◌, Option}
+use Rattle.std.specs.Prelude.{Some, None, length, map, slice_get, option_and_then}
 use Rattle.std.specs.List.{filter_map, enumerate_from, range_with_len, list_any, AllZip}
 use Rattle.std.specs.Option.{is_some, option_map, option_map_or}
 use Rattle.pta_base.specs.declared.effect.Effect.{Effect}
@@ -63,7 +64,8 @@ named_callee u node = option_and_then (name_at u.nodes) (decayed_at u.nodes (hea
 
 -- the number of the library function that a call names
 abbrev pub named_library : CoreTrees → Node → Option ℕ
-named_library u node = option_and_then (λ e. option_and_then library_number (slice_get u.entities e)) (named_callee u node)
+named_library u node =
+    option_and_then (λ e. option_and_then library_number (slice_get u.entities e)) (named_callee u node)
 
 -- a new object, or one of the library
 abbrev pub is_giving : Effect → Bool
@@ -89,7 +91,8 @@ givers_in functions = filter_map (λ entry. giver_in entry.0 entry.1) (enumerate
 abbrev pub is_named : Option ℕ → ℕ → Bool
 is_named named k = option_map_or (λ number. number == k) named false
 
--- the object that a call gets from a library function: a new one is that of the call, where the call names the function
+-- the object that a call gets from a library function: a new one is that of the call, where the call names the
+-- function
 abbrev pub object_by : SpaceView → ℕ → Option ℕ → ℕ → List Effect → Option ℕ
 object_by s n named k [] = None
 object_by s n named k (GivesNew ∷ rest) = if is_named named k then s.first (CallKey n) else s.first (Star k)
@@ -97,7 +100,8 @@ object_by s n named k (GivesObject object ∷ rest) = s.first (Library object)
 object_by s n named k (effect ∷ rest) = object_by s n named k rest
 
 abbrev pub fresh_by : SpaceView → ℕ → Option ℕ → ℕ × ℕ → Option (ℕ × ℕ)
-fresh_by s n named giver = option_map (λ location. (giver.0, location)) (object_by s n named giver.1 (effects_of giver.1))
+fresh_by s n named giver =
+    option_map (λ location. (giver.0, location)) (object_by s n named giver.1 (effects_of giver.1))
 
 abbrev pub fresh_in : SpaceView → ℕ → Option ℕ → List (ℕ × ℕ) → List (ℕ × ℕ)
 fresh_in s n named givers = filter_map (fresh_by s n named) givers
@@ -118,7 +122,10 @@ ids_of nodes values = filter_map (λ n. option_map (λ node. node.ty) (slice_get
 -- the signature of a call: that of its callee's type, with the types of its arguments
 abbrev pub IsCallSignature : Setting → ℕ → List ℕ → ℕ → Type 0
 IsCallSignature w callee arguments signature =
-    IsSignature w.trees.types (calling_type (type_at w.trees callee) (trees_at (types_of w.trees.types) (ids_of w.trees.nodes arguments))) signature
+    IsSignature w.trees.types
+    (calling_type (type_at w.trees callee)
+    (trees_at (types_of w.trees.types) (ids_of w.trees.nodes arguments)))
+    signature
 
 -- the call at node n
 pub record IsCallSite (w : Setting) (n : ℕ) (node : Node) (site : CallSite) : Type 0 where

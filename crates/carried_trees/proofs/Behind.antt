@@ -12,10 +12,10 @@ use Rattle.core_tree.specs.declared.node.Unit.{Unit}
 use Rattle.c_consts.specs.Core.{Core, Cores, Of, MoreCores}
 use Rattle.core_nodes.specs.Standing.{core_at, cores_at, IsReady, Builds}
 use Rattle.core_nodes.proofs.Reading.{core_is}
-use Rattle.carried_types.specs.Types.{carried_type, is_given_type}
+use Rattle.carried_trees.specs.carried_types.Types.{carried_type, is_given_type}
 use Rattle.carried_trees.specs.Carried.{carried_kind, is_given_kind, carried_core, carried_cores, is_given_core, are_given_cores}
 use Rattle.carried_trees.specs.Copied.{all_flagged, AreCarried, IsMoved}
-use Rattle.carried_types.specs.Terms.{AreTypes, AreIds}
+use Rattle.carried_trees.specs.carried_types.Terms.{AreTypes, AreIds}
 
 -- the node that is taken next
 slice_get_drop : {A : Type 0} (xs : List A) (k : ℕ) (x : A) (rest : List A) → drop k xs ≡ x ∷ rest → (slice_get xs k ≡ Some x) × (drop (suc k) xs ≡ rest)

@@ -14,12 +14,12 @@ use Rattle.c_consts.specs.Core.{Core}
 use Rattle.core_nodes.specs.declared.fault.CheckFault.{CheckFault}
 use Rattle.core_nodes.specs.Standing.{parts_in, part_of, part_with, IsReady, Builds}
 use Rattle.core_nodes.proofs.Growing.{core_retyped}
-use Rattle.carried_types.specs.Wider.{IsWider}
-use Rattle.carried_types.specs.Terms.{AreTagIds, IsIdIn, tag_type}
+use Rattle.carried_trees.specs.carried_types.Wider.{IsWider}
+use Rattle.carried_trees.specs.carried_types.Terms.{AreTagIds, IsIdIn, tag_type}
 use Rattle.carried_trees.specs.declared.carrying.WholeTree.{WholeTree}
 use Rattle.carried_trees.specs.Carried.{carried_core, is_given_core}
 use Rattle.carried_trees.specs.Literals.{has_literal, literal_number, AreLiterals, IsTree}
-use Rattle.carried_types.specs.Members.{AreAdded, AreComplete, Lacks}
+use Rattle.carried_trees.specs.carried_types.Members.{AreAdded, AreComplete, Lacks}
 use Rattle.carried_trees.specs.Extends.{parts_at, Extends, SameParts, PartsFrom, AreFilled, LacksPart, IsMissing, IsWhole}
 
 some_of : {A : Type 0} (o : Option A) → IsSome o → (x : A) × (o ≡ Some x)

@@ -4,7 +4,7 @@ use Rattle.std.proofs.lemmas.Bool.Decides.{eqb_tells}
 use Rattle.std.proofs.lemmas.Option.{slice_get_within}
 use Rattle.core_tree.specs.declared.node.Node.{Node}
 use Rattle.core_tree.specs.declared.node.NodeKind.TheVariants.{Literal}
-use Rattle.leaf_maps.specs.Numbers.{number_at}
+use Rattle.tree_reads.specs.leaf_maps.Numbers.{number_at}
 use Rattle.carried_trees.specs.declared.literals.OwnLiterals.{OwnLiterals}
 use Rattle.carried_trees.specs.Literals.{literal_number, EachOnce, AreRising, IsFound, AreFound}
 use Rattle.carried_trees.specs.Numbered.{AreNumbered}

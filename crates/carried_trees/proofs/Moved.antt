@@ -16,8 +16,8 @@ use Rattle.core_tree.specs.Range.{child_in, Under, here, below}
 use Rattle.c_consts.specs.Core.{Core, Of}
 use Rattle.core_nodes.specs.Standing.{core_at, cores_at, IsReady}
 use Rattle.core_nodes.proofs.Reading.{core_is}
-use Rattle.kept_nodes.specs.Keeps.{AllUnder}
-use Rattle.leaf_maps.specs.Numbers.{number_at}
+use Rattle.core_nodes.specs.kept_nodes.Keeps.{AllUnder}
+use Rattle.tree_reads.specs.leaf_maps.Numbers.{number_at}
 use Rattle.carried_trees.specs.declared.literals.OwnLiterals.{OwnLiterals}
 use Rattle.carried_trees.specs.Carried.{carried_kind, carried_core, is_given_core}
 use Rattle.carried_trees.specs.Copied.{AreCarried}

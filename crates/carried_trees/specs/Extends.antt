@@ -7,7 +7,7 @@ use Rattle.c_inits.specs.Made.{Part}
 use Rattle.core_tree.specs.declared.node.Unit.{Unit}
 use Rattle.c_consts.specs.Core.{Core}
 use Rattle.core_nodes.specs.Standing.{core_at, parts_in}
-use Rattle.carried_types.specs.Members.{number_of, carried_part, are_given_parts}
+use Rattle.carried_trees.specs.carried_types.Members.{number_of, carried_part, are_given_parts}
 use Rattle.carried_trees.specs.Carried.{is_given_core}
 use Rattle.carried_trees.specs.Literals.{has_literal, IsTree}
 
@@ -15,7 +15,8 @@ use Rattle.carried_trees.specs.Literals.{has_literal, IsTree}
 abbrev pub parts_at : Unit → ℕ → Option (List Part)
 parts_at u tag = parts_in u.types (members_in u.types tag)
 
--- the trees and the entities are what they were, and so are the types, and the members and layouts of the tags that have them
+-- the trees and the entities are what they were, and so are the types, and the members and layouts of the tags that
+-- have them
 pub record Extends (old new : Unit) : Type 0 where
   pub more : length old.nodes.items ≤ length new.nodes.items
   pub cores : (i : ℕ) → i < length old.nodes.items → core_at new i ≡ core_at old i
@@ -31,20 +32,24 @@ abbrev pub SameParts : Unit → Unit → Type 0
 SameParts old new = (tag : ℕ) → parts_at new tag ≡ parts_at old tag
 
 -- the members of a tag which has that number, carried
-pub record PartsFrom (tag : ℕ → Option Ctype) (members : ℕ → Option (List Part)) (number : ℕ) (parts : List Part) : Type 0 where
+pub record PartsFrom (tag : ℕ → Option Ctype) (members : ℕ → Option (List Part)) (number : ℕ)
+    (parts : List Part) : Type 0 where
   pub own : ℕ
   pub is : number_of tag own ≡ Some number
   pub list : List Part
   pub list_is : members own ≡ Some list
   pub carried : parts ≡ map (carried_part tag) list
 
--- each tag that has members, and a number in the unit, has members there; and what members there are more, are those of a tag that has
--- that number
+-- each tag that has members, and a number in the unit, has members there; and what members there are more, are
+-- those of a tag that has that number
 pub record AreFilled (tag : ℕ → Option Ctype) (members : ℕ → Option (List Part)) (old new : Unit) : Type 0 where
   pub complete : (k number : ℕ) → number_of tag k ≡ Some number → IsSome (members k) → IsSome (parts_at new number)
-  pub added : (number : ℕ) (parts : List Part) → parts_at new number ≡ Some parts → (parts_at old number ≡ Some parts) ⊎ PartsFrom tag members number parts
+  pub added : (number : ℕ) (parts : List Part)
+      → parts_at new number ≡ Some parts
+      → (parts_at old number ≡ Some parts) ⊎ PartsFrom tag members number parts
 
--- a tag has a number in the unit, and no members there, and one of its members has a type with a tag that isn't given
+-- a tag has a number in the unit, and no members there, and one of its members has a type with a tag that isn't
+-- given
 pub record LacksPart (tag : ℕ → Option Ctype) (members : ℕ → Option (List Part)) (old : Unit) : Type 0 where
   pub own : ℕ
   pub number : ℕ
@@ -56,9 +61,11 @@ pub record LacksPart (tag : ℕ → Option Ctype) (members : ℕ → Option (Lis
 
 -- the tree of a node can't be carried: an entity or a tag in it isn't given, or a tag lacks a member
 abbrev pub IsMissing : (ℕ → Option ℕ) → (ℕ → Option Ctype) → (ℕ → Option (List Part)) → Core → Unit → Type 0
-IsMissing entity tag members core old = (is_given_core entity (has_literal core) tag core ≡ false) ⊎ LacksPart tag members old
+IsMissing entity tag members core old =
+    (is_given_core entity (has_literal core) tag core ≡ false) ⊎ LacksPart tag members old
 
 -- it stands in the unit, carried, with these compound literals, and the tags have their members
-pub record IsWhole (entity : ℕ → Option ℕ) (tag : ℕ → Option Ctype) (members : ℕ → Option (List Part)) (core : Core) (old new : Unit) (i : ℕ) (list : List (ℕ × ℕ)) : Type 0 where
+pub record IsWhole (entity : ℕ → Option ℕ) (tag : ℕ → Option Ctype) (members : ℕ → Option (List Part))
+    (core : Core) (old new : Unit) (i : ℕ) (list : List (ℕ × ℕ)) : Type 0 where
   pub tree : IsTree entity tag core old new i list
   pub filled : AreFilled tag members old new

@@ -3,3 +3,4 @@ pub mod Literals
 pub mod Numbered
 pub mod Copied
 pub mod Extends
+pub mod carried_types

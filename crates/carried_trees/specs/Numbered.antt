@@ -1,7 +1,7 @@
 -- The compound literals among nodes with the numbers of their entities.
 use Rattle.std.specs.Prelude.{ℕ, ◌≡◌, ◌+◌, List, length}
 use Rattle.core_tree.specs.declared.node.Node.{Node}
-use Rattle.leaf_maps.specs.Numbers.{number_at}
+use Rattle.tree_reads.specs.leaf_maps.Numbers.{number_at}
 use Rattle.carried_trees.specs.declared.literals.OwnLiterals.{OwnLiterals}
 use Rattle.carried_trees.specs.Literals.{AreFound, literal_number}
 

@@ -2,20 +2,20 @@
 ghost use Rattle.std.specs.Prelude.{◌≡◌, ◌<◌, ◌+◌, ℕ, Option, true, false, length, get_or, IfOk, IfSome, IsOkUnless, MatchOption};
 ghost use Rattle.c_types.specs.Trees.{Ctype};
 ghost use Rattle.core_nodes.specs.Standing.{core_at, IsReady, Builds};
-ghost use Rattle.kept_nodes.specs.Keeps.{AllUnder};
-ghost use Rattle.leaf_maps.specs.Numbers.{number_at};
+ghost use Rattle.core_nodes.specs.kept_nodes.Keeps.{AllUnder};
+ghost use Rattle.tree_reads.specs.leaf_maps.Numbers.{number_at};
 ghost use Rattle.carried_trees.specs.Carried.{is_given_core};
 ghost use Rattle.carried_trees.specs.Literals.{has_literal, IsTree};
-ghost use Rattle.carried_types.specs.Terms.{AreTagIds, AreTypes, tag_type};
+ghost use Rattle.carried_trees.specs.carried_types.Terms.{AreTagIds, AreTypes, tag_type};
 
+use crate::carried_types::{CarriedTypes, carried_types};
 use crate::literals::literals_of;
 use crate::nodes::carried_nodes;
 use c_types::table::TypeTable;
-use carried_types::{CarriedTypes, carried_types};
 use core_nodes::CheckFault;
 use core_tree::node::Unit;
-use leaf_maps::LeafMap;
 use std::alloc::Global;
+use tree_reads::leaf_maps::LeafMap;
 
 /// A tree that was carried into a unit: its node there, and its compound literals, each by the leaf that it had and its node there. The
 /// entities of these have the next numbers of the unit, in this order.

@@ -1,6 +1,7 @@
 //! Core trees carried from one unit to another, where what they name has other numbers.
 #![tactic(auto)]
 
+pub mod carried_types;
 mod carrying;
 mod literals;
 mod nodes;

@@ -6,8 +6,8 @@ ghost use Rattle.carried_trees.specs.Numbered.{AreNumbered};
 
 use core_nodes::CheckFault;
 use core_tree::node::{Node, NodeKind};
-use leaf_maps::LeafMap;
 use std::alloc::Global;
+use tree_reads::leaf_maps::LeafMap;
 
 /// Compound literals, each by its leaf and its node; the numbers of their entities by their leaves, and the one after these.
 #[derive(Drop)]

@@ -6,20 +6,20 @@ ghost use Rattle.c_types.specs.Table.{type_of};
 ghost use Rattle.c_consts.specs.Core.{Of};
 ghost use Rattle.core_tree.specs.declared.node.Unit.{Unit as UnitSpec};
 ghost use Rattle.core_nodes.specs.Standing.{core_at, cores_at, IsReady, Builds};
-ghost use Rattle.leaf_maps.specs.Numbers.{number_at};
+ghost use Rattle.tree_reads.specs.leaf_maps.Numbers.{number_at};
 ghost use Rattle.carried_trees.specs.Carried as carried;
 ghost use Rattle.carried_trees.specs.Copied.{all_flagged, AreBehind, AreCarried, AreTyped};
-ghost use Rattle.carried_types.specs.Terms.{AreIds, AreTypes};
+ghost use Rattle.carried_trees.specs.carried_types.Terms.{AreIds, AreTypes};
 
+use crate::carried_types::CarriedTypes;
 use c_types::term::TypeId;
-use carried_types::CarriedTypes;
 use core_nodes::CheckFault;
 use core_nodes::trees::push_node;
 use core_tree::held::Children;
 use core_tree::node::{Node, NodeKind, Unit};
-use leaf_maps::LeafMap;
 use std::alloc::Global;
 use std::collections::VecDeque;
+use tree_reads::leaf_maps::LeafMap;
 
 // The number of an entity.
 fn entity_at(entities: &LeafMap, leaf: u32) -> u32

@@ -4,12 +4,12 @@ ghost use Rattle.c_types.specs.Table.{type_of, members_in};
 ghost use Rattle.c_inits.specs.Made.{Part};
 ghost use Rattle.c_inits.specs.Tables.{tagged};
 ghost use Rattle.core_nodes.specs.Standing.{IsReady, parts_in};
-ghost use Rattle.carried_types.specs.Terms.{AreTagIds, AreTypes, tag_type};
-ghost use Rattle.carried_types.specs.Members.{AreTagged};
+ghost use Rattle.carried_trees.specs.carried_types.Terms.{AreTagIds, AreTypes, tag_type};
+ghost use Rattle.carried_trees.specs.carried_types.Members.{AreTagged};
 ghost use Rattle.carried_trees.specs.Extends.{Extends, SameParts, AreFilled, LacksPart};
 
+use crate::carried_types::{CarriedTypes, complete_tags, open_tag};
 use c_types::table::TypeTable;
-use carried_types::{CarriedTypes, complete_tags, open_tag};
 use core_nodes::CheckFault;
 use core_tree::node::Unit;
 use std::alloc::Global;

@@ -3,19 +3,19 @@ ghost use Rattle.std.specs.Prelude.{◌≡◌, ◌<◌, ℕ, List, Option, lengt
 ghost use Rattle.c_types.specs.Table.{members_in};
 ghost use Rattle.c_inits.specs.Made.{Part};
 ghost use Rattle.core_nodes.specs.Standing.{core_at, parts_in, IsReady};
-ghost use Rattle.kept_nodes.specs.Keeps.{AllUnder};
-ghost use Rattle.leaf_maps.specs.Numbers.{number_at};
-ghost use Rattle.carried_types.specs.Terms.{AreTagIds, tag_type};
-ghost use Rattle.carried_types.specs.Members.{AreTagged};
+ghost use Rattle.core_nodes.specs.kept_nodes.Keeps.{AllUnder};
+ghost use Rattle.tree_reads.specs.leaf_maps.Numbers.{number_at};
+ghost use Rattle.carried_trees.specs.carried_types.Terms.{AreTagIds, tag_type};
+ghost use Rattle.carried_trees.specs.carried_types.Members.{AreTagged};
 ghost use Rattle.carried_trees.specs.Extends.{Extends, IsMissing, IsWhole};
 
 use crate::carrying::{WholeTree, add_types, carry};
 use crate::tags::complete_in;
 use core_nodes::CheckFault;
+use core_nodes::kept_nodes::keep_under;
 use core_tree::node::Unit;
-use kept_nodes::keep_under;
-use leaf_maps::LeafMap;
 use std::alloc::Global;
+use tree_reads::leaf_maps::LeafMap;
 
 /// Carries the tree of a node of one unit into another, in which entities have the numbers of a map, and tags the types of a list; each
 /// of these tags that has members in the first unit, and none in the other, gets them there, with their types carried. The compound

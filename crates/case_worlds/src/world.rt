@@ -1,11 +1,11 @@
 // A memory with its types, and calls by name.
 
+use crate::case_types::types::{CHAR, INT, table_of_types};
 use crate::shown::{shown_answer, shown_fault, shown_value};
 use crate::steps::{are_known, is_known};
 use c_types::key::ObjectKey;
 use c_types::table::TypeTable;
 use c_types::term::{PathStep, TypeId};
-use case_types::types::{CHAR, INT, table_of_types};
 use lib_summaries::summary;
 use pta_base::Listing;
 use ref_cells::cells::{Cell, Value};
@@ -232,16 +232,5 @@ impl World {
     pub fn call(&mut self, name: &str, args: &[Arg], word: u64) -> Result<String, Fail> {
         let fixed = if name == "strdup" { Some(CHAR) } else { None };
         self.perform(name, fixed, args, word)
-    }
-
-    /// The same of a function whose new object has elements of a fixed type.
-    pub fn call_fixed(
-        &mut self,
-        name: &str,
-        fixed: TypeId,
-        args: &[Arg],
-        word: u64,
-    ) -> Result<String, Fail> {
-        self.perform(name, Some(fixed), args, word)
     }
 }

@@ -2,11 +2,15 @@
 use Rattle.std.specs.Prelude.{◌≡◌, List, [], ◌∷◌, Some, codes, true}
 use Rattle.clap.specs.Words.{App, Row, Rule, Text, fault_of, matches_of, new_rule}
 use Rattle.clap.specs.Simple.{new_shape}
-use Rattle.clap.specs.declared.builder.action.ArgAction.TheVariants.{Append}
+use Rattle.clap.specs.declared.builder.action.ArgAction.TheVariants.{Append, SetTrue}
 
 -- an option with one value, by its long name alone
 abbrev pub value_option : Text → Rule
 value_option name = record (new_rule name) { long = Some name }
+
+-- a flag, by its long name alone: its value is `true` where it stands
+abbrev pub flag : Text → Rule
+flag name = record (new_rule name) { long = Some name; action = Some SetTrue }
 
 -- the last positional, with any number of values
 abbrev pub positional_words : Text → Rule
@@ -27,7 +31,12 @@ bare_command name rules = record {
 -- the options of the program
 abbrev pub program_command : App
 program_command = bare_command (codes "pta")
-    (value_option (codes "workers") ∷ value_option (codes "ask") ∷ positional_words (codes "unit") ∷ [])
+    (value_option (codes "workers")
+    ∷ value_option (codes "ask")
+    ∷ flag (codes "json")
+    ∷ value_option (codes "gen")
+    ∷ positional_words (codes "unit")
+    ∷ [])
 
 -- clap takes the words
 abbrev pub IsTaken : List Text → Type 0

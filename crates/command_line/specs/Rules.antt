@@ -1,7 +1,10 @@
 -- The rules for the words after clap's parse.
-use Rattle.std.specs.Prelude.{◌≡◌, ◌≢◌, ◌<◌, ◌≤◌, ◌||◌, ◌==◌, ℕ, Bool, List, [], Option, IfSome, length, true, slice_index, unwrap_or, codes}
+use Rattle.std.specs.Prelude.{◌≡◌, ◌≢◌, ◌<◌, ◌≤◌, ◌||◌, ◌==◌, ℕ, Bool, List, [], Option, None, Some, IfSome, IsSome, length}
+use Rattle.std.specs.Prelude.{true, false, slice_index, unwrap_or, codes}
 use Rattle.std.specs.Char.{is_ascii_alphanumeric}
 use Rattle.std.specs.List.{All}
+use Rattle.std.specs.Option.{option_map_or}
+use Rattle.std.specs.Str.{bytes_eq}
 use Rattle.std.specs.Str.Parse.{IsNumeral, digits_value}
 use Rattle.clap.specs.Words.{Row, Text, all_of, first_of}
 use Rattle.command_line.specs.Distinct.{AreDistinct}
@@ -46,6 +49,18 @@ unit_words rows = unwrap_or (all_of (codes "unit") rows) []
 abbrev pub script_word : List Row → Option Text
 script_word rows = first_of (codes "ask") rows
 
+-- the word that gives the number of a generated program, where one does
+abbrev pub gen_word : List Row → Option Text
+gen_word rows = first_of (codes "gen") rows
+
+-- whether a flag stands: whether the text that is found for it is `true`
+abbrev pub is_flagged : Text → List Row → Bool
+is_flagged name rows = option_map_or (λ text. bytes_eq text (codes "true")) (first_of name rows) false
+
+-- whether the report is wanted as JSON
+abbrev pub asks_json : List Row → Bool
+asks_json rows = is_flagged (codes "json") rows
+
 -- the option's number is well formed and in the range
 abbrev pub IsNumberIn : ℕ → ℕ → Option Text → Type 0
 IsNumberIn least most text = IfSome text (IsDecimalIn least most)
@@ -54,11 +69,20 @@ IsNumberIn least most text = IfSome text (IsDecimalIn least most)
 abbrev pub IsNameIn : Option Text → Type 0
 IsNameIn text = IfSome text IsUnitWord
 
--- what was found keeps the rules; the name that is asked for may be that of a unit too
+-- a generated program has no unit words, and any other has 1 to 256
+abbrev pub HasUnits : Option Text → List Text → Type 0
+HasUnits None units = AreUnits units
+HasUnits (Some text) units = units ≡ []
+
+-- what was found keeps the rules: a script has no report, so no form of it, and a generated program has neither; the
+-- name that is asked for may be that of a unit too
 pub record KeepsRules (rows : List Row) : Type 0 where
   pub workers : IsNumberIn 1 64 (first_of (codes "workers") rows)
   pub ask : IsNameIn (script_word rows)
-  pub units : AreUnits (unit_words rows)
+  pub single : asks_json rows ≡ true → script_word rows ≡ None
+  pub gen : IsNumberIn 1 1000 (gen_word rows)
+  pub alone : IsSome (gen_word rows) → (script_word rows ≡ None) × (asks_json rows ≡ false)
+  pub units : HasUnits (gen_word rows) (unit_words rows)
 
 -- clap takes the words, and they keep the rules
 pub record AreRight (words : List Text) : Type 0 where

@@ -1,7 +1,7 @@
 //! Building the command that reads the words.
 ghost use Rattle.std.specs.Prelude.{◌≡◌, IfOk, []};
 ghost use Rattle.clap.specs.Words.{app_of, rule_of, with_rule};
-ghost use Rattle.command_line.specs.Language.{bare_command, positional_words, program_command, value_option};
+ghost use Rattle.command_line.specs.Language.{bare_command, flag, positional_words, program_command, value_option};
 
 use clap::{Arg, ArgAction, Command};
 use std::alloc::{AllocError, Global};
@@ -15,6 +15,17 @@ fn with_option<'a>(
     ensures { IfOk result (λ new. app_of new ≡ with_rule (app_of command.entry) (value_option name.entry.now)) }
 {
     command.arg(Arg::new(alloc, name).long(name))
+}
+
+/// The command with one more flag.
+fn with_flag<'a>(
+    alloc: Global,
+    command: Command<'a>,
+    name: &'a str,
+) -> Result<Command<'a>, AllocError>
+    ensures { IfOk result (λ new. app_of new ≡ with_rule (app_of command.entry) (flag name.entry.now)) }
+{
+    command.arg(Arg::new(alloc, name).long(name).action(ArgAction::SetTrue))
 }
 
 /// The command with the words that are no options.
@@ -45,5 +56,7 @@ pub(crate) fn program<'a>(alloc: Global) -> Result<Command<'a>, AllocError>
     let command = bare(alloc, "pta");
     let command = with_option(alloc, command, "workers")?;
     let command = with_option(alloc, command, "ask")?;
+    let command = with_flag(alloc, command, "json")?;
+    let command = with_option(alloc, command, "gen")?;
     with_words(alloc, command, "unit")
 }

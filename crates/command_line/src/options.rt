@@ -2,7 +2,7 @@
 ghost use Rattle.std.specs.Prelude.{◌≡◌, IfOk, IfErr, option_map};
 ghost use Rattle.clap.specs.Words.{first_of, found_of, rows_of};
 ghost use Rattle.command_line.specs.Meaning.{number_of};
-ghost use Rattle.command_line.specs.Rules.{IsNameIn, IsNumberIn};
+ghost use Rattle.command_line.specs.Rules.{IsNameIn, IsNumberIn, is_flagged};
 
 use crate::fault::WordsFault;
 use crate::number::decimal_in;
@@ -46,4 +46,14 @@ pub(crate) fn name<'a>(
         return Ok(Some(text));
     }
     Err(WordsFault::Usage)
+}
+
+/// Whether a flag stands.
+pub(crate) fn is_set(matches: &ArgMatches<'_>, flag: &str) -> bool
+    ensures { result ≡ is_flagged flag.now (rows_of (found_of matches.now)) }
+{
+    match text_of(matches, flag) {
+        Some(text) => text == "true",
+        None => false,
+    }
 }

@@ -1,5 +1,6 @@
 -- What a system's making answers.
-use Rattle.std.specs.Prelude.{IsFalse, ◌≡◌, ℕ, ◌+◌, ◌*◌, ◌/◌, ◌<◌, ◌≤◌, ◌^◌, ◌++◌, ⊤, List, ◌∷◌, Option, Some, None, length, map, slice_get, option_and_then, AllPairs, Vec}
+use Rattle.std.specs.Prelude.{IsFalse, ◌≡◌, ℕ, ◌+◌, ◌*◌, ◌/◌, ◌<◌, ◌≤◌, ◌^◌, ◌++◌, ⊤, List, ◌∷◌, Option, Some, None}
+use Rattle.std.specs.Prelude.{length, map, slice_get, option_and_then, AllPairs, Vec}
 use Rattle.std.specs.declared.alloc.Global.{Global}
 use Rattle.std.specs.List.{range_with_len}
 use Rattle.c_types.specs.declared.key.ObjectKey.{ObjectKey}
@@ -44,16 +45,19 @@ first_entity keys = None
 
 -- the second parameter of main
 abbrev pub second_parameter : CoreTrees → SpaceView → Option ObjectKey
-second_parameter u s = option_and_then (λ main. slice_get (parameters_of u s main) 1) (first_entity (keys_in Main u.entities))
+second_parameter u s =
+    option_and_then (λ main. slice_get (parameters_of u s main) 1) (first_entity (keys_in Main u.entities))
 
 -- the same from lists of each function's parameters
 abbrev pub second_in : CoreTrees → List (Vec ObjectKey Global) → Option ObjectKey
-second_in u lists = option_and_then (λ main. slice_get (listed lists main) 1) (first_entity (keys_in Main u.entities))
+second_in u lists =
+    option_and_then (λ main. slice_get (listed lists main) 1) (first_entity (keys_in Main u.entities))
 
 -- the constraints in the order in which they are made
 abbrev pub constraint_list : CoreTrees → SpaceView → Normal → List Constraint
 constraint_list u s normal =
-    map constraint_of normal.assignments ++ map (λ call. Call call) (range_with_len 0 (length normal.calls)) ++ library_constraints s
+    map constraint_of normal.assignments ++ map (λ call. Call call) (range_with_len 0 (length normal.calls))
+    ++ library_constraints s
     ++ held_by (option_and_then s.first (second_parameter u s)) (s.first (Library 9))
 
 -- a system within the limits has a row for each location, and at most 2^24 words
@@ -64,7 +68,10 @@ pub record IsSized (system : System) : Type 0 where
 -- each location of a system has a type, and where it isn't collapsed the nodes under it are locations
 abbrev pub AreLocated : System → Type 0
 AreLocated system =
-    (l : ℕ) (fact : LocationFact) → slice_get system.locations l ≡ Some fact → (fact.ty < length system.types) × (IsFalse fact.collapsed → l + nodes_of system fact.ty ≤ location_count system)
+    (l : ℕ) (fact : LocationFact)
+    → slice_get system.locations l ≡ Some fact
+    → (fact.ty < length system.types)
+    × (IsFalse fact.collapsed → l + nodes_of system fact.ty ≤ location_count system)
 
 -- functions stand in the order of their locations
 abbrev pub AreInOrder : System → Type 0
@@ -73,4 +80,6 @@ AreInOrder system = AllPairs (λ (one other : Function). one.location < other.lo
 -- the facts of locations are those of the space
 pub record AgreesWith (s : SpaceView) (system : System) : Type 0 where
   pub count : location_count system ≡ s.count
-  pub facts : (l : ℕ) (fact : LocationFact) → slice_get system.locations l ≡ Some fact → (fact.collapsed ≡ s.collapsed l) × (fact.ty ≡ s.node_type l)
+  pub facts : (l : ℕ) (fact : LocationFact)
+      → slice_get system.locations l ≡ Some fact
+      → (fact.collapsed ≡ s.collapsed l) × (fact.ty ≡ s.node_type l)

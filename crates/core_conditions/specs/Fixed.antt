@@ -4,7 +4,9 @@ use Rattle.c_types.specs.Trees.{Ctype}
 use Rattle.c_types.specs.Table.{type_of}
 use Rattle.core_tree.specs.declared.node.Node.{Node}
 use Rattle.core_tree.specs.declared.node.NodeKind.{NodeKind}
-use Rattle.core_tree.specs.declared.node.NodeKind.TheVariants.{Named, Text, Literal, FunctionName, Deref, Member, Number, NullValue, AddressOf, Decay, PointerAdd, Convert, Upcast, Choose, Arith}
+use Rattle.core_tree.specs.declared.node.NodeKind.TheVariants.{Named, Text, Literal, FunctionName, Deref, Member}
+use Rattle.core_tree.specs.declared.node.NodeKind.TheVariants.{Number, NullValue, AddressOf, Decay, PointerAdd}
+use Rattle.core_tree.specs.declared.node.NodeKind.TheVariants.{Convert, Upcast, Choose, Arith}
 use Rattle.core_tree.specs.Typed.{CoreTrees, IsInteger, IsPointer}
 use Rattle.core_conditions.specs.declared.fixed.NumberLeft.{NumberLeft}
 use Rattle.core_conditions.specs.declared.fixed.NumberLeft.TheVariants.{Told, Below}

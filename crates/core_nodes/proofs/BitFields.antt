@@ -5,7 +5,7 @@ use Rattle.c_types.specs.Table.{Table}
 use Rattle.c_types.specs.declared.term.MemberTerm.{MemberTerm}
 use Rattle.core_tree.specs.declared.node.NodeKind.{NodeKind}
 use Rattle.core_tree.specs.declared.node.NodeKind.TheVariants.{Fetch, Member, MemberOfValue}
-use Rattle.c_consts.specs.Core.{Core, Cores, Of, NoCores, MoreCores, kind_of, cores_under, ctype_of}
+use Rattle.c_senses.specs.passed.c_consts.Core.{Core, Cores, Of, NoCores, MoreCores, kind_of, cores_under, ctype_of}
 use Rattle.c_senses.specs.PassedOn.{Part}
 use Rattle.c_senses.specs.World.{World, members_of}
 use Rattle.c_senses.specs.Conversions.{place_width, read_width, width_in}

@@ -3,7 +3,7 @@ use Rattle.std.proofs.Common.{◌≡◌, ℕ, Result, Ok, Err, sym, ap, subst}
 use Rattle.pta_base.specs.declared.kind.Kind.TheVariants.{Operand}
 use Rattle.c_types.specs.Trees.{Ctype}
 use Rattle.core_tree.specs.declared.node.Unit.{Unit}
-use Rattle.c_consts.specs.Core.{Core}
+use Rattle.c_senses.specs.passed.c_consts.Core.{Core}
 use Rattle.c_senses.specs.Given.{Given, Fits, Refuses, ◌>>=◌}
 use Rattle.core_nodes.specs.declared.fault.CheckFault.{CheckFault}
 use Rattle.core_nodes.specs.declared.fault.CheckFault.TheVariants.{BadOperand, Unsupported, OutOfMemory}

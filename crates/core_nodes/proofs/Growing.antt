@@ -5,7 +5,7 @@ use Rattle.c_types.specs.Trees.{Ctype}
 use Rattle.c_types.specs.Table.{Table, type_of, members_in, extent_in}
 use Rattle.core_tree.specs.declared.node.Node.{Node}
 use Rattle.core_tree.specs.declared.node.Unit.{Unit}
-use Rattle.c_consts.specs.Core.{Core, Of, MoreCores, InOrder}
+use Rattle.c_senses.specs.passed.c_consts.Core.{Core, Of, MoreCores, InOrder}
 use Rattle.c_types.specs.Made.{IsMade}
 use Rattle.c_types.specs.declared.term.MemberTerm.{MemberTerm}
 use Rattle.c_senses.specs.World.{World}

@@ -1,7 +1,7 @@
 -- Promotions and common types.
 use Rattle.std.proofs.Common.{◌≡◌, ℕ, Bool, true, false, cond, refl, ap, ◌∙◌}
 use Rattle.c_types.specs.Trees.{Ctype, VoidType, BoolType, IntegerType, FloatingType, VaListType, PointerTo, ArrayOf, FunctionFrom, StructureOf, UnionOf}
-use Rattle.c_consts.specs.Core.{Core, ctype_of}
+use Rattle.c_senses.specs.passed.c_consts.Core.{Core, ctype_of}
 use Rattle.c_senses.specs.World.{same_type}
 use Rattle.c_senses.specs.Conversions.{made, common, converted}
 use Rattle.core_nodes.proofs.Growing.{builds_on, knows_on}

@@ -6,7 +6,7 @@ use Rattle.c_types.specs.Table.{Table, type_of}
 use Rattle.core_tree.specs.declared.node.Node.{Node}
 use Rattle.core_tree.specs.declared.node.Unit.{Unit}
 use Rattle.core_tree.specs.Typed.{sort_of}
-use Rattle.c_consts.specs.Core.{Core, Of, NoCores, MoreCores, InOrder, ctype_of, place_of, kind_of, cores_under, core_sort}
+use Rattle.c_senses.specs.passed.c_consts.Core.{Core, Of, NoCores, MoreCores, InOrder, ctype_of, place_of, kind_of, cores_under, core_sort}
 use Rattle.core_nodes.specs.Standing.{no_core, cores_among, core_over, cores_grown, cores_of, core_at, cores_at, IsReady}
 
 kept_before : (t : Table) (done : List Core) (nodes : List Node) (i : ℕ) → i < length done → get_or (cores_grown t done nodes) i no_core ≡ get_or done i no_core

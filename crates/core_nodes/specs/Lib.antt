@@ -1,3 +1,5 @@
 pub mod Standing
 pub mod Sorts
 pub mod PassedOn
+pub mod kept_nodes
+pub mod passed

@@ -4,9 +4,10 @@ use Rattle.c_types.specs.declared.term.TypeId.{TypeId}
 use Rattle.c_types.specs.declared.term.MemberTerm.{MemberTerm}
 use Rattle.c_types.specs.Trees.{Ctype, IntegerType, PointerTo}
 use Rattle.c_types.specs.Table.{Table, type_of}
-use Rattle.c_senses.specs.Conversions.{OperandSort, Whole as WholeSort, Address as AddressSort, Aggregate as AggregateSort, Other as OtherSort}
+use Rattle.c_senses.specs.Conversions.{OperandSort, Whole as WholeSort, Address as AddressSort}
+use Rattle.c_senses.specs.Conversions.{Aggregate as AggregateSort, Other as OtherSort}
 use Rattle.core_tree.specs.declared.node.Unit.{Unit}
-use Rattle.c_consts.specs.Core.{Core}
+use Rattle.c_senses.specs.passed.c_consts.Core.{Core}
 use Rattle.c_senses.specs.World.{World}
 use Rattle.c_senses.specs.Operators.{common_of, in_common}
 use Rattle.core_nodes.specs.Standing.{core_at}
@@ -54,10 +55,13 @@ chosen_type a b UnsignedRight = IntegerType b.size b.rank false
 
 -- two values in their common type, with that type
 abbrev pub PairMade : World → Unit → Result Pair CheckFault → Core → Core → Type 0
-PairMade w u (Ok pair) a b = (core_at u pair.left ≡ in_common w a b a) × (core_at u pair.right ≡ in_common w a b b) × (type_of u.types pair.ty.0 ≡ common_of w a b)
+PairMade w u (Ok pair) a b =
+    (core_at u pair.left ≡ in_common w a b a) × (core_at u pair.right ≡ in_common w a b b)
+    × (type_of u.types pair.ty.0 ≡ common_of w a b)
 PairMade w u (Err (BadOperand node)) a b = ⊥
 PairMade w u (Err (Unsupported kind node)) a b = ⊥
 PairMade w u (Err OutOfMemory) a b = ⊤
 
 abbrev pub IsPairWithin : Unit → Pair → Type 0
-IsPairWithin u pair = (pair.left < length u.nodes.items) × (pair.right < length u.nodes.items) × (pair.ty.0 < length u.types.terms)
+IsPairWithin u pair =
+    (pair.left < length u.nodes.items) × (pair.right < length u.nodes.items) × (pair.ty.0 < length u.types.terms)

@@ -7,7 +7,7 @@ use Rattle.c_types.specs.declared.term.TypeId.{TypeId}
 use Rattle.core_tree.specs.declared.node.NodeKind.TheVariants.{Skip}
 use Rattle.core_tree.specs.declared.node.Node.{Node}
 use Rattle.core_tree.specs.declared.node.Unit.{Unit}
-use Rattle.c_consts.specs.Core.{Core, Cores, Of, NoCores, MoreCores, InOrder}
+use Rattle.c_senses.specs.passed.c_consts.Core.{Core, Cores, Of, NoCores, MoreCores, InOrder}
 pub use Rattle.c_senses.specs.PassedOn.{part_with, part_of, parts_in}
 use Rattle.c_senses.specs.World.{World, extent}
 use Rattle.c_senses.specs.Given.{Given, Fits, Refuses}
@@ -53,7 +53,8 @@ pub record Builds (old new : Unit) : Type 0 where
   pub terms : length old.types.terms ≤ length new.types.terms
   pub types : (id : ℕ) → id < length old.types.terms → type_of new.types id ≡ type_of old.types id
   pub tags : new.types.tags ≡ old.types.tags
-  pub parts : (tag : ℕ) → parts_in new.types (members_in new.types tag) ≡ parts_in old.types (members_in old.types tag)
+  pub parts : (tag : ℕ)
+      → parts_in new.types (members_in new.types tag) ≡ parts_in old.types (members_in old.types tag)
   pub extents : (t : Ctype) → extent_in new.types t ≡ extent_in old.types t
   pub entities : new.entities.items ≡ old.entities.items
 

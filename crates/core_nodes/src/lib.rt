@@ -4,6 +4,7 @@
 
 mod fault;
 pub mod integers;
+pub mod kept_nodes;
 pub mod reads;
 pub mod sorts;
 pub mod trees;

@@ -2,7 +2,7 @@
 ghost use Rattle.std.specs.Prelude.{◌≡◌, ◌<◌, length, slice_get, Some, IsTrue, ◌↔◌};
 ghost use Rattle.c_types.specs.Table.{type_of};
 ghost use Rattle.core_tree.specs.Typed.{PlaceNode, ValueNode};
-ghost use Rattle.c_consts.specs.Core.{kind_of, ctype_of, place_of, core_sort};
+ghost use Rattle.c_senses.specs.passed.c_consts.Core.{kind_of, ctype_of, place_of, core_sort};
 ghost use Rattle.core_nodes.specs.Standing.{core_at, IsReady};
 
 use c_types::term::TypeId;

@@ -4,7 +4,7 @@ ghost use Rattle.c_types.specs.Trees.{Ctype, grow, PointerTo};
 ghost use Rattle.c_types.specs.Table.{types_of, type_of, IsAfter, HasTag};
 ghost use Rattle.c_types.specs.Made.{IsSized, KeepsApart};
 ghost use Rattle.core_tree.specs.Rows.{int};
-ghost use Rattle.c_consts.specs.Core.{Core, Of, leaf, over, over_two, over_three};
+ghost use Rattle.c_senses.specs.passed.c_consts.Core.{Core, Of, leaf, over, over_two, over_three};
 ghost use Rattle.c_senses.specs.Given.{Fits};
 ghost use Rattle.core_nodes.specs.Standing.{core_at, cores_at, IsReady, Builds, Made, TypeMade};
 

@@ -3,7 +3,7 @@ ghost use Rattle.std.specs.Prelude.{◌≡◌, ◌<◌, length, IfOk, Some, None
 ghost use Rattle.c_types.specs.Trees.{Ctype};
 ghost use Rattle.c_types.specs.Table.{type_of};
 ghost use Rattle.core_tree.specs.Typed.{decayed};
-ghost use Rattle.c_consts.specs.Core.{ctype_of};
+ghost use Rattle.c_senses.specs.passed.c_consts.Core.{ctype_of};
 ghost use Rattle.c_senses.specs.Given.{Fits};
 ghost use Rattle.c_senses.specs.World.{World};
 ghost use Rattle.c_senses.specs.Conversions.{value_of, fetched_or_decayed, made, promotion, common, read_width, is_narrow, promoted, place_width};

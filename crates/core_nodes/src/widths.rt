@@ -3,7 +3,7 @@
 
 ghost use Rattle.std.specs.Prelude.{◌≡◌, ◌<◌, length, slice_get, Some, None, MatchOption, IfSome};
 ghost use Rattle.c_types.specs.Table.{type_of};
-ghost use Rattle.c_consts.specs.Core.{Core, MoreCores, NoCores, kind_of, cores_under, ctype_of};
+ghost use Rattle.c_senses.specs.passed.c_consts.Core.{Core, MoreCores, NoCores, kind_of, cores_under, ctype_of};
 ghost use Rattle.c_senses.specs.World.{World, members_of};
 ghost use Rattle.c_senses.specs.Conversions.{place_width, read_width, width_in, is_narrow};
 ghost use Rattle.c_senses.specs.Objects as objects;

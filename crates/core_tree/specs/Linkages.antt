@@ -28,14 +28,15 @@ abbrev pub MakesUnlinked : CoreTrees → NodeKind → Type 0
 MakesUnlinked u (Literal e) = HasNoLinkage (entity_at u e)
 MakesUnlinked u kind = ⊤
 
--- a use has the type of the declaration, or one that lacks the length alone that the declaration has: so it is with an array within its own
--- initialiser, which gives it its length only where it ends (C11 6.7.9p22)
+-- a use has the type of the declaration, or one that lacks the length alone that the declaration has: so it is with
+-- an array within its own initialiser, which gives it its length only where it ends (C11 6.7.9p22)
 abbrev pub IsOfDeclared : Ctype → Ctype → Type 0
 IsOfDeclared d t = (d ≡ t) ⊎ ((of : Ctype) × (n : ℕ) × (d ≡ ArrayOf of (Some n)) × (t ≡ ArrayOf of None))
 
 -- the entity declares that name, with external linkage, as of that type
 abbrev pub DeclaresAs : CoreTrees → List ℕ → Ctype → Entity → Type 0
-DeclaresAs u name t entity = (entity.linkage ≡ External) × (entity.name ≡ name) × IsOfDeclared (type_of u.types entity.ty.0) t
+DeclaresAs u name t entity =
+    (entity.linkage ≡ External) × (entity.name ≡ name) × IsOfDeclared (type_of u.types entity.ty.0) t
 
 -- some external declaration of the name has the type
 pub record IsDeclaredAs (u : CoreTrees) (name : List ℕ) (t : Ctype) : Type 0 where
@@ -58,8 +59,8 @@ pub record NodeLinkage (u : CoreTrees) (node : Node) : Type 0 where
 abbrev pub EntityLinkage : Entity → Type 0
 EntityLinkage entity = IsUnlinked entity.storage entity.linkage
 
--- what valid units need so that the program of them is valid: declarations of one name in several units are one entity
--- there, and have one type together
+-- what valid units need so that the program of them is valid: declarations of one name in several units are one
+-- entity there, and have one type together
 pub record Linkages (u : CoreTrees) : Type 0 where
   pub entities : EachEntity u (λ e entity. EntityLinkage entity)
   pub nodes : EachNode u (λ n node. NodeLinkage u node)

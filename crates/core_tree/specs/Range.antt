@@ -63,11 +63,19 @@ listed_by kind = []
 pub record InRange (u : CoreTrees) : Type 0 where
   pub types : (n : ℕ) (node : Node) → node_at u n ≡ Some node → node.ty.0 < length u.types.terms
   pub children : (n : ℕ) (node : Node) → node_at u n ≡ Some node → All (λ c. c < n) node.children
-  pub entities : (n : ℕ) (node : Node) → node_at u n ≡ Some node → IfSome (named_by node.kind) (λ e. e < length u.entities)
-  pub lists : (n : ℕ) (node : Node) → node_at u n ≡ Some node → All (λ e. e < length u.entities) (listed_by node.kind)
+  pub entities : (n : ℕ) (node : Node)
+      → node_at u n ≡ Some node
+      → IfSome (named_by node.kind) (λ e. e < length u.entities)
+  pub lists : (n : ℕ) (node : Node)
+      → node_at u n ≡ Some node
+      → All (λ e. e < length u.entities) (listed_by node.kind)
   pub entity_types : (e : ℕ) (entity : Entity) → entity_at u e ≡ Some entity → entity.ty.0 < length u.types.terms
-  pub owners : (e : ℕ) (entity : Entity) → entity_at u e ≡ Some entity → IfSome entity.owner (λ f. f < length u.entities)
-  pub bodies : (e : ℕ) (entity : Entity) → entity_at u e ≡ Some entity → IfSome entity.body (λ b. b < length u.nodes)
+  pub owners : (e : ℕ) (entity : Entity)
+      → entity_at u e ≡ Some entity
+      → IfSome entity.owner (λ f. f < length u.entities)
+  pub bodies : (e : ℕ) (entity : Entity)
+      → entity_at u e ≡ Some entity
+      → IfSome entity.body (λ b. b < length u.nodes)
 
 -- a node is a child at most once
 abbrev pub ChildOnce : CoreTrees → Type 0

@@ -1,5 +1,6 @@
 -- One row for each kind of node: how it stands over its children.
-use Rattle.std.specs.Prelude.{ℕ, ℤ, ◌≡◌, ◌≢◌, ◌+◌, Bool, true, false, ⊤, List, [], ◌∷◌, Option, Some, None, slice_get, length, reverse, ◌⊎◌, All}
+use Rattle.std.specs.Prelude.{ℕ, ℤ, ◌≡◌, ◌≢◌, ◌+◌, Bool, true, false, ⊤, List, [], ◌∷◌, Option, Some, None}
+use Rattle.std.specs.Prelude.{slice_get, length, reverse, ◌⊎◌, All}
 use Rattle.c_types.specs.Trees.{Ctype, Ctypes, NoTypes, MoreTypes, VoidType, PointerTo, ArrayOf, FunctionFrom}
 use Rattle.c_types.specs.declared.term.Form.{Form}
 use Rattle.c_types.specs.declared.term.Form.TheVariants.{Fixed, Variadic, Unspecified}
@@ -9,10 +10,20 @@ use Rattle.c_types.specs.Table.{type_of}
 use Rattle.core_tree.specs.declared.node.Node.{Node}
 use Rattle.core_tree.specs.declared.node.Entity.{Entity}
 use Rattle.core_tree.specs.declared.node.Op.{Op}
-use Rattle.core_tree.specs.declared.node.Op.TheVariants.{Multiply, Divide, Remainder, Plus, Minus, ShiftLeft, ShiftRight, Less, Greater, LessEqual, GreaterEqual, Equal, NotEqual, And, Xor, Or, Complement, Not}
+use Rattle.core_tree.specs.declared.node.Op.TheVariants.{Multiply, Divide, Remainder, Plus, Minus, ShiftLeft}
+use Rattle.core_tree.specs.declared.node.Op.TheVariants.{ShiftRight, Less, Greater, LessEqual, GreaterEqual, Equal}
+use Rattle.core_tree.specs.declared.node.Op.TheVariants.{NotEqual, And, Xor, Or, Complement, Not}
 use Rattle.core_tree.specs.declared.node.NodeKind.{NodeKind}
-use Rattle.core_tree.specs.declared.node.NodeKind.TheVariants.{Named, Text, Literal, FunctionName, Deref, Member, Number, NullValue, Fetch, AddressOf, Decay, PointerAdd, Convert, Upcast, Assign, Update, Choose, Sequence, CallNode, MemberOfValue, Arith, Expression, Block, If, While, DoWhile, For, Switch, Case, Default, Label, Goto, Break, Continue, Return, Initialise, Skip}
-use Rattle.core_tree.specs.Typed.{CoreTrees, PlaceNode, ValueNode, sort_at, type_at, IsPlace, IsValue, IsStatement, IsInteger, IsPointer, IsScalar, IsStored, decayed, Holds, IsPromoted, IsPassed, LacksLength}
+use Rattle.core_tree.specs.declared.node.NodeKind.TheVariants.{Named, Text, Literal, FunctionName, Deref, Member}
+use Rattle.core_tree.specs.declared.node.NodeKind.TheVariants.{Number, NullValue, Fetch, AddressOf, Decay}
+use Rattle.core_tree.specs.declared.node.NodeKind.TheVariants.{PointerAdd, Convert, Upcast, Assign, Update, Choose}
+use Rattle.core_tree.specs.declared.node.NodeKind.TheVariants.{Sequence, CallNode, MemberOfValue, Arith, Expression}
+use Rattle.core_tree.specs.declared.node.NodeKind.TheVariants.{Block, If, While, DoWhile, For, Switch, Case}
+use Rattle.core_tree.specs.declared.node.NodeKind.TheVariants.{Default, Label, Goto, Break, Continue, Return}
+use Rattle.core_tree.specs.declared.node.NodeKind.TheVariants.{Initialise, Skip}
+use Rattle.core_tree.specs.Typed.{CoreTrees, PlaceNode, ValueNode, sort_at, type_at, IsPlace, IsValue, IsStatement}
+use Rattle.core_tree.specs.Typed.{IsInteger, IsPointer, IsScalar, IsStored, decayed, Holds, IsPromoted, IsPassed}
+use Rattle.core_tree.specs.Typed.{LacksLength}
 use Rattle.type_rules.specs.Members.{IsMemberOf, width_of}
 use Rattle.type_rules.specs.Sizes.{PointsToObject}
 use Rattle.type_rules.specs.Conversions.{IsFirstOf}
@@ -174,12 +185,14 @@ IsOneExpression u first = ⊥
 
 -- the first statements of a For: the initialisers of its objects, or one expression, or none
 abbrev pub ForFirst : CoreTrees → List ℕ → List ℕ → Type 0
-ForFirst u entities first = All (λ s. IsFirstStatement entities (slice_get u.nodes s)) first ⊎ IsOneExpression u first
+ForFirst u entities first =
+    All (λ s. IsFirstStatement entities (slice_get u.nodes s)) first ⊎ IsOneExpression u first
 
 -- a value for each path, of the type at that path
 abbrev pub InitialValues : CoreTrees → Option Ctype → List (List PathStep) → List ℕ → Type 0
 InitialValues u t [] [] = ⊤
-InitialValues u t (path ∷ paths) (v ∷ values) = (sort_at u v ≡ ValueNode) × (type_at_path u.types t path ≡ Some (type_at u v)) × InitialValues u t paths values
+InitialValues u t (path ∷ paths) (v ∷ values) =
+    (sort_at u v ≡ ValueNode) × (type_at_path u.types t path ≡ Some (type_at u v)) × InitialValues u t paths values
 InitialValues u t paths values = ⊥
 
 -- places
@@ -223,7 +236,8 @@ FetchRow u t (p ∷ []) = IsPlace u p t × IsStored t
 FetchRow u t children = ⊥
 
 abbrev pub AddressRow : CoreTrees → Ctype → List ℕ → Type 0
-AddressRow u t (p ∷ []) = (sort_at u p ≡ PlaceNode) × (t ≡ PointerTo (type_at u p)) × (place_bits u (slice_get u.nodes p) ≡ None)
+AddressRow u t (p ∷ []) =
+    (sort_at u p ≡ PlaceNode) × (t ≡ PointerTo (type_at u p)) × (place_bits u (slice_get u.nodes p) ≡ None)
 AddressRow u t children = ⊥
 
 abbrev pub DecayRow : CoreTrees → Ctype → List ℕ → Type 0
@@ -271,7 +285,8 @@ MemberOfValueRow u k t (v ∷ []) = (sort_at u v ≡ ValueNode) × IsMember u (t
 MemberOfValueRow u k t children = ⊥
 
 abbrev pub IsOverTwo : CoreTrees → Op → Ctype → ℕ → ℕ → Type 0
-IsOverTwo u op t a b = (sort_at u a ≡ ValueNode) × (sort_at u b ≡ ValueNode) × Binary op (type_at u a) (type_at u b) t
+IsOverTwo u op t a b =
+    (sort_at u a ≡ ValueNode) × (sort_at u b ≡ ValueNode) × Binary op (type_at u a) (type_at u b) t
 
 abbrev pub ArithRow : CoreTrees → Op → Ctype → List ℕ → Type 0
 ArithRow u op t (a ∷ []) = (sort_at u a ≡ ValueNode) × Unary op (type_at u a) t

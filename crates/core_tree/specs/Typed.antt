@@ -3,7 +3,8 @@ use Rattle.std.specs.Prelude.{ℕ, ◌≡◌, List, Option, Some, None, slice_ge
 use Rattle.c_types.specs.Trees.{Ctype, VoidType}
 use Rattle.c_types.specs.Table.{Table, type_of}
 use Rattle.type_rules.specs.Sizes.{IsObject}
-pub use Rattle.type_rules.specs.Kinds.{IsInteger, IsPointer, IsScalar, IsAggregate, IsStored, IsPromoted, IsPassed, LacksLength}
+pub use Rattle.type_rules.specs.Kinds.{IsInteger, IsPointer, IsScalar, IsAggregate, IsStored, IsPromoted, IsPassed}
+pub use Rattle.type_rules.specs.Kinds.{LacksLength}
 pub use Rattle.type_rules.specs.Conversions.{decayed}
 pub use Rattle.type_rules.specs.Numbers.{half_of, InSigned, InUnsigned, Holds}
 use Rattle.core_tree.specs.declared.node.Unit.{Unit}
@@ -11,7 +12,10 @@ use Rattle.core_tree.specs.declared.node.Program.{Program}
 use Rattle.core_tree.specs.declared.node.Node.{Node}
 use Rattle.core_tree.specs.declared.node.Entity.{Entity}
 use Rattle.core_tree.specs.declared.node.NodeKind.{NodeKind}
-use Rattle.core_tree.specs.declared.node.NodeKind.TheVariants.{Named, Text, Literal, FunctionName, Deref, Member, Expression, Block, If, While, DoWhile, For, Switch, Case, Default, Label, Goto, Break, Continue, Return, Initialise, Skip}
+use Rattle.core_tree.specs.declared.node.NodeKind.TheVariants.{Named, Text, Literal, FunctionName, Deref, Member}
+use Rattle.core_tree.specs.declared.node.NodeKind.TheVariants.{Expression, Block, If, While, DoWhile, For, Switch}
+use Rattle.core_tree.specs.declared.node.NodeKind.TheVariants.{Case, Default, Label, Goto, Break, Continue, Return}
+use Rattle.core_tree.specs.declared.node.NodeKind.TheVariants.{Initialise, Skip}
 
 -- the types, nodes and entities of a unit or a program
 pub record CoreTrees : Type 0 where

@@ -1,5 +1,6 @@
 -- A valid unit: each node in its row, and each node and entity where it may stand.
-use Rattle.std.specs.Prelude.{ℕ, ℤ, ◌≡◌, ◌≢◌, ◌<◌, ◌≤◌, ⊤, Bool, true, false, List, [], ◌∷◌, Option, Some, None, IfSome, slice_get, length, ◌⊎◌, All}
+use Rattle.std.specs.Prelude.{ℕ, ℤ, ◌≡◌, ◌≢◌, ◌<◌, ◌≤◌, ⊤, Bool, true, false, List, [], ◌∷◌, Option, Some, None}
+use Rattle.std.specs.Prelude.{IfSome, slice_get, length, ◌⊎◌, All}
 use Rattle.c_types.specs.Trees.{Ctype}
 use Rattle.c_types.specs.Table.{type_of}
 use Rattle.pta_base.specs.declared.place.Place.{Place}
@@ -11,12 +12,19 @@ use Rattle.core_tree.specs.declared.node.Linkage.TheVariants.{External}
 use Rattle.core_tree.specs.declared.node.Storage.{Storage}
 use Rattle.core_tree.specs.declared.node.Storage.TheVariants.{Static, Automatic, FunctionBody, Parameter, Declared}
 use Rattle.core_tree.specs.declared.node.NodeKind.{NodeKind}
-use Rattle.core_tree.specs.declared.node.NodeKind.TheVariants.{Named, Text, Literal, FunctionName, Deref, Member, Number, NullValue, AddressOf, Decay, PointerAdd, Convert, Upcast, Choose, CallNode, Arith, Block, While, DoWhile, For, Switch, Case, Default, Label, Goto, Break, Continue, Return, Initialise}
-use Rattle.core_tree.specs.Typed.{CoreTrees, trees_of, trees_in, LacksLength, ValueNode, sort_of, type_at, IsInteger, IsPointer, IsAggregate}
+use Rattle.core_tree.specs.declared.node.NodeKind.TheVariants.{Named, Text, Literal, FunctionName, Deref, Member}
+use Rattle.core_tree.specs.declared.node.NodeKind.TheVariants.{Number, NullValue, AddressOf, Decay, PointerAdd}
+use Rattle.core_tree.specs.declared.node.NodeKind.TheVariants.{Convert, Upcast, Choose, CallNode, Arith, Block}
+use Rattle.core_tree.specs.declared.node.NodeKind.TheVariants.{While, DoWhile, For, Switch, Case, Default, Label}
+use Rattle.core_tree.specs.declared.node.NodeKind.TheVariants.{Goto, Break, Continue, Return, Initialise}
+use Rattle.core_tree.specs.Typed.{CoreTrees, trees_of, trees_in, LacksLength, ValueNode, sort_of, type_at}
+use Rattle.core_tree.specs.Typed.{IsInteger, IsPointer, IsAggregate}
 use Rattle.core_tree.specs.Rows.{RowOf, IsFunction, Initialises}
 use Rattle.type_rules.specs.Sizes.{HasSize, IsOpenIn, TagsHaveSizes, ResultHasSize}
 pub use Rattle.core_tree.specs.Rows.{InitialisesEntity, Has}
-pub use Rattle.core_tree.specs.Range.{node_at, entity_at, EachNode, EachEntity, SomeNode, SomeEntity, child_in, child_at, IsChild, Under, here, below, named_by, listed_by, listed_in, InRange, ChildOnce, OncePlaced, OnlyHolder, HoldsOnce, OnceHeld}
+pub use Rattle.core_tree.specs.Range.{node_at, entity_at, EachNode, EachEntity, SomeNode, SomeEntity, child_in}
+pub use Rattle.core_tree.specs.Range.{child_at, IsChild, Under, here, below, named_by, listed_by, listed_in}
+pub use Rattle.core_tree.specs.Range.{InRange, ChildOnce, OncePlaced, OnlyHolder, HoldsOnce, OnceHeld}
 pub use Rattle.core_tree.specs.Linkages.{Linkages}
 pub use Rattle.type_rules.specs.Sizes.{with_one, HasSignature}
 pub use Rattle.type_rules.specs.Conversions.{result_of}
@@ -184,7 +192,8 @@ ListsRight u = EachNode u (λ n node. All (λ e. IsListable u n e) (listed_by no
 
 -- what an initialiser of a static object may hold
 abbrev pub KindIs : CoreTrees → ℕ → NodeKind → List ℕ → Type 0
-KindIs u n kind children = (node : Node) × (node_at u n ≡ Some node) × (node.kind ≡ kind) × (node.children ≡ children)
+KindIs u n kind children =
+    (node : Node) × (node_at u n ≡ Some node) × (node.kind ≡ kind) × (node.children ≡ children)
 
 abbrev pub IsStaticIn : Option Entity → Type 0
 IsStaticIn None = ⊥
@@ -207,7 +216,12 @@ MakesNumber kind = ⊥
 
 pub data FixedNumber (u : CoreTrees) : ℕ → Type 0 where
   plain : {n : ℕ} {node : Node} → node_at u n ≡ Some node → IsNumber node.kind → FixedNumber u n
-  made : {n : ℕ} {node : Node} → node_at u n ≡ Some node → MakesNumber node.kind → IsInteger (type_of u.types node.ty.0) → ((k c : ℕ) → slice_get node.children k ≡ Some c → FixedNumber u c) → FixedNumber u n
+  made : {n : ℕ} {node : Node}
+      → node_at u n ≡ Some node
+      → MakesNumber node.kind
+      → IsInteger (type_of u.types node.ty.0)
+      → ((k c : ℕ) → slice_get node.children k ≡ Some c → FixedNumber u c)
+      → FixedNumber u n
 
 mutual
   pub data FixedPlace (u : CoreTrees) : ℕ → Type 0 where
@@ -223,8 +237,16 @@ mutual
     address : {n p : ℕ} → KindIs u n AddressOf (p ∷ []) → FixedPlace u p → FixedPointer u n
     decay : {n p : ℕ} → KindIs u n Decay (p ∷ []) → FixedPlace u p → FixedPointer u n
     upcast : {n v : ℕ} → KindIs u n Upcast (v ∷ []) → FixedPointer u v → FixedPointer u n
-    converted : {n v : ℕ} → KindIs u n Convert (v ∷ []) → IsPointer (type_at u n) → FixedPointer u v → FixedPointer u n
-    moved : {n v i : ℕ} {minus : Bool} → KindIs u n (PointerAdd minus) (v ∷ i ∷ []) → FixedPointer u v → FixedNumber u i → FixedPointer u n
+    converted : {n v : ℕ}
+        → KindIs u n Convert (v ∷ [])
+        → IsPointer (type_at u n)
+        → FixedPointer u v
+        → FixedPointer u n
+    moved : {n v i : ℕ} {minus : Bool}
+        → KindIs u n (PointerAdd minus) (v ∷ i ∷ [])
+        → FixedPointer u v
+        → FixedNumber u i
+        → FixedPointer u n
 
 abbrev pub IsFixed : CoreTrees → ℕ → Type 0
 IsFixed u n = FixedNumber u n ⊎ FixedPointer u n
@@ -304,7 +326,8 @@ FitsBody u entity b kind children = ⊤
 
 -- the node fits the function, if it stands in its body
 pub record FitsFunction (u : CoreTrees) (n : ℕ) (node : Node) (entity : Entity) : Type 0 where
-  pub fits : entity.storage ≡ FunctionBody → IfSome entity.body (λ b. Under u b n → FitsBody u entity b node.kind node.children)
+  pub fits : entity.storage ≡ FunctionBody
+      → IfSome entity.body (λ b. Under u b n → FitsBody u entity b node.kind node.children)
 
 -- each node fits the function in whose body it stands
 pub record FitsFunctions (u : CoreTrees) (n : ℕ) (node : Node) : Type 0 where
@@ -322,7 +345,8 @@ IsOpen u t = IsOpenIn u.types t
 
 -- an object has a size, or is only declared; and only one of external linkage lacks a length
 pub record Sized (u : CoreTrees) (entity : Entity) : Type 0 where
-  pub measured : IsMeasured u (with_one (type_of u.types entity.ty.0)) ⊎ ((entity.storage ≡ Declared) × IsOpen u (type_of u.types entity.ty.0))
+  pub measured : IsMeasured u (with_one (type_of u.types entity.ty.0))
+      ⊎ ((entity.storage ≡ Declared) × IsOpen u (type_of u.types entity.ty.0))
   pub length : LacksLength (type_of u.types entity.ty.0) → entity.linkage ≡ External
 
 abbrev pub EntitySized : CoreTrees → Entity → Type 0
@@ -333,7 +357,10 @@ ResultSized u entity = entity.storage ≡ FunctionBody → ResultHasSize u.types
 
 -- a value of structure or union type has a size
 abbrev pub ValueSized : CoreTrees → Node → Type 0
-ValueSized u node = sort_of node.kind ≡ ValueNode → IsAggregate (type_of u.types node.ty.0) → IsMeasured u (type_of u.types node.ty.0)
+ValueSized u node =
+    sort_of node.kind ≡ ValueNode
+    → IsAggregate (type_of u.types node.ty.0)
+    → IsMeasured u (type_of u.types node.ty.0)
 
 pub record Measured (u : CoreTrees) : Type 0 where
   pub objects : EachEntity u (λ e entity. EntitySized u entity)
@@ -451,7 +478,8 @@ IsSigned u entity = entity.storage ≡ FunctionBody → HasSignature u.types (ty
 
 -- an object that has its place has a length
 abbrev pub HasLength : CoreTrees → Entity → Type 0
-HasLength u entity = (entity.storage ≡ Static) ⊎ (entity.storage ≡ Automatic) → LacksLength (type_of u.types entity.ty.0) → ⊥
+HasLength u entity =
+    (entity.storage ≡ Static) ⊎ (entity.storage ≡ Automatic) → LacksLength (type_of u.types entity.ty.0) → ⊥
 
 -- the units of an entity and of its place are the program's
 abbrev pub InUnits : ℕ → Entity → Type 0

@@ -5,7 +5,9 @@ use Rattle.core_tree.specs.declared.node.Entity.{Entity}
 use Rattle.core_tree.specs.Typed.{CoreTrees}
 use Rattle.core_tree.specs.Range.{EachNode, EachEntity, named_by, listed_by, InRange, ChildOnce}
 use Rattle.core_tree.specs.Linkages.{NodeLinkage}
-use Rattle.core_tree.specs.Valid.{InRow, IsInOwner, IsLiteral, IsListable, HoldsFixed, MayStand, FitsFunctions, CaseDiffers, ValueSized, IsOwned, HasBody, IsListed, IsUsed, EntitySized, ResultSized, IsSigned, HasLength, InUnits}
+use Rattle.core_tree.specs.Valid.{InRow, IsInOwner, IsLiteral, IsListable, HoldsFixed, MayStand, FitsFunctions}
+use Rattle.core_tree.specs.Valid.{CaseDiffers, ValueSized, IsOwned, HasBody, IsListed, IsUsed, EntitySized}
+use Rattle.core_tree.specs.Valid.{ResultSized, IsSigned, HasLength, InUnits}
 use Rattle.type_rules.specs.Sizes.{TagsHaveSizes}
 
 -- what a node names is in range, and its children come first

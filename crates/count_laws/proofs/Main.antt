@@ -15,11 +15,11 @@ use Rattle.c_senses.specs.World.{World}
 use Rattle.c_senses.specs.Initialised.{seen}
 use Rattle.c_senses.specs.Sense.{Sense, Nothing, IsCore, IsInitial, sense_in}
 use Rattle.c_senses.specs.Rows.{AreSenses, row_of}
-use Rattle.family_laws.specs.Families.{Families}
-use Rattle.span_laws.specs.Spans.{Spans, over, Runs, Spanned}
-use Rattle.count_rows.specs.Counts.{Count, own_weight, unless_left_out, count_under, count_of, count_full, total, init_total, items_total}
-use Rattle.count_rows.specs.Covers.{IsIn, value_at, stays, made_by, Covers, GivesMost}
-use Rattle.count_rows.proofs.Rows.{rows_count}
+use Rattle.parsed_tree_laws.specs.family_laws.Families.{Families}
+use Rattle.parsed_tree_laws.specs.span_laws.Spans.{Spans, over, Runs, Spanned}
+use Rattle.count_laws.specs.count_rows.Counts.{Count, own_weight, unless_left_out, count_under, count_of, count_full, total, init_total, items_total}
+use Rattle.count_laws.specs.count_rows.Covers.{IsIn, value_at, stays, made_by, Covers, GivesMost}
+use Rattle.count_laws.proofs.count_rows.Rows.{rows_count}
 use Rattle.count_laws.specs.Counting.{sum_below, left_out_of, left_out_in, of_block, seen_at, world_of, bodies, Makes, CountingLaw}
 use Rattle.count_laws.proofs.Rooms.{sum_of, taken_less, apart, runs_in, Room, Claim, plain_room, balance_run, sum_run, first_run, walk, begins_at}
 use Rattle.count_laws.proofs.Parents.{parent_is, external_none, init_none, items_none}

@@ -13,7 +13,7 @@ use Rattle.c_senses.specs.Initialised.{init_in, literal_in}
 use Rattle.c_senses.specs.Sense.{Sense, Nothing}
 use Rattle.c_senses.specs.Rows.{row_of}
 use Rattle.c_senses.specs.Tree.{Source, children_of, children_at, is_a, child_of, first_where, numbers_from, parent_of}
-use Rattle.family_laws.specs.Families.{Families, IsChild}
+use Rattle.parsed_tree_laws.specs.family_laws.Families.{Families, IsChild}
 
 in_list : (list : List ℕ) (i : ℕ) → contains list i ≡ true → (k : ℕ) × (slice_get list k ≡ Some i)
 in_list [] i h = cc

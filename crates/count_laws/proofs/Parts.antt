@@ -7,9 +7,9 @@ use Rattle.c_inits.specs.Syntax.{Designator, Init, Items}
 use Rattle.c_inits.specs.View as view
 use Rattle.c_inits.specs.View.{SyntaxPart, AnInit, AList, AnItem, ADesignator, Other, parts, part_over, list_part, or_first, first_list, init_part, first_init, with_designator, all_designators, with_item, all_items, braced_or_value, index_or_name}
 use Rattle.c_senses.specs.Tree.{Source, production_of, children_of, is_a, production_at, children_at, child_of}
-use Rattle.span_laws.specs.Spans.{Spans, over, Runs, no_more, one_more}
-use Rattle.count_rows.specs.Counts.{init_total, items_total}
-use Rattle.count_rows.specs.Covers.{IsIn}
+use Rattle.parsed_tree_laws.specs.span_laws.Spans.{Spans, over, Runs, no_more, one_more}
+use Rattle.count_laws.specs.count_rows.Counts.{init_total, items_total}
+use Rattle.count_laws.specs.count_rows.Covers.{IsIn}
 use Rattle.count_laws.proofs.Rooms.{Room, Claim, runs_le, balance_run, first_run, plain_room, apart}
 
 -- a fact of each part by its number, where one is added

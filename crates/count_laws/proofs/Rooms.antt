@@ -5,9 +5,9 @@ use Rattle.std.proofs.lemmas.Bool.{eqb-true}
 use Rattle.c_grammar.specs.Productions.{p_post}
 use Rattle.c_senses.specs.Tree.{Source, is_a, is_leaf, children_at, left_of, first_where}
 use Rattle.c_senses.specs.Sense.{Sense, Nothing}
-use Rattle.span_laws.specs.Spans.{Spans, over, Runs, no_more, one_more, weights}
-use Rattle.count_rows.specs.Counts.{Count, count_of}
-use Rattle.count_rows.specs.Covers.{IsIn}
+use Rattle.parsed_tree_laws.specs.span_laws.Spans.{Spans, over, Runs, no_more, one_more, weights}
+use Rattle.count_laws.specs.count_rows.Counts.{Count, count_of}
+use Rattle.count_laws.specs.count_rows.Covers.{IsIn}
 use Rattle.count_laws.specs.Counting.{sum_below}
 
 -- a sum over a list

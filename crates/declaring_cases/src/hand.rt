@@ -4,8 +4,9 @@ ghost use Rattle.std.specs.Prelude.{IfOk, All};
 ghost use Rattle.core_tree.specs.declared.node.Unit.{Unit as UnitSpec};
 ghost use Rattle.core_nodes.specs.Standing.{IsReady};
 ghost use Rattle.c_results.specs.Standing.{IsWithin};
-ghost use Rattle.constant_values.specs.Constants.{HasConstants};
+ghost use Rattle.c_conversions.specs.constant_values.Constants.{HasConstants};
 
+use crate::trees::Row;
 use c_grammar::{Children, SyntaxNode, Tree};
 use c_results::Results;
 use c_types::table::TypeTable;
@@ -13,12 +14,6 @@ use core_tree::node::Unit;
 use pta_base::Text;
 use std::alloc::Global;
 use std::test::Fail;
-
-// The production of a leaf.
-pub(crate) const LEAF: u32 = 4294967295;
-
-// A production with its first token and its children.
-pub(crate) type Row<'a> = (u32, u32, &'a [u32]);
 
 // One node.
 fn node_of(alloc: Global, row: &Row<'_>) -> Result<SyntaxNode, Fail> {

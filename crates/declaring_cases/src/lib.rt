@@ -2,16 +2,12 @@
 #![tactic(auto, using(core_nodes::proofs::IntegerTypes::integers))]
 
 #[cfg(test)]
-mod entities;
-#[cfg(test)]
-mod enumerators;
+mod claims;
 #[cfg(test)]
 mod hand;
 #[cfg(test)]
-mod reads;
-#[cfg(test)]
 mod results;
 #[cfg(test)]
-mod specifiers;
+mod trees;
 #[cfg(test)]
 mod types;

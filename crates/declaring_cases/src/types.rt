@@ -1,6 +1,8 @@
-// Types that a unit is asked for again.
+// Types that a unit is asked for again, and arrays of one name.
 use crate::hand::empty_unit;
-use core_nodes::trees::{int_type, pointer_type};
+use c_entities::{agree, together, with_length};
+use c_types::term::Term;
+use core_nodes::trees::{add_type, int_type, pointer_type};
 use std::test::Fail;
 
 // A unit has each type once: asked again for int and for a pointer to it, it gets none more (C11 6.2.5).
@@ -19,7 +21,38 @@ fn each_once(rt: HostRuntime) -> Result<(), Fail> {
     let Ok(_other) = pointer_type(&mut unit, again) else {
         return Err(Fail::new("no pointer again"));
     };
-    assert!(rt; again == int);
-    assert!(rt; unit.types.type_count() == 2);
+    assert!(rt; again == int && unit.types.type_count() == 2);
+    Ok(())
+}
+
+// `extern int a[];` and `int a[3];` agree and give `int[3]` together, in either order (C11 6.2.7p3).
+#[test]
+fn length_wins(rt: HostRuntime) -> Result<(), Fail> {
+    let alloc = rt.alloc();
+    let mut unit = empty_unit(alloc)?;
+    let Ok(int) = int_type(&mut unit) else {
+        return Err(Fail::new("int"));
+    };
+    let Ok(open) = add_type(
+        &mut unit,
+        Term::Array {
+            of: int,
+            length: None,
+        },
+    ) else {
+        return Err(Fail::new("int[]"));
+    };
+    let Ok(fixed) = with_length(&mut unit, Some(3), open) else {
+        return Err(Fail::new("int[3]"));
+    };
+    let agrees = [
+        agree(&unit.types, open, fixed),
+        !agree(&unit.types, int, fixed),
+        together(&unit.types, open, fixed) == fixed,
+        together(&unit.types, fixed, open) == fixed,
+    ];
+    for (at, holds) in agrees.iter().enumerate() {
+        assert!(rt; *holds, "claim {at}");
+    }
     Ok(())
 }

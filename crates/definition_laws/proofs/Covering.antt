@@ -12,7 +12,7 @@ use Rattle.c_grammar.specs.Terminals.{contains}
 use Rattle.c_grammar.specs.Tree.{makes_node}
 use Rattle.c_grammar.specs.Reads.{State, Fault, Node, leaf, node_of, first, second, taken, scoped, opened, closed, Walks, Opens, at_end, token, no_token, use_of, no_use, choice, no_choice, no_alternative, again, no_again, scope, enough, deep, refused, whole, broken}
 use Rattle.c_parser.specs.Parse.{begin}
-use Rattle.c_units.specs.Units.{IsUnit}
+use Rattle.c_parser.specs.c_units.Units.{IsUnit}
 use Rattle.definition_laws.proofs.Rows.{Mode, Calm, Head, Free, free_rows, mode_of, may_use, item_fit, Made, free, external, calm, made_by, Passes, same, quiet, looser, passed_by, one_of, either_used}
 
 abbrev pub Extends : List Node → List Node → Type 0

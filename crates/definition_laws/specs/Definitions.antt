@@ -4,13 +4,13 @@ use Rattle.c_lexer.specs.declared.Tokens.{Tokens}
 use Rattle.c_lexer.specs.Cut.{IsTokens}
 use Rattle.c_grammar.specs.declared.trees.Tree.{Tree}
 use Rattle.c_grammar.specs.Productions.{p_external, p_declaration, p_block, p_statement}
-use Rattle.c_units.specs.Units.{IsUnit}
+use Rattle.c_parser.specs.c_units.Units.{IsUnit}
 use Rattle.c_senses.specs.Names.{source_of, numbered}
 use Rattle.c_senses.specs.Tree.{Source, is_a, child_of, nearest_above}
 use Rattle.c_senses.specs.Sense.{Sense, sense_in}
 use Rattle.c_senses.specs.Entities.{declaration_of}
 use Rattle.c_senses.specs.Right.{stands_in_declaration}
-use Rattle.member_names.specs.PassedOn.{IsChild}
+use Rattle.count_laws.specs.passed.parsed_tree_laws.member_names.PassedOn.{IsChild}
 
 -- an external declaration with a block: the definition of a function
 abbrev pub is_definition : Source → ℕ → Bool
@@ -27,7 +27,10 @@ is_block_part s i = is_a s p_declaration i || (is_a s p_block i || is_a s p_stat
 -- blocks, statements and declarations within blocks
 abbrev pub BlockPartsAreDefined : Type 0
 BlockPartsAreDefined =
-    (tokens : Tokens) (unit : ℕ) (tree : Tree) (tag_number : ℕ → ℕ) (i : ℕ) → IsUnit tokens unit tree → is_block_part (numbered tag_number (source_of tokens tree)) i ≡ true → InDefinition (numbered tag_number (source_of tokens tree)) i
+    (tokens : Tokens) (unit : ℕ) (tree : Tree) (tag_number : ℕ → ℕ) (i : ℕ)
+    → IsUnit tokens unit tree
+    → is_block_part (numbered tag_number (source_of tokens tree)) i ≡ true
+    → InDefinition (numbered tag_number (source_of tokens tree)) i
 
 -- the nearest definition above a node
 pub record HasDefinition (s : Source) (i : ℕ) : Type 0 where
@@ -38,12 +41,20 @@ pub record HasDefinition (s : Source) (i : ℕ) : Type 0 where
 -- what is a child of what is or stands in a definition has one
 abbrev pub DefinitionsAreFound : Type 0
 DefinitionsAreFound =
-    (tokens : Tokens) (unit : ℕ) (tree : Tree) (tag_number : ℕ → ℕ) (p c : ℕ) → IsTokens tokens.text.now tokens.list.items → IsUnit tokens unit tree
-    → IsChild (numbered tag_number (source_of tokens tree)) p c → InDefinition (numbered tag_number (source_of tokens tree)) p → HasDefinition (numbered tag_number (source_of tokens tree)) c
+    (tokens : Tokens) (unit : ℕ) (tree : Tree) (tag_number : ℕ → ℕ) (p c : ℕ)
+    → IsTokens tokens.text.now tokens.list.items
+    → IsUnit tokens unit tree
+    → IsChild (numbered tag_number (source_of tokens tree)) p c
+    → InDefinition (numbered tag_number (source_of tokens tree)) p
+    → HasDefinition (numbered tag_number (source_of tokens tree)) c
 
 -- so has the leaf of what a declaration declares that isn't external, or the parameter of a definition
 abbrev pub LocalsAreDefined : Type 0
 LocalsAreDefined =
-    (tokens : Tokens) (unit : ℕ) (tree : Tree) (tag_number : ℕ → ℕ) (senses : List Sense) (leaf p : ℕ) → IsTokens tokens.text.now tokens.list.items → IsUnit tokens unit tree
-    → declaration_of (numbered tag_number (source_of tokens tree)) (sense_in senses) leaf ≡ Some p → is_a (numbered tag_number (source_of tokens tree)) p_external p ≡ false
-    → stands_in_declaration (numbered tag_number (source_of tokens tree)) senses leaf ≡ true → HasDefinition (numbered tag_number (source_of tokens tree)) leaf
+    (tokens : Tokens) (unit : ℕ) (tree : Tree) (tag_number : ℕ → ℕ) (senses : List Sense) (leaf p : ℕ)
+    → IsTokens tokens.text.now tokens.list.items
+    → IsUnit tokens unit tree
+    → declaration_of (numbered tag_number (source_of tokens tree)) (sense_in senses) leaf ≡ Some p
+    → is_a (numbered tag_number (source_of tokens tree)) p_external p ≡ false
+    → stands_in_declaration (numbered tag_number (source_of tokens tree)) senses leaf ≡ true
+    → HasDefinition (numbered tag_number (source_of tokens tree)) leaf

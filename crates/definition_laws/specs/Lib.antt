@@ -1,2 +1,13 @@
 pub mod Definitions
 pub mod PassedOn
+pub mod scope_laws
+pub mod block_laws
+pub mod linkage_laws
+pub mod function_definitions
+pub mod function_origins
+pub mod initialiser_laws
+pub mod parameter_lists
+pub mod single_initialisers
+pub mod own_initialisers
+pub mod earlier_initialisers
+pub mod passed

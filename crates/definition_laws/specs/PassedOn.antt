@@ -1,2 +1,2 @@
 -- What this crate passes on, from those below it to those above it.
-pub use Rattle.c_units.specs.Units.{IsUnit}
+pub use Rattle.c_parser.specs.c_units.Units.{IsUnit}

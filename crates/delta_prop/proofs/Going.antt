@@ -3,7 +3,7 @@ use Rattle.std.proofs.Common.{◌≡◌, ◌≢◌, ◌⊎◌, ℕ, ◌+◌, ◌
 use Rattle.std.specs.Int.{bit_at}
 use Rattle.std.proofs.lemmas.Option.{same_Some}
 use Rattle.std.proofs.lemmas.List.Elements.{Contains-append_left, Contains-push, Contains-push_cases}
-use Rattle.std.proofs.lemmas.Bool.{cases_eq, cases_lt}
+use Rattle.std.proofs.lemmas.Bool.{cases_eq}
 use Rattle.sol_model.proofs.Members.{at_Contains, Contains-at}
 use Rattle.sol_model.specs.Words.{Within}
 use Rattle.set_rows.specs.declared.view.View.{View}
@@ -54,25 +54,6 @@ more_ors g n a b c h k = let s : g * (n + 1) ≡ g * n + g = mul-add g n 1 ∙ a
 last_target : (to_rows : List ℕ) (i j to other : ℕ) → slice_get to_rows i ≡ Some to → j ≡ i → slice_get to_rows j ≡ Some other → other ≡ to
 last_target to_rows i j to other at e there = same_Some other to (sym there ∙ ap (slice_get to_rows) e ∙ at)
 
--- an edge along which nothing is new
-pub going_idle : (W row i to : ℕ) (to_rows done now grown : List ℕ) (v u : View) → Going W row i to_rows done now grown v u
-    → slice_get to_rows i ≡ Some to → IsSeenOf W u.seen to now → Going W row (i + 1) to_rows done now grown v u
-going_idle W row i to to_rows done now grown v u g at seen = record {
-  more = g.more;
-  sound = g.sound;
-  read = g.read;
-  done_seen = g.done_seen;
-  targets = λ j other lt there. elim (cases_eq j i) [
-    | inl e ↦ subst (λ (n : ℕ). IsSeenOf W u.seen n now) (sym (last_target to_rows i j to other at e there)) seen
-    | inr apart ↦ g.targets j other (omega arith) there
-  ];
-  within = g.within;
-  others = g.others;
-  own = g.own;
-  some = g.some;
-  ors = more_ors (gained W done now) i u.ors v.ors u.ors g.ors (omega arith);
-}
-
 -- an edge along which something went
 pub going_carried : (W row i to : ℕ) (to_rows done now grown : List ℕ) (v u w : View) → Going W row i to_rows done now grown v u
     → slice_get to_rows i ≡ Some to → OnlyAdded u w → (IsSound u → IsSound w) → IsSeenOf W w.seen to now
@@ -122,16 +103,16 @@ going_done W row i book done turn v u is sized all beside range g = record {
 
 -- a turn of a row that has nothing new
 pub going_nowhere : (W row : ℕ) (book : List (ℕ × ℕ)) (done : List ℕ) (turn : Turn) (v u : View) → turn.row ≡ row → length turn.done.items ≡ W
-    → IsSameBeside W turn.first turn.end done turn.done.items → (turn.first ≤ W) × (turn.end ≤ W) → turn.end ≤ turn.first → turn.grown.items ≡ [] → OnlyLooked v u
+    → IsSameBeside W turn.first turn.end done turn.done.items → (turn.first ≤ W) × (turn.end ≤ W) → ((k b : ℕ) → k < W → bit_at (get_or turn.done.items k 0) b ≡ 1 → bit_at (get_or done k 0) b ≡ 1) → turn.grown.items ≡ [] → OnlyLooked v u
     → ((k : ℕ) → k < W → get_or u.seen (row * W + k) 0 ≡ get_or turn.done.items k 0)
     → ((other k : ℕ) → other ≢ row → k < W → get_or u.seen (other * W + k) 0 ≡ get_or v.seen (other * W + k) 0)
     → TargetsSeen W v.seen row book done → IsTurn W book row done v u turn
-going_nowhere W row book done turn v u is sized beside range empty none more words others targets = record {
+going_nowhere W row book done turn v u is sized beside range less none more words others targets = record {
   row_is = is;
   sized = sized;
   read = λ k lt b h. ap (λ x. bit_at x b) (sym (words k lt)) ∙ more.seen (row * W + k) b h;
   done_seen = λ k lt b h. ap (λ x. bit_at x b) (words k lt) ∙ h;
-  targets = λ to edge k lt b h. more.seen (to * W + k) b (targets to edge k lt b (ap (λ x. bit_at x b) (sym (same k lt)) ∙ h));
+  targets = λ to edge k lt b h. more.seen (to * W + k) b (targets to edge k lt b (less k b lt h));
   within = λ other h. absurd (nothing other h);
   beside = beside;
   range = range;
@@ -141,8 +122,5 @@ going_nowhere W row book done turn v u is sized beside range empty none more wor
   ors = (let o = more.ors in omega arith);
 }
   where
-    same : (k : ℕ) → k < W → get_or turn.done.items k 0 ≡ get_or done k 0
-    same k lt = elim (cases_lt k turn.first) [ inl before ↦ beside k lt (inl before) | inr after ↦ beside k lt (inr (omega arith)) ]
-
     nothing : (other : ℕ) → Contains turn.grown.items other → ⊥
     nothing other h = let l : Contains {X = ℕ} [] other = subst (λ (xs : List ℕ). Contains xs other) none h in let n = l.1 in omega arith

@@ -1,6 +1,7 @@
 -- What a row has newly, and where it has gone.
-use Rattle.std.specs.Prelude.{◌≡◌, ◌⊎◌, ℕ, zero, suc, ◌+◌, ◌*◌, ◌<◌, ◌≤◌, List, slice_index, bit_and, count_ones, Contains}
-use Rattle.std.specs.Int.{bit_not, w64}
+use Rattle.std.specs.Prelude.{◌≡◌, ◌⊎◌, ℕ, zero, suc, ◌+◌, ◌*◌, ◌<◌, ◌≤◌, List, length, slice_index, bit_and, count_ones}
+use Rattle.std.specs.Prelude.{Contains}
+use Rattle.std.specs.Int.{bit_at, bit_not, w64}
 use Rattle.sol_model.specs.declared.system.System.{System}
 use Rattle.sol_model.specs.Families.{Family}
 use Rattle.sol_model.specs.Solutions.{IsEdge, IsBelow}
@@ -18,17 +19,29 @@ abbrev pub gained : ℕ → List ℕ → List ℕ → ℕ
 gained zero done now = 0
 gained (suc n) done now = gained n done now + count_ones (new_bits (slice_index done n) (slice_index now n))
 
+-- the words that have something new: each with its number, and what is new in it
+pub record AreNews (width : ℕ) (done now : List ℕ) (news : List (ℕ × ℕ)) : Type 0 where
+  pub there : (k new : ℕ) → Contains news (k, new) → (k < width) × Within new (slice_index now k)
+  pub whole : (k b : ℕ)
+      → k < width
+      → bit_at (slice_index now k) b ≡ 1
+      → (bit_at (slice_index done k) b ≡ 1) ⊎ ((new : ℕ) × Contains news (k, new) × (bit_at new b ≡ 1))
+  pub few : length news ≤ gained width done now
+
 -- the words are inside those that were seen of a row
 abbrev pub IsSeenOf : ℕ → List ℕ → ℕ → List ℕ → Type 0
-IsSeenOf width seen row words = (k : ℕ) → k < width → Within (slice_index words k) (slice_index seen (row * width + k))
+IsSeenOf width seen row words =
+    (k : ℕ) → k < width → Within (slice_index words k) (slice_index seen (row * width + k))
 
 -- no more was seen of a row than these words
 abbrev pub IsAllOf : ℕ → List ℕ → ℕ → List ℕ → Type 0
-IsAllOf width seen row words = (k : ℕ) → k < width → Within (slice_index seen (row * width + k)) (slice_index words k)
+IsAllOf width seen row words =
+    (k : ℕ) → k < width → Within (slice_index seen (row * width + k)) (slice_index words k)
 
 -- but for those from one number on and below another, the words are those that were done
 abbrev pub IsSameBeside : ℕ → ℕ → ℕ → List ℕ → List ℕ → Type 0
-IsSameBeside width first end done now = (k : ℕ) → k < width → (k < first) ⊎ (end ≤ k) → slice_index now k ≡ slice_index done k
+IsSameBeside width first end done now =
+    (k : ℕ) → k < width → (k < first) ⊎ (end ≤ k) → slice_index now k ≡ slice_index done k
 
 -- some rule demands each edge of the book
 pub record AllDemanded (S : System) (F : Family) (book : List (ℕ × ℕ)) : Type 0 where

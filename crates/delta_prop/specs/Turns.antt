@@ -12,12 +12,15 @@ TargetsSeen width seen row book done = (to : ℕ) → Contains book (row, to) �
 
 -- no more was seen of the row
 abbrev pub IsSameRow : ℕ → List ℕ → List ℕ → ℕ → Type 0
-IsSameRow width old new row = (k : ℕ) → k < width → slice_index new (row * width + k) ≡ slice_index old (row * width + k)
+IsSameRow width old new row =
+    (k : ℕ) → k < width → slice_index new (row * width + k) ≡ slice_index old (row * width + k)
 
-pub record IsTurn (width : ℕ) (book : List (ℕ × ℕ)) (row : ℕ) (done : List ℕ) (old new : View) (turn : Turn) : Type 0 where
+pub record IsTurn (width : ℕ) (book : List (ℕ × ℕ)) (row : ℕ) (done : List ℕ) (old new : View)
+    (turn : Turn) : Type 0 where
   pub row_is : turn.row ≡ row
   pub sized : length turn.done.items ≡ width
-  -- what is done now is what was read of the row: it has all that had been seen of it, and no more than is seen of it now
+  -- what is done now is what was read of the row: it has all that had been seen of it, and no more than is seen of
+  -- it now
   pub read : (k : ℕ) → k < width → Within (slice_index old.seen (row * width + k)) (slice_index turn.done.items k)
   pub done_seen : IsSeenOf width new.seen row turn.done.items
   pub targets : TargetsSeen width new.seen row book turn.done.items
@@ -29,7 +32,8 @@ pub record IsTurn (width : ℕ) (book : List (ℕ × ℕ)) (row : ℕ) (done : L
   -- the other rows of which more was seen
   pub others : (other : ℕ) → other ≢ row → Contains turn.grown.items other ⊎ IsSameRow width old.seen new.seen other
   -- the row itself, where more was seen of it than is done
-  pub own : Contains turn.grown.items row ⊎ ((k : ℕ) → k < width → slice_index new.seen (row * width + k) ≡ slice_index turn.done.items k)
+  pub own : Contains turn.grown.items row
+      ⊎ ((k : ℕ) → k < width → slice_index new.seen (row * width + k) ≡ slice_index turn.done.items k)
   -- no row grows where nothing is new
   pub some : (turn.grown.items ≡ []) ⊎ (0 < gained width done turn.done.items)
   pub ors : new.ors ≤ old.ors + gained width done turn.done.items * length (targets_of row book)

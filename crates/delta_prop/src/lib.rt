@@ -7,7 +7,7 @@ mod read;
 mod turn;
 mod work;
 
-pub use along::carry;
+pub use along::{carry, list_news};
 pub use read::has_more;
 pub use turn::Turn;
 pub use work::propagate;

@@ -6,7 +6,7 @@ ghost use Rattle.set_rows.specs.Calls.{system_of, view, IsOf};
 ghost use Rattle.delta_prop.specs.Deltas.{AllDemanded, IsSeenOf, IsSound};
 ghost use Rattle.delta_prop.specs.Turns.{IsTurn, TargetsSeen};
 
-use crate::along::carry;
+use crate::along::{carry, list_news};
 use crate::read::read_row;
 use crate::turn::Turn;
 use edge_book::PairBook;
@@ -16,8 +16,9 @@ use std::alloc::Global;
 
 /// Reads a row, and adds what is in it and not in `done` to each target of the row's edges. Some rule must demand each
 /// edge of the book from what the seat has seen. The seat must have seen the words of `done` in the row, and in each
-/// target of its edges. Where the row has nothing new, no edge is gone along. The number of steps that add is at most the number of members that are done now and weren't
-/// before, times the number of the row's edges. After want of memory the seat has only seen and added more.
+/// target of its edges. Where the row has nothing new, no edge is gone along. The number of steps that add is at most the
+/// number of members that are done now and weren't before, times the number of the row's edges. After want of memory the
+/// seat has only seen and added more.
 pub fn propagate(
     alloc: Global,
     table: &RowTable,
@@ -39,8 +40,10 @@ pub fn propagate(
     ensures turn { IfOk result (IsTurn (width_of (system_of table.now)) book.now row done.now (view seat.old) (view seat.new)) }
 {
     let read = read_row(alloc, table, seat, row, done)?;
+    let mut news = Vec::new(alloc);
+    list_news(&mut news, done, read.words.as_slice(), read.first, read.end)?;
     let mut grown = Vec::new(alloc);
-    if read.first >= read.end {
+    if news.len() == 0 {
         return Ok(Turn {
             row,
             done: read.words,
@@ -51,18 +54,8 @@ pub fn propagate(
     }
     for to in book.targets(row) {
         grown.reserve(1)?;
-        if carry(
-            table,
-            seat,
-            row,
-            *to,
-            done,
-            read.words.as_slice(),
-            read.first,
-            read.end,
-        ) {
-            grown.push_reserved(*to);
-        }
+        carry(table, seat, row, *to, done.len(), news.as_slice());
+        grown.push_reserved(*to);
     }
     Ok(Turn {
         row,

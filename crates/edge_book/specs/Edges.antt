@@ -1,5 +1,6 @@
 -- Books of edges, and the edges that one constraint demands for one member of a row.
-use Rattle.std.specs.Prelude.{◌≡◌, ◌≢◌, ℕ, ◌+◌, ◌==◌, ◌&&◌, ◌⊎◌, ◌↔◌, Bool, not, List, ◌++◌, length, filter, take, AllPairs, Contains}
+use Rattle.std.specs.Prelude.{◌≡◌, ◌≢◌, ℕ, ◌+◌, ◌==◌, ◌&&◌, ◌⊎◌, ◌↔◌, Bool, not, List, ◌++◌, length, filter, take}
+use Rattle.std.specs.Prelude.{AllPairs, Contains}
 use Rattle.std.specs.List.{list_any}
 use Rattle.std.specs.List.Sorted.{IsStrictlySortedBy}
 use Rattle.std.specs.Ordering.{ordering_then, nat_cmp}
@@ -35,7 +36,8 @@ abbrev pub with_pairs : List (ℕ × ℕ) → List (ℕ × ℕ) → List (ℕ ×
 with_pairs book pairs = book ++ filter (λ pair. not (list_any (same_pair pair) book)) pairs
 
 -- a book took in the pairs that the rule of a constraint demands of a family, and so many of them were new
-pub record TakesPairs (S : System) (F : Family) (constraint : Constraint) (old new : List (ℕ × ℕ)) (count : ℕ) : Type 0 where
+pub record TakesPairs (S : System) (F : Family) (constraint : Constraint) (old new : List (ℕ × ℕ))
+    (count : ℕ) : Type 0 where
   pub pairs : List (ℕ × ℕ)
   pub demanded : ArePairsOf S F constraint pairs
   pub book : new ≡ with_pairs old pairs

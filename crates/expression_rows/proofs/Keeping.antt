@@ -20,17 +20,17 @@ use Rattle.c_senses.specs.Sense.{Sense}
 use Rattle.c_senses.specs.Expressions.{string_bytes}
 use Rattle.core_nodes.specs.Standing.{parts_in, Knows}
 use Rattle.c_conversions.specs.Constants.{HasRows}
-use Rattle.c_rows.specs.declared.names.Named.{Named}
-use Rattle.c_rows.specs.declared.names.Named.TheVariants.{Undeclared, Object, Function, Value, NoValue}
-use Rattle.c_rows.specs.Literals.{integer_core, are_bytes, built_integer, built_text}
-use Rattle.c_rows.specs.Built.{built_primary, built_primary_of}
-use Rattle.c_rows.specs.Named.{IsNamed, IsNamedWithin, NameFits}
+use Rattle.expression_rows.specs.declared.c_rows.names.Named.{Named}
+use Rattle.expression_rows.specs.declared.c_rows.names.Named.TheVariants.{Undeclared, Object, Function, Value, NoValue}
+use Rattle.expression_rows.specs.c_rows.Literals.{integer_core, are_bytes, built_integer, built_text}
+use Rattle.expression_rows.specs.c_rows.Built.{built_primary, built_primary_of}
+use Rattle.expression_rows.specs.c_rows.Named.{IsNamed, IsNamedWithin, NameFits}
 use Rattle.sense_laws.specs.Sound.{Gives}
 use Rattle.sense_laws.proofs.Giving.{if_given}
 use Rattle.sense_laws.proofs.Literals.{integer_holds, character_holds}
-use Rattle.row_trees.specs.Trees.{SenseHasRows, ValuesFit}
-use Rattle.row_trees.proofs.Objects.{text_rows, name_rows}
-use Rattle.row_trees.proofs.Expressions.{as_sense_rows}
+use Rattle.sense_laws.specs.row_trees.Trees.{SenseHasRows, ValuesFit}
+use Rattle.sense_laws.proofs.row_trees.Objects.{text_rows, name_rows}
+use Rattle.sense_laws.proofs.row_trees.Expressions.{as_sense_rows}
 
 named_meaning : Unit → Named → Option Meaning
 named_meaning u Undeclared = None

@@ -4,7 +4,7 @@ use Rattle.std.proofs.lemmas.Bool.Decides.{eqb_tells}
 use Rattle.std.specs.Option.{option_copied}
 use Rattle.c_lexer.specs.declared.TokenKind.TheVariants.{Identifier}
 use Rattle.core_tree.specs.declared.node.Unit.{Unit}
-use Rattle.c_rows.specs.Named.{NameFits}
+use Rattle.expression_rows.specs.c_rows.Named.{NameFits}
 use Rattle.expression_rows.specs.declared.around.Around.{Around}
 use Rattle.expression_rows.specs.Fitting.{FirstFits}
 use Rattle.pta_base.specs.declared.kind.Kind.TheVariants.{Operand}

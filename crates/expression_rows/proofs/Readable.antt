@@ -16,9 +16,9 @@ use Rattle.c_senses.specs.Objects.{text_core}
 use Rattle.c_senses.specs.Sense.{Sense}
 use Rattle.c_senses.specs.Expressions.{as_sense, string_bytes, primary_of, primary_row, expression_row}
 use Rattle.c_literals.specs.Laws.{AreBytes}
-use Rattle.c_rows.specs.Literals.{integer_core, are_bytes}
-use Rattle.c_rows.specs.Built.{built_primary, built_primary_of}
-use Rattle.c_rows.proofs.Bytes.{tested, and_both}
+use Rattle.expression_rows.specs.c_rows.Literals.{integer_core, are_bytes}
+use Rattle.expression_rows.specs.c_rows.Built.{built_primary, built_primary_of}
+use Rattle.expression_rows.proofs.c_rows.Bytes.{tested, and_both}
 use Rattle.expression_rows.specs.Built.{built_row}
 use Rattle.expression_rows.specs.Readable.{LiteralsFit, IsReadable, BuiltIsWhole}
 

@@ -25,4 +25,6 @@ IsReadable s at = production_at s at ≡ p_primary → LiteralsFit s (children_a
 abbrev pub BuiltIsWhole : Type 0
 BuiltIsWhole =
     (w : World) (s : Source) (sense : ℕ → Sense) (at : ℕ)
-    → IsReadable s at → built_row w s sense (production_at s at) at (children_at s at) ≡ expression_row w s sense (production_at s at) at (children_at s at)
+    → IsReadable s at
+    → built_row w s sense (production_at s at) at (children_at s at)
+    ≡ expression_row w s sense (production_at s at) at (children_at s at)

@@ -1,5 +1,5 @@
 // What is looked up around a node of an expression.
-use c_rows::Named;
+use crate::c_rows::Named;
 
 /// What is looked up for a node of an expression before its row: what the first leaf of a primary means, where that is an identifier
 /// (C11 6.5.1); whether a function may be called where what stands behind an operand is a call (6.5.2.2), which no initialiser of an

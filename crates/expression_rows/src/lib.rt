@@ -3,9 +3,11 @@
 #![tactic(auto)]
 
 mod around;
+pub mod c_rows;
 pub mod laws;
 mod rows;
+pub mod whole_rows;
 
+pub use crate::c_rows::Named;
 pub use around::Around;
-pub use c_rows::Named;
 pub use rows::row;

@@ -8,21 +8,23 @@ ghost use Rattle.c_senses.specs.Sense.{Sense, sense_in};
 ghost use Rattle.c_senses.specs.Expressions as expressions;
 ghost use Rattle.core_nodes.specs.Standing.{IsReady, Builds, Knows};
 ghost use Rattle.c_results.specs.Standing.{sense_made, senses_made, IsWithin, Rowed};
-ghost use Rattle.c_rows.specs.Named.{IsNamedWithin};
+ghost use Rattle.expression_rows.specs.c_rows.Named.{IsNamedWithin};
 ghost use Rattle.tree_reads.specs.Sources.{source_in, source_read};
-ghost use Rattle.whole_rows.specs.Constants.{SenseHasRows, HaveRowsMade};
+ghost use Rattle.expression_rows.specs.whole_rows.Constants.{SenseHasRows, HaveRowsMade};
 ghost use Rattle.expression_rows.specs.Fitting.{FitsAround};
 ghost use Rattle.expression_rows.specs.Readable.{IsReadable};
 ghost use Rattle.expression_rows.specs.Built.{built_row};
 
 use crate::around::Around;
+use crate::c_rows::primary_row;
+use crate::whole_rows::{
+    assignment_row, binary_row, cast_row, conditional_row, post_row, unary_row,
+};
 use c_results::{Made, Results};
-use c_rows::primary_row;
 use core_nodes::CheckFault;
 use core_tree::node::Unit;
 use std::alloc::Global;
 use tree_reads::{Syntax, children_of, production_of};
-use whole_rows::{assignment_row, binary_row, cast_row, conditional_row, post_row, unary_row};
 
 const P_EXPRESSION: u32 = 31;
 

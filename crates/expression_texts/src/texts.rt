@@ -7,13 +7,13 @@ use c_check::{CheckFault, Known, Meaning, check_expression};
 use c_grammar::Tree;
 use c_lexer::Tokens;
 use c_lexer::lexer::tokens;
+use c_parser::c_units::parse_unit;
 use c_scope::{Bound, resolve};
 use c_types::table::TypeTable;
 use c_types::term::{Form, Term, TypeId, TypeList};
-use c_units::parse_unit;
 use core_tree::node::{Entity, Linkage, NodeKind, Op, Storage, Unit};
-use parsed_laws::laws::children_first;
 use pta_base::{Kind, Place, Text};
+use sense_laws::parsed_laws::laws::children_first;
 use std::alloc::Global;
 use std::test::Fail;
 

@@ -5,7 +5,7 @@ use Rattle.c_lexer.specs.declared.Tokens.{Tokens}
 use Rattle.c_lexer.specs.Cut.{IsTokens}
 use Rattle.c_types.specs.Trees.{Ctype}
 use Rattle.c_grammar.specs.declared.trees.Tree.{Tree}
-use Rattle.c_units.specs.Units.{IsUnit}
+use Rattle.c_parser.specs.c_units.Units.{IsUnit}
 use Rattle.core_tree.specs.declared.node.Unit.{Unit}
 use Rattle.core_tree.specs.declared.node.Entity.{Entity}
 use Rattle.core_tree.specs.declared.node.NodeKind.{NodeKind}
@@ -18,18 +18,18 @@ use Rattle.c_senses.specs.Tree.{Source}
 use Rattle.c_senses.specs.World.{World}
 use Rattle.c_senses.specs.Sense.{Sense, IsRun, sense_in}
 use Rattle.sense_laws.specs.Senses.{SoundSense}
-use Rattle.parsed_laws.proofs.InOrder.{children_first}
-use Rattle.statement_laws.proofs.Grammar.{statements_parsed}
-use Rattle.family_laws.proofs.Reading.{units_families}
-use Rattle.nesting_laws.proofs.Nesting.{units_nest}
-use Rattle.counted_parts.proofs.Read.{parts_are_counted}
-use Rattle.statement_shapes.proofs.Rows.{statements_shaped}
-use Rattle.label_names.proofs.Binding.{labels_bound}
-use Rattle.body_returns.specs.Returns.{IsReturnOf}
-use Rattle.body_returns.proofs.Built.{returns_fit}
-use Rattle.built_units.specs.Built.{IsBuilt}
-use Rattle.standing_laws.specs.Standing.{IsGrown, IsMade, RunsOf, RunsInitialise}
-use Rattle.standing_laws.proofs.Bodies.{function_block}
+use Rattle.sense_laws.proofs.parsed_laws.InOrder.{children_first}
+use Rattle.sense_laws.proofs.statement_laws.Grammar.{statements_parsed}
+use Rattle.parsed_tree_laws.proofs.family_laws.Reading.{units_families}
+use Rattle.parsed_tree_laws.proofs.nesting_laws.Nesting.{units_nest}
+use Rattle.parsed_tree_laws.proofs.counted_parts.Read.{parts_are_counted}
+use Rattle.parsed_tree_laws.proofs.statement_shapes.Rows.{statements_shaped}
+use Rattle.declaration_laws.proofs.label_names.Binding.{labels_bound}
+use Rattle.function_laws.specs.body_returns.Returns.{IsReturnOf}
+use Rattle.function_laws.proofs.body_returns.Built.{returns_fit}
+use Rattle.definition_laws.specs.passed.built_unit_laws.built_units.Built.{IsBuilt}
+use Rattle.declaration_laws.specs.passed.core_node_laws.standing_laws.Standing.{IsGrown, IsMade, RunsOf, RunsInitialise}
+use Rattle.declaration_laws.proofs.passed.core_node_laws.standing_laws.Bodies.{function_block}
 use Rattle.function_laws.specs.Functions.{HasLabel, GotosFit, FunctionsFit}
 use Rattle.function_laws.proofs.Gotos.{goto_there, label_once}
 

@@ -17,18 +17,18 @@ use Rattle.c_consts.specs.Core.{Core, Of, kind_of}
 use Rattle.c_senses.specs.Tree.{Source, is_a, is_leaf, is_name, is_identifier, is_number, has_sign, sign_of_kind, kind_at, spelling_at, children_at, first_where}
 use Rattle.c_senses.specs.Sense.{Sense, Nothing, IsCore, sense_in}
 use Rattle.c_senses.specs.Right.{Numbering}
-use Rattle.counted_parts.specs.Counted.{CountedParts}
-use Rattle.ordered_parts.specs.Ordered.{Beneath, itself, under}
-use Rattle.statement_shapes.specs.Shaped.{ShapedStatements}
-use Rattle.label_names.specs.Labels.{IsBody, IsLabelled, LabelsBound}
-use Rattle.standing_laws.specs.Standing.{IsGrown, IsMade, RunsInitialise}
-use Rattle.standing_laws.proofs.Bodies.{FunctionBlock}
-use Rattle.standing_laws.proofs.Descending.{F, W}
-use Rattle.marked_trees.specs.Marked.{MarksOnly}
-use Rattle.marked_trees.proofs.Marks.{number, marking, marks, marks_of}
-use Rattle.marked_trees.proofs.Trees.{found_mark}
-use Rattle.marked_trees.proofs.Nodes.{every_way, some_mark, node_found}
-use Rattle.marked_trees.proofs.Once.{never, blind_never, marks_plain, marks_blind, marked_once}
+use Rattle.parsed_tree_laws.specs.counted_parts.Counted.{CountedParts}
+use Rattle.parsed_tree_laws.specs.ordered_parts.Ordered.{Beneath, itself, under}
+use Rattle.parsed_tree_laws.specs.statement_shapes.Shaped.{ShapedStatements}
+use Rattle.declaration_laws.specs.label_names.Labels.{IsBody, IsLabelled, LabelsBound}
+use Rattle.declaration_laws.specs.passed.core_node_laws.standing_laws.Standing.{IsGrown, IsMade, RunsInitialise}
+use Rattle.declaration_laws.proofs.passed.core_node_laws.standing_laws.Bodies.{FunctionBlock}
+use Rattle.declaration_laws.proofs.passed.core_node_laws.standing_laws.Descending.{F, W}
+use Rattle.declaration_laws.specs.passed.core_node_laws.marked_trees.Marked.{MarksOnly}
+use Rattle.declaration_laws.proofs.passed.core_node_laws.marked_trees.Marks.{number, marking, marks, marks_of}
+use Rattle.declaration_laws.proofs.passed.core_node_laws.marked_trees.Trees.{found_mark}
+use Rattle.declaration_laws.proofs.passed.core_node_laws.marked_trees.Nodes.{every_way, some_mark, node_found}
+use Rattle.declaration_laws.proofs.passed.core_node_laws.marked_trees.Once.{never, blind_never, marks_plain, marks_blind, marked_once}
 use Rattle.function_laws.proofs.Says.{SaysOf, is_jump, label_core}
 use Rattle.function_laws.proofs.Parts.{Begun, begun, body_holds}
 

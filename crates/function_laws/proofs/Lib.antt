@@ -2,3 +2,4 @@ pub mod Says
 pub mod Parts
 pub mod Gotos
 pub mod Functions
+pub mod passed

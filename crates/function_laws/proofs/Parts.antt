@@ -16,19 +16,19 @@ use Rattle.c_senses.specs.World.{World}
 use Rattle.c_senses.specs.Sense.{Sense, IsCore, sense_in, fits}
 use Rattle.c_senses.specs.Rows.{AreSenses}
 use Rattle.c_senses.specs.Statements.{statements_among, statement_row, leaf_statement, expression_statement}
-use Rattle.family_laws.specs.Families.{IsChild}
+use Rattle.parsed_tree_laws.specs.family_laws.Families.{IsChild}
 use Rattle.sense_laws.specs.Sound.{Gives}
-use Rattle.counted_parts.specs.Counted.{CountedParts}
-use Rattle.ordered_parts.specs.Ordered.{Beneath, itself, under}
-use Rattle.statement_shapes.specs.Shaped.{is_part, of_word, allowed, ShapedStatements}
-use Rattle.standing_laws.specs.Standing.{IsGrown, RunsInitialise, RunsOf}
-use Rattle.standing_laws.proofs.Climbing.{list_in, child_inside}
-use Rattle.standing_laws.proofs.Kept.{opens}
-use Rattle.standing_laws.proofs.Descending.{F, W, row_there, sense_before, child_before, same_given}
-use Rattle.marked_trees.proofs.Beneath.{where_has, has_where}
-use Rattle.marked_trees.proofs.Earlier.{earlier}
-use Rattle.marked_trees.proofs.Marks.{Weight, IsPlain, goes_in, marks, marks_all, marks_of, total, reach, Exact, leaf_exact}
-use Rattle.marked_trees.proofs.Trees.{stands_within, M, T, statements_of, opened_weighs, weighs, block_shape}
+use Rattle.parsed_tree_laws.specs.counted_parts.Counted.{CountedParts}
+use Rattle.parsed_tree_laws.specs.ordered_parts.Ordered.{Beneath, itself, under}
+use Rattle.parsed_tree_laws.specs.statement_shapes.Shaped.{is_part, of_word, allowed, ShapedStatements}
+use Rattle.declaration_laws.specs.passed.core_node_laws.standing_laws.Standing.{IsGrown, RunsInitialise, RunsOf}
+use Rattle.declaration_laws.proofs.passed.core_node_laws.standing_laws.Climbing.{list_in, child_inside}
+use Rattle.declaration_laws.proofs.passed.core_node_laws.standing_laws.Kept.{opens}
+use Rattle.declaration_laws.proofs.passed.core_node_laws.standing_laws.Descending.{F, W, row_there, sense_before, child_before, same_given}
+use Rattle.declaration_laws.proofs.passed.core_node_laws.marked_trees.Beneath.{where_has, has_where}
+use Rattle.declaration_laws.proofs.passed.core_node_laws.marked_trees.Earlier.{earlier}
+use Rattle.declaration_laws.proofs.passed.core_node_laws.marked_trees.Marks.{Weight, IsPlain, goes_in, marks, marks_all, marks_of, total, reach, Exact, leaf_exact}
+use Rattle.declaration_laws.proofs.passed.core_node_laws.marked_trees.Trees.{stands_within, M, T, statements_of, opened_weighs, weighs, block_shape}
 use Rattle.function_laws.proofs.Says.{limit, Says, leaf_says, is_jump, expression_quiet}
 
 gives_is : {A : Type 0} (P : A → Type 0) (g : Given A) (x : A) → Gives P g → g ≡ Fits x → P x

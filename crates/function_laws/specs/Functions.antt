@@ -6,7 +6,7 @@ use Rattle.c_types.specs.Trees.{Ctype}
 use Rattle.c_grammar.specs.declared.trees.Tree.{Tree}
 use Rattle.c_scope.specs.declared.resolving.Bound.{Bound}
 use Rattle.c_scope.specs.Resolves.{IsBound}
-use Rattle.c_units.specs.Units.{IsUnit}
+use Rattle.c_parser.specs.c_units.Units.{IsUnit}
 use Rattle.core_tree.specs.declared.node.Unit.{Unit}
 use Rattle.core_tree.specs.declared.node.Entity.{Entity}
 use Rattle.core_tree.specs.declared.node.NodeKind.{NodeKind}
@@ -19,7 +19,7 @@ use Rattle.c_senses.specs.Names.{source_of, numbered}
 use Rattle.c_senses.specs.World.{World}
 use Rattle.c_senses.specs.Sense.{sense_in}
 use Rattle.sense_laws.specs.Senses.{SoundSense}
-use Rattle.built_units.specs.Built.{IsBuilt}
+use Rattle.definition_laws.specs.passed.built_unit_laws.built_units.Built.{IsBuilt}
 
 -- a goto has its label in a body exactly once
 abbrev pub HasLabel : CoreTrees → ℕ → NodeKind → Type 0
@@ -28,18 +28,35 @@ HasLabel u b kind = ⊤
 
 -- so has each goto that stands in the body of a function
 abbrev pub GotosHaveLabels : CoreTrees → Type 0
-GotosHaveLabels u = (e b : ℕ) (entity : Entity) → entity_at u e ≡ Some entity → entity.storage ≡ FunctionBody → entity.body ≡ Some b → EachNode u (λ n node. Under u b n → HasLabel u b node.kind)
+GotosHaveLabels u =
+    (e b : ℕ) (entity : Entity)
+    → entity_at u e ≡ Some entity
+    → entity.storage ≡ FunctionBody
+    → entity.body ≡ Some b
+    → EachNode u (λ n node. Under u b n → HasLabel u b node.kind)
 
 -- where names are bound, all senses are sound and nodes stand in their rows
 abbrev pub GotosFit : Type 0
 GotosFit =
-    (tokens : Tokens) (unit : ℕ) (tree : Tree) (tag_number : ℕ → ℕ) (name : List ℕ) (u : Unit) (bound : Bound) → IsTokens tokens.text.now tokens.list.items → IsUnit tokens unit tree → IsBound tokens tree bound
-    → (built : IsBuilt (numbered tag_number (source_of tokens tree)) name u) (w : World) (entities : ℕ → Option Ctype) → ((i : ℕ) → SoundSense w entities (sense_in built.senses i))
+    (tokens : Tokens) (unit : ℕ) (tree : Tree) (tag_number : ℕ → ℕ) (name : List ℕ) (u : Unit)
+    (bound : Bound)
+    → IsTokens tokens.text.now tokens.list.items
+    → IsUnit tokens unit tree
+    → IsBound tokens tree bound
+    → (built : IsBuilt (numbered tag_number (source_of tokens tree)) name u) (w : World)
+    (entities : ℕ → Option Ctype)
+    → ((i : ℕ) → SoundSense w entities (sense_in built.senses i))
     → InRows (trees_of u) → GotosHaveLabels (trees_of u)
 
 -- and bodies are right too
 abbrev pub FunctionsFit : Type 0
 FunctionsFit =
-    (tokens : Tokens) (unit : ℕ) (tree : Tree) (tag_number : ℕ → ℕ) (name : List ℕ) (u : Unit) (bound : Bound) → IsTokens tokens.text.now tokens.list.items → IsUnit tokens unit tree → IsBound tokens tree bound
-    → (built : IsBuilt (numbered tag_number (source_of tokens tree)) name u) (w : World) (entities : ℕ → Option Ctype) → ((i : ℕ) → SoundSense w entities (sense_in built.senses i))
+    (tokens : Tokens) (unit : ℕ) (tree : Tree) (tag_number : ℕ → ℕ) (name : List ℕ) (u : Unit)
+    (bound : Bound)
+    → IsTokens tokens.text.now tokens.list.items
+    → IsUnit tokens unit tree
+    → IsBound tokens tree bound
+    → (built : IsBuilt (numbered tag_number (source_of tokens tree)) name u) (w : World)
+    (entities : ℕ → Option Ctype)
+    → ((i : ℕ) → SoundSense w entities (sense_in built.senses i))
     → InRows (trees_of u) → Bodied (trees_of u) → InFunctions (trees_of u)

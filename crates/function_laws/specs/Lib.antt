@@ -1,1 +1,8 @@
 pub mod Functions
+pub mod body_laws
+pub mod body_returns
+pub mod case_laws
+pub mod result_laws
+pub mod function_bodies
+pub mod named_definitions
+pub mod passed

@@ -15,8 +15,8 @@ use Rattle.c_inits.specs.Tables.{shape_in}
 use Rattle.c_inits.specs.Syntax.{Init, Items, Braces, init_node}
 use Rattle.c_inits.specs.Initial.{Outcome, NoPlace}
 use Rattle.c_inits.specs.View as view
-use Rattle.c_braces.specs.declared.items.Initialised.{Initialised}
-use Rattle.c_braces.specs.Initialised.{outcome_for}
+use Rattle.c_initialise.specs.declared.c_braces.items.Initialised.{Initialised}
+use Rattle.c_initialise.specs.c_braces.Initialised.{outcome_for}
 use Rattle.c_senses.specs.Given.{Given, Refuses, ◌>>=◌}
 use Rattle.c_senses.specs.World.{World}
 use Rattle.c_senses.specs.Tree.{Source, production_of}

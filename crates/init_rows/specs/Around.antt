@@ -21,7 +21,8 @@ abbrev pub object_at : Source → (ℕ → Sense) → ℕ → Option ℕ
 object_at s sense at =
     elim (parent_of s at) [
       | None ↦ None
-      | Some p ↦ if is_a s p_rest p then option_and_then (λ d. name_within (sense d)) (initialised_by s sense at) else None
+      | Some p ↦ if is_a s p_rest p
+          then option_and_then (λ d. name_within (sense d)) (initialised_by s sense at) else None
     ]
 
 -- what is asked of a world around a list of initialisers

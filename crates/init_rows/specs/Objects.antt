@@ -7,8 +7,8 @@ use Rattle.core_tree.specs.declared.node.Unit.{Unit}
 use Rattle.c_inits.specs.Made.{shape_for}
 use Rattle.c_inits.specs.Initial.{Outcome, NoPlace}
 use Rattle.c_inits.specs.View as view
-use Rattle.c_braces.specs.declared.items.Initialised.{Initialised}
-use Rattle.c_braces.specs.Initialised.{IsGiven}
+use Rattle.c_initialise.specs.declared.c_braces.items.Initialised.{Initialised}
+use Rattle.c_initialise.specs.c_braces.Initialised.{IsGiven}
 use Rattle.c_senses.specs.Tree.{Source}
 use Rattle.c_senses.specs.World.{World}
 use Rattle.c_senses.specs.Sense.{Sense}
@@ -33,19 +33,26 @@ module _ (w : World) (s : Source) (sense : ℕ → Sense) where
   -- what the initialiser at a node gives an object of a type
   abbrev pub object_given : Bool → ℕ → Place → Ctype → ℕ → Given (Made w s sense)
   object_given static entity place t at =
-      outcome_of w s sense at (shape_for w.fillable most_elements t) (view.init_at (seen w s sense) s.nodes at) >>= made_of w s sense static entity place t
+      outcome_of w s sense at (shape_for w.fillable most_elements t)
+      (view.init_at (seen w s sense) s.nodes at) >>= made_of w s sense static entity place t
 
   -- what the list at a node gives the object of a compound literal, by its brace
   abbrev pub list_given : Bool → ℕ → Place → Ctype → ℕ → ℕ → Given (Made w s sense)
   list_given static entity place t brace at =
-      outcome_of w s sense brace (shape_for w.fillable most_elements t) (braced w s sense brace (view.items_at (seen w s sense) s.nodes at)) >>= made_of w s sense static entity place t
+      outcome_of w s sense brace (shape_for w.fillable most_elements t)
+      (braced w s sense brace (view.items_at (seen w s sense) s.nodes at)) >>= made_of w s sense static
+      entity place t
 
   -- the outcome of an initialiser, and of a list
   abbrev pub IsOutcome : Ctype → ℕ → Outcome → Type 0
-  IsOutcome t at o = (static : Bool) (entity : ℕ) (place : Place) → object_given static entity place t at ≡ made_of w s sense static entity place t o
+  IsOutcome t at o =
+      (static : Bool) (entity : ℕ) (place : Place)
+      → object_given static entity place t at ≡ made_of w s sense static entity place t o
 
   abbrev pub IsOutcomeOf : Ctype → ℕ → ℕ → Outcome → Type 0
-  IsOutcomeOf t brace at o = (static : Bool) (entity : ℕ) (place : Place) → list_given static entity place t brace at ≡ made_of w s sense static entity place t o
+  IsOutcomeOf t brace at o =
+      (static : Bool) (entity : ℕ) (place : Place)
+      → list_given static entity place t brace at ≡ made_of w s sense static entity place t o
 
   -- what a call answers of it: the node with the length that is given, or the refusal
   abbrev pub ObjectGiven : Unit → Result Object CheckFault → Given (Made w s sense) → Type 0

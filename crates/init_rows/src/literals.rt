@@ -15,7 +15,7 @@ ghost use Rattle.c_senses.specs.Entities as entities;
 ghost use Rattle.c_senses.specs.Initialised as spec;
 ghost use Rattle.core_nodes.specs.Standing.{core_at, IsReady, Builds, Knows, Made as CoreMade};
 ghost use Rattle.c_conversions.specs.Constants.{HasRows};
-ghost use Rattle.constant_values.specs.Constants.{HasConstants};
+ghost use Rattle.c_conversions.specs.constant_values.Constants.{HasConstants};
 ghost use Rattle.c_results.specs.Standing.{senses_made, sense_made, IsWithin, Rowed};
 ghost use Rattle.tree_reads.specs.Sources.{source_read, source_in};
 ghost use Rattle.name_places.specs.Named.{IsNamedIn};

@@ -10,14 +10,14 @@ ghost use Rattle.c_senses.specs.Sense.{sense_in};
 ghost use Rattle.c_senses.specs.Initialised.{made_of};
 ghost use Rattle.core_nodes.specs.Standing.{core_at, IsReady, Builds};
 ghost use Rattle.c_conversions.specs.Constants.{HasRows};
-ghost use Rattle.constant_values.specs.Constants.{HasConstants};
+ghost use Rattle.c_conversions.specs.constant_values.Constants.{HasConstants};
 ghost use Rattle.c_results.specs.Standing.{senses_made, IsWithin};
 ghost use Rattle.tree_reads.specs.Sources.{source_read, source_in};
 ghost use Rattle.c_initials.specs.Scope.{IsTold};
 ghost use Rattle.c_initials.specs.Filling.{Fills};
 ghost use Rattle.init_rows.specs.Objects.{object_given, list_given, ObjectGiven, IsOutcome, IsOutcomeOf, OutcomeIs};
 
-use c_braces::items::Initialised;
+use c_initialise::c_braces::items::Initialised;
 use c_initialise::facts::Source;
 use c_initialise::whole::{initialise_literal, initialise_node};
 use c_initials::objects::object_made;

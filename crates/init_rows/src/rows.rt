@@ -9,7 +9,7 @@ ghost use Rattle.c_senses.specs.Sense.{sense_in};
 ghost use Rattle.c_senses.specs.Limits.{within_limits};
 ghost use Rattle.c_senses.specs.Initialised as spec;
 ghost use Rattle.core_nodes.specs.Standing.{IsReady, Builds};
-ghost use Rattle.constant_values.specs.Constants.{HasConstants};
+ghost use Rattle.c_conversions.specs.constant_values.Constants.{HasConstants};
 ghost use Rattle.c_results.specs.Standing.{senses_made, sense_made, IsWithin, Rowed};
 ghost use Rattle.tree_reads.specs.Sources.{source_in};
 ghost use Rattle.c_meanings.specs.Known.{AreNamed};

@@ -3,7 +3,8 @@ use Rattle.std.specs.Prelude.{ℕ, zero, suc, ◌+◌, List, [], ◌∷◌, Opti
 use Rattle.std.specs.Option.{option_map}
 use Rattle.std.specs.Str.{bytes_eq}
 use Rattle.pta_base.specs.declared.effect.Effect.{Effect}
-use Rattle.pta_base.specs.declared.effect.Effect.TheVariants.{Nothing, GivesArgument, GivesNew, GivesObject, Copies, StoresInto, CallsBack}
+use Rattle.pta_base.specs.declared.effect.Effect.TheVariants.{Nothing, GivesArgument, GivesNew, GivesObject, Copies}
+use Rattle.pta_base.specs.declared.effect.Effect.TheVariants.{StoresInto, CallsBack}
 
 -- A shape has a letter for each argument, then `>` and the result: p an object pointer, i an integer, f a function
 -- pointer, a dot further arguments, v void. An object has the letter of its type alone.
@@ -85,7 +86,8 @@ pub record Numbered : Type 0 where
 
 abbrev pub find_from : ℕ → List Row → List ℕ → Option Numbered
 find_from n [] name = None
-find_from n (r ∷ rest) name = cond (bytes_eq r.name name) (Some (record { number = n; row = r })) (find_from (n + 1) rest name)
+find_from n (r ∷ rest) name =
+    cond (bytes_eq r.name name) (Some (record { number = n; row = r })) (find_from (n + 1) rest name)
 
 -- the number and row of a library name
 unfoldable pub summary_of : List ℕ → Option Numbered

@@ -19,8 +19,8 @@ use Rattle.c_senses.specs.Declarators.{is_declarator, is_outermost, outermost_of
 use Rattle.c_senses.specs.Entities.{behind, declares_function, without_asm, in_rest, initialiser_in, initialiser_of, is_typedef, is_parameter, has_function_words, words_go, named_row, parameter_named, by_place}
 use Rattle.c_senses.specs.Sense.{Sense, Nothing, IsDeclarator, IsDerivation, Derivation, sense_in}
 use Rattle.c_senses.specs.Rows.{row_of, row, world_at, AreSenses, at_its_name, declarator_row}
-use Rattle.placed_laws.proofs.Rows.{declarators}
-use Rattle.placed_laws.proofs.Climbing.{equal, no_both, exists_at, found_where, is_other_in, is_other, AllOther, AtMostOne, IsDeclaring, IsNamedPart, Grown}
+use Rattle.parsed_tree_laws.proofs.placed_laws.Rows.{declarators}
+use Rattle.parsed_tree_laws.proofs.placed_laws.Climbing.{equal, no_both, exists_at, found_where, is_other_in, is_other, AllOther, AtMostOne, IsDeclaring, IsNamedPart, Grown}
 
 three_of : (p : ℕ) → contains declarators p ≡ true → (p ≡ 19) ⊎ ((p ≡ 20) ⊎ (p ≡ 21))
 three_of p h = by (nat_eq 19 p) (nat_eq 20 p) (nat_eq 21 p) refl refl refl h

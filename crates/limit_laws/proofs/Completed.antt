@@ -17,7 +17,7 @@ use Rattle.c_senses.specs.Limits.{is_small}
 use Rattle.c_senses.specs.Right.{is_tag, TagsDiffer}
 use Rattle.c_senses.specs.Rows.{world_at, AreSenses}
 use Rattle.sense_laws.specs.Senses.{ChildrenFirst}
-use Rattle.family_laws.specs.Families.{Families}
+use Rattle.parsed_tree_laws.specs.family_laws.Families.{Families}
 use Rattle.unit_worlds.specs.Growing.{completed_at}
 use Rattle.unit_worlds.proofs.Entries.{completed_more}
 use Rattle.unit_worlds.proofs.Completing.{after, entry_for, look_append}

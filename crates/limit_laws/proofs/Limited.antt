@@ -14,7 +14,7 @@ use Rattle.c_grammar.specs.Productions.{p_struct}
 use Rattle.c_grammar.specs.Terminals.{contains}
 use Rattle.c_grammar.specs.Reads.{Node, node_of, leaf}
 use Rattle.c_parser.specs.Parse.{begin}
-use Rattle.c_units.specs.Units.{IsUnit}
+use Rattle.c_parser.specs.c_units.Units.{IsUnit}
 use Rattle.c_mentions.specs.Syntax as syntax
 use Rattle.c_senses.specs.Names.{source_of, names_of, numbered}
 use Rattle.c_senses.specs.Tree.{Source, is_name, is_identifier, kind_of_token, token_of, production_of, children_of, production_at, children_at}
@@ -26,12 +26,12 @@ use Rattle.c_senses.specs.Sense.{Sense, Nothing, IsCore, IsType, IsSpecified, Is
 use Rattle.c_senses.specs.Rows.{world_at, AreSenses}
 use Rattle.sense_laws.specs.Senses.{ChildrenFirst}
 use Rattle.sense_laws.specs.Sound.{Gives}
-use Rattle.family_laws.specs.Families.{Families}
-use Rattle.family_laws.proofs.Reading.{units_families}
-use Rattle.placed_laws.proofs.Rows.{declarators}
-use Rattle.placed_laws.proofs.Climbing.{Grown, IsNamedPart}
-use Rattle.placed_laws.proofs.Growing.{grown_read}
-use Rattle.placed_laws.proofs.Names as names
+use Rattle.parsed_tree_laws.specs.family_laws.Families.{Families}
+use Rattle.parsed_tree_laws.proofs.family_laws.Reading.{units_families}
+use Rattle.parsed_tree_laws.proofs.placed_laws.Rows.{declarators}
+use Rattle.parsed_tree_laws.proofs.placed_laws.Climbing.{Grown, IsNamedPart}
+use Rattle.parsed_tree_laws.proofs.placed_laws.Growing.{grown_read}
+use Rattle.parsed_tree_laws.proofs.placed_laws.Names as names
 use Rattle.c_declarators.specs.Limited.{parameters_limited, IsLimited, AreLimited}
 use Rattle.limit_laws.specs.Limits.{UnitsAreLimited}
 use Rattle.limit_laws.proofs.Reading.{list_in, side_of, taken_sense, taken_past, before, around, row_whole}

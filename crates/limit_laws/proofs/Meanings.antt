@@ -18,8 +18,8 @@ use Rattle.c_senses.specs.Rows.{world_at, row_of, declarator_row, AreSenses}
 use Rattle.sense_laws.specs.Senses.{ChildrenFirst}
 use Rattle.sense_laws.specs.Sound.{Gives}
 use Rattle.sense_laws.proofs.Giving.{and_left, and_right}
-use Rattle.family_laws.specs.Families.{Families}
-use Rattle.placed_laws.proofs.Climbing.{IsNamedPart, Grown}
+use Rattle.parsed_tree_laws.specs.family_laws.Families.{Families}
+use Rattle.parsed_tree_laws.proofs.placed_laws.Climbing.{IsNamedPart, Grown}
 use Rattle.limit_laws.proofs.Reading.{found, parent_is, side_of, taken_sense, taken_past, before, around, row_whole, grows_to}
 use Rattle.limit_laws.proofs.Deriving.{Within, derived_within}
 use Rattle.limit_laws.proofs.Shapes.{declarators_give}

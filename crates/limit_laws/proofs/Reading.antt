@@ -14,7 +14,7 @@ use Rattle.c_senses.specs.Rows.{world_at, row, row_of, AreSenses}
 use Rattle.sense_laws.specs.Senses.{ChildrenFirst}
 use Rattle.sense_laws.specs.Laws.{Grows}
 use Rattle.sense_laws.proofs.Completing.{grown_by_one}
-use Rattle.family_laws.specs.Families.{IsChild, Families}
+use Rattle.parsed_tree_laws.specs.family_laws.Families.{IsChild, Families}
 
 -- ---- what a row that fits says
 

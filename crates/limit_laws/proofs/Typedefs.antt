@@ -28,8 +28,8 @@ use Rattle.c_senses.specs.Names.{is_typedef_kind, names_type}
 use Rattle.c_scope.specs.declared.kinds.NameFault.TheVariants as fault
 use Rattle.c_scope.specs.Known.{Happening, Known, known, nothing_known, after, after_use, after_tag, after_tag_use, after_tag_reference, after_label, after_goto, innermost, tag_declared, first_scope, declared_by, first_label, is_first, with_fault, is_function, kind_of}
 use Rattle.c_scope.specs.Resolves.{bindings, happenings, happenings_from}
-use Rattle.placed_laws.proofs.Rows.{left, either, declarators}
-use Rattle.placed_laws.proofs.Names.{found, IsDeclarator, IsNamedPart}
+use Rattle.parsed_tree_laws.proofs.placed_laws.Rows.{left, either, declarators}
+use Rattle.parsed_tree_laws.proofs.placed_laws.Names.{found, IsDeclarator, IsNamedPart}
 
 -- the declaration that is found of a list
 module _ (P : Declared → Type 0) where

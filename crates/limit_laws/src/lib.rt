@@ -2,3 +2,6 @@
 #![tactic(auto)]
 
 pub mod laws;
+pub mod literal_laws;
+pub mod member_laws;
+pub mod struct_laws;

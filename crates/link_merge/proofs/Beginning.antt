@@ -3,10 +3,10 @@ use Rattle.std.proofs.Common.{◌≡◌, ℕ, List, length, sym, ◌∙◌, Opti
 use Rattle.c_types.specs.Table.{Table}
 use Rattle.core_tree.specs.declared.node.Unit.{Unit}
 use Rattle.link_model.specs.declared.item.Item.{Item}
-use Rattle.link_types.specs.Joined.{tag_in}
-use Rattle.link_types.specs.Leaders.{AreLeaders}
-use Rattle.link_types.specs.Starts.{AreSums}
-use Rattle.link_program.specs.Merging.{AreMerged}
+use Rattle.link_model.specs.link_types.Joined.{tag_in}
+use Rattle.link_model.specs.link_types.Leaders.{AreLeaders}
+use Rattle.link_model.specs.link_types.Starts.{AreSums}
+use Rattle.unit_link.specs.link_program.Merging.{AreMerged}
 use Rattle.link_merge.specs.Tags.{AreKept, AreTags, tag_counts_of, AreLabelled}
 use Rattle.link_merge.specs.Counted.{AreOfTags, AreLeadersOf, AreCounted}
 use Rattle.link_merge.specs.Classes.{AreClasses, AreCountedAs, AreCollected, IsSettled}

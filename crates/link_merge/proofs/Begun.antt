@@ -7,7 +7,7 @@ use Rattle.std.proofs.lemmas.List.{length-map}
 use Rattle.std.proofs.lemmas.List.Elements.{All-from_get_or}
 use Rattle.std.proofs.lemmas.Option.{slice_get-map, slice_get-get_or, get_or_from_slice_get}
 use Rattle.c_types.specs.Table.{Table}
-use Rattle.link_types.specs.Leaders.{AreLeaders}
+use Rattle.link_model.specs.link_types.Leaders.{AreLeaders}
 use Rattle.link_merge.specs.Codes.{AreFirstIds}
 use Rattle.link_merge.specs.Kids.{begun}
 use Rattle.link_merge.proofs.Codes.{first_if_same}

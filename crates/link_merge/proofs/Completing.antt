@@ -11,7 +11,7 @@ use Rattle.c_types.specs.Layout.{Extent, Look, Completed, extent_of, repeated, o
 use Rattle.c_types.specs.Table.{Table, TagMembers, types_of, type_of, look_in, extents_in, members_in, members_among}
 use Rattle.c_types.specs.Made.{StandsAsStructure, StandsAsUnion, IsComplete, IsFlexible, IsMember, AreMembers, AreNamed, IsMade, HasWidth, HasBits, earlier}
 use Rattle.link_model.specs.Renamed.{renamed}
-use Rattle.link_types.specs.Moved.{HasTypes}
+use Rattle.link_model.specs.link_types.Moved.{HasTypes}
 use Rattle.link_merge.specs.Complete.{moved_member, AreDone}
 use Rattle.link_merge.proofs.Terms.{type_is, term_at, structure_term, union_term}
 

@@ -10,8 +10,8 @@ use Rattle.link_model.specs.declared.item.Item.{Item}
 use Rattle.link_model.specs.Units.{item, types_if, IsTag, is_union, is_union_of}
 use Rattle.link_model.specs.Apart.{MayBeOne}
 use Rattle.link_model.specs.Partition.{number, Joins}
-use Rattle.link_types.specs.Moved.{Keyed}
-use Rattle.link_types.specs.Joined.{AreKeyed, tag_in}
+use Rattle.link_model.specs.link_types.Moved.{Keyed}
+use Rattle.link_model.specs.link_types.Joined.{AreKeyed, tag_in}
 use Rattle.link_merge.specs.Tags.{AreMade, AreTags, place_in}
 use Rattle.link_merge.proofs.Counting.{labelled_key}
 use Rattle.link_merge.proofs.Places.{tag_of_unit}

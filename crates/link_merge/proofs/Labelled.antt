@@ -10,9 +10,9 @@ use Rattle.link_model.specs.declared.item.Item.{Item}
 use Rattle.link_model.specs.Units.{IsTag, Label, label_at, SameKey, list_at}
 use Rattle.link_model.specs.Apart.{MayBeOne}
 use Rattle.link_model.specs.Partition.{number}
-use Rattle.link_types.specs.Joined.{AreStarts}
-use Rattle.link_types.specs.Leaders.{AreLeaders}
-use Rattle.link_program.proofs.Leading.{one_if_alike, alike_if_one}
+use Rattle.link_model.specs.link_types.Joined.{AreStarts}
+use Rattle.link_model.specs.link_types.Leaders.{AreLeaders}
+use Rattle.unit_link.proofs.link_program.Leading.{one_if_alike, alike_if_one}
 use Rattle.link_merge.specs.Keys.{label_code}
 use Rattle.link_merge.specs.Tags.{AreKept, AreTags, place_in, AreLabelled}
 use Rattle.link_merge.specs.Counted.{IsListed, CountedAt, AreLeadersOf, AreCounted}

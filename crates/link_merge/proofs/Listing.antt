@@ -9,7 +9,7 @@ use Rattle.c_types.specs.declared.term.MemberTerm.{MemberTerm}
 use Rattle.c_types.specs.Trees.{tree_at, grown}
 use Rattle.c_types.specs.Table.{Table, TagMembers, members_in, members_among}
 use Rattle.core_tree.specs.declared.node.Unit.{Unit}
-use Rattle.link_types.specs.Moved.{HasTypes}
+use Rattle.link_model.specs.link_types.Moved.{HasTypes}
 use Rattle.link_merge.specs.Complete.{moved_member, IsCompleted, AreDone, AreListed}
 use Rattle.link_merge.specs.Classes.{AreShown}
 use Rattle.link_merge.proofs.Completing.{among_first}

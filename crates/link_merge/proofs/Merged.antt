@@ -15,10 +15,10 @@ use Rattle.link_model.specs.Renamed.{renamed}
 use Rattle.link_model.specs.Partition.{number, Listed, listed}
 use Rattle.link_model.specs.Merged.{tag_of, AreMoved, HasType, HasList, IsMerged}
 use Rattle.link_model.proofs.Partition.{one_by_number}
-use Rattle.link_types.specs.Joined.{AreStarts, tag_in}
-use Rattle.link_types.specs.Leaders.{leaders_below}
-use Rattle.link_program.specs.Merging.{placed, AreMerged}
-use Rattle.link_program.proofs.Numbering.{led_by}
+use Rattle.link_model.specs.link_types.Joined.{AreStarts, tag_in}
+use Rattle.link_model.specs.link_types.Leaders.{leaders_below}
+use Rattle.unit_link.specs.link_program.Merging.{placed, AreMerged}
+use Rattle.unit_link.proofs.link_program.Numbering.{led_by}
 use Rattle.link_merge.specs.Tags.{AreMade, AreTags, place_in}
 use Rattle.link_merge.specs.Classes.{CountsFor, AreCountedAs, lead_in, IsSettled}
 use Rattle.link_merge.specs.Complete.{moved_member, AreListed}

@@ -5,9 +5,9 @@ use Rattle.core_tree.specs.declared.node.Unit.{Unit}
 use Rattle.link_model.specs.declared.item.Item.{Item}
 use Rattle.link_model.specs.Units.{IsTag}
 use Rattle.link_model.specs.Partition.{number, Joins, Separates}
-use Rattle.link_types.specs.Joined.{AreStarts, tag_in}
-use Rattle.link_types.specs.Leaders.{AreLeaders, AreNumbers, leaders_below}
-use Rattle.link_types.proofs.Numbering.{one_leader, number_below}
+use Rattle.link_model.specs.link_types.Joined.{AreStarts, tag_in}
+use Rattle.link_model.specs.link_types.Leaders.{AreLeaders, AreNumbers, leaders_below}
+use Rattle.link_model.proofs.link_types.Numbering.{one_leader, number_below}
 use Rattle.link_merge.specs.Tags.{AreTags, place_in}
 use Rattle.link_merge.specs.Classes.{lead_in, AreClasses}
 use Rattle.link_merge.proofs.Places.{number_at_place}

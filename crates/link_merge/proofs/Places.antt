@@ -8,9 +8,9 @@ use Rattle.c_types.proofs.Push.{slice_get_push, slice_get_left}
 use Rattle.core_tree.specs.declared.node.Unit.{Unit}
 use Rattle.link_model.specs.declared.item.Item.{Item}
 use Rattle.link_model.specs.Units.{item, IsTag, types_if}
-use Rattle.link_types.specs.Joined.{AreStarts, tag_in}
-use Rattle.link_types.specs.Starts.{AreSums}
-use Rattle.link_types.proofs.StartLemmas.{starts_of}
+use Rattle.link_model.specs.link_types.Joined.{AreStarts, tag_in}
+use Rattle.link_model.specs.link_types.Starts.{AreSums}
+use Rattle.link_model.proofs.link_types.StartLemmas.{starts_of}
 use Rattle.link_merge.specs.Tags.{tag_counts_of, place_in, IsBefore, TagsUpTo, AreTags}
 
 pub same_item : (a b : Item) → a.unit ≡ b.unit → a.number ≡ b.number → a ≡ b

@@ -6,7 +6,7 @@ use Rattle.std.proofs.lemmas.Bool.{cases_lt}
 use Rattle.core_tree.specs.declared.node.Unit.{Unit}
 use Rattle.link_model.specs.declared.item.Item.{Item}
 use Rattle.link_model.specs.Units.{IsTag, types_if, is_union, is_union_of, key_at, key_if, keys_if, label_at}
-use Rattle.link_types.specs.Starts.{AreSums}
+use Rattle.link_model.specs.link_types.Starts.{AreSums}
 use Rattle.link_merge.specs.Keys.{label_code}
 use Rattle.link_merge.specs.Tags.{tag_counts_of, place_in, AreKept, UnionsUpTo, AreUnions, label_with}
 use Rattle.link_merge.proofs.Labelled.{starts_rise}

@@ -7,9 +7,9 @@ use Rattle.c_types.specs.Table.{Table}
 use Rattle.core_tree.specs.declared.node.Unit.{Unit}
 use Rattle.link_model.specs.declared.item.Item.{Item}
 use Rattle.link_model.specs.Units.{item}
-use Rattle.link_types.specs.Joined.{AreStarts, AreKeyed}
-use Rattle.link_types.specs.Leaders.{AreLeaders, AreNumbers}
-use Rattle.link_types.proofs.Numbering.{number_below}
+use Rattle.link_model.specs.link_types.Joined.{AreStarts, AreKeyed}
+use Rattle.link_model.specs.link_types.Leaders.{AreLeaders, AreNumbers}
+use Rattle.link_model.proofs.link_types.Numbering.{number_below}
 use Rattle.link_merge.specs.Keys.{AllStand}
 use Rattle.link_merge.specs.Tags.{place_in}
 use Rattle.link_merge.specs.Counted.{AreOfTags}

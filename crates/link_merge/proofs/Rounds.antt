@@ -13,9 +13,9 @@ use Rattle.link_model.specs.Apart.{CountsAs, MayBeOne}
 use Rattle.link_model.specs.Renamed.{renamed}
 use Rattle.link_model.specs.Partition.{number, Listed, listed, IsStable, Parted}
 use Rattle.link_model.proofs.Partition.{separates_more}
-use Rattle.link_types.specs.Joined.{AreStarts, tag_in}
-use Rattle.link_types.specs.Leaders.{AreNumbers}
-use Rattle.link_program.proofs.Leading.{alike_leaders, one_if_alike, alike_if_one}
+use Rattle.link_model.specs.link_types.Joined.{AreStarts, tag_in}
+use Rattle.link_model.specs.link_types.Leaders.{AreNumbers}
+use Rattle.unit_link.proofs.link_program.Leading.{alike_leaders, one_if_alike, alike_if_one}
 use Rattle.link_merge.specs.Codes.{members_code, AreFirstIds}
 use Rattle.link_merge.specs.Keys.{tag_code}
 use Rattle.link_merge.specs.Tags.{AreKept, AreMade, AreTags, place_in}

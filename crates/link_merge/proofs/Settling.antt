@@ -7,10 +7,10 @@ use Rattle.std.proofs.lemmas.Option.{slice_get_within}
 use Rattle.c_types.specs.Table.{Table, type_of}
 use Rattle.core_tree.specs.declared.node.Unit.{Unit}
 use Rattle.link_model.specs.declared.item.Item.{Item}
-use Rattle.link_types.specs.Joined.{AreJoined, types_before, tag_in}
-use Rattle.link_types.specs.Leaders.{AreLeaders}
-use Rattle.link_types.specs.Starts.{AreSums}
-use Rattle.link_program.specs.Alike.{Alike}
+use Rattle.link_model.specs.link_types.Joined.{AreJoined, types_before, tag_in}
+use Rattle.link_model.specs.link_types.Leaders.{AreLeaders}
+use Rattle.link_model.specs.link_types.Starts.{AreSums}
+use Rattle.unit_link.specs.link_program.Alike.{Alike}
 use Rattle.link_merge.specs.Classes.{IsRefined, AreShown}
 use Rattle.link_merge.specs.Kids.{AreFiner}
 

@@ -8,9 +8,9 @@ use Rattle.std.proofs.lemmas.Bool.Decides.{eqb_tells}
 use Rattle.std.proofs.lemmas.List.{length-map, get_or_past}
 use Rattle.std.proofs.lemmas.Option.{slice_get-map, slice_get_within, slice_get_read, slice_get-get_or, get_or_from_slice_get}
 use Rattle.c_types.proofs.Push.{slice_get_push, slice_get_left}
-use Rattle.link_types.specs.Leaders.{AreLeaders}
-use Rattle.link_program.specs.Alike.{AreAlike}
-use Rattle.link_program.proofs.Leading.{one_if_alike}
+use Rattle.link_model.specs.link_types.Leaders.{AreLeaders}
+use Rattle.unit_link.specs.link_program.Alike.{AreAlike}
+use Rattle.unit_link.proofs.link_program.Leading.{one_if_alike}
 use Rattle.link_merge.specs.Parted.{lists_of, list_of, Lists, Distinct, begin, many, kid, AreParted, MembersUpTo, AreNodes, node_key, IsRenumbered, IsSplit}
 
 some_one : {X : Type 0} → {x y : X} → ◌≡◌ {A = Option X} (Some x) (Some y) → x ≡ y

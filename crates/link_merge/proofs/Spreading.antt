@@ -19,8 +19,8 @@ use Rattle.link_model.specs.Matching.{Matches, Mentions, member_type, ListsMatch
 use Rattle.link_model.specs.Apart.{Apart, differ, mention, CountsAs, MayBeOne}
 use Rattle.link_model.specs.Partition.{number, Listed, listed, HasTags, Joins, MembersHaveTags}
 use Rattle.link_model.proofs.Partition.{matches_same, compared}
-use Rattle.link_types.specs.Joined.{AreStarts, tag_in, types_before}
-use Rattle.link_program.proofs.Leading.{alike_leaders, one_if_alike, alike_if_one}
+use Rattle.link_model.specs.link_types.Joined.{AreStarts, tag_in, types_before}
+use Rattle.unit_link.proofs.link_program.Leading.{alike_leaders, one_if_alike, alike_if_one}
 use Rattle.link_merge.specs.Codes.{AreFirstIds}
 use Rattle.link_merge.specs.Kids.{term_kids, list_kids, own_kids, tag_kids, types_kids, all_kids, begun, IsSpread, IsTold, AreFiner}
 use Rattle.link_merge.specs.Parted.{list_of, Distinct, begin, many, kid}

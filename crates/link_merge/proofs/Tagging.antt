@@ -4,7 +4,7 @@ use Rattle.std.specs.List.{slice_get}
 use Rattle.c_types.specs.declared.term.MemberTerm.{MemberTerm}
 use Rattle.c_types.specs.Table.{Table, members_in}
 use Rattle.c_types.specs.Made.{StandsAsStructure, StandsAsUnion, AreMembers, AreNamed, IsMade}
-use Rattle.link_types.specs.Moved.{HasTypes}
+use Rattle.link_model.specs.link_types.Moved.{HasTypes}
 use Rattle.link_merge.specs.Complete.{moved_member, AreDone}
 use Rattle.link_merge.proofs.Completing.{among_first, among_some, stands_within, members_moved}
 

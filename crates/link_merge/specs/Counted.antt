@@ -1,5 +1,6 @@
 -- Which member list counts for each tag.
-use Rattle.std.specs.Prelude.{ℕ, ◌≡◌, ◌<◌, ◌≤◌, ◌⊎◌, Bool, cond, List, Option, Some, None, IsSome, length, slice_get, slice_index}
+use Rattle.std.specs.Prelude.{ℕ, ◌≡◌, ◌<◌, ◌≤◌, ◌⊎◌, Bool, cond, List, Option, Some, None, IsSome, length}
+use Rattle.std.specs.Prelude.{slice_get, slice_index}
 use Rattle.std.specs.List.{slice_index_or}
 use Rattle.core_tree.specs.declared.node.Unit.{Unit}
 use Rattle.link_model.specs.declared.item.Item.{Item}
@@ -32,7 +33,8 @@ FirstListed units tags leaders upto l None = (j : ℕ) → j < upto → IsListed
 FirstListed units tags leaders upto l (Some h) = IsFirstListed units tags leaders upto l h
 
 -- the first of the first so many tags of each leader that has a list
-pub record FirstsUpTo (units : List Unit) (tags : List Item) (leaders : List ℕ) (upto : ℕ) (list : List (Option ℕ)) : Type 0 where
+pub record FirstsUpTo (units : List Unit) (tags : List Item) (leaders : List ℕ) (upto : ℕ)
+    (list : List (Option ℕ)) : Type 0 where
   pub all : length list ≡ length tags
   pub each : (l : ℕ) → l < length tags → FirstListed units tags leaders upto l (slice_index_or list l None)
 
@@ -44,8 +46,12 @@ kept_first None has here = cond has (Some here) None
 -- the tag whose list counts: itself, where it has a list, else the first one of its leader that has one
 abbrev pub CountedAt : List Unit → List Item → List ℕ → ℕ → Item → Option ℕ → Type 0
 CountedAt units tags leaders g a o =
-    ((o ≡ Some g) × IsSome (list_at units a)) ⊎ ((list_at units a ≡ None) × FirstListed units tags leaders (length tags) (slice_index leaders g) o)
+    ((o ≡ Some g) × IsSome (list_at units a))
+    ⊎ ((list_at units a ≡ None) × FirstListed units tags leaders (length tags) (slice_index leaders g) o)
 
-pub record AreCounted (units : List Unit) (tags : List Item) (leaders : List ℕ) (counted : List (Option ℕ)) : Type 0 where
+pub record AreCounted (units : List Unit) (tags : List Item) (leaders : List ℕ)
+    (counted : List (Option ℕ)) : Type 0 where
   pub all : length counted ≡ length tags
-  pub each : (g : ℕ) (a : Item) → slice_get tags g ≡ Some a → CountedAt units tags leaders g a (slice_index_or counted g None)
+  pub each : (g : ℕ) (a : Item)
+      → slice_get tags g ≡ Some a
+      → CountedAt units tags leaders g a (slice_index_or counted g None)

@@ -1,6 +1,7 @@
--- Tags and types of units as nodes: a type's kids are the types and the tag of its term, a tag's kids the types of the members
--- of the list that counts for it.
-use Rattle.std.specs.Prelude.{ℕ, ◌≡◌, ◌+◌, ◌<◌, ◌≤◌, List, [], ◌∷◌, ◌++◌, Option, Some, None, length, map, take, slice_index}
+-- Tags and types of units as nodes: a type's kids are the types and the tag of its term, a tag's kids the types of
+-- the members of the list that counts for it.
+use Rattle.std.specs.Prelude.{ℕ, ◌≡◌, ◌+◌, ◌<◌, ◌≤◌, List, [], ◌∷◌, ◌++◌, Option, Some, None, length, map, take}
+use Rattle.std.specs.Prelude.{slice_index}
 use Rattle.std.specs.List.{slice_index_or}
 use Rattle.c_types.specs.declared.term.Term.{Term}
 use Rattle.c_types.specs.declared.term.Term.TheVariants.{Pointer, Array, Function, Structure, Union}
@@ -9,7 +10,7 @@ use Rattle.c_types.specs.Table.{Table}
 use Rattle.core_tree.specs.declared.node.Unit.{Unit}
 use Rattle.link_model.specs.declared.item.Item.{Item}
 use Rattle.link_model.specs.Units.{item, list_at}
-use Rattle.link_program.specs.Alike.{AreAlike}
+use Rattle.unit_link.specs.link_program.Alike.{AreAlike}
 use Rattle.link_merge.specs.Codes.{AreFirstIds}
 use Rattle.link_merge.specs.Parted.{AreParted}
 
@@ -39,11 +40,14 @@ tag_kids units nodes tags (Some h) = own_kids units nodes (slice_index_or tags h
 abbrev pub types_kids : List ℕ → List ℕ → ℕ → List Unit → List (List ℕ)
 types_kids nodes tag_starts u [] = []
 types_kids nodes tag_starts u (x ∷ units) =
-    map (term_kids (slice_index nodes u) (slice_index tag_starts u)) x.types.terms ++ types_kids nodes tag_starts (u + 1) units
+    map (term_kids (slice_index nodes u) (slice_index tag_starts u)) x.types.terms
+    ++ types_kids nodes tag_starts (u + 1) units
 
--- The kids of all nodes: first all tags, then the types of each unit, where the nodes of those of unit u begin at a number.
+-- The kids of all nodes: first all tags, then the types of each unit, where the nodes of those of unit u begin at a
+-- number.
 abbrev pub all_kids : List Unit → List ℕ → List ℕ → List Item → List (Option ℕ) → List (List ℕ)
-all_kids units nodes tag_starts tags counted = map (tag_kids units nodes tags) counted ++ types_kids nodes tag_starts 0 units
+all_kids units nodes tag_starts tags counted =
+    map (tag_kids units nodes tags) counted ++ types_kids nodes tag_starts 0 units
 
 -- the class in which each node begins: tags with their leaders, types with the first of the same type
 abbrev pub begun : List ℕ → List ℕ → List ℕ

@@ -1,5 +1,6 @@
 -- The tags of all units, in order.
-use Rattle.std.specs.Prelude.{ℕ, ◌≡◌, ◌+◌, ◌<◌, ◌⊎◌, cond, Bool, false, List, ◌∷◌, Option, Some, length, map, sum, slice_get, slice_index}
+use Rattle.std.specs.Prelude.{ℕ, ◌≡◌, ◌+◌, ◌<◌, ◌⊎◌, cond, Bool, false, List, ◌∷◌, Option, Some, length, map, sum}
+use Rattle.std.specs.Prelude.{slice_get, slice_index}
 use Rattle.std.specs.List.{slice_index_or}
 use Rattle.std.specs.Option.{option_map}
 use Rattle.c_types.specs.Made.{IsMade, AreNamed}
@@ -7,7 +8,7 @@ use Rattle.core_tree.specs.declared.node.Unit.{Unit}
 use Rattle.core_tree.specs.Valid.{Keyed}
 use Rattle.link_model.specs.declared.item.Item.{Item}
 use Rattle.link_model.specs.Units.{IsTag, is_union, label_at}
-use Rattle.link_program.specs.Alike.{AreAlike}
+use Rattle.unit_link.specs.link_program.Alike.{AreAlike}
 use Rattle.link_merge.specs.Keys.{label_code}
 
 abbrev pub tag_counts_of : List Unit → List ℕ
@@ -45,7 +46,10 @@ pub record AreTags (units : List Unit) (starts : List ℕ) (tags : List Item) : 
 -- which of the tags of the units before one stand in unions
 pub record UnionsUpTo (units : List Unit) (starts : List ℕ) (u : ℕ) (unions : List Bool) : Type 0 where
   pub many : length unions ≡ slice_index starts u
-  pub each : (a : Item) → IsTag units a → a.unit < u → slice_index_or unions (place_in starts a) false ≡ is_union units a
+  pub each : (a : Item)
+      → IsTag units a
+      → a.unit < u
+      → slice_index_or unions (place_in starts a) false ≡ is_union units a
 
 pub record AreUnions (units : List Unit) (starts : List ℕ) (unions : List Bool) : Type 0 where
   pub many : length unions ≡ sum (tag_counts_of units)
@@ -57,7 +61,9 @@ label_with union key = option_map (λ k. cond union 1 0 ∷ k) key
 -- the label of each tag
 pub record AreLabels (units : List Unit) (tags : List Item) (labels : List (Option (List ℕ))) : Type 0 where
   pub many : length labels ≡ length tags
-  pub each : (g : ℕ) (a : Item) → slice_get tags g ≡ Some a → slice_get labels g ≡ Some (option_map label_code (label_at units a))
+  pub each : (g : ℕ) (a : Item)
+      → slice_get tags g ≡ Some a
+      → slice_get labels g ≡ Some (option_map label_code (label_at units a))
 
 -- the first tag of the label of each tag
 pub record AreLabelled (units : List Unit) (tags : List Item) (leaders : List ℕ) : Type 0 where

@@ -2,8 +2,8 @@
 
 ghost use Rattle.std.specs.Prelude.{◌≡◌, ◌<◌, ◌≤◌, ◌+◌, ◌^◌, ℕ, [], IfOk, OnOk, IsSome, length, map, All, slice_index};
 ghost use Rattle.c_types.specs.Table.{members_in};
-ghost use Rattle.link_types.specs.Joined.{AreStarts, tag_in};
-ghost use Rattle.link_types.specs.Moved.{HasTypes};
+ghost use Rattle.link_model.specs.link_types.Joined.{AreStarts, tag_in};
+ghost use Rattle.link_model.specs.link_types.Moved.{HasTypes};
 ghost use Rattle.link_merge.specs.Classes.{AreShown};
 ghost use Rattle.link_merge.specs.Complete.{moved_member, IsCompleted, AreDone, AreListed};
 

@@ -3,7 +3,7 @@
 ghost use Rattle.std.specs.Prelude.{◌≡◌, ◌<◌, ◌+◌, ◌^◌, ℕ, None, IfOk, OnOk, length, slice_set};
 ghost use Rattle.link_merge.specs.Tags.{AreTags};
 ghost use Rattle.std.specs.List.{slice_index_or};
-ghost use Rattle.link_types.specs.Leaders.{AreLeaders};
+ghost use Rattle.link_model.specs.link_types.Leaders.{AreLeaders};
 ghost use Rattle.link_merge.specs.Counted.{FirstsUpTo, AreCounted, AreOfTags, AreLeadersOf, kept_first};
 
 use crate::lists::has_list;

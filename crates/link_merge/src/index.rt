@@ -3,8 +3,8 @@
 ghost use Rattle.std.specs.Prelude.{◌≡◌, ◌<◌, ◌^◌, ℕ, List, None, Some, IfOk, OnOk, length, map};
 ghost use Rattle.c_types.specs.Index.{number_at};
 ghost use Rattle.link_names.specs.Firsts.{first_or, known_after};
-ghost use Rattle.link_types.specs.Leaders.{AreLeaders};
-ghost use Rattle.link_program.specs.Alike.{AreAlike, first_labelled, known_with};
+ghost use Rattle.link_model.specs.link_types.Leaders.{AreLeaders};
+ghost use Rattle.unit_link.specs.link_program.Alike.{AreAlike, first_labelled, known_with};
 ghost use Rattle.link_merge.specs.Keys.{key_of, keys_of};
 
 use pta_base::OutOfMemory;

@@ -2,8 +2,8 @@
 
 ghost use Rattle.std.specs.Prelude.{◌≡◌, ◌<◌, ◌^◌, Some, IfOk, length, slice_get};
 ghost use Rattle.link_model.specs.Units.{IsTag, key_at};
-ghost use Rattle.link_types.specs.Leaders.{AreLeaders};
-ghost use Rattle.link_types.specs.Starts.{AreSums};
+ghost use Rattle.link_model.specs.link_types.Leaders.{AreLeaders};
+ghost use Rattle.link_model.specs.link_types.Starts.{AreSums};
 ghost use Rattle.link_merge.specs.Keys.{key_of, keys_of};
 ghost use Rattle.link_merge.specs.Tags.{AreKept, AreTags, AreLabels, AreLabelled, label_with, tag_counts_of};
 

@@ -2,8 +2,8 @@
 
 ghost use Rattle.std.specs.Prelude.{◌≡◌, ◌<◌, ◌^◌, IfOk, length, map};
 ghost use Rattle.core_tree.specs.declared.node.Unit.{Unit as UnitSpec};
-ghost use Rattle.link_types.specs.Starts.{AreSums};
-ghost use Rattle.link_program.specs.Merging.{AreMerged};
+ghost use Rattle.link_model.specs.link_types.Starts.{AreSums};
+ghost use Rattle.unit_link.specs.link_program.Merging.{AreMerged};
 ghost use Rattle.link_merge.specs.Classes.{AreClasses, AreCountedAs};
 ghost use Rattle.link_merge.specs.Tags.{AreKept, AreMade, AreTags, tag_counts_of};
 
@@ -15,7 +15,7 @@ use crate::tags::{all_tags, tables_told};
 use c_types::table::TypeTable;
 use core_tree::Unit;
 use link_model::Item;
-use link_types::starts::{starts, tag_counts, type_counts};
+use link_model::link_types::starts::{starts, tag_counts, type_counts};
 use pta_base::OutOfMemory;
 use std::alloc::Global;
 

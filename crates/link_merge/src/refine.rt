@@ -5,7 +5,7 @@ ghost use Rattle.std.specs.List.{slice_index_or};
 ghost use Rattle.link_merge.specs.Counted.{AreOfTags};
 ghost use Rattle.link_merge.specs.Keys.{keys_of, AllStand};
 ghost use Rattle.link_merge.specs.Classes.{AreClasses, AreCollected, AreRoundKeys, IsRefined, IsRound, IsSettled};
-ghost use Rattle.link_types.specs.Leaders.{AreLeaders};
+ghost use Rattle.link_model.specs.link_types.Leaders.{AreLeaders};
 ghost use Rattle.link_merge.specs.Kids.{all_kids, IsTold};
 ghost use Rattle.link_merge.specs.Parted.{lists_of};
 
@@ -16,8 +16,8 @@ use crate::spread::spread;
 use c_types::table::TypeTable;
 use core_tree::Unit;
 use link_model::Item;
-use link_types::join::joined;
-use link_types::leaders::numbered;
+use link_model::link_types::join::joined;
+use link_model::link_types::leaders::numbered;
 use pta_base::OutOfMemory;
 use std::alloc::Global;
 

@@ -1,7 +1,7 @@
 //! What a round has told apart, spread to all tags that mention such, by their types.
 
 ghost use Rattle.std.specs.Prelude.{◌≡◌, ◌<◌, ◌≤◌, ◌^◌, ◌∷◌, [], ℕ, Some, All, IfOk, length, map, slice_index, take};
-ghost use Rattle.link_types.specs.Leaders.{AreLeaders};
+ghost use Rattle.link_model.specs.link_types.Leaders.{AreLeaders};
 ghost use Rattle.link_merge.specs.Keys.{keys_of};
 ghost use Rattle.link_merge.specs.Kids.{begun, IsSpread};
 ghost use Rattle.link_merge.specs.Parted.{lists_of};

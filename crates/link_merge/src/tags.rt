@@ -1,12 +1,12 @@
 //! All tags of the units, in order.
 
 ghost use Rattle.std.specs.Prelude.{◌≡◌, ◌<◌, ◌^◌, ◌+◌, IfOk, OnOk, length};
-ghost use Rattle.link_types.specs.Starts.{AreSums};
+ghost use Rattle.link_model.specs.link_types.Starts.{AreSums};
 ghost use Rattle.link_merge.specs.Tags.{AreMade, AreTags, AreUnions, TagsUpTo, tag_counts_of};
 
 use core_tree::Unit;
 use link_model::Item;
-use link_types::labels::unions_of;
+use link_model::link_types::labels::unions_of;
 use pta_base::OutOfMemory;
 use std::alloc::Global;
 

@@ -5,7 +5,7 @@ use Rattle.std.proofs.lemmas.Option.{slice_get_within}
 use Rattle.std.specs.List.{slice_get}
 use Rattle.core_tree.specs.declared.node.Node.{Node}
 use Rattle.unit_link.specs.Places.{IsPlaced}
-use Rattle.link_program.proofs.Rows.{get_left, get_right}
+use Rattle.unit_link.proofs.link_program.Rows.{get_left, get_right}
 use Rattle.link_units.specs.Nodes.{StandsMoved, AreAdded}
 
 some_one : {X : Type 0} → {x y : X} → ◌≡◌ {A = Option X} (Some x) (Some y) → x ≡ y

@@ -7,8 +7,8 @@ use Rattle.c_types.specs.Table.{Table, TagMembers, members_in, members_among}
 use Rattle.c_types.specs.Made.{IsMade}
 use Rattle.core_tree.specs.declared.node.Unit.{Unit}
 use Rattle.link_model.specs.Merged.{Numbering, AreMoved, HasList, IsMerged}
-use Rattle.link_program.specs.Merging.{placed, AreMerged}
-use Rattle.link_program.specs.Ready.{IsGrown}
+use Rattle.unit_link.specs.link_program.Merging.{placed, AreMerged}
+use Rattle.unit_link.specs.link_program.Ready.{IsGrown}
 
 abbrev TypesIn : ℕ → List MemberTerm → Type 0
 TypesIn n [] = ⊤

@@ -13,14 +13,14 @@ use Rattle.core_tree.specs.declared.node.Unit.{Unit}
 use Rattle.core_tree.specs.declared.node.Node.{Node}
 use Rattle.core_tree.specs.Range.{named_by, listed_by}
 use Rattle.link_model.specs.Units.{item, types_if}
-use Rattle.link_types.specs.Starts.{AreSums}
+use Rattle.link_model.specs.link_types.Starts.{AreSums}
 use Rattle.unit_link.specs.Places.{nodes_before}
 use Rattle.unit_link.specs.Needs.{AreLinkable}
-use Rattle.link_program.specs.declared.numbers.EntityNumbers.{EntityNumbers}
-use Rattle.link_program.specs.Merging.{AreMerged}
-use Rattle.link_program.specs.Rows.{AreEntityNumbers, all_entities, label_of, entity_in, counts_of}
-use Rattle.link_program.proofs.Numbering.{start_at}
-use Rattle.link_whole.specs.Placed.{AreNamed}
+use Rattle.unit_link.specs.declared.link_program.numbers.EntityNumbers.{EntityNumbers}
+use Rattle.unit_link.specs.link_program.Merging.{AreMerged}
+use Rattle.unit_link.specs.link_program.Rows.{AreEntityNumbers, all_entities, label_of, entity_in, counts_of}
+use Rattle.unit_link.proofs.link_program.Numbering.{start_at}
+use Rattle.link_units.specs.link_whole.Placed.{AreNamed}
 use Rattle.link_units.specs.Nodes.{node_counts_of, StandsMoved, AreAdded, AreUnitNodes, ArePlaceable, AreNodesOf}
 use Rattle.c_types.specs.Table.{Table}
 

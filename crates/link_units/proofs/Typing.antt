@@ -8,14 +8,14 @@ use Rattle.core_tree.specs.declared.node.Program.{Program}
 use Rattle.core_tree.specs.Typed.{trees_in}
 use Rattle.core_tree.specs.Range.{InRange}
 use Rattle.link_model.specs.Units.{item, types_if}
-use Rattle.link_types.specs.Starts.{AreSums}
+use Rattle.link_model.specs.link_types.Starts.{AreSums}
 use Rattle.unit_link.specs.Linked.{Linked}
 use Rattle.unit_link.specs.Needs.{AreLinkable}
-use Rattle.link_program.specs.declared.numbers.EntityNumbers.{EntityNumbers}
-use Rattle.link_program.specs.Checked.{joined_by}
-use Rattle.link_program.specs.Merging.{AreMerged}
-use Rattle.link_whole.specs.Entities.{AreEntitiesOf}
-use Rattle.link_whole.proofs.Numbered.{types_within}
+use Rattle.unit_link.specs.declared.link_program.numbers.EntityNumbers.{EntityNumbers}
+use Rattle.unit_link.specs.link_program.Checked.{joined_by}
+use Rattle.unit_link.specs.link_program.Merging.{AreMerged}
+use Rattle.link_units.specs.link_whole.Entities.{AreEntitiesOf}
+use Rattle.link_units.proofs.link_whole.Numbered.{types_within}
 use Rattle.linked_laws.proofs.Origins.{node_from}
 use Rattle.linked_laws.proofs.Ranges.{in_range}
 use Rattle.link_units.specs.Nodes.{node_counts_of, AreNodesOf}

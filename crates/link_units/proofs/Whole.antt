@@ -11,16 +11,16 @@ use Rattle.type_rules.specs.Sizes.{HasSignature}
 use Rattle.core_tree.specs.declared.node.Unit.{Unit}
 use Rattle.core_tree.specs.declared.node.Program.{Program}
 use Rattle.link_model.specs.Units.{item, types_if}
-use Rattle.link_types.specs.Starts.{AreSums}
+use Rattle.link_model.specs.link_types.Starts.{AreSums}
 use Rattle.unit_link.specs.Linked.{Linked, NodesLinked}
 use Rattle.unit_link.specs.Needs.{AreLinkable}
-use Rattle.link_program.specs.declared.numbers.EntityNumbers.{EntityNumbers}
-use Rattle.link_program.specs.Checked.{joined_by}
-use Rattle.link_program.specs.Merging.{placed, AreMerged}
-use Rattle.link_program.specs.Ready.{AreReady}
-use Rattle.link_entities.specs.Row.{numbers_of}
-use Rattle.link_whole.specs.Entities.{AreEntitiesOf}
-use Rattle.link_whole.proofs.Numbered.{entities_linked}
+use Rattle.unit_link.specs.declared.link_program.numbers.EntityNumbers.{EntityNumbers}
+use Rattle.unit_link.specs.link_program.Checked.{joined_by}
+use Rattle.unit_link.specs.link_program.Merging.{placed, AreMerged}
+use Rattle.unit_link.specs.link_program.Ready.{AreReady}
+use Rattle.link_units.specs.link_entities.Row.{numbers_of}
+use Rattle.link_units.specs.link_whole.Entities.{AreEntitiesOf}
+use Rattle.link_units.proofs.link_whole.Numbered.{entities_linked}
 use Rattle.link_units.specs.Nodes.{node_counts_of, AreNodesOf}
 use Rattle.link_units.proofs.Noding.{nodes_start}
 

@@ -4,26 +4,26 @@ ghost use Rattle.std.specs.Prelude.{IfOk, MatchResult};
 ghost use Rattle.core_tree.specs.Range.{InRange};
 ghost use Rattle.core_tree.specs.Typed.{trees_in};
 ghost use Rattle.core_tree.specs.Valid.{ValidProgram};
-ghost use Rattle.filled_units.specs.Filled.{AreFilled};
-ghost use Rattle.link_types.specs.Starts.{AreSums};
+ghost use Rattle.link_model.specs.filled_units.Filled.{AreFilled};
+ghost use Rattle.link_model.specs.link_types.Starts.{AreSums};
 ghost use Rattle.link_units.specs.Nodes.{node_counts_of};
 ghost use Rattle.link_names.specs.Said.{IsFaultUnless};
-ghost use Rattle.link_program.specs.Merging.{AreMerged};
+ghost use Rattle.unit_link.specs.link_program.Merging.{AreMerged};
 ghost use Rattle.unit_link.specs.Linked.{Linked, LinksBadly};
 ghost use Rattle.unit_link.specs.Needs.{AreLinkable};
 
+use crate::link_whole::single::entities_of;
 use crate::nodes::names_and_nodes;
 use c_types::table::TypeTable;
 use core_tree::{Program, Unit};
 use link_merge::merge;
 use link_merge::tags::tables_told;
+use link_model::link_types::starts::starts;
 use link_names::LinkFault;
-use link_program::counts::node_counts;
-use link_program::ready::ready;
-use link_types::starts::starts;
-use link_whole::single::entities_of;
 use pta_base::OutOfMemory;
 use std::alloc::Global;
+use unit_link::link_program::counts::node_counts;
+use unit_link::link_program::ready::ready;
 
 // Where each unit's nodes begin in the program.
 fn node_starts_of(alloc: Global, units: &[Unit]) -> Result<Vec<u32>, OutOfMemory>

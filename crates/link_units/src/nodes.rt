@@ -3,16 +3,16 @@
 ghost use Rattle.std.specs.Prelude.{◌≡◌, ◌<◌, ◌≤◌, ◌+◌, ◌^◌, ℕ, Some, IfOk, OnOk, drop, length, map, slice_get, slice_index};
 ghost use Rattle.core_tree.specs.declared.node.Unit.{Unit as UnitSpec};
 ghost use Rattle.core_tree.specs.declared.node.Node.{Node as NodeSpec};
-ghost use Rattle.link_types.specs.Starts.{AreSums};
-ghost use Rattle.link_program.specs.Rows.{entity_in};
-ghost use Rattle.link_whole.specs.Placed.{AreNamed};
+ghost use Rattle.link_model.specs.link_types.Starts.{AreSums};
+ghost use Rattle.unit_link.specs.link_program.Rows.{entity_in};
+ghost use Rattle.link_units.specs.link_whole.Placed.{AreNamed};
 ghost use Rattle.link_units.specs.Nodes.{AreAdded, AreUnitNodes, ArePlaceable, AreNodesOf, node_counts_of};
 
 use core_tree::{Node, Unit};
-use link_program::numbers::EntityNumbers;
 use pta_base::{OutOfMemory, Text};
 use std::alloc::Global;
 use std::collections::VecDeque;
+use unit_link::link_program::numbers::EntityNumbers;
 use unit_link::nodes::moved_node;
 
 // A unit's nodes behind those that are there, where the unit's types and nodes begin at those numbers in the program,

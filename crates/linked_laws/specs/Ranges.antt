@@ -12,7 +12,10 @@ use Rattle.unit_link.specs.Needs.{AreLinkable}
 -- the type of each node and entity stands in the table
 pub record HasTypes (p : Program) : Type 0 where
   pub nodes : (n : ℕ) (node : Node) → slice_get p.nodes.items n ≡ Some node → node.ty.0 < length p.types.terms
-  pub entities : (e : ℕ) (entity : Entity) → slice_get p.entities.items e ≡ Some entity → entity.ty.0 < length p.types.terms
+  pub entities : (e : ℕ) (entity : Entity)
+      → slice_get p.entities.items e ≡ Some entity
+      → entity.ty.0 < length p.types.terms
 
 abbrev pub LinkedRange : Type 0
-LinkedRange = (units : List Unit) (p : Program) → AreLinkable units → Linked units p → HasTypes p → InRange (trees_in p)
+LinkedRange =
+    (units : List Unit) (p : Program) → AreLinkable units → Linked units p → HasTypes p → InRange (trees_in p)

@@ -1,7 +1,7 @@
 // Where the parts of several units begin.
 
 use core_tree::Unit;
-use link_types::starts::{starts, tag_counts, type_counts};
+use link_model::link_types::starts::{starts, tag_counts, type_counts};
 use std::test::Fail;
 
 #[test]

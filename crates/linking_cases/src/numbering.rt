@@ -3,11 +3,11 @@
 use c_types::table::TypeTable;
 use c_types::term::TypeId;
 use core_tree::{Entity, Linkage, Storage, Unit};
-use link_program::labels::leaders_alike;
-use link_program::numbers::entity_numbers;
 use pta_base::{OutOfMemory, Place, Text};
 use std::alloc::Global;
 use std::test::Fail;
+use unit_link::link_program::labels::leaders_alike;
+use unit_link::link_program::numbers::entity_numbers;
 
 // A label, or none for an empty word.
 fn label(alloc: Global, word: &str) -> Result<Option<Text>, OutOfMemory> {

@@ -1,5 +1,9 @@
-//! Calls of the library that make and end objects, against answers worked out on paper.
+//! Scripts of reads, writes and calls of the library on small memories, against answers that were worked out on paper.
 #![tactic(auto)]
 
 #[cfg(test)]
-mod allocation;
+mod scripts;
+#[cfg(test)]
+mod tests;
+#[cfg(test)]
+mod words;

@@ -5,7 +5,7 @@ use Rattle.c_scope.specs.declared.kinds.Declared.{Declared}
 use Rattle.c_scope.specs.Known.{those_at}
 use Rattle.c_senses.specs.Tree.{Source}
 use Rattle.c_senses.specs.Names.{linked_along, entry_of, made_before, linked_before, typing_declarations, before_in_scope, ordinary_at, scopes_at}
-use Rattle.leaf_maps.specs.Numbers.{number_at}
+use Rattle.tree_reads.specs.leaf_maps.Numbers.{number_at}
 use Rattle.name_chains.specs.declared.building.Seen.{Seen}
 use Rattle.name_chains.specs.declared.building.NameChains.{NameChains}
 use Rattle.name_chains.specs.Links.{listed}

@@ -8,7 +8,7 @@ use Rattle.c_types.proofs.Push.{slice_get_push}
 use Rattle.c_scope.specs.declared.kinds.Declared.{Declared}
 use Rattle.c_senses.specs.World.{or_else}
 use Rattle.c_senses.specs.Names.{has_linkage, entry_of, made_before}
-use Rattle.leaf_maps.specs.Numbers.{number_at}
+use Rattle.tree_reads.specs.leaf_maps.Numbers.{number_at}
 use Rattle.name_chains.specs.declared.links.Link.{Link}
 use Rattle.name_chains.specs.declared.building.Seen.{Seen}
 use Rattle.name_chains.specs.Links.{listed, IsLinkOf, Adds}

@@ -10,7 +10,7 @@ use Rattle.c_scope.specs.declared.kinds.Declared.{Declared}
 use Rattle.name_chains.specs.declared.links.Link.{Link}
 use Rattle.name_chains.specs.Links.{listed, IsLinkOf, Adds}
 use Rattle.name_chains.specs.Symbols.{of_symbol, last_at, AreSymbols, Last}
-use Rattle.leaf_maps.specs.Numbers.{number_at}
+use Rattle.tree_reads.specs.leaf_maps.Numbers.{number_at}
 use Rattle.name_chains.proofs.Linked.{listed-none, adds_one, added_list, added_link, listed-push, link-push, backward-push, leaves-push}
 use Rattle.name_chains.proofs.Chained.{filter-push}
 

@@ -1,5 +1,6 @@
 -- What is seen where each ordinary name is declared, kept as links.
-use Rattle.std.specs.Prelude.{ℕ, ◌≡◌, ◌==◌, ◌<◌, List, [], ◌∷◌, ◌++◌, map, take, length, get_or, slice_get, Option, Some, None, if◌then◌else◌}
+use Rattle.std.specs.Prelude.{ℕ, ◌≡◌, ◌==◌, ◌<◌, List, [], ◌∷◌, ◌++◌, map, take, length, get_or, slice_get, Option}
+use Rattle.std.specs.Prelude.{Some, None, if◌then◌else◌}
 use Rattle.std.specs.List.{position_from}
 use Rattle.std.specs.BTreeMap.{BTreeMap}
 use Rattle.c_lexer.specs.declared.Token.{Token}
@@ -9,7 +10,7 @@ use Rattle.c_scope.specs.declared.kinds.Declared.{Declared}
 use Rattle.c_scope.specs.Known.{those_at}
 use Rattle.c_senses.specs.Tree.{Source}
 use Rattle.c_senses.specs.Names.{has_linkage, linked_along}
-use Rattle.leaf_maps.specs.Numbers.{number_at}
+use Rattle.tree_reads.specs.leaf_maps.Numbers.{number_at}
 use Rattle.name_chains.specs.declared.links.Link.{Link}
 use Rattle.name_chains.specs.declared.chains.Chain.{Chain}
 use Rattle.name_chains.specs.declared.building.Seen.{Seen}
@@ -33,7 +34,8 @@ abbrev pub base_of : Declared → Option ℕ → Option ℕ
 base_of d linked = if has_linkage d then linked else None
 
 -- what is kept of a declaration, in these scopes behind those before it
-pub record IsSeen (around : List ℕ) (before : List Declared) (d : Declared) (own links : List Link) (x : Seen) : Type 0 where
+pub record IsSeen (around : List ℕ) (before : List Declared) (d : Declared) (own links : List Link)
+    (x : Seen) : Type 0 where
   pub declared : x.declared ≡ d
   pub linked_is : IsLinkOf links x.linked
   pub linked : listed links x.linked ≡ linked_along around d.symbol before
@@ -51,14 +53,18 @@ pub record AreChains (n : ℕ) (around : ℕ → List ℕ) (ds : List Declared) 
   pub nodes : (k : ℕ) (d : Declared) → slice_get ds k ≡ Some d → d.node < n
   pub count : length c.seen.items ≡ length ds
   pub places : (leaf : ℕ) → number_at c.positions leaf ≡ place_of leaf ds
-  pub seen : (k : ℕ) (d : Declared) (x : Seen) → slice_get ds k ≡ Some d → slice_get c.seen.items k ≡ Some x → IsSeen (around d.node) (take k ds) d c.own.items c.links.items x
+  pub seen : (k : ℕ) (d : Declared) (x : Seen)
+      → slice_get ds k ≡ Some d
+      → slice_get c.seen.items k ≡ Some x
+      → IsSeen (around d.node) (take k ds) d c.own.items c.links.items x
 
 -- the same of a source
 abbrev pub AreChainsOf : ℕ → Source → NameChains → Type 0
 AreChainsOf n s c = AreChains n (λ leaf. get_or s.declared.scopes leaf []) s.declared.ordinary c
 
 -- while they are taken in, with the chains of each name in each scope
-pub record Stands (n : ℕ) (around : ℕ → List ℕ) (ds : List Declared) (c : NameChains) (places : BTreeMap (ℕ × ℕ) Chain) : Type 0 where
+pub record Stands (n : ℕ) (around : ℕ → List ℕ) (ds : List Declared) (c : NameChains)
+    (places : BTreeMap (ℕ × ℕ) Chain) : Type 0 where
   pub chains : AreChains n around ds c
   pub says : Says c.own.items c.links.items places ds
 

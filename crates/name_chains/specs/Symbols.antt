@@ -2,7 +2,7 @@
 use Rattle.std.specs.Prelude.{ℕ, ◌≡◌, ◌+◌, ◌==◌, List, filter, length, slice_get, take, Option, Some}
 use Rattle.std.specs.BTreeMap.{BTreeMap}
 use Rattle.c_scope.specs.declared.kinds.Declared.{Declared}
-use Rattle.leaf_maps.specs.Numbers.{number_at}
+use Rattle.tree_reads.specs.leaf_maps.Numbers.{number_at}
 use Rattle.name_chains.specs.declared.links.Link.{Link}
 use Rattle.name_chains.specs.Links.{listed, IsLinkOf, AreBackward, HaveLeaves}
 
@@ -18,7 +18,9 @@ pub record AreSymbols (n : ℕ) (ds : List Declared) (links : List Link) : Type 
   pub count : length links ≡ length ds
   pub backward : AreBackward links
   pub leaves : HaveLeaves n links
-  pub each : (k : ℕ) (d : Declared) → slice_get ds k ≡ Some d → listed links (Some k) ≡ of_symbol d.symbol (take (k + 1) ds)
+  pub each : (k : ℕ) (d : Declared)
+      → slice_get ds k ≡ Some d
+      → listed links (Some k) ≡ of_symbol d.symbol (take (k + 1) ds)
 
 -- while they are taken in, with the last link of each symbol
 pub record Last (n : ℕ) (ds : List Declared) (links : List Link) (symbols : BTreeMap ℕ ℕ) : Type 0 where

@@ -14,10 +14,10 @@ use crate::links::{Links, push_link};
 use crate::scopes::scopes_at;
 use c_mentions::settings::{Settings, place_of};
 use c_scope::Declared;
-use leaf_maps::LeafMap;
 use pta_base::OutOfMemory;
 use std::alloc::Global;
 use std::collections::BTreeMap;
+use tree_reads::leaf_maps::LeafMap;
 
 /// What is seen where a name is declared, in lists by their last links.
 #[derive(Clone, Copy, Debug)]

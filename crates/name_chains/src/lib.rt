@@ -6,6 +6,7 @@ mod chains;
 mod links;
 mod reading;
 mod scopes;
+pub mod symbol_lists;
 mod symbols;
 
 pub use building::{NameChains, Seen, name_chains};

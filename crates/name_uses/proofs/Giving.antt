@@ -23,8 +23,8 @@ use Rattle.c_senses.specs.Expressions.{as_sense, indexed_core, passed, chained, 
 use Rattle.core_nodes.specs.declared.fault.CheckFault.{CheckFault}
 use Rattle.c_results.specs.declared.made.Made.{Made}
 use Rattle.c_results.specs.Standing.{sense_made, senses_made, Rowed}
-use Rattle.c_rows.specs.Literals.{character_core, built_integer, built_text}
-use Rattle.c_rows.specs.Built.{built_primary, built_primary_of}
+use Rattle.expression_rows.specs.c_rows.Literals.{character_core, built_integer, built_text}
+use Rattle.expression_rows.specs.c_rows.Built.{built_primary, built_primary_of}
 use Rattle.expression_rows.specs.Built.{built_row}
 use Rattle.sense_laws.specs.Sound.{Gives}
 use Rattle.sense_laws.proofs.Giving.{if_holds}

@@ -17,8 +17,8 @@ use Rattle.c_senses.specs.Sense.{Sense, sense_in}
 use Rattle.c_results.specs.declared.made.Made.{Made}
 use Rattle.c_results.specs.Standing.{senses_made, IsWithin, Rowed}
 use Rattle.c_results.proofs.Keeping.{mades_kept}
-use Rattle.c_rows.specs.declared.names.Named.{Named}
-use Rattle.c_rows.specs.Named.{NameFits}
+use Rattle.expression_rows.specs.declared.c_rows.names.Named.{Named}
+use Rattle.expression_rows.specs.c_rows.Named.{NameFits}
 use Rattle.expression_rows.specs.declared.around.Around.{Around}
 use Rattle.expression_rows.specs.Built.{built_row}
 use Rattle.expression_rows.specs.Fitting.{FirstFits, FitsAround}

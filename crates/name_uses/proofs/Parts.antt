@@ -12,8 +12,8 @@ use Rattle.c_senses.specs.Objects.{text_core}
 use Rattle.c_senses.specs.Literals.{value_of_integer}
 use Rattle.c_senses.specs.Expressions as whole
 use Rattle.c_senses.specs.Expressions.{string_bytes, expression_row}
-use Rattle.c_rows.specs.Literals.{integer_core, are_bytes}
-use Rattle.c_rows.specs.Built.{built_primary, built_primary_of}
+use Rattle.expression_rows.specs.c_rows.Literals.{integer_core, are_bytes}
+use Rattle.expression_rows.specs.c_rows.Built.{built_primary, built_primary_of}
 use Rattle.expression_rows.specs.Built.{built_row}
 use Rattle.name_uses.specs.Built.{names_strangely, RowsArePart}
 

@@ -10,7 +10,7 @@ use Rattle.c_senses.specs.World.{World}
 use Rattle.c_senses.specs.Sense.{Sense, IsCore}
 use Rattle.c_senses.specs.Expressions.{unary_of, cast_of, expression_row}
 use Rattle.c_results.specs.Parts.{core_in}
-use Rattle.c_rows.specs.Built.{built_primary}
+use Rattle.expression_rows.specs.c_rows.Built.{built_primary}
 use Rattle.expression_rows.specs.Built.{built_row}
 use Rattle.name_uses.specs.Alone.{PassesOn}
 use Rattle.name_uses.specs.Built.{first_is_strange, named_row}

@@ -1,4 +1,5 @@
--- Nodes of an expression that stand for what their only part stands for (C11 6.5.3 to 6.5.17): those of a level of operators without one.
+-- Nodes of an expression that stand for what their only part stands for (C11 6.5.3 to 6.5.17): those of a level of
+-- operators without one.
 use Rattle.std.specs.Prelude.{ℕ, ◌≡◌, ◌≤◌, false, [], ◌∷◌}
 use Rattle.c_grammar.specs.Productions.{p_expression, p_unary}
 use Rattle.c_senses.specs.Tree.{Source, production_at, children_at, is_leaf}

@@ -5,11 +5,14 @@ use Rattle.c_senses.specs.World.{World}
 use Rattle.c_senses.specs.Sense.{Sense}
 use Rattle.c_senses.specs.Entities.{meaning_at, storage_of, is_automatic_storage, is_in_static, function_around}
 
--- in the initialiser of an object that lasts for the whole run no automatic object may be named, and no function called
+-- in the initialiser of an object that lasts for the whole run no automatic object may be named, and no function
+-- called
 abbrev pub may_name_at : Source → (ℕ → Sense) → ℕ → ℕ → Bool
-may_name_at s sense i entity = not (is_in_static s sense i && is_automatic_storage s sense (storage_of s sense entity))
+may_name_at s sense i entity =
+    not (is_in_static s sense i && is_automatic_storage s sense (storage_of s sense entity))
 
--- what a world says of names, of calls and of the function around a node, is what the declarations before the node say
+-- what a world says of names, of calls and of the function around a node, is what the declarations before the node
+-- say
 pub record IsWorldAt (w : World) (s : Source) (sense : ℕ → Sense) (i : ℕ) : Type 0 where
   pub meaning : (leaf : ℕ) → w.meaning leaf ≡ meaning_at s sense leaf
   pub may_name : (entity : ℕ) → w.may_name entity ≡ may_name_at s sense i entity

@@ -4,3 +4,5 @@ pub mod Looked
 pub mod Built
 pub mod Usual
 pub mod PassedOn
+pub mod name_sayings
+pub mod passed

@@ -5,8 +5,8 @@ use Rattle.core_nodes.specs.declared.fault.CheckFault.{CheckFault}
 use Rattle.core_nodes.specs.declared.fault.CheckFault.TheVariants.{BadOperand, Unsupported, OutOfMemory}
 use Rattle.core_tree.specs.declared.node.Unit.{Unit}
 use Rattle.c_senses.specs.World.{World, Meaning}
-use Rattle.c_rows.specs.declared.names.Named.{Named}
-use Rattle.c_rows.specs.Named.{IsNamed}
+use Rattle.expression_rows.specs.declared.c_rows.names.Named.{Named}
+use Rattle.expression_rows.specs.c_rows.Named.{IsNamed}
 use Rattle.name_uses.specs.Built.{is_strange}
 
 -- what was looked for, where no name is strange; else the node isn't built

@@ -10,9 +10,15 @@ use Rattle.c_meanings.specs.declared.names.Names.{Names}
 use Rattle.c_meanings.specs.Known.{AreNames, ArePaired}
 use Rattle.name_uses.specs.Built.{names_strangely}
 
--- where the rows before a node fit, no name at the node is strange: an enumerator's value is an int's, and an object is declared by a node
+-- where the rows before a node fit, no name at the node is strange: an enumerator's value is an int's, and an
+-- object is declared by a node
 abbrev pub NamesAreUsual : Type 0
 NamesAreUsual =
-    (syntax : Syntax) (u : Unit) (results : List Made) (names : Names) (uses : List (ℕ × ℕ)) (at production : ℕ) (children : List ℕ)
-    → AreNames syntax u results names → ArePaired names uses → AreSenses (source_in syntax uses) (senses_made u results)
-    → names_strangely (world_at (source_in syntax uses) (senses_made u results) at) (source_in syntax uses) production children ≡ false
+    (syntax : Syntax) (u : Unit) (results : List Made) (names : Names) (uses : List (ℕ × ℕ))
+    (at production : ℕ) (children : List ℕ)
+    → AreNames syntax u results names
+    → ArePaired names uses
+    → AreSenses (source_in syntax uses) (senses_made u results)
+    → names_strangely (world_at (source_in syntax uses) (senses_made u results) at)
+    (source_in syntax uses) production children
+    ≡ false

@@ -8,8 +8,8 @@ ghost use Rattle.tree_reads.specs.Sources.{source_in};
 ghost use Rattle.name_uses.specs.Alone.{PassesOn};
 
 use c_results::{Made, Results, node_at};
-use c_rows::parts::passed_on;
 use core_nodes::CheckFault;
+use expression_rows::c_rows::parts::passed_on;
 use std::alloc::Global;
 use tree_reads::{Syntax, children_of, is_leaf, production_of};
 

@@ -8,7 +8,7 @@ ghost use Rattle.c_senses.specs.Tree.{spelling_at, production_at, children_at};
 ghost use Rattle.c_senses.specs.World.{World};
 ghost use Rattle.c_senses.specs.Sense.{sense_in};
 ghost use Rattle.c_senses.specs.Entities as entities;
-ghost use Rattle.c_rows.specs.Named.{NameFits, IsNamedWithin};
+ghost use Rattle.expression_rows.specs.c_rows.Named.{NameFits, IsNamedWithin};
 ghost use Rattle.tree_reads.specs.Sources.{source_in};
 ghost use Rattle.c_meanings.specs.Known.{AreNames, ArePaired};
 ghost use Rattle.c_meanings.specs.Linkages.{AreLinkages};

@@ -6,7 +6,7 @@ ghost use Rattle.c_senses.specs.Tree.{production_at, children_at};
 ghost use Rattle.c_senses.specs.Sense.{sense_in};
 ghost use Rattle.c_senses.specs.Rows.{world_at, AreSenses};
 ghost use Rattle.tree_reads.specs.Sources.{source_in};
-ghost use Rattle.whole_rows.specs.Constants.{SenseHasRows, HaveRowsMade};
+ghost use Rattle.expression_rows.specs.whole_rows.Constants.{SenseHasRows, HaveRowsMade};
 ghost use Rattle.c_meanings.specs.Known.{AreNames, ArePaired};
 ghost use Rattle.c_meanings.specs.Linkages.{AreLinkages};
 ghost use Rattle.name_places.specs.Named.{IsNamedIn};

@@ -5,6 +5,7 @@ mod alone;
 mod around;
 mod expressions;
 pub mod laws;
+pub mod name_sayings;
 mod named;
 mod uses;
 

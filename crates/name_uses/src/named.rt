@@ -4,7 +4,7 @@ ghost use Rattle.core_tree.specs.declared.node.Unit.{Unit as UnitSpec};
 ghost use Rattle.c_senses.specs.World.{World};
 ghost use Rattle.c_senses.specs.Sense.{sense_in};
 ghost use Rattle.c_results.specs.Standing.{senses_made};
-ghost use Rattle.c_rows.specs.Named.{IsNamedWithin};
+ghost use Rattle.expression_rows.specs.c_rows.Named.{IsNamedWithin};
 ghost use Rattle.tree_reads.specs.Sources.{source_in};
 ghost use Rattle.c_meanings.specs.Known.{AreChained};
 ghost use Rattle.c_meanings.specs.declared.meanings.Meaning.TheVariants.{Object, Value};

@@ -1,5 +1,6 @@
 -- What each kind of node demands: one definition for each row of the table of core nodes.
-use Rattle.std.specs.Prelude.{ℕ, ◌+◌, ◌++◌, ◌&&◌, Bool, true, false, if◌then◌else◌, List, [], ◌∷◌, Option, Some, None, length, map, slice_get, unwrap_or}
+use Rattle.std.specs.Prelude.{ℕ, ◌+◌, ◌++◌, ◌&&◌, Bool, true, false, if◌then◌else◌, List, [], ◌∷◌, Option, Some}
+use Rattle.std.specs.Prelude.{None, length, map, slice_get, unwrap_or}
 use Rattle.c_types.specs.Trees.{Ctype, VoidType, PointerTo, StructureOf, UnionOf}
 use Rattle.c_types.specs.Table.{Table, type_of}
 use Rattle.c_types.specs.Paths.{part_type}
@@ -11,7 +12,10 @@ use Rattle.c_types.specs.declared.key.ObjectKey.TheVariants.{Entity as EntityKey
 use Rattle.type_rules.specs.Conversions.{result_of}
 use Rattle.core_tree.specs.declared.node.Node.{Node}
 use Rattle.core_tree.specs.declared.node.NodeKind.{NodeKind}
-use Rattle.core_tree.specs.declared.node.NodeKind.TheVariants.{Named, Text, Literal, FunctionName, Deref, Member, Fetch, AddressOf, Decay, PointerAdd, Convert, Upcast, Assign, Update, Choose, Sequence, MemberOfValue, Return, Initialise}
+use Rattle.core_tree.specs.declared.node.NodeKind.TheVariants.{Named, Text, Literal, FunctionName, Deref, Member}
+use Rattle.core_tree.specs.declared.node.NodeKind.TheVariants.{Fetch, AddressOf, Decay, PointerAdd, Convert, Upcast}
+use Rattle.core_tree.specs.declared.node.NodeKind.TheVariants.{Assign, Update, Choose, Sequence, MemberOfValue}
+use Rattle.core_tree.specs.declared.node.NodeKind.TheVariants.{Return, Initialise}
 use Rattle.core_tree.specs.Typed.{CoreTrees, type_at}
 use Rattle.obj_space.specs.View.{SpaceView}
 use Rattle.normal_form.specs.declared.normal.Assignment.{Assignment}
@@ -54,8 +58,8 @@ named_row w n e = Address (row_in w n) (location_of w.trees w.space e) ∷ []
 abbrev pub text_row : Setting → ℕ → List Assignment
 text_row w n = Address (row_in w n) (unwrap_or (w.space.first (TextKey n)) 0) ∷ []
 
--- what is pointed to and the address of a place (6.5.3.2), a place that decays (6.3.2.1p3, p4), and a pointer that is moved (6.5.6p8)
--- or converted (6.3.2.3): what the operand has
+-- what is pointed to and the address of a place (6.5.3.2), a place that decays (6.3.2.1p3, p4), and a pointer that
+-- is moved (6.5.6p8) or converted (6.3.2.3): what the operand has
 abbrev pub passed_row : Setting → ℕ → List ℕ → List Assignment
 passed_row w n (v ∷ []) = Copy (row_in w n) (row_in w v) ∷ []
 passed_row w n children = []
@@ -69,7 +73,8 @@ is_pointer (PointerTo to) = true
 is_pointer t = false
 
 abbrev pub convert_row : Setting → ℕ → Ctype → List ℕ → List Assignment
-convert_row w n t (v ∷ []) = if is_pointer t && is_pointer (type_at w.trees v) then Copy (row_in w n) (row_in w v) ∷ [] else []
+convert_row w n t (v ∷ []) =
+    if is_pointer t && is_pointer (type_at w.trees v) then Copy (row_in w n) (row_in w v) ∷ [] else []
 convert_row w n t children = []
 
 -- a member (6.5.2.3): that member's node of each location of the whole
@@ -99,7 +104,8 @@ update_row w n t children = []
 -- an assignment stores its value, and is that value (6.5.16p3, 6.5.16.1)
 abbrev pub assign_row : Setting → ℕ → Ctype → List ℕ → List Assignment
 assign_row w n t (p ∷ v ∷ []) =
-    stores (type_nodes w t) (row_in w p) (row_in w v) (type_number t) ++ copies (type_nodes w t) (row_in w n) (row_in w v)
+    stores (type_nodes w t) (row_in w p) (row_in w v) (type_number t)
+    ++ copies (type_nodes w t) (row_in w n) (row_in w v)
 assign_row w n t children = []
 
 -- one value of two (6.5.15; also 6.5.13 and 6.5.14)
@@ -113,8 +119,8 @@ abbrev pub sequence_row : Setting → ℕ → Ctype → List ℕ → List Assign
 sequence_row w n t (a ∷ b ∷ []) = copies (type_nodes w t) (row_in w n) (row_in w b)
 sequence_row w n t children = []
 
--- a member of a value (6.5.2.3p3): the rows of the member's nodes begin behind those of the nodes before it; all members of a union
--- have its one row
+-- a member of a value (6.5.2.3p3): the rows of the member's nodes begin behind those of the nodes before it; all
+-- members of a union have its one row
 abbrev pub is_union_type : Ctype → Bool
 is_union_type (UnionOf tag) = true
 is_union_type t = false
@@ -155,11 +161,13 @@ abbrev pub step_node : Table → Ctype → PathStep → ℕ
 step_node table t (Index i) = 0
 step_node table t (MemberStep k) = if is_structure_type t then member_node table t k else 0
 
--- how far the node at the end of a path stands behind an object's first; what is in a union is at the union's node (6.7.2.1p16)
+-- how far the node at the end of a path stands behind an object's first; what is in a union is at the union's node
+-- (6.7.2.1p16)
 abbrev pub path_node : Table → Option Ctype → List PathStep → ℕ
 path_node table None path = 0
 path_node table (Some t) [] = 0
-path_node table (Some t) (step ∷ rest) = if is_union_type t then 0 else step_node table t step + path_node table (part_type table t step) rest
+path_node table (Some t) (step ∷ rest) =
+    if is_union_type t then 0 else step_node table t step + path_node table (part_type table t step) rest
 
 -- how far it stands behind the first location of an entity's object, and which location it is
 abbrev pub target_node : CoreTrees → ℕ → List PathStep → ℕ
@@ -218,7 +226,8 @@ statement_of_kind w n kind children = []
 
 -- the row of a node of number n and type t over those children; each kind is in one of the three tables
 abbrev pub row_of_kind : Setting → ℕ → NodeKind → Ctype → List ℕ → List Assignment
-row_of_kind w n kind t children = place_of_kind w n kind children ++ value_of_kind w n kind t children ++ statement_of_kind w n kind children
+row_of_kind w n kind t children =
+    place_of_kind w n kind children ++ value_of_kind w n kind t children ++ statement_of_kind w n kind children
 
 -- what the node of number n demands
 unfoldable pub node_assignments : Setting → ℕ → Node → List Assignment

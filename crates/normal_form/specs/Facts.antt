@@ -1,5 +1,6 @@
 -- What a system knows of a program's locations, types and functions.
-use Rattle.std.specs.Prelude.{◌≡◌, ℕ, ◌+◌, ◌==◌, Bool, false, if◌then◌else◌, List, [], ◌++◌, Option, Some, None, length, map, replicate, slice_get, unwrap_or}
+use Rattle.std.specs.Prelude.{◌≡◌, ℕ, ◌+◌, ◌==◌, Bool, false, if◌then◌else◌, List, [], ◌++◌, Option, Some, None}
+use Rattle.std.specs.Prelude.{length, map, replicate, slice_get, unwrap_or}
 use Rattle.std.specs.List.{range_with_len, list_any, AllZip, enumerate_from}
 use Rattle.pta_base.specs.declared.effect.Effect.{Effect}
 use Rattle.c_types.specs.declared.key.ObjectKey.{ObjectKey}
@@ -54,7 +55,8 @@ positions_by table t members = map (member_node table t) (range_with_len 0 membe
 
 abbrev pub tag_fact_by : Table → Ctype → Option (List MemberTerm) → TypeFact
 tag_fact_by table t None = plain_fact
-tag_fact_by table t (Some members) = record { nodes = length (nodes_of table t); members = positions_by table t (length members) }
+tag_fact_by table t (Some members) =
+    record { nodes = length (nodes_of table t); members = positions_by table t (length members) }
 
 -- a structure or union: its nodes and the positions of its members; where it has no member list, one node
 abbrev pub tag_fact : Table → ℕ → TypeFact
@@ -66,7 +68,8 @@ type_facts table = replicate 8 plain_fact ++ map (tag_fact table) (range_with_le
 
 -- a kept node of a parameter has the row of its location
 abbrev pub cell_list : ℕ → ℕ → List Ctype → List ℕ
-cell_list none first nodes = map (λ i. row_or none (first + i) (kept_at (slice_get nodes i))) (range_with_len 0 (length nodes))
+cell_list none first nodes =
+    map (λ i. row_or none (first + i) (kept_at (slice_get nodes i))) (range_with_len 0 (length nodes))
 
 abbrev pub parameter_rows : CoreTrees → SpaceView → ObjectKey → List ℕ
 parameter_rows u s key = cell_list (none_row u s) (unwrap_or (s.first key) 0) (nodes_of u.types (key_type u key))
@@ -85,7 +88,8 @@ effects_by (FunctionKey k) = effects_of k
 effects_by key = []
 
 -- the function of that number and key
-pub record IsFunctionFact (u : CoreTrees) (s : SpaceView) (number : ℕ) (key : ObjectKey) (function : Function) : Type 0 where
+pub record IsFunctionFact (u : CoreTrees) (s : SpaceView) (number : ℕ) (key : ObjectKey)
+    (function : Function) : Type 0 where
   pub location : function.location ≡ unwrap_or (s.first key) 0
   pub signature : IsSignature u.types (called_type (key_type u key)) function.signature
   pub parameters : function.parameters ≡ parameters_by u s key
@@ -95,4 +99,6 @@ pub record IsFunctionFact (u : CoreTrees) (s : SpaceView) (number : ℕ) (key : 
 
 -- a fact for each function, in order
 abbrev pub AreFunctions : CoreTrees → SpaceView → List Function → Type 0
-AreFunctions u s functions = AllZip (λ entry function. IsFunctionFact u s entry.0 entry.1 function) (enumerate_from 0 (functions_of u s)) functions
+AreFunctions u s functions =
+    AllZip (λ entry function. IsFunctionFact u s entry.0 entry.1 function)
+    (enumerate_from 0 (functions_of u s)) functions

@@ -1,12 +1,15 @@
 -- The system of a program.
-use Rattle.std.specs.Prelude.{◌≡◌, ℕ, ◌<◌, ◌≤◌, ◌^◌, ◌↔◌, List, [], ◌∷◌, ◌++◌, Option, Some, None, length, slice_get, Contains, option_and_then}
+use Rattle.std.specs.Prelude.{◌≡◌, ℕ, ◌<◌, ◌≤◌, ◌^◌, ◌↔◌, List, [], ◌∷◌, ◌++◌, Option, Some, None, length}
+use Rattle.std.specs.Prelude.{slice_get, Contains, option_and_then}
 use Rattle.c_types.specs.declared.key.ObjectKey.{ObjectKey}
 use Rattle.c_types.specs.declared.key.ObjectKey.TheVariants.{Entity as EntityKey, Library}
 use Rattle.core_tree.specs.declared.node.Program.{Program}
 use Rattle.core_tree.specs.Typed.{CoreTrees, trees_in}
 use Rattle.sol_model.specs.declared.system.System.{System}
 use Rattle.sol_model.specs.declared.system.Constraint.{Constraint}
-use Rattle.sol_model.specs.declared.system.Constraint.TheVariants.{Address as AddressForm, Copy as CopyForm, Load as LoadForm, Store as StoreForm, Field as FieldForm, Call}
+use Rattle.sol_model.specs.declared.system.Constraint.TheVariants.{Address as AddressForm, Copy as CopyForm}
+use Rattle.sol_model.specs.declared.system.Constraint.TheVariants.{Load as LoadForm, Store as StoreForm}
+use Rattle.sol_model.specs.declared.system.Constraint.TheVariants.{Field as FieldForm, Call}
 use Rattle.obj_space.specs.View.{SpaceView}
 use Rattle.normal_form.specs.declared.normal.Assignment.{Assignment}
 use Rattle.normal_form.specs.declared.normal.Assignment.TheVariants.{Address, Copy, Load, Store, Field}
@@ -35,10 +38,11 @@ held_by holder held = []
 abbrev pub library_pair : SpaceView → ℕ → ℕ → List Constraint
 library_pair s holder held = held_by (s.first (Library holder)) (s.first (Library held))
 
--- stdin, stdout and stderr have a stream, the table of characters' classes has its cells, and the list of arguments has
--- an argument
+-- stdin, stdout and stderr have a stream, the table of characters' classes has its cells, and the list of arguments
+-- has an argument
 abbrev pub library_constraints : SpaceView → List Constraint
-library_constraints s = library_pair s 3 2 ++ library_pair s 4 2 ++ library_pair s 5 2 ++ library_pair s 7 8 ++ library_pair s 9 10
+library_constraints s =
+    library_pair s 3 2 ++ library_pair s 4 2 ++ library_pair s 5 2 ++ library_pair s 7 8 ++ library_pair s 9 10
 
 -- the second parameter of main
 abbrev pub second_of : CoreTrees → SpaceView → List ObjectKey → Option ObjectKey
@@ -67,7 +71,8 @@ pub record SystemOf (p : Program) (s : SpaceView) (system : System) : Type 0 whe
   pub rows : system.rows ≡ row_total (trees_in p) s
   pub locations : system.locations ≡ location_facts (trees_in p) s
   pub types : system.types ≡ type_facts p.types
-  pub constraints : (c : Constraint) → Contains system.constraints c ↔ Demands (setting_of p s owners) (length system.calls) c
+  pub constraints : (c : Constraint)
+      → Contains system.constraints c ↔ Demands (setting_of p s owners) (length system.calls) c
   pub calls : AreCalls (setting_of p s owners) system.calls
   pub functions : AreFunctions (trees_in p) s system.functions
 
@@ -75,7 +80,8 @@ pub record SystemOf (p : Program) (s : SpaceView) (system : System) : Type 0 whe
 pub record IsWhole (p : Program) (s : SpaceView) (normal : Normal) : Type 0 where
   pub owners : List (Option ℕ)
   pub around : AreOwners (trees_in p) owners
-  pub assignments : (a : Assignment) → Contains normal.assignments a ↔ Contains (assignments_of (setting_of p s owners)) a
+  pub assignments : (a : Assignment)
+      → Contains normal.assignments a ↔ Contains (assignments_of (setting_of p s owners)) a
   pub calls : AreCalls (setting_of p s owners) normal.calls
 
 -- the normal form of a program; past 2^24 rows it has no lists

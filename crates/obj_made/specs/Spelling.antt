@@ -1,5 +1,6 @@
 -- How objects and functions are named.
-use Rattle.std.specs.Prelude.{ℕ, nat_lt, Bool, true, false, codes, List, [], ◌∷◌, ◌++◌, Option, Some, None, slice_get, ◌≡◌, zero, suc}
+use Rattle.std.specs.Prelude.{ℕ, nat_lt, Bool, true, false, codes, List, [], ◌∷◌, ◌++◌, Option, Some, None}
+use Rattle.std.specs.Prelude.{slice_get, ◌≡◌, zero, suc}
 use Rattle.std.specs.List.{count_by}
 use Rattle.std.specs.Option.{unwrap_or}
 use Rattle.std.specs.Str.{bytes_eq}
@@ -78,7 +79,9 @@ told_apart true place = codes "@" ++ spot_text place
 told_apart false place = []
 
 abbrev pub local_name : List (List ℕ) → List Entity → Entity → List ℕ
-local_name units entities entity = owner_name units entities entity.owner ++ (codes "/" ++ (entity.name ++ told_apart (stands_twice entities entity) entity.place))
+local_name units entities entity =
+    owner_name units entities entity.owner
+    ++ (codes "/" ++ (entity.name ++ told_apart (stands_twice entities entity) entity.place))
 
 abbrev pub declared_in : List (List ℕ) → List Entity → Entity → Linkage → List ℕ
 declared_in units entities entity Local = local_name units entities entity

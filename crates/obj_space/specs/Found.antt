@@ -1,5 +1,6 @@
 -- Locations by name and by object.
-use Rattle.std.specs.Prelude.{◌≡◌, ℕ, ◌<◌, ◌^◌, nat_eq, ◌&&◌, Bool, if◌then◌else◌, List, Option, Some, IsSome, slice_get, length, MatchOption}
+use Rattle.std.specs.Prelude.{◌≡◌, ℕ, ◌<◌, ◌^◌, nat_eq, ◌&&◌, Bool, if◌then◌else◌, List, Option, Some, IsSome}
+use Rattle.std.specs.Prelude.{slice_get, length, MatchOption}
 use Rattle.std.specs.BTreeMap.{BTreeMap, get_by}
 use Rattle.std.specs.Ordering.{nat_cmp, ordering_then}
 use Rattle.c_types.specs.Index.{number_at}
@@ -32,7 +33,10 @@ pub record IsFirst (space : List Location) (key : ObjectKey) (l : ℕ) : Type 0 
 -- an index has the names of the first so many locations
 pub record AreNames (names : List (List ℕ × ℕ)) (space : List Location) (n : ℕ) : Type 0 where
   pub found : (q : List ℕ) (l : ℕ) → number_at names q ≡ Some l → HasName space l q
-  pub each : (l : ℕ) (location : Location) → l < n → slice_get space l ≡ Some location → IsSome (number_at names location.name)
+  pub each : (l : ℕ) (location : Location)
+      → l < n
+      → slice_get space l ≡ Some location
+      → IsSome (number_at names location.name)
 
 -- two numbers for each object
 abbrev pub kind_of : ObjectKey → ℕ
@@ -69,7 +73,9 @@ kept_for firsts key = kept_at firsts (kind_of key) (number_of key)
 -- a map keeps the first location of each object among the first so many
 abbrev pub KeepsFirst : BTreeMap (ℕ × ℕ) ℕ → List Location → ℕ → Type 0
 KeepsFirst firsts space n =
-    (key : ObjectKey) → MatchOption (kept_for firsts key) ((l : ℕ) → l < n → HasKey space l key → ⊥) (λ l. IsFirst space key l)
+    (key : ObjectKey)
+    → MatchOption (kept_for firsts key) ((l : ℕ) → l < n → HasKey space l key → ⊥)
+    (λ l. IsFirst space key l)
 
 -- the indexes of a space are right
 pub record IsSpace (s : Inside) : Type 0 where

@@ -1,5 +1,6 @@
 -- The location of a part of an object, indices forgotten: what lies under a collapsed node has that node.
-use Rattle.std.specs.Prelude.{◌≡◌, ℕ, ◌+◌, ◌^◌, ◌<◌, ◌≤◌, Bool, true, false, List, [], ◌∷◌, Option, Some, None, slice_get, length, IsSome}
+use Rattle.std.specs.Prelude.{◌≡◌, ℕ, ◌+◌, ◌^◌, ◌<◌, ◌≤◌, Bool, true, false, List, [], ◌∷◌, Option, Some, None}
+use Rattle.std.specs.Prelude.{slice_get, length, IsSome}
 use Rattle.std.specs.Option.{option_map}
 use Rattle.c_types.specs.declared.term.PathStep.{PathStep}
 use Rattle.c_types.specs.declared.term.PathStep.TheVariants.{Index, Member}
@@ -37,7 +38,8 @@ member_reached whole (Some ty) (Some p) node false = Some (reached ty (node + p)
 abbrev pub step_by : Table → Ctype → ℕ → Bool → PathStep → Option Reached
 step_by table (ArrayOf of length) node inside (Index i) = Some (reached of node inside)
 step_by table t node inside (Index i) = None
-step_by table t node inside (Member k) = member_reached t (part_type table t (Member k)) (field_in table t k) node inside
+step_by table t node inside (Member k) =
+    member_reached t (part_type table t (Member k)) (field_in table t k) node inside
 
 abbrev pub step_from : Table → Option Reached → PathStep → Option Reached
 step_from table None step = None
@@ -73,9 +75,13 @@ abbrev pub spot_by : Table → ℕ → Location → List PathStep → Option ℕ
 spot_by table first location path = within_32 (option_map (λ n. first + n) (node_in table location.content path))
 
 -- what `spot` answers: none where there is no such object, else the location of the node at the end of the path
-pub record IsSpot (space : List Location) (table : Table) (key : ObjectKey) (path : List PathStep) (result : Option ℕ) : Type 0 where
+pub record IsSpot (space : List Location) (table : Table) (key : ObjectKey) (path : List PathStep)
+    (result : Option ℕ) : Type 0 where
   pub none : NoObject space key → result ≡ None
-  pub some : (l : ℕ) (location : Location) → IsFirst space key l → slice_get space l ≡ Some location → result ≡ spot_by table l location path
+  pub some : (l : ℕ) (location : Location)
+      → IsFirst space key l
+      → slice_get space l ≡ Some location
+      → result ≡ spot_by table l location path
 
 -- the type of the table that an object is made of: its own type, or that of each of its elements
 abbrev pub type_made : Content → Option TypeId
@@ -92,15 +98,26 @@ whole_reached table content = None
 -- an object that is made of a type has that type's nodes from its first location on
 abbrev pub HasWholes : Table → List Location → Type 0
 HasWholes table space =
-    (key : ObjectKey) (l : ℕ) (x : Location) (id : TypeId) (i : ℕ) (t : Ctype) → IsFirst space key l → slice_get space l ≡ Some x → type_made x.content ≡ Some id
-    → slice_get (nodes_of (extent_in table (type_of table id.0))) i ≡ Some t → (y : Location) × (slice_get space (l + i) ≡ Some y) × IsNodeOf x t y
+    (key : ObjectKey) (l : ℕ) (x : Location) (id : TypeId) (i : ℕ) (t : Ctype)
+    → IsFirst space key l
+    → slice_get space l ≡ Some x
+    → type_made x.content ≡ Some id
+    → slice_get (nodes_of (extent_in table (type_of table id.0))) i ≡ Some t
+    → (y : Location) × (slice_get space (l + i) ≡ Some y) × IsNodeOf x t y
 
--- a path from an object that is made of a complete type, outside of unions, leads to the location of the part's first node
+-- a path from an object that is made of a complete type, outside of unions, leads to the location of the part's
+-- first node
 abbrev pub ReachesParts : Table → List Location → Type 0
 ReachesParts table space =
-    (key : ObjectKey) (l : ℕ) (x : Location) (id : TypeId) (path : List PathStep) (r : Reached) (t : Ctype) → IsFirst space key l → slice_get space l ≡ Some x → type_made x.content ≡ Some id
-    → IsSome (extent_in table (type_of table id.0)) → part_at table (whole_reached table x.content) path ≡ Some r → r.inside ≡ false
-    → slice_get (nodes_of (extent_in table r.ty)) 0 ≡ Some t → (y : Location) × (slice_get space (l + r.node) ≡ Some y) × IsNodeOf x t y
+    (key : ObjectKey) (l : ℕ) (x : Location) (id : TypeId) (path : List PathStep) (r : Reached) (t : Ctype)
+    → IsFirst space key l
+    → slice_get space l ≡ Some x
+    → type_made x.content ≡ Some id
+    → IsSome (extent_in table (type_of table id.0))
+    → part_at table (whole_reached table x.content) path ≡ Some r
+    → r.inside ≡ false
+    → slice_get (nodes_of (extent_in table r.ty)) 0 ≡ Some t
+    → (y : Location) × (slice_get space (l + r.node) ≡ Some y) × IsNodeOf x t y
 
 -- what the code keeps of a part, and a part past all numbers of 32 bits
 abbrev pub seen : Table → Place → Reached
@@ -112,4 +129,5 @@ IsFar (Some r) = 2 ^ 32 ≤ r.node
 
 abbrev pub Follows : Table → Option Place → Option Reached → Type 0
 Follows table None r = IsFar r
-Follows table (Some place) r = (r ≡ Some (seen table place)) × (place.ty.0 < length table.terms) × (place.node < 2 ^ 32)
+Follows table (Some place) r =
+    (r ≡ Some (seen table place)) × (place.ty.0 < length table.terms) × (place.node < 2 ^ 32)

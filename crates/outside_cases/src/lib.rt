@@ -6,6 +6,8 @@ mod calls;
 #[cfg(test)]
 mod files;
 #[cfg(test)]
+mod generated;
+#[cfg(test)]
 mod memory;
 #[cfg(test)]
 mod streams;

@@ -2,7 +2,7 @@
 use command_line::{WordsFault, parse_words};
 use std::alloc::{AllocError, Global};
 
-fn words(alloc: Global, texts: &[&str]) -> Result<Vec<String>, AllocError> {
+pub(crate) fn words(alloc: Global, texts: &[&str]) -> Result<Vec<String>, AllocError> {
     let mut words = Vec::new(alloc);
     for text in texts {
         words.push(String::from_str(alloc, text)?)?;
@@ -10,7 +10,7 @@ fn words(alloc: Global, texts: &[&str]) -> Result<Vec<String>, AllocError> {
     Ok(words)
 }
 
-fn is_refused(alloc: Global, texts: &[&str]) -> Result<bool, AllocError> {
+pub(crate) fn is_refused(alloc: Global, texts: &[&str]) -> Result<bool, AllocError> {
     let words = words(alloc, texts)?;
     match parse_words(alloc, words.as_slice()) {
         Ok(_) => Ok(false),
@@ -29,6 +29,19 @@ fn taken(rt: HostRuntime) {
     assert_eq!(rt; command.workers, 7);
     assert!(rt; command.units.as_slice() == ["b.i", "dir/a-1_x.i"].as_slice());
     assert!(rt; command.ask.is_none());
+    assert!(rt; !command.json);
+}
+
+#[test]
+fn json(rt: HostRuntime) {
+    let alloc = rt.alloc();
+    let words = words(alloc, &["a.i", "--json", "--workers", "2", "b.i"]).expect(&rt, "memory");
+    let Ok(command) = parse_words(alloc, words.as_slice()) else {
+        panic!(rt; "refused");
+    };
+    assert!(rt; command.json);
+    assert!(rt; command.ask.is_none());
+    assert!(rt; command.units.as_slice() == ["a.i", "b.i"].as_slice());
 }
 
 #[test]
@@ -43,7 +56,16 @@ fn scripts(rt: HostRuntime) {
 }
 
 /// Words of a command line, and whether they are refused.
-static REFUSED: [(&[&str], bool); 20] = [
+static REFUSED: [(&[&str], bool); 29] = [
+    (&["--json", "a.i"], false),
+    (&["a.i", "--json"], false),
+    (&["--json", "a.i", "--json"], true),
+    (&["--json=true", "a.i"], true),
+    (&["--json"], true),
+    (&["--jso", "a.i"], true),
+    (&["--json", "--ask", "s", "a.i"], true),
+    (&["--ask=s", "a.i", "--json"], true),
+    (&["--", "--json", "a.i"], true),
     (&["--ask=s", "a.i"], false),
     (&["--ask", "s"], true),
     (&["--ask", "-s", "a.i"], true),

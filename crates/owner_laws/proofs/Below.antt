@@ -19,14 +19,14 @@ use Rattle.c_senses.specs.Entities.{all_together, types_of, type_behind, own_typ
 use Rattle.c_senses.specs.Initialised.{opening}
 use Rattle.c_senses.specs.Statements.{is_automatic_object, automatic_name, objects_among, objects_in_rest, objects_declared, objects_in}
 use Rattle.c_senses.specs.Rows.{AreSenses, world_at}
-use Rattle.near_nodes.specs.Holding.{MeaningGives, OfSense, RowGives, Closed}
-use Rattle.near_nodes.proofs.Nearness.{AllNear, IfNear, all_near, first_near}
-use Rattle.near_nodes.proofs.All.{near_kept}
-use Rattle.scope_laws.specs.Beneath.{Beneath, part, deeper}
-use Rattle.scope_laws.specs.Scoped.{IsPart, Rooted, ParametersListed, DeclaredOnce}
-use Rattle.scope_laws.proofs.Whole.{uses_stay, names_declared_once}
-use Rattle.parameter_bodies.specs.PassedOn.{IsGrown}
-use Rattle.parameter_bodies.proofs.PassedOn.{in_list, list_in, child_inside, parent_is}
+use Rattle.core_node_laws.specs.near_nodes.Holding.{MeaningGives, OfSense, RowGives, Closed}
+use Rattle.core_node_laws.proofs.near_nodes.Nearness.{AllNear, IfNear, all_near, first_near}
+use Rattle.core_node_laws.proofs.near_nodes.All.{near_kept}
+use Rattle.definition_laws.specs.scope_laws.Beneath.{Beneath, part, deeper}
+use Rattle.definition_laws.specs.scope_laws.Scoped.{IsPart, Rooted, ParametersListed, DeclaredOnce}
+use Rattle.definition_laws.proofs.scope_laws.Whole.{uses_stay, names_declared_once}
+use Rattle.definition_laws.specs.passed.built_unit_laws.parameter_bodies.PassedOn.{IsGrown}
+use Rattle.definition_laws.proofs.passed.built_unit_laws.parameter_bodies.PassedOn.{in_list, list_in, child_inside, parent_is}
 use Rattle.owner_laws.specs.Owners.{LeftsStand}
 use Rattle.owner_laws.proofs.Defined.{is_definition, both}
 use Rattle.owner_laws.proofs.Naming.{clash, own_leaf}

@@ -22,10 +22,10 @@ use Rattle.c_senses.specs.Sense.{Sense, IsCore, sense_in}
 use Rattle.c_senses.specs.Statements.{statement, objects_in, cores_in}
 use Rattle.c_senses.specs.Entities.{keep, first_of, entity_of, declares_function, initialiser_for, is_defined, is_parameter, is_static_object, declaration_of, has_storage, storage_of, linkage_of, function_around}
 use Rattle.c_senses.specs.Right.{Numbering, StandsBy, SameBody, IsEntityOf, Declared as Declares, core_of_sense, block_for, body_at, of_internal, is_definition_at, is_tentative, representative, storage_at, declared_as, declares_entity, entity_type, IsDeclaredAt}
-use Rattle.parameter_bodies.specs.PassedOn.{IsGrown, IsMade}
-use Rattle.parameter_bodies.proofs.PassedOn.{child_inside, list_in}
-use Rattle.parameter_bodies.proofs.PassedOn.{W, F, row_there, same_given}
-use Rattle.parameter_bodies.proofs.PassedOn.{found_part}
+use Rattle.definition_laws.specs.passed.built_unit_laws.parameter_bodies.PassedOn.{IsGrown, IsMade}
+use Rattle.definition_laws.proofs.passed.built_unit_laws.parameter_bodies.PassedOn.{child_inside, list_in}
+use Rattle.definition_laws.proofs.passed.built_unit_laws.parameter_bodies.PassedOn.{W, F, row_there, same_given}
+use Rattle.definition_laws.proofs.passed.built_unit_laws.parameter_bodies.PassedOn.{found_part}
 use Rattle.owner_laws.specs.Owners.{DefinitionsNamed}
 
 pub some_same : {A : Type 0} → {x y : A} → ◌≡◌ {A = Option A} (Some x) (Some y) → x ≡ y

@@ -5,3 +5,4 @@ pub mod Walk
 pub mod Fixed
 pub mod Unnamed
 pub mod Whole
+pub mod passed

@@ -9,7 +9,7 @@ use Rattle.c_senses.specs.Names.{has_linkage, all_linked, with_outer, linked_alo
 use Rattle.c_senses.specs.Tree.{Source}
 use Rattle.c_senses.specs.Sense.{Sense}
 use Rattle.c_senses.specs.Entities.{keep, first_of, last_of, types_of, all_together, own_type, type_behind, is_open, has_earlier_length, named_by, entity_of, is_linked, is_internal, is_internal_of, internal_among, initialiser_for}
-use Rattle.scope_laws.specs.Scoped.{DeclaredOnce}
+use Rattle.definition_laws.specs.scope_laws.Scoped.{DeclaredOnce}
 
 pub clash : {X : Type 0} → (b : Bool) → b ≡ true → b ≡ false → X
 clash true e f = cc

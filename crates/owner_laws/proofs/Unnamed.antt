@@ -14,11 +14,11 @@ use Rattle.c_senses.specs.Entities.{is_defined, is_linked, initialiser_for}
 use Rattle.c_senses.specs.Right.{IsDeclaredAt, Declared, Within, Itself, Below, IsPart, IsLiteralOf, declared_name, declares_entity, declared_as, entity_type, representative, body_at, block_for, core_of_sense}
 use Rattle.c_senses.specs.Rows.{AreSenses}
 use Rattle.c_senses.specs.Sense.{Sense, IsCore, IsInitial, sense_in}
-use Rattle.literal_nodes.specs.Holding.{Asks, Holds, AllHold, OfSense}
-use Rattle.literal_nodes.specs.Unnamed.{IsUnnamed}
-use Rattle.literal_nodes.proofs.Unnamed.{unnamed}
-use Rattle.scope_laws.specs.Scoped.{Rooted}
-use Rattle.scope_laws.proofs.Whole.{linked_names}
+use Rattle.core_node_laws.specs.literal_nodes.Holding.{Asks, Holds, AllHold, OfSense}
+use Rattle.core_node_laws.specs.literal_nodes.Unnamed.{IsUnnamed}
+use Rattle.core_node_laws.proofs.literal_nodes.Unnamed.{unnamed}
+use Rattle.definition_laws.specs.scope_laws.Scoped.{Rooted}
+use Rattle.definition_laws.proofs.scope_laws.Whole.{linked_names}
 use Rattle.owner_laws.proofs.Naming.{clash, entry_in}
 
 module _ (s : Source) (senses : List Sense) (are : AreSenses s senses) where

@@ -8,7 +8,7 @@ use Rattle.core_tree.specs.Range.{Under, here, below, IsChild}
 use Rattle.core_tree.proofs.Climb.{child_has}
 use Rattle.c_consts.specs.Core.{Core, Cores, Of, NoCores, MoreCores}
 use Rattle.c_senses.specs.Right.{Numbering, SameKind, StandsBy, AllStandBy}
-use Rattle.near_nodes.specs.Holding.{Holds, AllHold}
+use Rattle.core_node_laws.specs.near_nodes.Holding.{Holds, AllHold}
 
 pub under_further : (u : Unit) (a b n : ℕ) → Under (trees_of u) a b → Under (trees_of u) b n → Under (trees_of u) a n
 under_further u a b n up here = up

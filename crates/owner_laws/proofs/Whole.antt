@@ -5,7 +5,7 @@ use Rattle.std.proofs.lemmas.Option.{slice_get_within}
 use Rattle.c_lexer.specs.declared.Tokens.{Tokens}
 use Rattle.c_lexer.specs.Cut.{IsTokens}
 use Rattle.c_grammar.specs.declared.trees.Tree.{Tree}
-use Rattle.c_units.specs.Units.{IsUnit}
+use Rattle.c_parser.specs.c_units.Units.{IsUnit}
 use Rattle.c_types.specs.Trees.{Ctype}
 use Rattle.core_tree.specs.declared.node.Unit.{Unit}
 use Rattle.core_tree.specs.declared.node.Node.{Node}
@@ -26,18 +26,18 @@ use Rattle.c_senses.specs.Tree.{Source}
 use Rattle.c_senses.specs.Sense.{Sense, IsCore, sense_in}
 use Rattle.c_senses.specs.Entities.{is_internal, is_linked, linkage_of, entity_of, function_around}
 use Rattle.c_senses.specs.Right.{Numbering, Declared as Declares, IsDeclaredAt, SameOwner, declares_entity, entity_type, declared_as, owner_at}
-use Rattle.built_units.specs.Built.{IsBuilt}
-use Rattle.parsed_laws.proofs.InOrder.{children_first}
-use Rattle.statement_laws.proofs.Grammar.{statements_parsed}
-use Rattle.family_laws.proofs.Reading.{units_families}
-use Rattle.nesting_laws.proofs.Nesting.{units_nest}
-use Rattle.near_nodes.specs.Holding.{Holds, OfSense}
-use Rattle.scope_laws.specs.Beneath.{part}
-use Rattle.scope_laws.specs.Scoped.{ParametersListed}
-use Rattle.parameter_bodies.specs.PassedOn.{IsGrown, IsMade}
-use Rattle.parameter_bodies.proofs.PassedOn.{Above, above}
-use Rattle.parameter_bodies.proofs.Bare.{parameters_bare}
-use Rattle.lasting_literals.proofs.Lasting.{literals_last}
+use Rattle.definition_laws.specs.passed.built_unit_laws.built_units.Built.{IsBuilt}
+use Rattle.sense_laws.proofs.parsed_laws.InOrder.{children_first}
+use Rattle.sense_laws.proofs.statement_laws.Grammar.{statements_parsed}
+use Rattle.core_node_laws.proofs.passed.parsed_tree_laws.family_laws.Reading.{units_families}
+use Rattle.core_node_laws.proofs.passed.parsed_tree_laws.nesting_laws.Nesting.{units_nest}
+use Rattle.core_node_laws.specs.near_nodes.Holding.{Holds, OfSense}
+use Rattle.definition_laws.specs.scope_laws.Beneath.{part}
+use Rattle.definition_laws.specs.scope_laws.Scoped.{ParametersListed}
+use Rattle.definition_laws.specs.passed.built_unit_laws.parameter_bodies.PassedOn.{IsGrown, IsMade}
+use Rattle.definition_laws.proofs.passed.built_unit_laws.parameter_bodies.PassedOn.{Above, above}
+use Rattle.definition_laws.proofs.passed.built_unit_laws.parameter_bodies.Bare.{parameters_bare}
+use Rattle.definition_laws.proofs.passed.built_unit_laws.lasting_literals.Lasting.{literals_last}
 use Rattle.owner_laws.specs.Owners.{LeftsStand, DefinitionsNamed, IsOwnable, OwnersBuilt}
 use Rattle.owner_laws.proofs.Defined.{FunctionTree, function_tree, EntityOf, entity_of_leaf, some_same}
 use Rattle.owner_laws.proofs.Below.{Near, Stands, rooted_of, around_is, trees_stand}

@@ -1,1 +1,11 @@
 pub mod Owners
+pub mod list_laws
+pub mod owned_laws
+pub mod left_laws
+pub mod internal_laws
+pub mod held_parts
+pub mod held_runs
+pub mod run_initialisers
+pub mod automatic_runs
+pub mod around_runs
+pub mod passed

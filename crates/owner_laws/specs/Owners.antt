@@ -4,34 +4,43 @@ use Rattle.c_lexer.specs.declared.Tokens.{Tokens}
 use Rattle.c_lexer.specs.Cut.{IsTokens}
 use Rattle.c_grammar.specs.declared.trees.Tree.{Tree}
 use Rattle.c_grammar.specs.Productions.{p_post}
-use Rattle.c_units.specs.Units.{IsUnit}
+use Rattle.c_parser.specs.c_units.Units.{IsUnit}
 use Rattle.core_tree.specs.declared.node.Unit.{Unit}
 use Rattle.core_tree.specs.declared.node.Storage.TheVariants.{Automatic}
 use Rattle.core_tree.specs.Typed.{CoreTrees, trees_of}
 use Rattle.core_tree.specs.Range.{EachEntity}
 use Rattle.core_tree.specs.Valid.{InRows, Owned, Bodied, FixedStatics, InOwnersBody, InOwner}
-use Rattle.filled_units.specs.Filled.{IsFilled}
+use Rattle.link_model.specs.filled_units.Filled.{IsFilled}
 use Rattle.c_senses.specs.Names.{source_of, numbered}
 use Rattle.c_senses.specs.Tree.{Source, is_a, children_at, left_of}
 use Rattle.c_senses.specs.Entities.{entity_of, function_around, is_defined}
 use Rattle.c_senses.specs.Right.{declares_entity, representative, block_for}
 use Rattle.c_senses.specs.Sense.{Sense, sense_in}
-use Rattle.scope_laws.specs.Scoped.{IsPart, ParametersListed}
-use Rattle.built_units.specs.Built.{IsBuilt}
+use Rattle.definition_laws.specs.scope_laws.Scoped.{IsPart, ParametersListed}
+use Rattle.definition_laws.specs.passed.built_unit_laws.built_units.Built.{IsBuilt}
 
 -- 6.5.2: what stands to the left of an operator behind it is a part of the same node
 abbrev pub LeftsStand : Source → Type 0
-LeftsStand s = (i first p : ℕ) (rest : List ℕ) → is_a s p_post i ≡ true → children_at s i ≡ first ∷ rest → IsPart s p i → IsPart s p (left_of s first)
+LeftsStand s =
+    (i first p : ℕ) (rest : List ℕ)
+    → is_a s p_post i ≡ true
+    → children_at s i ≡ first ∷ rest
+    → IsPart s p i
+    → IsPart s p (left_of s first)
 
 -- 6.9.1: the block of a function stands in the definition of its name
 abbrev pub DefinitionsNamed : Source → List Sense → Type 0
 DefinitionsNamed s senses =
-    (d block : ℕ) → declares_entity s senses d ≡ true → is_defined s (sense_in senses) (representative s senses d) ≡ true → block_for s senses (representative s senses d) ≡ Some block
+    (d block : ℕ)
+    → declares_entity s senses d ≡ true
+    → is_defined s (sense_in senses) (representative s senses d) ≡ true
+    → block_for s senses (representative s senses d) ≡ Some block
     → option_map (entity_of s (sense_in senses)) (function_around s (sense_in senses) block) ≡ Some d
 
 -- the initialiser of an automatic object stands in its owner's body
 abbrev pub Forward : CoreTrees → Type 0
-Forward u = EachEntity u (λ e entity. entity.storage ≡ Automatic → IfSome entity.body (λ b. InOwnersBody u entity.owner b))
+Forward u =
+    EachEntity u (λ e entity. entity.storage ≡ Automatic → IfSome entity.body (λ b. InOwnersBody u entity.owner b))
 
 -- what else is asked of the unit: nodes in their rows, owners, bodies, and what initialises static objects
 pub record IsOwnable (u : Unit) : Type 0 where
@@ -44,6 +53,12 @@ pub record IsOwnable (u : Unit) : Type 0 where
 
 abbrev pub OwnersBuilt : Type 0
 OwnersBuilt =
-    (tokens : Tokens) (unit : ℕ) (tree : Tree) (tag_number : ℕ → ℕ) (name : List ℕ) (u : Unit) → IsTokens tokens.text.now tokens.list.items → IsUnit tokens unit tree
-    → (built : IsBuilt (numbered tag_number (source_of tokens tree)) name u) → ParametersListed tokens tree (numbered tag_number (source_of tokens tree)) → LeftsStand (numbered tag_number (source_of tokens tree))
-    → DefinitionsNamed (numbered tag_number (source_of tokens tree)) built.senses → IsOwnable u → InOwner (trees_of u)
+    (tokens : Tokens) (unit : ℕ) (tree : Tree) (tag_number : ℕ → ℕ) (name : List ℕ) (u : Unit)
+    → IsTokens tokens.text.now tokens.list.items
+    → IsUnit tokens unit tree
+    → (built : IsBuilt (numbered tag_number (source_of tokens tree)) name u)
+    → ParametersListed tokens tree (numbered tag_number (source_of tokens tree))
+    → LeftsStand (numbered tag_number (source_of tokens tree))
+    → DefinitionsNamed (numbered tag_number (source_of tokens tree)) built.senses
+    → IsOwnable u
+    → InOwner (trees_of u)

@@ -2,13 +2,19 @@
 #![tactic(auto)]
 
 #[cfg(test)]
-mod asking;
+mod asker;
 #[cfg(test)]
 mod calls;
+#[cfg(test)]
+mod generated;
+#[cfg(test)]
+mod long;
 #[cfg(test)]
 mod outside;
 #[cfg(test)]
 mod rows;
+#[cfg(test)]
+mod scripts;
 #[cfg(test)]
 mod several;
 #[cfg(test)]

@@ -1,11 +1,5 @@
-// Programs of several units.
-use crate::calls::{OpenGate, answer_over, words_of};
-use std::process::Abort;
-use std::test::Fail;
-use std::thread::Threads;
-
 // Worked calls over several units: as in `rows`, but that the names stand apart by spaces, and their texts by a caret.
-const SEVERAL: &str =
+pub(crate) const SEVERAL: &str =
     "a.i b.i`a.i b.i`0`int *p; static int s; extern int x; int main(void){p=&s;return 0;}^int *p; int x; static int s; void f(void){p=&s;p=&x;}`pta 1
 set p: a.i:s x b.i:s
 end
@@ -131,39 +125,3 @@ a.i b.i c.i`a.i b.i c.i`0`int main(void){return 0;}^void strlen(char*);^void str
 set strlen/s:
 end
 `";
-
-/// Whether a call over several units answers what a row says.
-fn is_answered<R: Threads + Sync + AllocGlobal>(rt: &R, row: &str) -> Result<bool, Fail> {
-    let mut fields = row.split('`');
-    let words = words_of(rt, fields.next().unwrap_or(""))?;
-    let names = fields.next().unwrap_or("");
-    let status = fields.next().unwrap_or("");
-    let mut units = fields.next().unwrap_or("").split('^');
-    let out = fields.next().unwrap_or("");
-    let err = fields.next().unwrap_or("");
-    let mut texts = Vec::new(rt.alloc());
-    for name in names.split(' ') {
-        texts.push((name, units.next().unwrap_or("")))?;
-    }
-    let made = answer_over(
-        rt,
-        words.as_slice(),
-        texts.as_slice(),
-        (&[], &[]),
-        &OpenGate,
-    )?;
-    let number = format!(in rt.alloc(); "{}", made.status)?;
-    Ok(
-        number.as_str() == status
-            && made.out.as_slice() == out.as_bytes()
-            && made.err.as_slice() == err.as_bytes(),
-    )
-}
-
-#[test]
-fn several_units(rt: HostRuntime) -> Result<(), Fail> {
-    for row in SEVERAL.split("~\n") {
-        assert!(rt; is_answered(&rt, row)?, "{row}");
-    }
-    Ok(())
-}

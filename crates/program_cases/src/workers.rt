@@ -1,8 +1,7 @@
 // Which workers come to the gate.
-use crate::calls::{answer_at, words_of};
-use pta_base::Gate;
+use crate::calls::{Case, ROOM, is_answered};
+use pta_base::{Gate, OutOfMemory};
 use std::sync::atomic::{AtomicU64, Ordering};
-use std::test::Fail;
 use std::thread::yield_now;
 
 /// A gate that holds workers 0 and 1 at their first pieces until both have arrived, for so many tries at most, and notes the highest
@@ -48,23 +47,40 @@ fn gate(second: u64) -> Both {
 }
 
 /// Two pointers with an address each, so that two workers have a piece each in the first round.
-const TWO_POINTERS: &str = "int x,y,*p,*q; int main(void){p=&x;q=&y;return 0;}";
-
-const SETS: &[u8] = b"pta 1\nset p: x\nset q: y\nend\n";
+fn two_pointers(words: &'static str) -> Case<'static> {
+    Case {
+        words,
+        names: "a.i",
+        texts: "int x,y,*p,*q; int main(void){p=&x;q=&y;return 0;}",
+        read: None,
+        write: None,
+        step: 0,
+        room: ROOM,
+        status: 0,
+        out: "pta 1\nset p: x\nset q: y\nend\n",
+        err: "",
+    }
+}
 
 #[test]
-fn workers_at_the_gate(rt: HostRuntime) -> Result<(), Fail> {
-    let two = gate(0);
-    let words = words_of(&rt, "--workers 2 a.i")?;
-    let made = answer_at(&rt, words.as_slice(), "a.i", TWO_POINTERS, (&[], &[]), &two)?;
-    assert_eq!(rt; made.out.as_slice(), SETS);
-    assert_eq!(rt; two.first.load(Ordering::SeqCst), 1);
-    assert_eq!(rt; two.second.load(Ordering::SeqCst), 1);
-    assert_eq!(rt; two.late.load(Ordering::SeqCst), 0);
-    let one = gate(1);
-    let alone = words_of(&rt, "a.i")?;
-    let same = answer_at(&rt, alone.as_slice(), "a.i", TWO_POINTERS, (&[], &[]), &one)?;
-    assert_eq!(rt; same.out.as_slice(), SETS);
-    assert_eq!(rt; one.highest.load(Ordering::SeqCst), 0);
+fn two_workers_meet_at_the_gate(rt: HostRuntime) -> Result<(), OutOfMemory> {
+    let gate = gate(0);
+    let answered = is_answered(&rt, rt.alloc(), &two_pointers("--workers 2 a.i"), &gate)?;
+    let first = gate.first.load(Ordering::SeqCst);
+    let second = gate.second.load(Ordering::SeqCst);
+    let late = gate.late.load(Ordering::SeqCst);
+    assert!(rt;
+        answered && [first, second, late] == [1, 1, 0],
+        "{answered} {first} {second} {late}"
+    );
+    Ok(())
+}
+
+#[test]
+fn one_worker_comes_alone(rt: HostRuntime) -> Result<(), OutOfMemory> {
+    let gate = gate(1);
+    let answered = is_answered(&rt, rt.alloc(), &two_pointers("a.i"), &gate)?;
+    let highest = gate.highest.load(Ordering::SeqCst);
+    assert!(rt; answered && highest == 0, "{answered} {highest}");
     Ok(())
 }

@@ -2,3 +2,4 @@ pub mod Outside
 pub mod Kind
 pub mod MemoryUnits
 pub mod MemorySink
+pub mod Steps

@@ -1,5 +1,5 @@
 -- When a read of texts in memory fails.
-use Rattle.std.specs.Prelude.{◌⊎◌, ℕ, List, Contains, IsNone}
+use Rattle.std.specs.Prelude.{ℕ, List, Contains, IsNone, Option}
 use Rattle.pta_base.specs.Outside.{text_of}
 use Rattle.pta_base.specs.declared.memory_units.MemoryUnits.{MemoryUnits}
 
@@ -18,3 +18,7 @@ IsListed units = Contains units.failing.items units.calls
 -- no text has this name
 abbrev pub IsUnknown : MemoryUnits → List ℕ → Type 0
 IsUnknown units name = IsNone (text_of units.texts.items name)
+
+-- at most so many bytes at a time, where there is such a bound
+abbrev pub step_of : MemoryUnits → Option ℕ
+step_of units = units.step

@@ -1,5 +1,6 @@
 -- What the program reads from and writes to.
-use Rattle.std.specs.Prelude.{◌≡◌, ◌⊎◌, ℕ, ◌-◌, ◌^◌, ◌<◌, ◌≤◌, List, [], ◌∷◌, take, drop, length, cond, Option, Some, None, string_bytes, String, Vec, bytes_eq}
+use Rattle.std.specs.Prelude.{◌≡◌, ◌⊎◌, ℕ, ◌-◌, ◌^◌, ◌<◌, ◌≤◌, List, [], ◌∷◌, take, drop, length, cond, Option}
+use Rattle.std.specs.Prelude.{Some, None, string_bytes, String, Vec, bytes_eq}
 use Rattle.std.specs.declared.alloc.Global.{Global}
 
 -- a count of faults rose; it may also stand at its last value

@@ -12,6 +12,7 @@ mod memory_units;
 mod outside;
 mod place;
 mod real;
+mod steps;
 mod text;
 
 pub use effect::Effect;

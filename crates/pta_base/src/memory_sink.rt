@@ -1,7 +1,10 @@
 // A sink in memory of a fixed room, which fails at chosen calls.
-ghost use Rattle.std.specs.Prelude.{◌≡◌, ◌⊎◌, ◌+◌, ◌-◌, ◌^◌, ◌<◌, ◌≤◌, [], ◌++◌, length, min, take, Some, option_map, IfOk, OnOk, OnErr};
+ghost use Rattle.std.specs.Prelude.{◌≡◌, ◌⊎◌, ◌+◌, ◌-◌, ◌^◌, ◌<◌, ◌≤◌, [], ◌++◌, length, min, take, Some, None, option_map, IfOk, OnOk, OnErr};
+ghost use Rattle.std.specs.Option.{ForSome};
 ghost use Rattle.pta_base.specs.Outside.{HasRisen};
+ghost use Rattle.pta_base.specs.Steps.{within};
 
+use crate::steps::within;
 use crate::{Failed, OutOfMemory, Sink};
 use std::alloc::Global;
 
@@ -12,13 +15,15 @@ pub struct MemorySink {
     room: Vec<u8>,
     len: usize,
     failing: Vec<u64>,
+    step: Option<usize>,
     calls: u64,
     faults: u64,
+    ghost stepping: { ForSome step (λ bytes. 0 < bytes) },
     ghost within: { len ≤ length room.items },
 }
 
 impl MemorySink {
-    ghost use Rattle.pta_base.specs.MemorySink.{writes_of, failing_of, room_of};
+    ghost use Rattle.pta_base.specs.MemorySink.{writes_of, failing_of, room_of, step_of};
 
     /// A sink with room for so many bytes, in which nothing is written, and the numbers of the writes that are to fail.
     /// Takes the room's memory, so that no write takes any.
@@ -28,12 +33,40 @@ impl MemorySink {
         ensures room { IfOk result (λ sink. room_of sink ≡ room) }
         ensures failing { IfOk result (λ sink. failing_of sink ≡ failing.items) }
         ensures writes { IfOk result (λ sink. writes_of sink ≡ 0) }
+        ensures step { IfOk result (λ sink. step_of sink ≡ None) }
     {
         let room = vec![in alloc; 0u8; room]?;
         Ok(MemorySink {
             room,
             len: 0,
             failing,
+            step: None,
+            calls: 0,
+            faults: 0,
+        })
+    }
+
+    /// The same with writes that are short: each takes at most so many bytes, at least 1.
+    pub fn short(
+        alloc: Global,
+        room: usize,
+        failing: Vec<u64>,
+        step: usize,
+    ) -> Result<MemorySink, OutOfMemory>
+        requires { 0 < step }
+        ensures written { IfOk result (λ sink. ⟦<MemorySink as Sink>⟧.written sink ≡ Some []) }
+        ensures faults { IfOk result (λ sink. ⟦<MemorySink as Sink>⟧.faults sink ≡ 0) }
+        ensures room { IfOk result (λ sink. room_of sink ≡ room) }
+        ensures failing { IfOk result (λ sink. failing_of sink ≡ failing.items) }
+        ensures writes { IfOk result (λ sink. writes_of sink ≡ 0) }
+        ensures step { IfOk result (λ sink. step_of sink ≡ Some step) }
+    {
+        let room = vec![in alloc; 0u8; room]?;
+        Ok(MemorySink {
+            room,
+            len: 0,
+            failing,
+            step: Some(step),
             calls: 0,
             faults: 0,
         })
@@ -47,20 +80,20 @@ impl MemorySink {
     }
 }
 
-/// Puts a prefix of a piece into the room from a place on, as much as there is room for.
-fn put(room: &mut [u8], at: usize, piece: &[u8]) -> usize
+/// Puts a prefix of a piece into the room from a place on, as much as there is room for and as a step allows.
+fn put(room: &mut [u8], at: usize, step: Option<usize>, piece: &[u8]) -> usize
     requires { at ≤ length room.old }
-    ensures count { result ≡ min (length piece.now) (length room.old - at) }
+    ensures count { result ≡ within step (min (length piece.now) (length room.old - at)) }
     ensures fits { at + result ≤ length room.new }
     ensures put { take (at + result) room.new ≡ take at room.old ++ take result piece.now }
 {
-    let count = piece.len().min(room.len() - at);
+    let count = within(step, piece.len().min(room.len() - at));
     room[at..at + count].copy_from_slice(&piece[..count]);
     count
 }
 
 impl Sink for MemorySink {
-    ghost use Rattle.pta_base.specs.MemorySink.{writes_of, failing_of, room_of, IsListed};
+    ghost use Rattle.pta_base.specs.MemorySink.{writes_of, failing_of, room_of, step_of, IsListed};
 
     ghost written = { λ sink. Some (take sink.len sink.room.items) };
 
@@ -79,7 +112,8 @@ impl Sink for MemorySink {
         ensures rises { self.old.faults ≤ self.new.faults }
         ensures fails { OnErr result (IsListed self.old ⊎ (room_of self.old ≡ 0)) }
         ensures spared { OnOk result (¬ IsListed self.old) }
-        ensures count { IfOk result (λ count. count ≡ min (length piece.now) (room_of self.old)) }
+        ensures count { IfOk result (λ count. count ≡ within (step_of self.old) (min (length piece.now) (room_of self.old))) }
+        ensures stepped { step_of self.new ≡ step_of self.old }
         ensures counted { writes_of self.new ≡ min (writes_of self.old + 1) (2 ^ 64 - 1) }
         ensures listed { failing_of self.new ≡ failing_of self.old }
     {
@@ -93,7 +127,7 @@ impl Sink for MemorySink {
             self.faults = self.faults.saturating_add(1);
             return Err(Failed);
         }
-        let count = put(&mut self.room, self.len, piece);
+        let count = put(&mut self.room, self.len, self.step, piece);
         self.len += count;
         Ok(count)
     }

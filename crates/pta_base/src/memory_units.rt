@@ -1,7 +1,11 @@
 // Texts in memory, which fail at chosen calls.
 ghost use Rattle.std.specs.Prelude.{◌≡◌, ◌⊎◌, ℕ, ◌+◌, ◌-◌, ◌^◌, ◌<◌, ◌≤◌, List, length, min, option_map, IfOk, IfSome, IsSome, OnOk, OnErr};
+ghost use Rattle.std.specs.Option.{ForSome};
+ghost use Rattle.std.specs.Prelude.{Some, None};
 ghost use Rattle.pta_base.specs.Outside.{HasRisen, IsCopied, text_of};
+ghost use Rattle.pta_base.specs.Steps.{within};
 
+use crate::steps::within;
 use crate::{Failed, Units};
 
 /// Names with their texts. Each read fails whose number, from 0, is listed, and so does one of an unknown name. Where a
@@ -10,12 +14,14 @@ use crate::{Failed, Units};
 pub struct MemoryUnits {
     texts: Vec<(String, Vec<u8>)>,
     failing: Vec<u64>,
+    step: Option<usize>,
     calls: u64,
     faults: u64,
+    ghost stepping: { ForSome step (λ bytes. 0 < bytes) },
 }
 
 impl MemoryUnits {
-    ghost use Rattle.pta_base.specs.MemoryUnits.{reads_of, failing_of};
+    ghost use Rattle.pta_base.specs.MemoryUnits.{reads_of, failing_of, step_of};
 
     /// Texts under their names, and the numbers of the reads that are to fail. All texts are told, and no fault has been.
     pub fn new(texts: Vec<(String, Vec<u8>)>, failing: Vec<u64>) -> MemoryUnits
@@ -23,10 +29,30 @@ impl MemoryUnits {
         ensures faults { (name : List ℕ) → ⟦<MemoryUnits as Units>⟧.faults result name ≡ 0 }
         ensures failing { failing_of result ≡ failing.items }
         ensures reads { reads_of result ≡ 0 }
+        ensures step { step_of result ≡ None }
     {
         MemoryUnits {
             texts,
             failing,
+            step: None,
+            calls: 0,
+            faults: 0,
+        }
+    }
+
+    /// The same with reads that are short: each copies at most so many bytes, at least 1.
+    pub fn short(texts: Vec<(String, Vec<u8>)>, failing: Vec<u64>, step: usize) -> MemoryUnits
+        requires { 0 < step }
+        ensures text { (name : List ℕ) → ⟦<MemoryUnits as Units>⟧.text result name ≡ text_of texts.items name }
+        ensures faults { (name : List ℕ) → ⟦<MemoryUnits as Units>⟧.faults result name ≡ 0 }
+        ensures failing { failing_of result ≡ failing.items }
+        ensures reads { reads_of result ≡ 0 }
+        ensures step { step_of result ≡ Some step }
+    {
+        MemoryUnits {
+            texts,
+            failing,
+            step: Some(step),
             calls: 0,
             faults: 0,
         }
@@ -45,23 +71,25 @@ fn find<'a>(texts: &'a [(String, Vec<u8>)], name: &str) -> Option<&'a [u8]>
     None
 }
 
-/// Copies as much of a text as there is room for.
-fn copy(text: &[u8], at: u64, buf: &mut [u8]) -> usize
-    requires { 0 < length buf.old }
+/// Copies as much of a text as there is room for and as a step allows.
+fn copy(text: &[u8], at: u64, step: Option<usize>, buf: &mut [u8]) -> usize
+    requires room { 0 < length buf.old }
+    requires stepping { ForSome step (λ bytes. 0 < bytes) }
     ensures within { result ≤ length buf.new }
     ensures copied { IsCopied text.now at result buf.new }
+    ensures count { result ≡ within step (min (length text.now - at) (length buf.old)) }
 {
     if at >= text.len() as u64 {
         return 0;
     }
     let rest = &text[at as usize..];
-    let count = rest.len().min(buf.len());
+    let count = within(step, rest.len().min(buf.len()));
     buf[..count].copy_from_slice(&rest[..count]);
     count
 }
 
 impl Units for MemoryUnits {
-    ghost use Rattle.pta_base.specs.MemoryUnits.{reads_of, failing_of, IsListed, IsUnknown};
+    ghost use Rattle.pta_base.specs.MemoryUnits.{reads_of, failing_of, step_of, IsListed, IsUnknown};
 
     ghost text = { λ units name. text_of units.texts.items name };
 
@@ -79,6 +107,8 @@ impl Units for MemoryUnits {
         ensures fails { OnErr result (IsListed self.old ⊎ IsUnknown self.old name.now) }
         ensures spared { OnOk result (¬ IsListed self.old) }
         ensures known { OnOk result (IsSome (text_of self.old.texts.items name.now)) }
+        ensures count { IfOk result (λ count. IfSome (text_of self.old.texts.items name.now) (λ told. count ≡ within (step_of self.old) (min (length told - at) (length buf.old)))) }
+        ensures stepped { step_of self.new ≡ step_of self.old }
         ensures counted { reads_of self.new ≡ min (reads_of self.old + 1) (2 ^ 64 - 1) }
         ensures listed { failing_of self.new ≡ failing_of self.old }
     {
@@ -92,6 +122,6 @@ impl Units for MemoryUnits {
             self.faults = self.faults.saturating_add(1);
             return Err(Failed);
         };
-        Ok(copy(text, at, buf))
+        Ok(copy(text, at, self.step, buf))
     }
 }

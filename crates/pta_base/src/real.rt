@@ -6,18 +6,45 @@ use std::fs;
 use std::io::{self, Read, Seek, SeekFrom, Write};
 use std::rt::Files;
 
-/// An open file under its name, and the place of the next byte that it gives.
+/// The most bytes of a name that is remembered: a unit's name has no more.
+const REMEMBERED: usize = 255;
+
+/// An open file with the first bytes of its name, the length of the name, and the place of the next byte that it gives.
 #[derive(Drop)]
 struct OpenFile<F: Drop> {
-    name: String,
+    name: [u8; REMEMBERED],
+    len: usize,
     file: F,
     place: u64,
 }
 
+impl<F: Drop> OpenFile<F> {
+    /// A file that was just opened.
+    fn under(name: &str, file: F) -> OpenFile<F> {
+        let mut kept = [0u8; REMEMBERED];
+        let count = name.len().min(REMEMBERED);
+        kept[..count].copy_from_slice(&name.as_bytes()[..count]);
+        OpenFile {
+            name: kept,
+            len: name.len(),
+            file,
+            place: 0,
+        }
+    }
+
+    /// Whether it was opened under this name. A name that is too long to be remembered is no file's.
+    fn is_of(&self, name: &str) -> bool {
+        self.len == name.len()
+            && self.len <= REMEMBERED
+            && &self.name[..self.len] == name.as_bytes()
+    }
+}
+
 /// Files by name: a unit's name is the path of its file. No text is told, since no clause can say what a file holds. The file
 /// of the last name stays open, and a read goes on where the last one ended; only a read at another place seeks. So a file that
-/// is replaced meanwhile is read as it was, and a pipe can be read from its start on. Each failure to open, to seek or to read
-/// counts as a fault, whatever the name, and so does want of memory for the name; then the file is closed.
+/// is replaced meanwhile is read as it was, and a pipe can be read from its start on. A name of over 255 bytes isn't remembered:
+/// its file is opened for each read. Each failure to open, to seek or to read counts as a fault, whatever the name; then the
+/// file is closed. No memory is taken.
 #[derive(Drop)]
 pub struct FileUnits<'a, R: Files + AllocGlobal> {
     rt: &'a R,
@@ -43,15 +70,11 @@ fn file_of<R: Files + AllocGlobal>(
     name: &str,
 ) -> io::Result<OpenFile<R::File>> {
     if let Some(open) = open
-        && open.name.as_str() == name
+        && open.is_of(name)
     {
         return Ok(open);
     }
-    Ok(OpenFile {
-        name: name.to_string(rt.alloc())?,
-        file: fs::open(rt, name)?,
-        place: 0,
-    })
+    Ok(OpenFile::under(name, fs::open(rt, name)?))
 }
 
 /// Reads from a place on.

@@ -5,7 +5,7 @@ use c_grammar::productions::STATEMENT;
 use c_lexer::Tokens;
 use c_lexer::lexer::tokens;
 use c_parser::ParseFault;
-use c_units::parse_unit;
+use c_parser::c_units::parse_unit;
 use std::alloc::Global;
 use std::test::Fail;
 

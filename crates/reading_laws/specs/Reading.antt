@@ -3,7 +3,7 @@ use Rattle.std.specs.Prelude.{ℕ, ◌≡◌, List}
 use Rattle.c_lexer.specs.declared.Tokens.{Tokens}
 use Rattle.c_lexer.specs.Cut.{IsTokens}
 use Rattle.c_grammar.specs.declared.trees.Tree.{Tree}
-use Rattle.c_units.specs.Units.{IsUnit}
+use Rattle.c_parser.specs.c_units.Units.{IsUnit}
 use Rattle.c_senses.specs.Names.{source_of}
 
 -- the tokens are those of the text, and the tree is that of a unit of that number
@@ -21,4 +21,8 @@ pub record AreOne (tokens other : Tokens) (tree there : Tree) : Type 0 where
   pub source_same : source_of tokens tree ≡ source_of other there
 
 abbrev pub OneTree : Type 0
-OneTree = (text : List ℕ) (unit : ℕ) (tokens other : Tokens) (tree there : Tree) → IsRead text unit tokens tree → IsRead text unit other there → AreOne tokens other tree there
+OneTree =
+    (text : List ℕ) (unit : ℕ) (tokens other : Tokens) (tree there : Tree)
+    → IsRead text unit tokens tree
+    → IsRead text unit other there
+    → AreOne tokens other tree there

@@ -2,3 +2,6 @@
 #![tactic(auto)]
 
 pub mod laws;
+pub mod numbered_laws;
+pub mod right_laws;
+pub mod source_laws;

@@ -1,5 +1,6 @@
 -- Cells by path: what is listed under a step, before it and behind it.
-use Rattle.std.specs.Prelude.{ℕ, ◌≡◌, ◌≤◌, take, length, Bool, ◌+◌, ◌*◌, ◌==◌, nat_lt, List, ◌++◌, [], ◌∷◌, map, filter, drop}
+use Rattle.std.specs.Prelude.{ℕ, ◌≡◌, ◌≤◌, take, length, Bool, ◌+◌, ◌*◌, ◌==◌, nat_lt, List, ◌++◌, [], ◌∷◌, map}
+use Rattle.std.specs.Prelude.{filter, drop}
 use Rattle.c_types.specs.declared.term.PathStep.{PathStep}
 use Rattle.c_types.specs.declared.term.PathStep.TheVariants.{Index, Member}
 use Rattle.ref_cells.specs.declared.cells.Cell.{Cell}

@@ -1,5 +1,6 @@
 -- The checks of a read and of a write, in their order.
-use Rattle.std.specs.Prelude.{ℕ, ◌==◌, nat_le, Bool, true, false, cond, if◌then◌else◌, List, [], ◌∷◌, Option, Some, None, Result, Ok, Err, slice_get, All, ⊤, ◌<◌}
+use Rattle.std.specs.Prelude.{ℕ, ◌==◌, nat_le, Bool, true, false, cond, if◌then◌else◌, List, [], ◌∷◌, Option, Some}
+use Rattle.std.specs.Prelude.{None, Result, Ok, Err, slice_get, All, ⊤, ◌<◌}
 use Rattle.c_types.specs.declared.term.PathStep.{PathStep}
 use Rattle.c_types.specs.declared.term.PathStep.TheVariants.{Index}
 use Rattle.c_types.specs.declared.term.TypeId.{TypeId}

@@ -13,17 +13,21 @@ lost table false t = []
 lost table true None = []
 lost table true (Some t) = filled table false t []
 
--- Cells with those of a value put under a path. Under a member of a union that wasn't active, the member becomes active:
--- all that is listed of the union goes.
+-- Cells with those of a value put under a path. Under a member of a union that wasn't active, the member becomes
+-- active: all that is listed of the union goes.
 abbrev pub put : Table → Bool → Option Ctype → List PathStep → CellList → CellList → CellList
 put table marked t [] value cells = value
 put table marked t (step ∷ rest) value cells =
     cond (goes_on t step cells)
-    (below step cells ++ prefixed step (put table marked (part_below table t step) rest value (under step cells)) ++ above step cells)
-    (prefixed step (put table marked (part_below table t step) rest value (lost table marked (part_below table t step))))
+    (below step cells
+    ++ prefixed step (put table marked (part_below table t step) rest value (under step cells))
+    ++ above step cells)
+    (prefixed step
+    (put table marked (part_below table t step) rest value (lost table marked (part_below table t step))))
 
 -- what stands under a place where a member that isn't active lies on the way, and else at its end
 abbrev pub replaced : Table → Bool → Option Ctype → List PathStep → CellList → CellList
 replaced table marked t [] value = value
 replaced table marked t (step ∷ rest) value =
-    prefixed step (put table marked (part_below table t step) rest value (lost table marked (part_below table t step)))
+    prefixed step
+    (put table marked (part_below table t step) rest value (lost table marked (part_below table t step)))

@@ -1,5 +1,6 @@
 -- What a read gives.
-use Rattle.std.specs.Prelude.{ℕ, zero, suc, ◌+◌, ◌==◌, pos, Bool, true, false, List, [], ◌∷◌, ◌++◌, Option, Some, None, map, slice_get, unwrap_or}
+use Rattle.std.specs.Prelude.{ℕ, zero, suc, ◌+◌, ◌==◌, pos, Bool, true, false, List, [], ◌∷◌, ◌++◌, Option, Some}
+use Rattle.std.specs.Prelude.{None, map, slice_get, unwrap_or}
 use Rattle.c_types.specs.declared.term.PathStep.{PathStep}
 use Rattle.c_types.specs.declared.term.PathStep.TheVariants.{Index, Member}
 use Rattle.c_types.specs.Trees.{Ctype, VoidType, VaListType, PointerTo, ArrayOf, FunctionFrom, StructureOf, UnionOf}
@@ -49,7 +50,8 @@ elements fill (suc n) cells = elements fill n cells ++ prefixed (Index n) (fill 
 -- the cells of members, the first of them number k
 abbrev pub members_from : Fill → ℕ → List Ctype → CellList → CellList
 members_from fill k [] cells = []
-members_from fill k (t ∷ rest) cells = prefixed (Member k) (fill t (under (Member k) cells)) ++ members_from fill (k + 1) rest cells
+members_from fill k (t ∷ rest) cells =
+    prefixed (Member k) (fill t (under (Member k) cells)) ++ members_from fill (k + 1) rest cells
 
 abbrev pub one_member : Fill → ℕ → Option Ctype → CellList → CellList
 one_member fill k None cells = []
@@ -62,7 +64,8 @@ filled_by table marked fill (FunctionFrom result parameters form) cells = []
 filled_by table marked fill (ArrayOf of None) cells = []
 filled_by table marked fill (ArrayOf of (Some n)) cells = elements (filled_by table marked fill of) n cells
 filled_by table marked fill (StructureOf tag) cells = members_from fill 0 (member_types table tag) cells
-filled_by table marked fill (UnionOf tag) cells = one_member fill (active cells) (slice_get (member_types table tag) (active cells)) cells
+filled_by table marked fill (UnionOf tag) cells =
+    one_member fill (active cells) (slice_get (member_types table tag) (active cells)) cells
 filled_by table marked fill t cells = ([], cell_in marked t cells) ∷ []
 
 -- through so many structures and unions, one within another
@@ -71,8 +74,8 @@ filled_to table marked zero = λ t cells. []
 filled_to table marked (suc depth) = filled_by table marked (filled_to table marked depth)
 
 -- All cells of a value, unset ones too: a structure's are those of its members, an array's those of its elements, a
--- union's those of its active member. No structure or union holds one of its own tag, so there are no more levels than
--- tags.
+-- union's those of its active member. No structure or union holds one of its own tag, so there are no more levels
+-- than tags.
 unfoldable pub filled : Table → Bool → Fill
 filled table marked = filled_by table marked (filled_to table marked table.tags)
 

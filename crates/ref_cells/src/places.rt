@@ -1,10 +1,9 @@
 // The checks of a read and of a write.
 
-ghost use Rattle.std.specs.Prelude.{◌≡◌, ℕ, Bool, ◌<◌, true, IfOk, IfSome, Some, slice_get, length};
+ghost use Rattle.std.specs.Prelude.{◌≡◌, ℕ, Bool, ◌<◌, true, IfOk, IfSome, Some, length};
 ghost use Rattle.c_types.specs.Table.{type_of};
 ghost use Rattle.c_types.specs.Trees.{IntegerType, PointerTo, VoidType};
 ghost use Rattle.type_rules.specs.Kinds.{character};
-ghost use Rattle.std.specs.Option.{option_copied};
 ghost use Rattle.ref_cells.specs.Answers.{Agrees};
 ghost use Rattle.ref_cells.specs.Wholes.{shape_of, shape_in, IsOver};
 ghost use Rattle.ref_cells.specs.Places.{walk, type_in, type_at_place, is_alike, reach, IsKnown, AreKnown};
@@ -54,13 +53,6 @@ fn type_in(
     } else {
         walk(types, whole_of(types, inst), path)
     }
-}
-
-/// The instance of that number.
-pub fn instance_at(memory: &[Instance], instance: u32) -> Option<&Instance>
-    ensures { option_copied result ≡ slice_get memory.now instance }
-{
-    memory.get(instance as usize)
 }
 
 /// The type at a place.

@@ -1,5 +1,6 @@
 -- The rows that copy and set whole elements (C11 7.24.2, 7.24.6.1).
-use Rattle.std.specs.Prelude.{ℕ, zero, suc, ◌+◌, ◌%◌, ◌==◌, ◌&&◌, ◌||◌, not, pos, Bool, true, false, if◌then◌else◌, List, [], ◌∷◌, Option, Some, None, Result, Ok, Err, map, slice_get}
+use Rattle.std.specs.Prelude.{ℕ, zero, suc, ◌+◌, ◌%◌, ◌==◌, ◌&&◌, ◌||◌, not, pos, Bool, true, false, if◌then◌else◌}
+use Rattle.std.specs.Prelude.{List, [], ◌∷◌, Option, Some, None, Result, Ok, Err, map, slice_get}
 use Rattle.std.specs.List.{list_all}
 use Rattle.c_types.specs.declared.term.PathStep.{PathStep}
 use Rattle.c_types.specs.declared.term.TypeId.{TypeId}
@@ -12,11 +13,10 @@ use Rattle.ref_cells.specs.declared.cells.Cell.{Cell}
 use Rattle.ref_cells.specs.declared.cells.Cell.TheVariants.{Unset, Number, Null, Pointer}
 use Rattle.ref_cells.specs.declared.instance.Instance.{Instance}
 use Rattle.ref_cells.specs.Cells.{CellList}
-use Rattle.ref_cells.specs.Numbers.{converted}
 use Rattle.ref_cells.specs.Places.{is_alike}
 use Rattle.ref_cells.specs.Values.{filled}
 use Rattle.ref_mem.specs.Reads.{one_cell}
-use Rattle.ref_mem.specs.Writes.{changed, typed_as}
+use Rattle.ref_mem.specs.Writes.{changed, kept_cell, typed_as, width_along}
 use Rattle.ref_elements.specs.declared.runs.Run.{Run}
 use Rattle.ref_elements.specs.declared.runs.Found.{Found}
 use Rattle.ref_elements.specs.Types.{same_type}
@@ -24,7 +24,8 @@ use Rattle.ref_elements.specs.Arguments.{count_of}
 use Rattle.ref_elements.specs.Outcomes.{Effect, gives}
 use Rattle.ref_elements.specs.Objects.{is_start}
 use Rattle.ref_elements.specs.Parts.{Parts, puts}
-use Rattle.ref_elements.specs.Runs.{◌>>=◌, content_at, found_at, live_at, found_as, element_path, size_in, parts_of, within}
+use Rattle.ref_elements.specs.Runs.{◌>>=◌, content_at, found_at, live_at, found_as, element_path, size_in, parts_of}
+use Rattle.ref_elements.specs.Runs.{within}
 
 abbrev pub push_part : List PathStep → Option CellList → Result Parts Reason → Result Parts Reason
 push_part path None rest = Err Mismatch
@@ -35,7 +36,8 @@ push_part path (Some cells) (Ok parts) = Ok ((path, cells) ∷ parts)
 abbrev pub copied : Table → List Instance → Found → Run → ℕ → ℕ → Result Parts Reason
 copied table memory source target k zero = Ok []
 copied table memory source target k (suc n) =
-    push_part (element_path target k) (content_at table memory source k) (copied table memory source target (k + 1) n)
+    push_part (element_path target k) (content_at table memory source k)
+    (copied table memory source target (k + 1) n)
 
 -- the instance of a target lives
 abbrev pub target_at : List Instance → Cell → Result Instance Reason
@@ -52,7 +54,8 @@ abbrev pub target_for : Table → List Instance → Cell → TypeId → Result F
 target_for table memory place id = target_at memory place >>= λ inst. target_run table place (typed_as id inst)
 
 abbrev pub alike : Table → TypeId → Found → Result Found Reason
-alike table id found = if same_type (type_of table found.run.of.0) (type_of table id.0) then Ok found else Err Mismatch
+alike table id found =
+    if same_type (type_of table found.run.of.0) (type_of table id.0) then Ok found else Err Mismatch
 
 abbrev pub copy_to : Table → List Instance → Cell → ℕ → Found → Found → Effect
 copy_to table memory a1 bytes source target =
@@ -64,10 +67,12 @@ abbrev pub copy_from : Table → List Instance → Cell → ℕ → Found → Ef
 copy_from table memory a1 bytes source =
     target_for table memory a1 source.run.of >>= alike table source.run.of >>= copy_to table memory a1 bytes source
 
--- memcpy, memmove: the checks of a2, of a1, of types, of the number and of ranges; all is read before any is written
+-- memcpy, memmove: the checks of a2, of a1, of types, of the number and of ranges; all is read before any is
+-- written
 abbrev pub copy_row : Table → List Instance → Cell → Cell → Cell → Effect
 copy_row table memory a1 a2 a3 =
-    if count_of a3 == 0 then gives memory (one_cell a1) else (found_at table memory a2 >>= copy_from table memory a1 (count_of a3))
+    if count_of a3 == 0 then gives memory (one_cell a1)
+    else (found_at table memory a2 >>= copy_from table memory a1 (count_of a3))
 
 abbrev pub is_union : Option Ctype → Bool
 is_union (Some (UnionOf tag)) = true
@@ -82,21 +87,27 @@ is_byte None = false
 is_byte (Some t) = is_alike t (IntegerType 1 1 true)
 
 abbrev pub is_free_byte : Table → Ctype → List PathStep → Bool
-is_free_byte table t path = is_byte (type_at_path table (Some t) path) && not (goes_through_union table (Some t) path)
+is_free_byte table t path =
+    is_byte (type_at_path table (Some t) path) && not (goes_through_union table (Some t) path)
 
 -- each cell of a type is of size 1, and lies in no union
 abbrev pub is_all_bytes : Table → Ctype → Bool
 is_all_bytes table t = list_all (λ e. is_free_byte table t e.0) (filled table false t [])
 
-abbrev pub byte_in : Option Ctype → ℕ → Cell
-byte_in None byte = Unset
-byte_in (Some t) byte = Number (converted t (pos byte))
+-- a byte as it is kept in a scalar of a type, and of a width where it is a bit-field
+abbrev pub byte_in : Option Ctype → Option ℕ → ℕ → Cell
+byte_in None width byte = Unset
+byte_in (Some t) width byte = kept_cell t width (Number (pos byte))
+
+-- a byte as it is kept at a path of a type
+abbrev pub byte_at : Table → Ctype → ℕ → List PathStep → Cell
+byte_at table t byte path = byte_in (type_at_path table (Some t) path) (width_along table (Some t) path) byte
 
 -- the cells of an element of which each byte is that one
 abbrev pub set_cells : Table → Ctype → ℕ → CellList
 set_cells table t byte =
     if byte == 0 then filled table true t []
-    else map (λ e. (e.0, byte_in (type_at_path table (Some t) e.0) byte)) (filled table false t [])
+    else map (λ e. (e.0, byte_at table t byte e.0)) (filled table false t [])
 
 -- the same cells in so many elements, from the k-th on
 abbrev pub set_parts : Run → CellList → ℕ → ℕ → Parts
@@ -107,7 +118,8 @@ abbrev pub set_run : Table → List Instance → Cell → ℕ → ℕ → Found 
 set_run table memory a1 byte bytes found =
     if byte == 0 || is_all_bytes table (type_of table found.run.of.0)
     then (parts_of bytes (size_in table found.run.of) >>= λ n. within n found.run.room
-    >>= λ n. puts table memory found.number found.run.of (set_parts found.run (set_cells table (type_of table found.run.of.0) byte) 0 n) a1)
+    >>= λ n. puts table memory found.number found.run.of
+    (set_parts found.run (set_cells table (type_of table found.run.of.0) byte) 0 n) a1)
     else Err Mismatch
 
 -- an object without a type is set to zero as a whole alone
@@ -125,7 +137,8 @@ set_target table memory a1 byte bytes = target_at memory a1 >>= λ inst. aimed_a
 
 abbrev pub zeroed : List Instance → Cell → ℕ → Option Instance → Effect
 zeroed memory a1 i None = Err Mismatch
-zeroed memory a1 i (Some inst) = gives (changed memory i (Some inst) (λ old. record old { zero = true })) (one_cell a1)
+zeroed memory a1 i (Some inst) =
+    gives (changed memory i (Some inst) (λ old. record old { zero = true })) (one_cell a1)
 
 abbrev pub set_whole : List Instance → Cell → Effect
 set_whole memory (Pointer i path past) = zeroed memory (Pointer i path past) i (slice_get memory i)
@@ -141,4 +154,5 @@ set_at table memory a1 byte bytes = set_target table memory a1 byte bytes >>= se
 -- memset: a2 as an unsigned char in each byte of a3 bytes
 abbrev pub set_row : Table → List Instance → Cell → Cell → Cell → Effect
 set_row table memory a1 a2 a3 =
-    if count_of a3 == 0 then gives memory (one_cell a1) else set_at table memory a1 (count_of a2 % 256) (count_of a3)
+    if count_of a3 == 0 then gives memory (one_cell a1)
+    else set_at table memory a1 (count_of a2 % 256) (count_of a3)

@@ -8,19 +8,21 @@ ghost use Rattle.c_types.specs.Paths.{part_below, type_at_path};
 ghost use Rattle.ref_cells.specs.Answers.{Gives};
 ghost use Rattle.ref_cells.specs.Places.{IsKnown, AreKnown};
 ghost use Rattle.ref_elements.specs.Arguments.{argument, count_of};
-ghost use Rattle.ref_copies.specs.Copies.{is_byte, is_union, is_free_byte, goes_through_union, is_all_bytes, byte_in, set_cells, set_parts, set_run, set_target, aimed_as, set_whole, set_at, set_row};
+ghost use Rattle.ref_copies.specs.Copies.{is_byte, is_union, is_free_byte, goes_through_union, is_all_bytes, byte_at, set_cells, set_parts, set_run, set_target, aimed_as, set_whole, set_at, set_row};
 
 use c_types::table::TypeTable;
 use c_types::term::{OutOfMemory, PathStep, Term, TypeId};
 use ref_cells::cells::{Cell, Cells, MemFault, Path, Reason, Value, copy_path};
 use ref_cells::instance::Instance;
-use ref_cells::numbers::converted;
+use ref_cells::numbers::{converted, reduced};
+use ref_cells::wholes::one;
 use ref_elements::arguments::{count, scalar};
 use ref_elements::objects::is_start;
 use ref_elements::outcome::{LibOutcome, gives};
 use ref_elements::parts::{parts_of, push_part, puts, within};
 use ref_elements::runs::{Found, Run, element_path, found_as};
 use ref_mem::memory::{Memory, blank_cells};
+use ref_mem::width_along;
 use std::alloc::Global;
 use type_rules::members::{at_path, part_of};
 
@@ -39,13 +41,19 @@ fn is_byte(types: &TypeTable, id: Option<TypeId>) -> bool
     }
 }
 
-// A byte as what a type holds.
-fn byte_in(types: &TypeTable, id: Option<TypeId>, byte: u64) -> Cell
-    requires { IfSome id (λ id. id.0 < length types.now.terms) }
-    ensures { result ≡ byte_in (option_map (λ id. type_of types.now id.0) id) byte }
+// A byte as what stands at a path of a type keeps it.
+fn byte_at(types: &TypeTable, id: TypeId, path: &[PathStep], byte: u64) -> Cell
+    requires { id.0 < length types.now.terms }
+    ensures { result ≡ byte_at types.now (type_of types.now id.0) byte path.now }
 {
-    match id {
-        Some(id) => Cell::Number(converted(types, id, i128::from(byte))),
+    let width = width_along(types, one(Some(id)), path);
+    match at_path(types, id, path) {
+        Some(found) => Cell::Number(reduced(
+            types,
+            found,
+            width,
+            converted(types, found, i128::from(byte)),
+        )),
         None => Cell::Unset,
     }
 }
@@ -124,12 +132,12 @@ fn byte_cells(
     requires { id.0 < length types.now.terms }
     ensures { IfOk result (λ list.
         list.items
-        ≡ map (λ e. (e.0, byte_in (type_at_path types.now (Some (type_of types.now id.0)) e.0) byte)) cells.now) }
+        ≡ map (λ e. (e.0, byte_at types.now (type_of types.now id.0) byte e.0)) cells.now) }
 {
     let mut list = Vec::new(alloc);
     for entry in cells {
         let path = copy_path(alloc, entry.0.as_slice())?;
-        let cell = byte_in(types, at_path(types, id, entry.0.as_slice()), byte);
+        let cell = byte_at(types, id, entry.0.as_slice(), byte);
         push_cell(&mut list, path, cell)?;
     }
     Ok(list)

@@ -1,5 +1,6 @@
 -- Objects that a call makes, and those of the library.
-use Rattle.std.specs.Prelude.{ℕ, ◌+◌, ◌%◌, ◌==◌, Bool, true, false, if◌then◌else◌, List, [], ◌∷◌, ◌++◌, Option, Some, None, Err}
+use Rattle.std.specs.Prelude.{ℕ, ◌+◌, ◌%◌, ◌==◌, Bool, true, false, if◌then◌else◌, List, [], ◌∷◌, ◌++◌, Option}
+use Rattle.std.specs.Prelude.{Some, None, Err}
 use Rattle.c_types.specs.declared.key.ObjectKey.{ObjectKey}
 use Rattle.c_types.specs.declared.key.ObjectKey.TheVariants.{Library}
 use Rattle.c_types.specs.declared.term.PathStep.{PathStep}
@@ -33,7 +34,8 @@ is_object position key = false
 
 abbrev pub object_from : ℕ → ℕ → List Instance → Option ℕ
 object_from position i [] = None
-object_from position i (inst ∷ rest) = if is_object position inst.key then Some i else object_from position (i + 1) rest
+object_from position i (inst ∷ rest) =
+    if is_object position inst.key then Some i else object_from position (i + 1) rest
 
 abbrev pub element_of_object : List Instance → Option ℕ → Effect
 element_of_object memory None = Err Mismatch

@@ -28,7 +28,8 @@ no_value = record { cells = [] }
 
 -- the call goes on like this
 abbrev pub goes : List Instance → Value → Next → Effect
-goes memory value next = Ok (record { memory = memory; outcome = record { value = value; stores = []; next = next } })
+goes memory value next =
+    Ok (record { memory = memory; outcome = record { value = value; stores = []; next = next } })
 
 -- the call is done, and puts no pointer into a cell
 abbrev pub gives : List Instance → Value → Effect
@@ -36,7 +37,8 @@ gives memory value = goes memory value Done
 
 -- the call is done, and puts these pointers into cells
 abbrev pub stores_and_gives : List Instance → Value → List (Cell × Cell) → Effect
-stores_and_gives memory value stores = Ok (record { memory = memory; outcome = record { value = value; stores = stores; next = Done } })
+stores_and_gives memory value stores =
+    Ok (record { memory = memory; outcome = record { value = value; stores = stores; next = Done } })
 
 -- a pointer or a function
 abbrev pub is_pointing : Cell → Bool

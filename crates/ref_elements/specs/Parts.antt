@@ -20,8 +20,10 @@ pointers_of i (part ∷ rest) = pointers_in i (joined part.0 part.1) ++ pointers
 
 -- the memory with parts in an instance, which gets a type where it has none
 abbrev pub with_all : Table → List Instance → ℕ → TypeId → Parts → List Instance
-with_all table memory i id parts = changed memory i (slice_get memory i) (λ inst. with_parts table parts (typed_as id inst))
+with_all table memory i id parts =
+    changed memory i (slice_get memory i) (λ inst. with_parts table parts (typed_as id inst))
 
 -- the parts are put, and the call gives a value
 abbrev pub puts : Table → List Instance → ℕ → TypeId → Parts → Cell → Effect
-puts table memory i id parts value = stores_and_gives (with_all table memory i id parts) (one_cell value) (pointers_of i parts)
+puts table memory i id parts value =
+    stores_and_gives (with_all table memory i id parts) (one_cell value) (pointers_of i parts)

@@ -1,5 +1,6 @@
 -- The elements from a place on.
-use Rattle.std.specs.Prelude.{ℕ, ◌+◌, ◌-◌, ◌/◌, ◌%◌, ◌==◌, nat_le, Bool, false, if◌then◌else◌, List, [], ◌∷◌, ◌++◌, Option, Some, None, Result, Ok, Err, slice_get}
+use Rattle.std.specs.Prelude.{ℕ, ◌+◌, ◌-◌, ◌/◌, ◌%◌, ◌==◌, nat_le, Bool, false, if◌then◌else◌, List, [], ◌∷◌, ◌++◌}
+use Rattle.std.specs.Prelude.{Option, Some, None, Result, Ok, Err, slice_get}
 use Rattle.std.specs.Option.{option_map}
 use Rattle.c_types.specs.declared.term.PathStep.{PathStep}
 use Rattle.c_types.specs.declared.term.PathStep.TheVariants.{Index, Member}
@@ -31,7 +32,8 @@ abbrev pub ◌>>=◌ : {A B : Type 0} → Result A Reason → (A → Result B Re
 -- the whole of an instance of a type, by numbers of types
 abbrev pub whole_id : Table → Instance → TypeId → Whole
 whole_id table inst id =
-    if is_allocated inst.key then Many id (elements_in inst.bytes (size_below (extent_in table (type_of table id.0)))) else One id
+    if is_allocated inst.key
+    then Many id (elements_in inst.bytes (size_below (extent_in table (type_of table id.0)))) else One id
 
 abbrev pub member_id : Table → ℕ → ℕ → Option TypeId
 member_id table tag k = option_map (λ m. m.ty) (member_at table (Some tag) k)
@@ -64,12 +66,14 @@ alone (Many id n) past = None
 
 -- the elements of an array from an index on, none behind a place that is past
 abbrev pub indexed : Bool → ℕ → Option ℕ → Option TypeId → Option Run
-indexed past i (Some n) (Some id) = Some (record { front = []; first = Some i; room = (if past then 0 else n - i); of = id })
+indexed past i (Some n) (Some id) =
+    Some (record { front = []; first = Some i; room = (if past then 0 else n - i); of = id })
 indexed past i count id = None
 
 abbrev pub behind_step : PathStep → Bool → Option Run → Option Run
 behind_step step out None = None
-behind_step step out (Some run) = Some (record run { front = step ∷ run.front; room = (if out then 0 else run.room) })
+behind_step step out (Some run) =
+    Some (record run { front = step ∷ run.front; room = (if out then 0 else run.room) })
 
 -- an index that is a path's last step
 abbrev pub last_index : PathStep → List PathStep → Option ℕ
@@ -81,7 +85,8 @@ run_from table None path past = None
 run_from table (Some whole) [] past = alone whole past
 run_from table (Some whole) (step ∷ rest) past = elim (last_index step rest) [
   | Some i ↦ indexed past i (count_in table whole) (part_id table whole (Index i))
-  | None ↦ behind_step step (is_out (shape_of table whole) step) (run_from table (option_map One (part_id table whole step)) rest past)
+  | None ↦ behind_step step (is_out (shape_of table whole) step)
+      (run_from table (option_map One (part_id table whole step)) rest past)
 ]
 
 -- the path of the element so many further on
@@ -101,11 +106,12 @@ abbrev pub live_at : Option Instance → Result Instance Reason
 live_at None = Err Mismatch
 live_at (Some inst) = if inst.live then Ok inst else Err DeadUse
 
--- the elements at a place of an instance that has a type; null, a function, an ended instance and an untyped one stop it
--- as they stop a read
+-- the elements at a place of an instance that has a type; null, a function, an ended instance and an untyped one
+-- stop it as they stop a read
 abbrev pub found_at : Table → List Instance → Cell → Result Found Reason
 found_at table memory Null = Err NullUse
-found_at table memory (Pointer i path past) = live_at (slice_get memory i) >>= λ inst. found_as table i inst path past inst.ty
+found_at table memory (Pointer i path past) =
+    live_at (slice_get memory i) >>= λ inst. found_as table i inst path past inst.ty
 found_at table memory cell = Err Mismatch
 
 abbrev pub size_in : Table → TypeId → Option ℕ
@@ -114,7 +120,8 @@ size_in table id = size_below (extent_in table (type_of table id.0))
 -- how many elements of a size so many bytes are, where they are whole ones
 abbrev pub parts_of : ℕ → Option ℕ → Result ℕ Reason
 parts_of bytes None = Err Mismatch
-parts_of bytes (Some size) = if size == 0 then Err Mismatch else (if bytes % size == 0 then Ok (bytes / size) else Err Mismatch)
+parts_of bytes (Some size) =
+    if size == 0 then Err Mismatch else (if bytes % size == 0 then Ok (bytes / size) else Err Mismatch)
 
 -- so many elements lie in an array
 abbrev pub within : ℕ → ℕ → Result ℕ Reason
@@ -130,4 +137,5 @@ content_in table (Some inst) path t = content table inst path t
 
 -- all cells of an element, or none where its path goes through a member that isn't active
 abbrev pub content_at : Table → List Instance → Found → ℕ → Option CellList
-content_at table memory found k = content_in table (slice_get memory found.number) (element_path found.run k) (type_of table found.run.of.0)
+content_at table memory found k =
+    content_in table (slice_get memory found.number) (element_path found.run k) (type_of table found.run.of.0)

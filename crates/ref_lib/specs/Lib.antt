@@ -1,1 +1,4 @@
 pub mod Effects
+pub mod ref_alloc
+pub mod text_laws
+pub mod memory_laws

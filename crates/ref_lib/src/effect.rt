@@ -7,16 +7,16 @@ ghost use Rattle.ref_cells.specs.Places.{IsKnown, AreKnown};
 ghost use Rattle.ref_cells.specs.declared.instance.Instance.{Instance};
 ghost use Rattle.ref_lib.specs.Effects.{makes, moves, spells, answers, row_effect, effect};
 
+use crate::ref_alloc::allocation::{
+    calloc_row, ctype_row, free_row, malloc_row, object_row, perhaps_row, place_row, realloc_row,
+};
+use crate::ref_alloc::plain::{
+    abort_row, byte_row, class_row, exit_row, keep_row, lower_row, number_row, upper_row,
+};
 use crate::rows::{Elements, Making, Plain, Row, Texts, row_of};
 use c_types::key::ObjectKey;
 use c_types::table::TypeTable;
 use c_types::term::TypeId;
-use ref_alloc::allocation::{
-    calloc_row, ctype_row, free_row, malloc_row, object_row, perhaps_row, place_row, realloc_row,
-};
-use ref_alloc::plain::{
-    abort_row, byte_row, class_row, exit_row, keep_row, lower_row, number_row, upper_row,
-};
 use ref_cells::cells::{MemFault, Reason, Value};
 use ref_copies::copies::copy_row;
 use ref_copies::sets::set_row;

@@ -2,4 +2,7 @@
 #![tactic(auto)]
 
 pub mod effect;
+pub mod memory_laws;
+pub mod ref_alloc;
 pub mod rows;
+pub mod text_laws;

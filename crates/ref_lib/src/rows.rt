@@ -4,7 +4,7 @@ ghost use Rattle.std.specs.Prelude.{◌≡◌, slice_get};
 ghost use Rattle.std.specs.Option.{option_copied};
 ghost use Rattle.ref_lib.specs.Effects.{rows};
 
-use ref_alloc::plain::Class;
+use crate::ref_alloc::plain::Class;
 
 /// What makes an object, ends one, or names one of the library's.
 #[derive(Clone, Copy)]

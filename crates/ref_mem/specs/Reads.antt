@@ -24,9 +24,11 @@ opened table t [] cells = Some cells
 opened table t (step ∷ rest) cells =
     cond (goes_on t step cells) (opened table (part_below table t step) rest (under step cells)) None
 
--- all cells of a part of a type at a path of an instance, or none where the path goes through a member that isn't active
+-- all cells of a part of a type at a path of an instance, or none where the path goes through a member that isn't
+-- active
 abbrev pub content : Table → Instance → List PathStep → Ctype → Option CellList
-content table inst path t = option_map (filled table inst.zero t) (opened table (whole_of table inst) path inst.cells)
+content table inst path t =
+    option_map (filled table inst.zero t) (opened table (whole_of table inst) path inst.cells)
 
 -- a cell as one of a scalar type
 abbrev pub converted_cell : Ctype → Cell → Cell
@@ -42,7 +44,8 @@ scalar_value t cell = Ok (one_cell (converted_cell t cell))
 
 -- the value of a type that is found, as a value of a type like it, of which these cells are listed
 abbrev pub value_of : Table → Bool → Ctype → Ctype → CellList → Result Value Reason
-value_of table marked (StructureOf tag) t cells = Ok (record { cells = filled table marked (StructureOf tag) cells })
+value_of table marked (StructureOf tag) t cells =
+    Ok (record { cells = filled table marked (StructureOf tag) cells })
 value_of table marked (UnionOf tag) t cells = Ok (record { cells = filled table marked (UnionOf tag) cells })
 value_of table marked found t cells = scalar_value t (cell_in marked found cells)
 
@@ -53,11 +56,13 @@ opened_value table marked found t (Some cells) = value_of table marked found t c
 -- what is read at a path of an instance, where that type is found
 abbrev pub read_in : Table → Option Instance → List PathStep → Ctype → Ctype → Result Value Reason
 read_in table None path found t = Err Mismatch
-read_in table (Some inst) path found t = opened_value table inst.zero found t (opened table (whole_of table inst) path inst.cells)
+read_in table (Some inst) path found t =
+    opened_value table inst.zero found t (opened table (whole_of table inst) path inst.cells)
 
 abbrev pub read_found : Table → List Instance → Cell → Ctype → Result Ctype Reason → Result Value Reason
 read_found table memory place t (Err reason) = Err reason
-read_found table memory (Pointer instance path past) t (Ok found) = read_in table (slice_get memory instance) path found t
+read_found table memory (Pointer instance path past) t (Ok found) =
+    read_in table (slice_get memory instance) path found t
 read_found table memory place t (Ok found) = Err Mismatch
 
 -- the value of a type at a place

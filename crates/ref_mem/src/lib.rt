@@ -4,3 +4,5 @@
 pub mod memory;
 mod reads;
 mod writes;
+
+pub use writes::{Initial, initialise, width_along};

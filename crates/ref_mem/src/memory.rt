@@ -1,6 +1,6 @@
 // All instances.
 
-ghost use Rattle.std.specs.Prelude.{◌≡◌, ◌<◌, [], ◌∷◌, ◌++◌, Some, None, true, false, IfOk, OnOk, OnErr, length, slice_get};
+ghost use Rattle.std.specs.Prelude.{◌≡◌, ◌<◌, [], ◌∷◌, ◌++◌, Some, None, true, false, IfOk, OnOk, OnErr, length, set, slice_get};
 ghost use Rattle.c_types.specs.Table.{type_of};
 ghost use Rattle.c_types.specs.Trees.{PointerTo, VoidType};
 ghost use Rattle.ref_cells.specs.Answers.{Gives, Agrees};
@@ -124,6 +124,27 @@ impl Memory {
             Ok(()) => Ok(number),
             Err(_) => Err(OutOfMemory),
         }
+    }
+
+    /// Puts instances behind the others. Want of memory leaves the memory as it was.
+    pub fn append(&mut self, fresh: Vec<Instance>) -> Result<(), OutOfMemory>
+        ensures ok { OnOk result (self.new ≡ self.old ++ fresh.items) }
+        ensures err { OnErr result (self.new ≡ self.old) }
+    {
+        let mut fresh = fresh;
+        if fresh.len() > u32::MAX as usize - self.instances.len() {
+            return Err(OutOfMemory);
+        }
+        self.instances.append(&mut fresh)?;
+        Ok(())
+    }
+
+    /// Puts an instance in place of the one of that number. It takes no memory.
+    pub fn set(&mut self, instance: u32, inst: Instance)
+        requires { instance < length self.old }
+        ensures { self.new ≡ set self.old instance inst }
+    {
+        self.instances[instance as usize] = inst;
     }
 
     /// All cells of the first so many elements of an instance, unset ones too, where its elements have that type.

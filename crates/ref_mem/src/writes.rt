@@ -1,12 +1,12 @@
 // What a write leaves.
 
-ghost use Rattle.std.specs.Prelude.{◌≡◌, ◌<◌, Some, Ok, IfSome, IfOk, OnOk, OnErr, length, map};
+ghost use Rattle.std.specs.Prelude.{◌≡◌, ◌<◌, Some, Ok, IfSome, IfOk, OnOk, OnErr, All, length, map};
 ghost use Rattle.c_types.specs.Table.{type_of};
 ghost use Rattle.c_types.specs.Trees.{PointerTo, VoidType};
 ghost use Rattle.ref_cells.specs.Answers.{Gives};
 ghost use Rattle.ref_cells.specs.Wholes.{shape_in, IsOver};
 ghost use Rattle.ref_cells.specs.Places.{IsKnown, AreKnown};
-ghost use Rattle.ref_mem.specs.Writes.{width_at, width_along, kept_cell, kept, put_all, with_parts, with_value, type_or, typed_as, write_found, write, part_in, part_found, character_part};
+ghost use Rattle.ref_mem.specs.Writes.{width_at, width_along, kept_cell, kept, put_all, with_parts, with_value, type_or, typed_as, write_found, write, part_in, part_found, character_part, kept_parts, initialised};
 
 use c_types::table::TypeTable;
 use c_types::term::{OutOfMemory, PathStep, Term, TypeId};
@@ -34,8 +34,8 @@ fn width_at(types: &TypeTable, whole: Option<Whole>, step: PathStep) -> Option<u
     }
 }
 
-// The width of what stands at the end of a path.
-fn width_along(types: &TypeTable, whole: Option<Whole>, path: &[PathStep]) -> Option<u8>
+/// The width of what stands at the end of a path, where that is a bit-field (C11 6.7.2.1p9).
+pub fn width_along(types: &TypeTable, whole: Option<Whole>, path: &[PathStep]) -> Option<u8>
     requires { IfSome whole (IsOver (length types.now.terms)) }
     ensures { result ≡ width_along types.now (shape_in types.now whole) path.now }
 {
@@ -342,4 +342,66 @@ pub(crate) fn character_part(
 {
     let found = reach_character(types, memory, place)?;
     character_found(alloc, types, memory, place, found, c)
+}
+
+/// A part of an initialiser: its path in the object, the type there, and the cells that it gets.
+#[derive(Drop)]
+pub struct Initial {
+    pub path: Path,
+    pub ty: TypeId,
+    pub cells: Cells,
+}
+
+// The parts of an initialiser as they are kept.
+fn kept_parts(
+    alloc: Global,
+    types: &TypeTable,
+    whole: Option<Whole>,
+    parts: &[Initial],
+) -> Result<Vec<(Path, Cells)>, OutOfMemory>
+    requires whole { IfSome whole (IsOver (length types.now.terms)) }
+    requires parts { All (λ part. part.ty.0 < length types.now.terms) parts.now }
+    ensures { IfOk result (λ list. list.items ≡ kept_parts types.now (shape_in types.now whole) parts.now) }
+{
+    let mut list = Vec::new(alloc);
+    for part in parts {
+        let width = width_along(types, whole, part.path.as_slice());
+        let cells = kept(alloc, types, part.ty, width, &part.cells)?;
+        let path = copy_path(alloc, part.path.as_slice())?;
+        match list.push((path, cells)) {
+            Ok(()) => {}
+            Err(_) => return Err(OutOfMemory),
+        }
+    }
+    Ok(list)
+}
+
+/// Initialises an instance. Want of memory leaves it as it was.
+pub fn initialise(
+    alloc: Global,
+    types: &TypeTable,
+    inst: &mut Instance,
+    clears: bool,
+    parts: &[Initial],
+) -> Result<(), OutOfMemory>
+    requires inst { IsKnown (length types.now.terms) inst.old.ty }
+    requires parts { All (λ part. part.ty.0 < length types.now.terms) parts.now }
+    ensures ok { OnOk result (inst.new ≡ initialised types.now clears parts.now inst.old) }
+    ensures err { OnErr result (inst.new ≡ inst.old) }
+{
+    let whole = whole_of(types, inst);
+    let parts = kept_parts(alloc, types, whole, parts)?;
+    if clears {
+        let filling = Filling {
+            alloc,
+            types,
+            marked: true,
+        };
+        let none = Cells::none(alloc);
+        let cells = put_parts(&filling, whole, parts.as_slice(), &none)?;
+        inst.zero = true;
+        inst.cells = cells;
+        return Ok(());
+    }
+    put_typed(alloc, types, inst, parts.as_slice())
 }

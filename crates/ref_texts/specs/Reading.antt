@@ -1,5 +1,6 @@
 -- Characters read one by one.
-use Rattle.std.specs.Prelude.{ℕ, zero, suc, ◌+◌, ◌-◌, ◌^◌, ◌==◌, take, length, ℤ, pos, negsuc, int_lt, Bool, true, if◌then◌else◌, List, [], ◌∷◌, ◌++◌, Option, Some, None, Result, Ok, Err, slice_get}
+use Rattle.std.specs.Prelude.{ℕ, zero, suc, ◌+◌, ◌-◌, ◌^◌, ◌==◌, take, length, ℤ, pos, negsuc, int_lt, Bool, true}
+use Rattle.std.specs.Prelude.{if◌then◌else◌, List, [], ◌∷◌, ◌++◌, Option, Some, None, Result, Ok, Err, slice_get}
 use Rattle.std.specs.Ordering.{int_eq}
 use Rattle.c_types.specs.declared.term.PathStep.{PathStep}
 use Rattle.c_types.specs.declared.term.PathStep.TheVariants.{Index, Member}
@@ -55,7 +56,8 @@ text_on (Err reason) rest = Err reason
 text_on (Ok None) rest = Ok []
 text_on (Ok (Some c)) rest = push_char c rest
 
--- the characters before the zero, from the k-th on, of so many that may be read; what there is where none of these is it
+-- the characters before the zero, from the k-th on, of so many that may be read; what there is where none of these
+-- is it
 unfoldable pub text_from : (ℕ → Result (Option ℤ) Reason) → Result (List ℤ) Reason → ℕ → ℕ → Result (List ℤ) Reason
 text_from at end zero k = end
 text_from at end (suc more) k = text_on (at k) (text_from at end more (k + 1))

@@ -1,5 +1,5 @@
 -- From what was read to what is told.
-use Rattle.std.proofs.Common.{◌≡◌, ℕ, ◌<◌, inl, inr, ◌≤◌, ◌^◌, List, [], Option, Some, None, IfSome, length, slice_get, sym, ◌∙◌, ap, arith, append-nil}
+use Rattle.std.proofs.Common.{◌≡◌, ℕ, ◌<◌, inl, inr, ◌≤◌, ◌^◌, List, [], Option, Some, None, IfSome, option_map, length, slice_get, sym, subst, ◌∙◌, ap, arith, append-nil}
 use Rattle.std.specs.Borrow.{Bor}
 use Rattle.std.specs.Option.{option_map_or}
 use Rattle.std.specs.Str.Parse.{digits_value}
@@ -7,7 +7,7 @@ use Rattle.std.proofs.lemmas.List.{length-map}
 use Rattle.command_line.specs.Rules.{IsNumberIn}
 use Rattle.pta_base.specs.Outside.{HasRisen, IsSteady}
 use Rattle.report_cli.specs.Words.{names_of}
-use Rattle.report_text.specs.Outside.{Grows}
+use Rattle.unit_report.specs.report_text.Outside.{Grows}
 use Rattle.report_cli.specs.Outside.{Receives}
 use Rattle.report_cli.proofs.Texts.{some_same}
 
@@ -42,9 +42,13 @@ pub number_of_workers : (text : Option (List ℕ)) (n : ℕ) → IsNumberIn 1 64
 number_of_workers None n right is = (omega arith, omega arith)
 number_of_workers (Some text) n right is = let least = right.at_least in let most = right.at_most in (omega arith, omega arith)
 
--- right words name a unit
-pub some_names : (items : List (Bor (List ℕ))) (names : List (List ℕ)) → names_of items ≡ names → 1 ≤ length names → 0 < length items
-some_names items names is some = let same = length-map items (λ (b : Bor (List ℕ)). b.now) in let long = ap length is in omega arith
+number_within : (text : Option (List ℕ)) → IsNumberIn 1 1000 text → IfSome (option_map (digits_value 10) text) (λ n. (1 ≤ n) × (n ≤ 1000))
+number_within None right = tt
+number_within (Some text) right = (right.at_least, right.at_most)
+
+-- the number of a generated program
+pub number_generated : (text : Option (List ℕ)) (number : Option ℕ) → IsNumberIn 1 1000 text → number ≡ option_map (digits_value 10) text → IfSome number (λ n. (1 ≤ n) × (n ≤ 1000))
+number_generated text number right is = let P : Option ℕ → Type 0 = λ n. IfSome n (λ k. (1 ≤ k) × (k ≤ 1000)) in subst P (sym is) (number_within text right)
 
 -- right words name few units
 pub few_names : (items : List (Bor (List ℕ))) (names : List (List ℕ)) → names_of items ≡ names → length names ≤ 256 → length items ≤ 2 ^ 8

@@ -1,5 +1,5 @@
 -- What holds of texts that were read as far as a limit holds of the whole texts.
-use Rattle.std.proofs.Common.{◌≡◌, ℕ, ◌+◌, ◌<◌, ◌≤◌, ◌^◌, ◌⊎◌, List, [], ◌∷◌, zero, suc, Option, Some, None, option_map, IfSome, map, take, slice_get, length, min, refl, sym, ◌∙◌, ap, subst, inl, inr, arith, take_all, length-take}
+use Rattle.std.proofs.Common.{◌≡◌, ℕ, Bool, ◌+◌, ◌<◌, ◌≤◌, ◌^◌, ◌⊎◌, List, [], ◌∷◌, zero, suc, Option, Some, None, option_map, IfSome, map, take, slice_get, length, min, refl, sym, ◌∙◌, ap, subst, inl, inr, arith, take_all, length-take}
 use Rattle.std.specs.Prelude.{option_and_then, zip}
 use Rattle.c_lexer.specs.declared.Token.{Token}
 use Rattle.c_lexer.specs.declared.LexFault.{LexFault}
@@ -24,8 +24,10 @@ use Rattle.std.proofs.lemmas.List.{length-map}
 use Rattle.command_line.specs.Language.{found_in}
 use Rattle.command_line.specs.Meaning.{Says}
 use Rattle.command_line.specs.declared.command.Command.{Command}
-use Rattle.report_cli.specs.Words.{names_read, units_read, with_script}
-use Rattle.report_cli.specs.Told.{Told, parted, names_for, told_as, told_for}
+use Rattle.report_cli.specs.Words.{json_read, names_read, number_read, units_read, with_script}
+use Rattle.report_cli.specs.declared.form.Form.{Form}
+use Rattle.report_cli.specs.declared.form.Form.TheVariants.{Report}
+use Rattle.report_cli.specs.Told.{Told, parted, told_by, names_for, read_as, told_as, told_for}
 use Rattle.report_cli.specs.Printed.{AreAnswersTo, IsPrinted, IsLongScript, HasRefusedLine, IsRefusedScript}
 use Rattle.report_cli.specs.Faults.{IsFaultOfTold}
 use Rattle.report_cli.specs.Answers.{NamedText, Answer, told_units}
@@ -177,9 +179,14 @@ refuses_whole told answer (inr h) = inr (together_whole told answer h)
 pub cut : NamedText → NamedText
 cut text = (text.0, take 16777217 text.1)
 
-pub record IsReadOf (read told : Told) : Type 0 where
+pub record IsCutOf (read told : Told) : Type 0 where
   pub units : read.units ≡ read_units told.units
   pub script : read.script ≡ option_map cut told.script
+  pub form : read.form ≡ told.form
+
+-- a generated program is told as it is
+pub IsReadOf : Told → Told → Type 0
+IsReadOf read told = (read ≡ told) ⊎ IsCutOf read told
 
 take_read : (n : ℕ) (texts : List NamedText) → take n (read_units texts) ≡ read_units (take n texts)
 unfolding read_units
@@ -193,15 +200,18 @@ script_read n [] = refl
 script_read zero (text ∷ texts) = refl
 script_read (suc n) (text ∷ texts) = script_read n texts
 
-parted_read : (names texts : List (List ℕ)) (told : List NamedText) (m n : ℕ) → m ≡ n → AreReadUnits names texts told → IsReadOf (parted m (zip names texts)) (parted n told)
-parted_read names texts told m n same read =
+parted_read : (names texts : List (List ℕ)) (told : List NamedText) (j k : Bool) (m n : ℕ) → j ≡ k → m ≡ n → AreReadUnits names texts told → IsCutOf (parted j m (zip names texts)) (parted k n told)
+parted_read names texts told j k m n form same read =
     let is : zip names texts ≡ read_units told = zip_is_read names texts told read in record {
       units = ap (λ (k : ℕ). take k (zip names texts)) same ∙ ap (take n) is ∙ take_read n told;
       script = ap (λ (k : ℕ). slice_get (zip names texts) k) same ∙ ap (λ (l : List NamedText). slice_get l n) is ∙ script_read n told;
+      form = ap Report form;
     }
 
 pub told_denotes : (read told : Told) (program : Program) → IsReadOf read told → Denotes read.units program → Denotes told.units program
-told_denotes read told program of denoted =
+unfolding IsReadOf
+told_denotes read told program (inl same) denoted = let P : Told → Type 0 = λ known. Denotes known.units program in subst P same denoted
+told_denotes read told program (inr of) denoted =
     let P : List NamedText → Type 0 = λ units. Denotes units program in denotes_whole told.units program (subst P of.units denoted)
 
 -- what is printed for a script as far as it was read
@@ -210,14 +220,18 @@ unfolding AreAnswersTo
 answers_whole script program system text h =
     let P : List ℕ → Type 0 = λ t. AreAnswersTo t program system text in subst P (whole_text script.1 h.0) h
 
-printed_whole : (script : Option NamedText) (program : Program) (system : System) (text : List ℕ) → IsPrinted (option_map cut script) program system text → IsPrinted script program system text
+printed_whole : (form : Form) (script : Option NamedText) (program : Program) (system : System) (text : List ℕ) → IsPrinted form (option_map cut script) program system text → IsPrinted form script program system text
 unfolding cut
-printed_whole None program system text h = h
-printed_whole (Some script) program system text h = answers_whole script program system text h
+printed_whole form None program system text h = h
+printed_whole form (Some script) program system text h = answers_whole script program system text h
 
-pub told_prints : (read told : Told) (program : Program) (system : System) (text : List ℕ) → IsReadOf read told → IsPrinted read.script program system text → IsPrinted told.script program system text
-told_prints read told program system text of printed =
-    let P : Option NamedText → Type 0 = λ script. IsPrinted script program system text in printed_whole told.script program system text (subst P of.script printed)
+pub told_prints : (read told : Told) (program : Program) (system : System) (text : List ℕ) → IsReadOf read told → IsPrinted read.form read.script program system text → IsPrinted told.form told.script program system text
+unfolding IsReadOf
+told_prints read told program system text (inl same) printed = let P : Told → Type 0 = λ known. IsPrinted known.form known.script program system text in subst P same printed
+told_prints read told program system text (inr of) printed =
+    let P : Option NamedText → Type 0 = λ script. IsPrinted read.form script program system text in
+    let F : Form → Type 0 = λ form. IsPrinted form told.script program system text in
+    subst F of.form (printed_whole read.form told.script program system text (subst P of.script printed))
 
 -- the same of a script's refusal
 long_whole : (script : NamedText) (answer : Answer) → IsLongScript (script.0, take 16777217 script.1) answer → IsLongScript script answer
@@ -247,9 +261,11 @@ script_refused_whole told (Some script) answer h = record {
 }
 
 pub told_refuses : (read told : Told) (answer : Answer) → IsReadOf read told → RefusesTold read answer → RefusesTold told answer
-told_refuses read told answer of (inl h) =
+unfolding IsReadOf
+told_refuses read told answer (inl same) h = let P : Told → Type 0 = λ known. RefusesTold known answer in subst P same h
+told_refuses read told answer (inr of) (inl h) =
     let P : List NamedText → Type 0 = λ units. Refuses units answer in inl (refuses_whole told.units answer (subst P of.units h))
-told_refuses read told answer of (inr h) =
+told_refuses read told answer (inr of) (inr h) =
     let P : List NamedText → Type 0 = λ units. RefusesScript units read.script answer in
     let Q : Option NamedText → Type 0 = λ script. RefusesScript (read_units told.units) script answer in
     inr (script_refused_whole told.units told.script answer (subst Q of.script (subst P of.units h)))
@@ -270,9 +286,19 @@ with_names text_of sliced own names texts slice Q sliced_is same slice_is read f
     subst P same (with_told (told_units text_of own) own slice Q (names_told text_of own) (subst R (sym slice_is) (subst N sliced_is read)) follows)
 
 -- what follows of what is told from what follows of the texts
-with_parted : (told : Option (List NamedText)) (n : ℕ) (Q : Told → Type 0) → IfSome told (λ units. Q (parted n units)) → IfSome (option_map (parted n) told) Q
-with_parted None n Q h = tt
-with_parted (Some units) n Q h = h
+with_mapped : (told : Option (List NamedText)) (f : List NamedText → Told) (Q : Told → Type 0) → IfSome told (λ units. Q (f units)) → IfSome (option_map f told) Q
+with_mapped None f Q h = tt
+with_mapped (Some units) f Q h = h
+
+-- a generated program in place of what was read, and of what is told
+generated_or_read : (number : Option ℕ) (read told : Told) → IsCutOf read told → IsReadOf (told_by number read) (told_by number told)
+unfolding IsReadOf
+generated_or_read None read told of = inr of
+generated_or_read (Some number) read told of = inl refl
+
+generated_read : (number other : Option ℕ) (read told : Told) → number ≡ other → IsCutOf read told → IsReadOf (told_by number read) (told_by other told)
+generated_read number other read told same of =
+    let P : Option ℕ → Type 0 = λ n. IsReadOf (told_by number read) (told_by n told) in subst P same (generated_or_read number read told of)
 
 -- the names that a command reads are those that its words ask for, and its units are as many
 pub names_asked : (words : List (List ℕ)) (command : Command) → Says (found_in words) command → names_for command ≡ names_read words
@@ -288,9 +314,12 @@ pub with_told_for : (text_of : List ℕ → Option (List ℕ)) (words : List (Li
     → ((told : Told) → IsReadOf (told_as command slice) told → Q told) → IfSome (told_for text_of words) Q
 with_told_for text_of words command sliced texts slice Q says names slice_is read follows =
     let n : ℕ = length (units_read words) in
-    with_parted (told_units text_of (names_read words)) n Q
-    (with_names text_of sliced (names_for command) (names_read words) texts slice (λ units. Q (parted n units)) names (names_asked words command says) slice_is read
-    (λ units h. follows (parted n units) (parted_read (names_for command) slice units (length command.units.items) n (units_asked words command says) h)))
+    let json : Bool = json_read words in
+    let f : List NamedText → Told = λ units. told_by (number_read words) (parted json n units) in
+    with_mapped (told_units text_of (names_read words)) f Q
+    (with_names text_of sliced (names_for command) (names_read words) texts slice (λ units. Q (f units)) names (names_asked words command says) slice_is read
+    (λ units h. follows (f units) (generated_read command.generated (number_read words) (read_as command slice) (parted json n units) says.generated
+    (parted_read (names_for command) slice units command.json json (length command.units.items) n says.json (units_asked words command says) h))))
 
 -- the statuses of refusals
 abbrev pub IsStatus : ℕ → Type 0

@@ -6,9 +6,9 @@ use Rattle.core_tree.specs.Valid.{ValidUnit}
 use Rattle.unit_link.specs.Needs.{AreLinkable, IsNumbered}
 use Rattle.c_senses.specs.Names.{source_of, numbered}
 use Rattle.command_line.specs.Distinct.{AreDistinct}
-use Rattle.filled_units.specs.Filled.{IsFilled, AreFilled}
-use Rattle.placed_laws.proofs.Whole.{units_filled}
-use Rattle.unit_system.proofs.Numbering.{right_numbered}
+use Rattle.link_model.specs.filled_units.Filled.{IsFilled, AreFilled}
+use Rattle.parsed_tree_laws.proofs.placed_laws.Whole.{units_filled}
+use Rattle.unit_report.proofs.unit_system.Numbering.{right_numbered}
 use Rattle.report_cli.specs.Answers.{NamedText}
 use Rattle.report_cli.specs.Lowered.{IsRightText, AreRightTexts}
 

@@ -1,5 +1,5 @@
 -- The refusals of a text that is read alone, and those of texts that are right.
-use Rattle.std.proofs.Common.{◌≡◌, ℕ, List, [], map, inl, inr, refl, sym, subst}
+use Rattle.std.proofs.Common.{◌≡◌, ℕ, Bool, List, [], map, inl, inr, refl, sym, subst}
 use Rattle.pta_base.specs.declared.kind.Kind.{Kind}
 use Rattle.pta_base.specs.declared.kind.Kind.TheVariants.{Operand}
 use Rattle.c_lexer.specs.declared.Tokens.{Tokens}
@@ -14,22 +14,25 @@ use Rattle.c_senses.specs.Tree.{Source}
 use Rattle.c_senses.specs.Names.{source_of, numbered}
 use Rattle.c_senses.specs.Rows.{RefusedAt}
 use Rattle.c_senses.specs.Right.{Right}
-use Rattle.unit_walk.specs.Walked.{AreDense, RefusedIn}
+use Rattle.c_lower.specs.passed.unit_walk.Walked.{AreDense, RefusedIn}
 use Rattle.c_lower.specs.PassedOn.{IsLowered}
 use Rattle.link_names.specs.declared.fault.LinkFault.{LinkFault}
 use Rattle.link_names.specs.declared.fault.LinkFault.TheVariants as link
 use Rattle.unit_link.specs.Linked.{LinksBadly}
 use Rattle.obj_space.specs.declared.location.Location.{Location}
-use Rattle.unit_system.specs.declared.fault.UnitFault.{UnitFault}
-use Rattle.unit_system.specs.declared.fault.UnitFault.TheVariants as unit
-use Rattle.unit_system.specs.Faults as core
-use Rattle.unit_system.specs.Of.{AreLinkedAs, IsSystemOf}
+use Rattle.unit_report.specs.declared.unit_system.fault.UnitFault.{UnitFault}
+use Rattle.unit_report.specs.declared.unit_system.fault.UnitFault.TheVariants as unit
+use Rattle.unit_report.specs.unit_system.Faults as core
+use Rattle.unit_report.specs.unit_system.Of.{AreLinkedAs, IsSystemOf}
 use Rattle.unit_report.specs.Reported.{IsProgramReport}
+use Rattle.gen_summary.specs.Summary.{IsProgramSummary}
 use Rattle.report_cli.specs.declared.fault.UnitsFault.{UnitsFault}
+use Rattle.report_cli.specs.declared.form.Form.{Form}
+use Rattle.report_cli.specs.declared.form.Form.TheVariants.{Report, Summary}
 use Rattle.report_cli.specs.declared.fault.UnitsFault.TheVariants.{Memory}
 use Rattle.report_cli.specs.Answers.{NamedText, Answer}
 use Rattle.report_cli.specs.Alone.{IsReadAs}
-use Rattle.report_cli.specs.Printed.{IsReport}
+use Rattle.report_cli.specs.Printed.{IsInForm, IsReport, IsSummary}
 use Rattle.report_cli.specs.Lowered.{IsParsed, IsRightText, AreRightTexts, kind_refusal}
 use Rattle.report_cli.specs.Linking.{link_refusal}
 use Rattle.report_cli.specs.Outcome.{Denotes, IsRefusedText, Refuses, AreRefusedTogether}
@@ -118,6 +121,17 @@ module _ (texts : List NamedText) (units : List Unit) (right : AreRightTexts 0 t
   denoted program space system h = ((units, right, h.own), h.system_of)
 
 -- the report of a program's system
-pub reported : (program : Program) (space : List Location) (system : System) (report : List ℕ) → IsSystemOf program space system → IsProgramReport program space system report → IsReport program system report
+pub reported : (json : Bool) (program : Program) (space : List Location) (system : System) (report : List ℕ) → IsSystemOf program space system → IsProgramReport json program space system report → IsReport json program system report
 unfolding IsReport
-reported program space system report h k = (space, h, k)
+reported json program space system report h k = (space, h, k)
+
+-- the summary of a generated program
+pub summed : (number : ℕ) (program : Program) (space : List Location) (system : System) (text : List ℕ) → IsSystemOf program space system → IsProgramSummary number space system text → IsSummary number program system text
+unfolding IsSummary
+summed number program space system text h k = (space, h, k)
+
+-- what is printed of a program in a form is printed of its system
+pub formed : (form : Form) (program : Program) (system : System) (text : List ℕ) → IsInForm form program system text → (space : List Location) × IsSystemOf program space system
+unfolding IsReport IsSummary
+formed (Report json) program system text h = (h.0, h.1)
+formed (Summary number) program system text h = (h.0, h.1)

@@ -1,6 +1,6 @@
 -- Units that are right for texts whose names are well formed are told apart by their names, and so are their program's locations.
-use Rattle.std.proofs.Common.{◌≡◌, ◌∙◌, ℕ, zero, suc, ◌+◌, ◌<◌, ◌&&◌, not, Bool, true, false, List, [], ◌∷◌, map, length, arith, refl, sym, ap, subst, get_or}
-use Rattle.std.specs.Prelude.{nat_eq}
+use Rattle.std.proofs.Common.{◌≡◌, ◌∙◌, ℕ, zero, suc, ◌+◌, ◌<◌, ◌≤◌, ◌&&◌, not, Bool, true, false, Option, None, Some, List, [], ◌∷◌, map, length, arith, refl, sym, ap, subst, get_or}
+use Rattle.std.specs.Prelude.{nat_eq, codes}
 use Rattle.std.specs.List.{All, list_all}
 use Rattle.std.proofs.lemmas.Bool.{eqb-true}
 use Rattle.std.proofs.lemmas.Option.{slice_get-get_or, slice_get_within}
@@ -10,13 +10,14 @@ use Rattle.sol_model.specs.declared.system.System.{System}
 use Rattle.obj_space.specs.declared.location.Location.{Location}
 use Rattle.obj_space.specs.Space.{DistinctNames}
 use Rattle.unit_link.specs.Needs.{AreLinkable}
-use Rattle.unit_system.specs.Of.{AreLinkedAs}
-use Rattle.name_shapes.specs.Bytes.{is_unit_byte, IsMadeOf}
-use Rattle.name_shapes.proofs.Cutting.{and}
-use Rattle.named_laws.specs.Units.{IsNamedUnit, AreNamedUnits}
-use Rattle.named_laws.proofs.Whole.{linked_distinct}
-use Rattle.named_rest.proofs.Whole.{named_whole}
-use Rattle.command_line.specs.Rules.{IsUnitWord}
+use Rattle.unit_report.specs.unit_system.Of.{AreLinkedAs}
+use Rattle.location_laws.specs.name_shapes.Bytes.{is_unit_byte, IsMadeOf}
+use Rattle.location_laws.proofs.name_shapes.Cutting.{and}
+use Rattle.location_laws.specs.named_laws.Units.{IsNamedUnit, AreNamedUnits}
+use Rattle.location_laws.proofs.named_laws.Whole.{linked_distinct}
+use Rattle.declared_type_laws.proofs.named_rest.Whole.{named_whole}
+use Rattle.command_line.specs.Distinct.{AreDistinct}
+use Rattle.command_line.specs.Rules.{HasUnits, IsUnitWord}
 use Rattle.command_line.specs.Rules as word
 use Rattle.report_cli.specs.Answers.{NamedText}
 use Rattle.report_cli.specs.Words.{AreUnitNames}
@@ -44,6 +45,11 @@ made_of (c ∷ rest) h = and (is_unit_byte c) (list_all is_unit_byte rest) (byte
 pub unit_names : (names : List (List ℕ)) → All IsUnitWord names → AreUnitNames names
 unit_names names h k d within = made_of _ (h k d within).bytes
 
+-- the name of the unit of a generated program
+pub gen_name : AreUnitNames (codes "gen" ∷ [])
+gen_name zero d within = refl
+gen_name (suc k) d within = absurd (omega arith)
+
 -- a unit that is right for a text
 named_of : (number : ℕ) (text : NamedText) (u : Unit) → IsRightText number text u → IsMadeOf is_unit_byte text.0 → IsNamedUnit u
 named_of number text u h bytes = named_whole h.tokens number h.tree h.tag_number text.0 u (cut_tokens number text h.tokens h.tree h.parsed) h.parsed.tree_is h.right bytes h.tags.made h.tags.named
@@ -63,3 +69,16 @@ pub are_distinct : (units : List Unit) (program : Program) (space : List Locatio
 are_distinct units program space system linkable named h =
     let P : List Location → Type 0 = λ locations. DistinctNames locations in
     subst P (sym h.system_of.space_is) (linked_distinct units program linkable named h.own.linked h.own.made h.own.named)
+
+-- the unit words of right words, of which a generated program has none
+pub distinct_units : (number : Option (List ℕ)) (units : List (List ℕ)) → HasUnits number units → AreDistinct units
+distinct_units None units h = h.distinct
+distinct_units (Some text) units h = let D : List (List ℕ) → Type 0 = AreDistinct in subst D (sym h) (λ j k lt within same. absurd (omega arith))
+
+pub formed_units : (number : Option (List ℕ)) (units : List (List ℕ)) → HasUnits number units → All IsUnitWord units
+formed_units None units h = h.formed
+formed_units (Some text) units h = let A : List (List ℕ) → Type 0 = λ words. All IsUnitWord words in subst A (sym h) (λ k d within. absurd (omega arith))
+
+pub few_units : (number : Option (List ℕ)) (units : List (List ℕ)) → HasUnits number units → length units ≤ 256
+few_units None units h = h.few
+few_units (Some text) units h = let size : length units ≡ 0 = ap length h in omega arith

@@ -1,5 +1,5 @@
 -- Texts have one outcome, as far as their tokens, syntax, names and rows tell.
-use Rattle.std.proofs.Common.{◌≡◌, ◌⊎◌, ℕ, ◌+◌, ◌++◌, inl, inr, List, [], ◌∷◌, sym, ◌∙◌, ap, subst, codes}
+use Rattle.std.proofs.Common.{◌≡◌, ℕ, ◌+◌, ◌++◌, inl, inr, List, [], ◌∷◌, sym, ◌∙◌, ap, subst, codes}
 use Rattle.pta_base.specs.Kind.{name_of}
 use Rattle.pta_base.specs.declared.kind.Kind.{Kind}
 use Rattle.c_lexer.specs.declared.Tokens.{Tokens}
@@ -10,9 +10,9 @@ use Rattle.c_senses.specs.Tree.{Source}
 use Rattle.c_senses.specs.Names.{source_of, numbered}
 use Rattle.c_senses.specs.Places.{own_place}
 use Rattle.c_senses.specs.Rows.{RefusedAt}
-use Rattle.source_laws.proofs.Reading.{one_refusal, not_right}
-use Rattle.tag_numbers.specs.Ordered.{AreInOrder}
-use Rattle.unit_walk.specs.Walked.{AreDense}
+use Rattle.reading_laws.proofs.source_laws.Reading.{one_refusal, not_right}
+use Rattle.c_tags.specs.tag_numbers.Ordered.{AreInOrder}
+use Rattle.c_lower.specs.passed.unit_walk.Walked.{AreDense}
 use Rattle.reading_laws.specs.Reading.{IsRead, AreOne}
 use Rattle.reading_laws.proofs.Reading.{one_tree}
 use Rattle.report_cli.specs.Answers.{NamedText, Answer, refusal, place_text}

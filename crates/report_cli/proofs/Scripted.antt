@@ -7,16 +7,17 @@ use Rattle.std.specs.Borrow.{Bor}
 use Rattle.core_tree.specs.declared.node.Program.{Program}
 use Rattle.sol_model.specs.declared.system.System.{System}
 use Rattle.obj_space.specs.declared.location.Location.{Location}
-use Rattle.unit_system.specs.Of.{IsSystemOf}
-use Rattle.unit_answers.specs.declared.fault.AnswersFault.{AnswersFault}
-use Rattle.unit_answers.specs.declared.fault.AnswersFault.TheVariants.{Question, OutOfMemory}
-use Rattle.unit_answers.specs.Answered.{IsProgramAnswers}
-use Rattle.unit_answers.specs.Fault.{IsAnswersFault}
+use Rattle.unit_report.specs.unit_system.Of.{IsSystemOf}
+use Rattle.unit_report.specs.declared.unit_answers.fault.AnswersFault.{AnswersFault}
+use Rattle.unit_report.specs.declared.unit_answers.fault.AnswersFault.TheVariants.{Question, OutOfMemory}
+use Rattle.unit_report.specs.unit_answers.Answered.{IsProgramAnswers}
+use Rattle.unit_report.specs.unit_answers.Fault.{IsAnswersFault}
 use Rattle.report_cli.specs.declared.fault.UnitsFault.{UnitsFault}
 use Rattle.report_cli.specs.declared.fault.UnitsFault.TheVariants.{Refused, Memory}
+use Rattle.report_cli.specs.declared.form.Form.{Form}
 use Rattle.report_cli.specs.Answers.{NamedText, Answer, refusal}
 use Rattle.report_cli.specs.Words.{names_of, with_script}
-use Rattle.report_cli.specs.Printed.{AreAnswersTo, IsPrinted, IsRefusedScript}
+use Rattle.report_cli.specs.Printed.{AreAnswersTo, IsRefusedScript}
 use Rattle.report_cli.specs.Outcome.{Denotes}
 use Rattle.report_cli.specs.Scripts.{told_with}
 use Rattle.report_cli.specs.Faults.{fault_of, IsFaultOf, IsFaultOfTold, IsFaultOfScript, IsAnswersRefusal}
@@ -42,14 +43,14 @@ module _ (program : Program) (space : List Location) (system : System) (script :
   script_refused OutOfMemory fault short h is = let P : UnitsFault → Type 0 = λ f. IsFaultOfScript program space system script f in subst P (sym is) tt
 
   -- the answers to a script within the limit
-  pub answers_printed : (text : List ℕ) → length script.1 ≤ 2 ^ 24 → IsSystemOf program space system → IsProgramAnswers program space system script.1 text → IsPrinted (Some script) program system text
+  pub answers_printed : (text : List ℕ) → length script.1 ≤ 2 ^ 24 → IsSystemOf program space system → IsProgramAnswers program space system script.1 text → AreAnswersTo script.1 program system text
   unfolding AreAnswersTo
   answers_printed text short of h = (short, (space, of, h))
 
   -- the refusal of a script on the program that texts denote
-  pub script_told : (texts : List NamedText) (fault : UnitsFault) → Denotes texts program → IsSystemOf program space system → IsFaultOfScript program space system script fault → IsFaultOfTold (told_with texts (Some script)) fault
-  script_told texts (Refused status line) denoted of h = inr (record { program = program; denoted = denoted; space = space; system = system; system_of = of; refused = h })
-  script_told texts Memory denoted of h = tt
+  pub script_told : (texts : List NamedText) (form : Form) (fault : UnitsFault) → Denotes texts program → IsSystemOf program space system → IsFaultOfScript program space system script fault → IsFaultOfTold (told_with texts (Some script) form) fault
+  script_told texts form (Refused status line) denoted of h = inr (record { program = program; denoted = denoted; space = space; system = system; system_of = of; refused = h })
+  script_told texts form Memory denoted of h = tt
 
 pub both_ok : {A E : Type 0} (r : Result A E) (P Q R : A → Type 0) → ((x : A) → P x → Q x → R x) → IfOk r P → IfOk r Q → IfOk r R
 both_ok (Ok x) P Q R f p q = f x p q
@@ -60,9 +61,9 @@ on_fault (Ok x) P Q f p = tt
 on_fault (Err e) P Q f p = f e p
 
 -- the refusal of units, whatever the script
-pub units_told : (texts : List NamedText) (script : Option NamedText) (fault : UnitsFault) → IsFaultOf texts fault → IsFaultOfTold (told_with texts script) fault
-units_told texts script (Refused status line) h = inl h
-units_told texts script Memory h = tt
+pub units_told : (texts : List NamedText) (script : Option NamedText) (form : Form) (fault : UnitsFault) → IsFaultOf texts fault → IsFaultOfTold (told_with texts script form) fault
+units_told texts script form (Refused status line) h = inl h
+units_told texts script form Memory h = tt
 
 -- units with their texts stand first
 zip_front : (units more texts : List (List ℕ)) → zip units (take (length units) texts) ≡ take (length units) (zip (units ++ more) texts)

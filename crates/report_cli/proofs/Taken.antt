@@ -7,7 +7,7 @@ use Rattle.alias_query.specs.Asked.{Setting, Means, Asks, IsNameless, AreAsked, 
 use Rattle.core_tree.specs.declared.node.Program.{Program}
 use Rattle.sol_model.specs.declared.system.System.{System}
 use Rattle.obj_space.specs.declared.location.Location.{Location}
-use Rattle.unit_answers.specs.Answered.{setting_of}
+use Rattle.unit_report.specs.unit_answers.Answered.{setting_of}
 use Rattle.report_cli.specs.Answers.{NamedText, Answer}
 use Rattle.report_cli.specs.Printed.{IsRefusedScript}
 use Rattle.report_cli.specs.Accepted.{IsTakenScript}

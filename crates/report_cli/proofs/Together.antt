@@ -6,7 +6,7 @@ use Rattle.unit_link.specs.Linked.{Linked}
 use Rattle.obj_space.specs.Space.{locations_in}
 use Rattle.obj_space.specs.View.{view_of}
 use Rattle.constraints.specs.System.{IsWithin}
-use Rattle.text_faults.proofs.Texts.{one_text_fault}
+use Rattle.outcome_laws.proofs.text_faults.Texts.{one_text_fault}
 use Rattle.report_cli.specs.Answers.{NamedText, Answer}
 use Rattle.report_cli.specs.Told.{Told}
 use Rattle.report_cli.specs.Lowered.{AreRightTexts}

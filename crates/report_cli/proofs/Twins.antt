@@ -5,7 +5,7 @@ use Rattle.c_senses.specs.Tree.{Source}
 use Rattle.c_senses.specs.Names.{source_of, numbered}
 use Rattle.c_senses.specs.Right.{Right}
 use Rattle.c_lower.specs.PassedOn.{HasTags}
-use Rattle.text_faults.specs.Texts.{AreOfOneText, AreOfOneTexts}
+use Rattle.outcome_laws.specs.text_faults.Texts.{AreOfOneText, AreOfOneTexts}
 use Rattle.report_cli.specs.Answers.{NamedText}
 use Rattle.report_cli.specs.Lowered.{IsRightText, AreRightTexts}
 use Rattle.report_cli.proofs.OneOutcome.{same_numbered}

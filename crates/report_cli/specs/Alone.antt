@@ -32,18 +32,22 @@ lexical_refusal unit OutOfMemory = refusal 9 (codes "out of memory")
 
 -- the place of a token, by its number
 abbrev pub token_place : List ℕ → List Token → ℕ → List ℕ
-token_place name list number = option_map_or (λ token. place_text name token.line token.column) (slice_get list number) name
+token_place name list number =
+    option_map_or (λ token. place_text name token.line token.column) (slice_get list number) name
 
 -- the refusal of a unit for the first token that doesn't fit its grammar
 abbrev pub syntax_refusal : List ℕ → List Token → Fault → Answer
 syntax_refusal name list (malformed number) = malformed_at (token_place name list number)
-syntax_refusal name list (unsupported kind number) = refusal 4 (token_place name list number ++ codes ": not accepted " ++ name_of kind)
+syntax_refusal name list (unsupported kind number) =
+    refusal 4 (token_place name list number ++ codes ": not accepted " ++ name_of kind)
 syntax_refusal name list (too_deep number) = refusal 6 (token_place name list number ++ codes ": too deep 257")
 
 -- the refusal of a unit for its first name that is undeclared or redeclared, at the name; want of memory is none
 abbrev pub name_refusal : List ℕ → List Token → List Node → NameFault → Answer
-name_refusal name list nodes (names.Undeclared node) = refusal 4 (token_place name list (token_at nodes node) ++ codes ": not accepted " ++ name_of kind.Undeclared)
-name_refusal name list nodes (names.Redeclared node) = refusal 4 (token_place name list (token_at nodes node) ++ codes ": not accepted " ++ name_of kind.Redeclared)
+name_refusal name list nodes (names.Undeclared node) =
+    refusal 4 (token_place name list (token_at nodes node) ++ codes ": not accepted " ++ name_of kind.Undeclared)
+name_refusal name list nodes (names.Redeclared node) =
+    refusal 4 (token_place name list (token_at nodes node) ++ codes ": not accepted " ++ name_of kind.Redeclared)
 name_refusal name list nodes names.OutOfMemory = refusal 9 (codes "out of memory")
 
 -- reading a unit from its first token on gives this state, or this first fault
@@ -54,13 +58,18 @@ Reading text list result = Opens text list p_unit 0 (begin 0 no_names []) result
 unfoldable pub IsRefusedAlone : NamedText → Answer → Type 0
 IsRefusedAlone unit answer =
     ((fault : LexFault) × (fault ≡ OutOfMemory → ⊥) × IsFault unit.1 fault × (answer ≡ lexical_refusal unit fault))
-    ⊎ (((list : List Token) × IsTokens unit.1 list × (fault : Fault) × Reading unit.1 list (Err fault) × (answer ≡ syntax_refusal unit.0 list fault))
-    ⊎ ((list : List Token) × IsTokens unit.1 list × (state : State) × Reading unit.1 list (Ok state) × (fault : NameFault) × (fault ≡ names.OutOfMemory → ⊥) × (first_of unit.1 list state.nodes ≡ Some fault)
+    ⊎ (((list : List Token) × IsTokens unit.1 list × (fault : Fault) × Reading unit.1 list (Err fault)
+    × (answer ≡ syntax_refusal unit.0 list fault))
+    ⊎ ((list : List Token) × IsTokens unit.1 list × (state : State) × Reading unit.1 list (Ok state)
+    × (fault : NameFault) × (fault ≡ names.OutOfMemory → ⊥)
+    × (first_of unit.1 list state.nodes ≡ Some fault)
     × (answer ≡ name_refusal unit.0 list state.nodes fault)))
 
 -- a unit has tokens that are those of a unit, and no name in it is undeclared or redeclared
 unfoldable pub IsReadAs : NamedText → List Token → Type 0
-IsReadAs unit list = IsTokens unit.1 list × ((state : State) × Reading unit.1 list (Ok state) × (first_of unit.1 list state.nodes ≡ None))
+IsReadAs unit list =
+    IsTokens unit.1 list
+    × ((state : State) × Reading unit.1 list (Ok state) × (first_of unit.1 list state.nodes ≡ None))
 
 abbrev pub IsReadAlone : NamedText → Type 0
 IsReadAlone unit = (list : List Token) × IsReadAs unit list

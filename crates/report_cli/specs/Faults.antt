@@ -19,15 +19,15 @@ use Rattle.pta_base.specs.declared.kind.Kind.TheVariants.{Operand}
 use Rattle.core_nodes.specs.declared.fault.CheckFault.{CheckFault}
 use Rattle.core_nodes.specs.declared.fault.CheckFault.TheVariants as check
 use Rattle.link_names.specs.declared.fault.LinkFault.TheVariants as link
-use Rattle.unit_system.specs.declared.fault.UnitFault.{UnitFault}
-use Rattle.unit_system.specs.declared.fault.UnitFault.TheVariants as unit
+use Rattle.unit_report.specs.declared.unit_system.fault.UnitFault.{UnitFault}
+use Rattle.unit_report.specs.declared.unit_system.fault.UnitFault.TheVariants as unit
 use Rattle.report_cli.specs.Lowered.{kind_refusal}
 use Rattle.report_cli.specs.Linking.{link_refusal, nodes_refusal, words_refusal}
 use Rattle.core_tree.specs.declared.node.Program.{Program}
 use Rattle.sol_model.specs.declared.system.System.{System}
 use Rattle.obj_space.specs.declared.location.Location.{Location}
-use Rattle.unit_answers.specs.declared.fault.AnswersFault.{AnswersFault}
-use Rattle.unit_answers.specs.declared.fault.AnswersFault.TheVariants as answers
+use Rattle.unit_report.specs.declared.unit_answers.fault.AnswersFault.{AnswersFault}
+use Rattle.unit_report.specs.declared.unit_answers.fault.AnswersFault.TheVariants as answers
 use Rattle.report_cli.specs.Told.{Told}
 use Rattle.report_cli.specs.Printed.{IsRefusedScript}
 use Rattle.report_cli.specs.Outcome.{IsRefusedText, IsRefusedBy, Refuses}
@@ -48,7 +48,8 @@ IsFaultOfTold told Memory = Unit {0}
 
 -- a refusal is that of a script on a program
 abbrev pub IsFaultOfScript : Program → List Location → System → NamedText → UnitsFault → Type 0
-IsFaultOfScript program space system script (Refused status line) = IsRefusedScript program space system script (record { status = status; out = []; err = line })
+IsFaultOfScript program space system script (Refused status line) =
+    IsRefusedScript program space system script (record { status = status; out = []; err = line })
 IsFaultOfScript program space system script Memory = Unit {0}
 
 -- a refusal is that of a unit alone
@@ -58,7 +59,8 @@ IsFaultAlone unit Memory = Unit {0}
 
 -- a refusal is that of a text, as unit of that number
 abbrev pub IsFaultIn : ℕ → NamedText → UnitsFault → Type 0
-IsFaultIn number text (Refused status line) = IsRefusedText number text (record { status = status; out = []; err = line })
+IsFaultIn number text (Refused status line) =
+    IsRefusedText number text (record { status = status; out = []; err = line })
 IsFaultIn number text Memory = Unit {0}
 
 -- the refusal for a lexical fault
@@ -72,20 +74,25 @@ IsLexical unit lex.OutOfMemory fault = fault ≡ Memory
 -- the refusal for a fault of syntax
 abbrev pub IsSyntactic : List ℕ → List Token → ParseFault → UnitsFault → Type 0
 IsSyntactic name list (Malformed number) fault = fault ≡ fault_of (syntax_refusal name list (malformed number))
-IsSyntactic name list (Unsupported kind number) fault = fault ≡ fault_of (syntax_refusal name list (unsupported kind number))
+IsSyntactic name list (Unsupported kind number) fault =
+    fault ≡ fault_of (syntax_refusal name list (unsupported kind number))
 IsSyntactic name list (TooDeep number) fault = fault ≡ fault_of (syntax_refusal name list (too_deep number))
 IsSyntactic name list OutOfMemory fault = fault ≡ Memory
 
 -- the refusal for a fault of names
 abbrev pub IsNominal : List ℕ → List Token → List Node → NameFault → UnitsFault → Type 0
-IsNominal name list nodes (names.Undeclared node) fault = fault ≡ fault_of (name_refusal name list nodes (names.Undeclared node))
-IsNominal name list nodes (names.Redeclared node) fault = fault ≡ fault_of (name_refusal name list nodes (names.Redeclared node))
+IsNominal name list nodes (names.Undeclared node) fault =
+    fault ≡ fault_of (name_refusal name list nodes (names.Undeclared node))
+IsNominal name list nodes (names.Redeclared node) fault =
+    fault ≡ fault_of (name_refusal name list nodes (names.Redeclared node))
 IsNominal name list nodes names.OutOfMemory fault = fault ≡ Memory
 
 -- the refusal for the fault of a node
 abbrev pub IsKindRefusal : List ℕ → Tokens → Tree → CheckFault → UnitsFault → Type 0
-IsKindRefusal name tokens tree (check.BadOperand node) fault = fault ≡ fault_of (kind_refusal name tokens tree Operand node)
-IsKindRefusal name tokens tree (check.Unsupported kind node) fault = fault ≡ fault_of (kind_refusal name tokens tree kind node)
+IsKindRefusal name tokens tree (check.BadOperand node) fault =
+    fault ≡ fault_of (kind_refusal name tokens tree Operand node)
+IsKindRefusal name tokens tree (check.Unsupported kind node) fault =
+    fault ≡ fault_of (kind_refusal name tokens tree kind node)
 IsKindRefusal name tokens tree check.OutOfMemory fault = fault ≡ Memory
 
 -- the refusal for a fault of linking, and for a limit
@@ -98,5 +105,6 @@ IsSystemRefusal names unit.OutOfMemory fault = fault ≡ Memory
 
 -- the refusal for the fault of a script
 abbrev pub IsAnswersRefusal : AnswersFault → UnitsFault → Type 0
-IsAnswersRefusal (answers.Question number) fault = fault ≡ fault_of (refusal 10 (codes "question " ++ decimal number))
+IsAnswersRefusal (answers.Question number) fault =
+    fault ≡ fault_of (refusal 10 (codes "question " ++ decimal number))
 IsAnswersRefusal answers.OutOfMemory fault = fault ≡ Memory

@@ -4,7 +4,7 @@ use Rattle.core_tree.specs.declared.node.Unit.{Unit}
 use Rattle.core_tree.specs.declared.node.Program.{Program}
 use Rattle.report_cli.specs.Answers.{NamedText, Answer}
 use Rattle.report_cli.specs.Alone.{IsRefusedAlone, AreReadAlone}
-use Rattle.right_laws.specs.Alike.{AreAlike}
+use Rattle.reading_laws.specs.right_laws.Alike.{AreAlike}
 use Rattle.obj_space.specs.Space.{locations_in}
 use Rattle.obj_space.specs.View.{view_of}
 use Rattle.constraints.specs.System.{IsWithin, word_total}
@@ -24,37 +24,59 @@ pub record OneAlone : Type 0 where
 
 pub record OneOutcome : Type 0 where
   -- a text is refused with one answer
-  pub text : (number : ℕ) (text : NamedText) (one other : Answer) → IsRefusedText number text one → IsRefusedText number text other
+  pub text : (number : ℕ) (text : NamedText) (one other : Answer)
+      → IsRefusedText number text one
+      → IsRefusedText number text other
       → one ≡ other
   -- the first text that isn't right, by its tokens, its syntax, its names or its rows, is refused with one answer
   pub one : (number : ℕ) (texts : List NamedText) (one other : Answer) → FirstRefused IsRefusedText number texts one
       → FirstRefused IsRefusedText number texts other → one ≡ other
   -- and there is none where each text has a right unit
-  pub right : (number : ℕ) (texts : List NamedText) (answer : Answer) → FirstRefused IsRefusedText number texts answer
+  pub right : (number : ℕ) (texts : List NamedText) (answer : Answer)
+      → FirstRefused IsRefusedText number texts answer
       → HaveRightUnits number texts → ⊥
   -- texts that denote a program are refused for a limit alone that their program passes
-  pub denoted : (texts : List NamedText) (program : Program) (answer : Answer) → Denotes texts program → Refuses texts answer
+  pub denoted : (texts : List NamedText) (program : Program) (answer : Answer)
+      → Denotes texts program
+      → Refuses texts answer
       → HaveManyNodes texts answer ⊎ HaveManyWords texts answer
   -- and not at all where it is within the limits
   pub within : (texts : List NamedText) (program : Program) (answer : Answer) → Denotes texts program
       → IsWithin program (view_of (locations_in program)) → Refuses texts answer → ⊥
   -- for a fault of linking texts are refused with one answer
-  pub linking : (texts : List NamedText) (one other : Answer) → IsLinkRefusal texts one → IsLinkRefusal texts other → one ≡ other
+  pub linking : (texts : List NamedText) (one other : Answer)
+      → IsLinkRefusal texts one
+      → IsLinkRefusal texts other
+      → one ≡ other
   -- two refusals of the same texts are one answer
-  pub refused : (texts : List NamedText) (one other : Answer) → Refuses texts one → Refuses texts other → one ≡ other
+  pub refused : (texts : List NamedText) (one other : Answer)
+      → Refuses texts one
+      → Refuses texts other
+      → one ≡ other
   -- what is accepted isn't refused
   pub accepted : (told : Told) (answer : Answer) → AreAccepted told → RefusesTold told answer → ⊥
 
--- The right units of a text are alike, but for the numbers of entities and nodes; so the programs that texts denote have as many nodes, and
--- as many words of rows.
+-- The right units of a text are alike, but for the numbers of entities and nodes; so the programs that texts denote
+-- have as many nodes, and as many words of rows.
 pub record OneProgramSize : Type 0 where
-  pub alike : (number : ℕ) (text : NamedText) (u v : Unit) → IsRightText number text u → IsRightText number text v → AreAlike u v
+  pub alike : (number : ℕ) (text : NamedText) (u v : Unit)
+      → IsRightText number text u
+      → IsRightText number text v
+      → AreAlike u v
   pub count : (texts : List NamedText) (program other : Program) → Denotes texts program → Denotes texts other
       → length program.nodes.items ≡ length other.nodes.items
   pub words : (texts : List NamedText) (program other : Program) → Denotes texts program → Denotes texts other
       → word_total program (view_of (locations_in program)) ≡ word_total other (view_of (locations_in other))
   -- texts are over a limit with one answer, and not where they denote a program that is within it
-  pub many : (texts : List NamedText) (one other : Answer) → HaveManyNodes texts one → HaveManyNodes texts other → one ≡ other
-  pub many_words : (texts : List NamedText) (one other : Answer) → HaveManyWords texts one → HaveManyWords texts other → one ≡ other
+  pub many : (texts : List NamedText) (one other : Answer)
+      → HaveManyNodes texts one
+      → HaveManyNodes texts other
+      → one ≡ other
+  pub many_words : (texts : List NamedText) (one other : Answer)
+      → HaveManyWords texts one
+      → HaveManyWords texts other
+      → one ≡ other
   pub few : (texts : List NamedText) (program : Program) (answer : Answer) → Denotes texts program
-      → IsWithin program (view_of (locations_in program)) → HaveManyNodes texts answer ⊎ HaveManyWords texts answer → ⊥
+      → IsWithin program (view_of (locations_in program))
+      → HaveManyNodes texts answer ⊎ HaveManyWords texts answer
+      → ⊥

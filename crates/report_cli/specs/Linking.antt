@@ -6,8 +6,8 @@ use Rattle.core_tree.specs.declared.node.Program.{Program}
 use Rattle.link_names.specs.declared.fault.LinkFault.{LinkFault}
 use Rattle.link_names.specs.declared.fault.LinkFault.TheVariants.{Conflict, Twice, Undefined, NoMain, OutOfMemory}
 use Rattle.unit_link.specs.Linked.{LinksBadly}
-use Rattle.unit_system.specs.Of.{IsProgramOf}
-use Rattle.unit_system.specs.Faults.{HasNodes, HasWords}
+use Rattle.unit_report.specs.unit_system.Of.{IsProgramOf}
+use Rattle.unit_report.specs.unit_system.Faults.{HasNodes, HasWords}
 use Rattle.report_cli.specs.Answers.{NamedText, Answer, refusal, place_text}
 use Rattle.report_cli.specs.Lowered.{AreRightTexts}
 
@@ -17,9 +17,11 @@ unit_name names unit = unwrap_or (slice_get names unit) []
 
 -- the refusal of units for a fault of linking; want of memory is none
 abbrev pub link_refusal : List (List ℕ) → LinkFault → Answer
-link_refusal names (Conflict name unit) = refusal 5 (codes "link conflict " ++ name ++ codes " " ++ unit_name names unit)
+link_refusal names (Conflict name unit) =
+    refusal 5 (codes "link conflict " ++ name ++ codes " " ++ unit_name names unit)
 link_refusal names (Twice name unit) = refusal 5 (codes "link twice " ++ name ++ codes " " ++ unit_name names unit)
-link_refusal names (Undefined place name) = refusal 5 (place_text (unit_name names place.unit) place.line place.column ++ codes ": undefined " ++ name)
+link_refusal names (Undefined place name) =
+    refusal 5 (place_text (unit_name names place.unit) place.line place.column ++ codes ": undefined " ++ name)
 link_refusal names NoMain = refusal 5 (codes "link no main")
 link_refusal names OutOfMemory = refusal 9 (codes "out of memory")
 

@@ -4,7 +4,7 @@ use Rattle.core_tree.specs.declared.node.Unit.{Unit}
 use Rattle.core_tree.specs.declared.node.Program.{Program}
 use Rattle.sol_model.specs.declared.system.System.{System}
 use Rattle.obj_space.specs.declared.location.Location.{Location}
-use Rattle.unit_system.specs.Of.{IsProgramOf, IsSystemOf}
+use Rattle.unit_report.specs.unit_system.Of.{IsProgramOf, IsSystemOf}
 use Rattle.command_line.specs.Rules.{AreRight}
 use Rattle.report_cli.specs.Answers.{NamedText, Answer, refusal}
 use Rattle.report_cli.specs.Alone.{IsRefusedAlone}
@@ -13,23 +13,28 @@ use Rattle.report_cli.specs.Linking.{IsLinkRefusal, HaveManyNodes, HaveManyWords
 use Rattle.report_cli.specs.Told.{Told}
 use Rattle.report_cli.specs.Printed.{IsPrinted, IsRefusedScript}
 
--- a program that texts denote: each is right, as a core unit, and the program is linked from these, on a table that its own functions made
+-- a program that texts denote: each is right, as a core unit, and the program is linked from these, on a table that
+-- its own functions made
 unfoldable pub Denotes : List NamedText → Program → Type 0
 Denotes texts program = (units : List Unit) × AreRightTexts 0 texts units × IsProgramOf units program
 
--- the refusal of a text, as unit of that number: for its tokens, its syntax or its names, or for its first row that doesn't fit
+-- the refusal of a text, as unit of that number: for its tokens, its syntax or its names, or for its first row that
+-- doesn't fit
 abbrev pub IsRefusedText : ℕ → NamedText → Answer → Type 0
 IsRefusedText number text answer = IsRefusedAlone text answer ⊎ IsRefusedRow number text answer
 
--- the refusal of the first text that isn't right, where those before it are; the first text is the unit of that number
+-- the refusal of the first text that isn't right, where those before it are; the first text is the unit of that
+-- number
 abbrev pub FirstRefused : (ℕ → NamedText → Answer → Type 0) → ℕ → List NamedText → Answer → Type 0
 FirstRefused IsRefused number [] answer = ⊥
 FirstRefused IsRefused number (text ∷ texts) answer =
-    IsRefused number text answer ⊎ ((u : Unit) × IsRightText number text u × FirstRefused IsRefused (number + 1) texts answer)
+    IsRefused number text answer
+    ⊎ ((u : Unit) × IsRightText number text u × FirstRefused IsRefused (number + 1) texts answer)
 
 -- the refusal of texts that are right: for a fault of linking, or for a limit that their program passes
 abbrev pub AreRefusedTogether : List NamedText → Answer → Type 0
-AreRefusedTogether texts answer = IsLinkRefusal texts answer ⊎ (HaveManyNodes texts answer ⊎ HaveManyWords texts answer)
+AreRefusedTogether texts answer =
+    IsLinkRefusal texts answer ⊎ (HaveManyNodes texts answer ⊎ HaveManyWords texts answer)
 
 -- the first refusal of texts: that of the first one that isn't right, else that of all together
 unfoldable pub Refuses : List NamedText → Answer → Type 0
@@ -72,10 +77,12 @@ RefusesToldRight told answer = AreRefusedTogether told.units answer ⊎ RefusesS
 -- the answer of what is told: what is printed of the program that the units denote, or the first refusal
 abbrev pub OutcomeOf : Told → Answer → Type 0
 OutcomeOf told answer =
-    ((program : Program) × (system : System) × Denotes told.units program × IsPrinted told.script program system answer.out × (answer.status ≡ 0) × (answer.err ≡ []))
+    ((program : Program) × (system : System) × Denotes told.units program
+    × IsPrinted told.form told.script program system answer.out × (answer.status ≡ 0) × (answer.err ≡ []))
     ⊎ RefusesTold told answer
 
--- the answer of words and of what is told of the names that they ask for: where the words aren't right, how the program is used
+-- the answer of words and of what is told of the names that they ask for: where the words aren't right, how the
+-- program is used
 abbrev pub Outcome : List (List ℕ) → Told → Answer → Type 0
 Outcome words told answer =
     ((AreRight words → ⊥) × (answer ≡ refusal 2 (codes "usage")))

@@ -1,7 +1,7 @@
 -- What a call leaves behind outside.
 use Rattle.std.specs.Prelude.{ℕ, List, ◌++◌, Option, codes}
 use Rattle.pta_base.specs.Outside.{IsSteady}
-use Rattle.report_text.specs.Outside.{Grows, GrowsInPart}
+use Rattle.unit_report.specs.report_text.Outside.{Grows, GrowsInPart}
 
 -- a text went to a sink that may fail: whole where no fault rose there, and else in part
 pub record Receives (before after : Option (List ℕ)) (faults_before faults_after : ℕ) (text : List ℕ) : Type 0 where

@@ -1,11 +1,12 @@
 -- The words of the command line, and what right words ask for.
-use Rattle.std.specs.Prelude.{ℕ, List, [], ◌∷◌, ◌++◌, map, string_bytes, String, Option, Some, None}
+use Rattle.std.specs.Prelude.{ℕ, Bool, List, [], ◌∷◌, ◌++◌, map, string_bytes, String, codes, Option, Some, None}
 use Rattle.std.specs.List.{All}
 use Rattle.std.specs.Borrow.{Bor}
 use Rattle.std.specs.declared.alloc.Global.{Global}
-use Rattle.name_shapes.specs.Bytes.{is_unit_byte, IsMadeOf}
+use Rattle.location_laws.specs.name_shapes.Bytes.{is_unit_byte, IsMadeOf}
 use Rattle.command_line.specs.Language.{found_in}
-use Rattle.command_line.specs.Rules.{script_word, unit_words}
+use Rattle.command_line.specs.Rules.{asks_json, script_word, unit_words}
+use Rattle.command_line.specs.Meaning.{number_of}
 
 -- the bytes of words
 abbrev pub texts_of : List (String Global) → List (List ℕ)
@@ -26,6 +27,14 @@ units_read words = unit_words (found_in words)
 -- the name of the script of questions, where words ask for one
 abbrev pub script_read : List (List ℕ) → Option (List ℕ)
 script_read words = script_word (found_in words)
+
+-- whether words ask for the report as JSON
+abbrev pub json_read : List (List ℕ) → Bool
+json_read words = asks_json (found_in words)
+
+-- the number of the generated program that words ask for, where they do
+abbrev pub number_read : List (List ℕ) → Option ℕ
+number_read words = number_of (codes "gen") (found_in words)
 
 -- the names of units, and behind them that of a script where there is one
 abbrev pub with_script : List (List ℕ) → Option (List ℕ) → List (List ℕ)

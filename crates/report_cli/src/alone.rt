@@ -16,8 +16,8 @@ use c_grammar::{SyntaxNode, Tree};
 use c_lexer::lexer::tokens;
 use c_lexer::{LexFault, Token, Tokens};
 use c_parser::ParseFault;
+use c_parser::c_units::parse_unit;
 use c_scope::{Bound, NameFault, resolve};
-use c_units::parse_unit;
 use pta_base::{Kind, Listing};
 use std::alloc::{AllocError, Global};
 

@@ -3,6 +3,7 @@
 
 mod alone;
 mod fault;
+mod form;
 mod input;
 pub mod laws;
 mod lowered;

@@ -10,8 +10,8 @@ use crate::reading::name_at;
 use crate::refusals::row_refusal;
 use c_lower::lower_unit;
 use core_tree::Unit;
-use parsed_laws::laws::children_first;
 use pta_base::{Listing, Text};
+use sense_laws::parsed_laws::laws::children_first;
 use std::alloc::Global;
 
 /// The core unit that a text is, as the unit of that number, or the fault that refuses it. Its tokens and its tree are let go.

@@ -2,7 +2,7 @@
 ghost use Rattle.report_cli.specs.Outside.{Receives};
 
 use pta_base::Sink;
-use report_text::write_text;
+use unit_report::report_text::write_text;
 
 /// Writes the line of a refusal. A write that fails isn't tried again, and changes nothing else.
 pub(crate) fn say<E: Sink>(err: &mut E, line: &[u8])

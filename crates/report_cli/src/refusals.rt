@@ -20,8 +20,8 @@ use link_names::LinkFault;
 use pta_base::{Kind, Listing, OutOfMemory, Place, Text};
 use std::alloc::{AllocError, Global};
 use tree_reads::Syntax;
-use unit_answers::AnswersFault;
-use unit_system::UnitFault;
+use unit_report::unit_answers::AnswersFault;
+use unit_report::unit_system::UnitFault;
 
 /// A refusal with that status and line, to which its line feed is added.
 fn refused(status: u8, line: Vec<u8>) -> Result<UnitsFault, AllocError>

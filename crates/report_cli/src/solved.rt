@@ -1,33 +1,35 @@
 // From the texts of units to what is printed of their program, or to their first refusal.
-ghost use Rattle.std.specs.Prelude.{◌≡◌, ◌<◌, ◌≤◌, ◌^◌, List, length, map, zip, IfOk, IfErr, Some};
+ghost use Rattle.std.specs.Prelude.{◌≡◌, ◌<◌, ◌≤◌, ◌^◌, List, length, map, zip, IfOk, IfErr};
 ghost use Rattle.command_line.specs.Distinct.{AreDistinct};
-ghost use Rattle.filled_units.specs.Filled.{AreFilled};
+ghost use Rattle.link_model.specs.filled_units.Filled.{AreFilled};
 ghost use Rattle.unit_link.specs.Needs.{AreLinkable};
 ghost use Rattle.core_tree.specs.declared.node.Program.{Program};
 ghost use Rattle.sol_model.specs.declared.system.System.{System};
 ghost use Rattle.obj_space.specs.Space.{DistinctNames};
-ghost use Rattle.named_laws.specs.Units.{AreNamedUnits};
-ghost use Rattle.unit_system.specs.Of.{IsSystemOf};
-ghost use Rattle.unit_report.specs.Solved.{IsSolved};
+ghost use Rattle.location_laws.specs.named_laws.Units.{AreNamedUnits};
+ghost use Rattle.unit_report.specs.unit_system.Of.{IsSystemOf};
+ghost use Rattle.unit_report.specs.Solved.{IsSolvedShared};
 ghost use Rattle.report_cli.specs.Words.{names_of, AreUnitNames};
 ghost use Rattle.report_cli.specs.Answers.{NamedText};
 ghost use Rattle.report_cli.specs.Lowered.{AreRightTexts};
-ghost use Rattle.report_cli.specs.Printed.{IsPrinted};
+ghost use Rattle.report_cli.specs.Printed.{AreAnswersTo, IsInForm, IsPrinted};
 ghost use Rattle.report_cli.specs.Outcome.{Denotes};
 ghost use Rattle.report_cli.specs.Scripts.{named, named_script, told_with};
 ghost use Rattle.report_cli.specs.Faults.{IsFaultOf, IsFaultOfScript, IsFaultOfTold};
 
 use crate::alone::too_large;
 use crate::fault::UnitsFault;
+use crate::form::Form;
 use crate::lowered::lower_each;
 use crate::refusals::{answers_refusal, system_refusal};
 use core_tree::Unit;
-use pta_base::{Gate, Listing};
+use gen_summary::summary_of_system;
+use pta_base::{Gate, Listing, OutOfMemory};
 use std::alloc::Global;
 use std::thread::Threads;
-use unit_answers::answers_of_system;
+use unit_report::unit_answers::answers_of_system;
+use unit_report::unit_system::{UnitSystem, linked_system};
 use unit_report::{Solved, report_of_system};
-use unit_system::{UnitSystem, linked_system};
 
 /// The limit on the bytes of a script of questions.
 const MOST: usize = 16_777_216;
@@ -69,8 +71,8 @@ fn answers_to<R: Threads + Sync, G: Gate + Sync>(
     requires system { IsSystemOf made.program made.space made.system }
     requires distinct { DistinctNames made.space }
     requires workers { (0 < workers) × (workers ≤ 64) }
-    ensures printed { IfOk result (λ found. IsPrinted (Some (named script.entry)) made.program made.system found.0.items) }
-    ensures solved { IfOk result (λ found. IsSolved made.system found.1) }
+    ensures printed { IfOk result (λ found. AreAnswersTo script.entry.text.now made.program made.system found.0.items) }
+    ensures solved { IfOk result (λ found. IsSolvedShared made.system found.1) }
     ensures refused { IfErr result (IsFaultOfScript made.program made.space made.system (named script.entry)) }
 {
     if script.text.len() > MOST {
@@ -82,14 +84,35 @@ fn answers_to<R: Threads + Sync, G: Gate + Sync>(
     }
 }
 
-/// What is printed of the program of units of distinct names, its report or the answers to a script, with the system that was solved for
-/// it, or the fault that refuses the units or the script.
+/// The report or the summary of a program, with the system that was solved for it.
+fn text_in_form<R: Threads + Sync, G: Gate + Sync>(
+    rt: &R,
+    alloc: Global,
+    made: UnitSystem,
+    form: Form,
+    workers: u32,
+    gate: &G,
+) -> Result<(Vec<u8>, Solved), OutOfMemory>
+    requires system { IsSystemOf made.program made.space made.system }
+    requires workers { (0 < workers) × (workers ≤ 64) }
+    ensures printed { IfOk result (λ found. IsInForm form made.program made.system found.0.items) }
+    ensures solved { IfOk result (λ found. IsSolvedShared made.system found.1) }
+{
+    match form {
+        Form::Report(json) => report_of_system(rt, alloc, made, json, workers, gate),
+        Form::Summary(number) => summary_of_system(rt, alloc, made, number, workers, gate),
+    }
+}
+
+/// What is printed of the program of units of distinct names, its report, as JSON or as lines, its summary, or the answers to a script,
+/// with the system that was solved for it, or the fault that refuses the units or the script.
 pub(crate) fn text_of_units<R: Threads + Sync, G: Gate + Sync>(
     rt: &R,
     alloc: Global,
     names: &[&str],
     texts: &[Listing<u8>],
     script: Option<Script<'_>>,
+    form: Form,
     workers: u32,
     gate: &G,
 ) -> Result<(Vec<u8>, Solved), UnitsFault>
@@ -99,8 +122,8 @@ pub(crate) fn text_of_units<R: Threads + Sync, G: Gate + Sync>(
     requires count { length texts.now ≡ length names.now }
     requires workers { (0 < workers) × (workers ≤ 64) }
     ensures printed { IfOk result (λ made. (program : Program) × (system : System) × Denotes (zip (names_of names.now) texts.now) program
-        × IsPrinted (named_script script.entry) program system made.0.items × IsSolved system made.1) }
-    ensures refused { IfErr result (IsFaultOfTold (told_with (zip (names_of names.now) texts.now) (named_script script.entry))) }
+        × IsPrinted form (named_script script.entry) program system made.0.items × IsSolvedShared system made.1) }
+    ensures refused { IfErr result (IsFaultOfTold (told_with (zip (names_of names.now) texts.now) (named_script script.entry) form)) }
 {
     let units = lower_each(alloc, names, texts)?;
     let made = match linked(alloc, names, units) {
@@ -109,6 +132,6 @@ pub(crate) fn text_of_units<R: Threads + Sync, G: Gate + Sync>(
     };
     match script {
         Some(script) => answers_to(rt, alloc, made, script, workers, gate),
-        None => Ok(report_of_system(rt, alloc, made, workers, gate)?),
+        None => Ok(text_in_form(rt, alloc, made, form, workers, gate)?),
     }
 }

@@ -1,5 +1,5 @@
 // The top call.
-ghost use Rattle.std.specs.Prelude.{◌≡◌, ◌≢◌, ◌⊎◌, ℕ, ◌<◌, ◌≤◌, ◌^◌, None, Some, List, length, zip, IfOk, IfSome, Contains};
+ghost use Rattle.std.specs.Prelude.{◌≡◌, ◌≢◌, ◌⊎◌, ℕ, ◌<◌, ◌≤◌, ◌^◌, None, Some, List, length, zip, IfErr, IfOk, IfSome, Contains};
 ghost use Rattle.pta_base.specs.Outside.{HasRisen, IsSteady};
 ghost use Rattle.core_tree.specs.declared.node.Program.{Program};
 ghost use Rattle.sol_model.specs.declared.system.System.{System};
@@ -7,26 +7,29 @@ ghost use Rattle.command_line.specs.Rules.{AreRight};
 ghost use Rattle.command_line.specs.Distinct.{AreDistinct};
 ghost use Rattle.report_cli.specs.Words.{names_of, names_read, texts_of, AreUnitNames};
 ghost use Rattle.report_cli.specs.Answers.{Answer};
-ghost use Rattle.report_cli.specs.Told.{names_for, told_as, told_for};
-ghost use Rattle.report_cli.specs.Printed.{IsPrinted};
+ghost use Rattle.report_cli.specs.Told.{generated, names_for, read_as, told_as, told_for};
+ghost use Rattle.report_cli.specs.Printed.{IsInForm, IsPrinted};
 ghost use Rattle.report_cli.specs.Alone.{AreReadAlone};
 ghost use Rattle.report_cli.specs.Scripts.{named_script};
 ghost use Rattle.report_cli.specs.Accepted.{AreAccepted};
 ghost use Rattle.report_cli.specs.Outcome.{Denotes, HaveRightUnits, IsRefusedBy, RefusesToldRead, RefusesToldRight, Outcome};
-ghost use Rattle.report_text.specs.Outside.{Grows, GrowsInPart};
+ghost use Rattle.unit_report.specs.report_text.Outside.{Grows, GrowsInPart};
 ghost use Rattle.report_cli.specs.Outside.{Receives, source_fault, sink_fault, out_of_memory, usage_line};
-ghost use Rattle.unit_report.specs.Solved.{IsKept};
+ghost use Rattle.unit_report.specs.Solved.{IsKept, IsSolvedShared};
+ghost use Rattle.report_cli.specs.Faults.{IsFaultOfTold};
 
 use crate::fault::UnitsFault;
+use crate::form::Form;
 use crate::output::say;
 use crate::reading::{ReadingFault, name_at, names_for, read_units};
 use crate::solved::{Script, text_of_units};
 use command_line::{Command, WordsFault, parse_words};
+use gen_units::generate;
 use pta_base::{Gate, Listing, Sink, Units};
-use report_text::write_text;
 use std::alloc::{AllocError, Global};
 use std::thread::Threads;
 use unit_report::Solved;
+use unit_report::report_text::write_text;
 
 /// A text of this many bytes is too long, so that no more of it needs to be read.
 const LIMIT: usize = 16_777_217;
@@ -92,7 +95,7 @@ fn keep(kept: &mut Option<Solved>, solved: Solved)
 /// The script of a command, whose text was read behind those of its units.
 fn script_of<'a>(command: &Command<'a>, texts: &'a [Listing<u8>]) -> Option<Script<'a>>
     requires { length texts.now ≡ length (names_for command.now) }
-    ensures { named_script result ≡ (told_as command.now texts.now).script }
+    ensures { named_script result ≡ (read_as command.now texts.now).script }
 {
     match command.ask {
         Some(name) => Some(Script {
@@ -106,10 +109,72 @@ fn script_of<'a>(command: &Command<'a>, texts: &'a [Listing<u8>]) -> Option<Scri
 /// The texts of a command's units.
 fn unit_texts<'a>(command: &Command<'_>, texts: &'a [Listing<u8>]) -> &'a [Listing<u8>]
     requires { length texts.now ≡ length (names_for command.now) }
-    ensures units { zip (names_of command.now.units.items) result.now ≡ (told_as command.now texts.now).units }
+    ensures units { zip (names_of command.now.units.items) result.now ≡ (read_as command.now texts.now).units }
     ensures count { length result.now ≡ length command.now.units.items }
 {
     &texts[..command.units.len()]
+}
+
+/// What is printed of the generated program of a number, which is read as the one unit `gen`, with the system that was solved for it, or
+/// the fault that refuses it.
+fn text_of_generated<R: Threads + Sync, G: Gate + Sync>(
+    rt: &R,
+    alloc: Global,
+    number: u32,
+    workers: u32,
+    gate: &G,
+) -> Result<(Vec<u8>, Solved), UnitsFault>
+    requires number { (1 ≤ number) × (number ≤ 1000) }
+    requires workers { (0 < workers) × (workers ≤ 64) }
+    ensures printed { IfOk result (λ made. (program : Program) × (system : System) × Denotes (generated number).units program
+        × IsInForm (generated number).form program system made.0.items × IsSolvedShared system made.1) }
+    ensures refused { IfErr result (IsFaultOfTold (generated number)) }
+{
+    let text = generate(alloc, number)?;
+    text_of_units(
+        rt,
+        alloc,
+        &["gen"],
+        &[Listing::of(text)],
+        None,
+        Form::Summary(number),
+        workers,
+        gate,
+    )
+}
+
+/// What is printed for a command by the texts that were read for it, with the system that was solved for it, or the fault that refuses
+/// what it is told.
+fn text_of_command<R: Threads + Sync, G: Gate + Sync>(
+    rt: &R,
+    alloc: Global,
+    command: &Command<'_>,
+    texts: &[Listing<u8>],
+    gate: &G,
+) -> Result<(Vec<u8>, Solved), UnitsFault>
+    requires distinct { AreDistinct (names_of command.now.units.items) }
+    requires bytes { AreUnitNames (names_of command.now.units.items) }
+    requires few { length command.now.units.items ≤ 2 ^ 8 }
+    requires workers { (0 < command.now.workers) × (command.now.workers ≤ 64) }
+    requires number { IfSome command.now.generated (λ number. (1 ≤ number) × (number ≤ 1000)) }
+    requires count { length texts.now ≡ length (names_for command.now) }
+    ensures printed { IfOk result (λ made. let told = told_as command.now texts.now in (program : Program) × (system : System)
+        × Denotes told.units program × IsPrinted told.form told.script program system made.0.items × IsSolvedShared system made.1) }
+    ensures refused { IfErr result (IsFaultOfTold (told_as command.now texts.now)) }
+{
+    match command.generated {
+        Some(number) => text_of_generated(rt, alloc, number, command.workers, gate),
+        None => text_of_units(
+            rt,
+            alloc,
+            command.units.as_slice(),
+            unit_texts(command, texts),
+            script_of(command, texts),
+            Form::Report(command.json),
+            command.workers,
+            gate,
+        ),
+    }
 }
 
 /// Answers a command by the texts that were read for it, and answers the status. With status 0 it leaves what was solved.
@@ -127,14 +192,15 @@ fn answer_units<R: Threads + Sync, O: Sink, E: Sink, G: Gate + Sync>(
     requires bytes { AreUnitNames (names_of command.now.units.items) }
     requires few { length command.now.units.items ≤ 2 ^ 8 }
     requires workers { (0 < command.now.workers) × (command.now.workers ≤ 64) }
+    requires number { IfSome command.now.generated (λ number. (1 ≤ number) × (number ≤ 1000)) }
     requires count { length texts.now ≡ length (names_for command.now) }
     ensures listed { (result ≡ 0) ⊎ (((result ≡ 3) ⊎ ((result ≡ 4) ⊎ ((result ≡ 5) ⊎ ((result ≡ 6) ⊎ (result ≡ 10))))) ⊎ ((result ≡ 8) ⊎ (result ≡ 9))) }
     ensures delivered { result ≡ 0 → (program : Program) × (system : System) × (text : List ℕ)
-        × Denotes (told_as command.now texts.now).units program × IsPrinted (told_as command.now texts.now).script program system text
+        × Denotes (told_as command.now texts.now).units program × IsPrinted (told_as command.now texts.now).form (told_as command.now texts.now).script program system text
         × Grows (O.written out.old) (O.written out.new) text × (E.written err.new ≡ E.written err.old) × IsKept system kept.new }
     ensures unsolved { result ≢ 0 → kept.new ≡ kept.old }
     ensures broken { result ≡ 8 → (program : Program) × (system : System) × (text : List ℕ)
-        × Denotes (told_as command.now texts.now).units program × IsPrinted (told_as command.now texts.now).script program system text
+        × Denotes (told_as command.now texts.now).units program × IsPrinted (told_as command.now texts.now).form (told_as command.now texts.now).script program system text
         × GrowsInPart (O.written out.old) (O.written out.new) text }
     ensures refused { result ≢ 0 → result ≢ 8 → result ≢ 9 → (line : List ℕ) × IsRefusedBy (told_as command.now texts.now) result line
         × Receives (E.written err.old) (E.written err.new) (E.faults err.old) (E.faults err.new) line }
@@ -144,15 +210,7 @@ fn answer_units<R: Threads + Sync, O: Sink, E: Sink, G: Gate + Sync>(
     ensures sink { result ≡ 8 → Receives (E.written err.old) (E.written err.new) (E.faults err.old) (E.faults err.new) sink_fault }
     ensures memory { result ≡ 9 → Receives (E.written err.old) (E.written err.new) (E.faults err.old) (E.faults err.new) out_of_memory }
 {
-    match text_of_units(
-        rt,
-        alloc,
-        command.units.as_slice(),
-        unit_texts(command, texts),
-        script_of(command, texts),
-        command.workers,
-        gate,
-    ) {
+    match text_of_command(rt, alloc, command, texts, gate) {
         Ok((text, solved)) => {
             let status = deliver(out, err, text.as_slice());
             if status != 0 {
@@ -170,8 +228,11 @@ fn answer_units<R: Threads + Sync, O: Sink, E: Sink, G: Gate + Sync>(
 }
 
 /// Does all that the program does: reads the units that the words name, writes the report of their program to `out` or the line of a
-/// refusal to `err`, and answers the status. The words are `--workers N`, `--ask UNIT` and units, in any order (`command_line`). With
-/// `--ask` the UNIT is a script of questions, and the answers to them are written in place of the report. The statuses are 0 for a text
+/// refusal to `err`, and answers the status. The words are `--workers N`, `--ask UNIT`, `--json`, `--gen N` and units, in any order
+/// (`command_line`). With `--ask` the UNIT is a script of questions, and the answers to them are written in place of the report; with
+/// `--json`, which doesn't stand beside it, the report is one object of JSON; with `--gen`, which stands beside neither of them nor a unit,
+/// the generated program of the number (`gen_units`) is read as the unit `gen`, and a summary (`gen_summary`) is written in place of the
+/// report. The statuses are 0 for a text
 /// that was written whole, 2 for words that aren't right, 3 for a text that has no tokens (C11 6.4) or whose tokens are no unit (C11
 /// 6.9), 4 for a construct that isn't accepted, 5 for units that don't link, 6 for a text or a script of more than 2^24 bytes, more than
 /// 256 constructs that nest, or a program of more than 2^24 nodes or words of rows, 7 for a unit or a script that could not be read, 8 for
@@ -181,8 +242,8 @@ fn answer_units<R: Threads + Sync, O: Sink, E: Sink, G: Gate + Sync>(
 /// written. The system is solved on shared rows by as many workers as the words say, 1 where they don't; each passes the gate before each
 /// of its pieces. With `--ask` an asker beside the workers tries each question up to 16 times, and passes the gate before each try t from
 /// 0 on, as worker number N with the turn t, where N is the number of workers; what is open then is asked when the rows are closed.
-/// `kept` has to be None; with status 0 it holds the system, its table and the seat that solved it, and with any other status it stays
-/// None.
+/// `kept` has to be None; with status 0 it holds the system that was solved, which has one row for all rows of a class of the program's
+/// (`row_share`), its table and the seat that solved it, and with any other status it stays None.
 pub fn analyse<R: Threads + Sync, U: Units, O: Sink, E: Sink, G: Gate + Sync>(
     rt: &R,
     alloc: Global,
@@ -198,7 +259,7 @@ pub fn analyse<R: Threads + Sync, U: Units, O: Sink, E: Sink, G: Gate + Sync>(
     // Status 0 means that the bytes written are the report of the least solution of the constraints of the program that
     // the units denote, or with a script the answers to its questions by that solution.
     ensures headline { result ≡ 0 → IfSome (told_for (U.text units.old) (texts_of words.now)) (λ told.
-        (program : Program) × (system : System) × (text : List ℕ) × Denotes told.units program × IsPrinted told.script program system text
+        (program : Program) × (system : System) × (text : List ℕ) × Denotes told.units program × IsPrinted told.form told.script program system text
         × Grows (O.written out.old) (O.written out.new) text) }
 
     // Where neither the outside nor memory failed, the answer is that of the words and the texts.
@@ -211,10 +272,10 @@ pub fn analyse<R: Threads + Sync, U: Units, O: Sink, E: Sink, G: Gate + Sync>(
     ensures listed { (result ≡ 0) ⊎ ((result ≡ 2) ⊎ (((result ≡ 3) ⊎ ((result ≡ 4) ⊎ ((result ≡ 5) ⊎ ((result ≡ 6) ⊎ (result ≡ 10))))) ⊎ ((result ≡ 7) ⊎ ((result ≡ 8) ⊎ (result ≡ 9))))) }
     ensures unwritten { result ≢ 0 → result ≢ 8 → O.written out.new ≡ O.written out.old }
 
-    // With status 0 the program's own system was solved on the table that is left, by its seat and those split from it, which were joined
-    // into it; with any other status nothing is left.
+    // With status 0 the program's own system, with one row for all rows of a class, was solved on the table that is left, by its seat and
+    // those split from it, which were joined into it; with any other status nothing is left.
     ensures solved { result ≡ 0 → IfSome (told_for (U.text units.old) (texts_of words.now)) (λ told.
-        (program : Program) × (system : System) × (text : List ℕ) × Denotes told.units program × IsPrinted told.script program system text
+        (program : Program) × (system : System) × (text : List ℕ) × Denotes told.units program × IsPrinted told.form told.script program system text
         × Grows (O.written out.old) (O.written out.new) text × IsKept system kept.new) }
     ensures unsolved { result ≢ 0 → kept.new ≡ None }
 
@@ -250,7 +311,7 @@ pub fn analyse<R: Threads + Sync, U: Units, O: Sink, E: Sink, G: Gate + Sync>(
         × Receives (E.written err.old) (E.written err.new) (E.faults err.old) (E.faults err.new) sink_fault }
     ensures sink_risen { O.faults out.old < O.faults out.new → result ≡ 8 }
     ensures broken { result ≡ 8 → IfSome (told_for (U.text units.old) (texts_of words.now)) (λ told.
-        (program : Program) × (system : System) × (text : List ℕ) × Denotes told.units program × IsPrinted told.script program system text
+        (program : Program) × (system : System) × (text : List ℕ) × Denotes told.units program × IsPrinted told.form told.script program system text
         × GrowsInPart (O.written out.old) (O.written out.new) text) }
     ensures memory { result ≡ 9 → Receives (E.written err.old) (E.written err.new) (E.faults err.old) (E.faults err.new) out_of_memory }
 {

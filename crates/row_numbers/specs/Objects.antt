@@ -1,5 +1,6 @@
 -- The objects that a program's names stand for.
-use Rattle.std.specs.Prelude.{ℕ, ◌-◌, ◌==◌, nat_lt, Bool, true, false, if◌then◌else◌, List, Option, Some, None, find, slice_get, unwrap_or}
+use Rattle.std.specs.Prelude.{ℕ, ◌-◌, ◌==◌, nat_lt, Bool, true, false, if◌then◌else◌, List, Option, Some, None}
+use Rattle.std.specs.Prelude.{find, slice_get, unwrap_or}
 use Rattle.std.specs.Option.{option_map, option_map_or}
 use Rattle.c_types.specs.declared.key.ObjectKey.{ObjectKey}
 use Rattle.c_types.specs.declared.key.ObjectKey.TheVariants.{Entity as EntityKey, Library, Function}
@@ -21,10 +22,12 @@ is_open linkage storage = false
 -- the number of the library name that an entity is: of external linkage, and only declared
 abbrev pub library_number : Entity → Option ℕ
 library_number entity =
-    if is_open entity.linkage entity.storage then option_map (λ found. found.number) (summary_of entity.name) else None
+    if is_open entity.linkage entity.storage
+    then option_map (λ found. found.number) (summary_of entity.name)
+    else None
 
--- the names from number 55 on are those of stdin, stdout and stderr, which stand from position 3 on among the library's
--- objects
+-- the names from number 55 on are those of stdin, stdout and stderr, which stand from position 3 on among the
+-- library's objects
 abbrev pub library_key : ℕ → ObjectKey
 library_key number = if nat_lt number 55 then Function number else Library (number - 52)
 

@@ -1,5 +1,5 @@
--- The rows of a program: those of the locations first, then those of each node in order, then those of each function's
--- result, and one row that stands for every node without a row.
+-- The rows of a program: those of the locations first, then those of each node in order, then those of each
+-- function's result, and one row that stands for every node without a row.
 use Rattle.std.specs.Prelude.{ℕ, ◌+◌, List, Option, take, map, sum}
 use Rattle.c_types.specs.declared.key.ObjectKey.{ObjectKey}
 use Rattle.c_types.specs.Trees.{Ctype}

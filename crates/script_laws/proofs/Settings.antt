@@ -12,13 +12,13 @@ use Rattle.row_numbers.specs.Setting.{row_total}
 use Rattle.normal_form.specs.SystemOf.{SystemOf}
 use Rattle.constraints.specs.System.{word_total, IsWithin}
 use Rattle.alias_query.specs.Asked.{made_setting}
-use Rattle.unit_system.specs.Of.{IsProgramOf, IsSystemOf}
-use Rattle.unit_answers.specs.Answered.{setting_of}
-use Rattle.twin_programs.specs.One.{AreAllRooted, AreOne}
-use Rattle.twin_programs.proofs.Whole.{twin_programs}
-use Rattle.text_faults.proofs.Texts.{right_twins}
-use Rattle.twin_scripts.specs.Scripts.{SameScripts, read_with}
-use Rattle.twin_scripts.proofs.Whole.{twin_scripts}
+use Rattle.unit_report.specs.unit_system.Of.{IsProgramOf, IsSystemOf}
+use Rattle.unit_report.specs.unit_answers.Answered.{setting_of}
+use Rattle.outcome_laws.specs.twin_programs.One.{AreAllRooted, AreOne}
+use Rattle.outcome_laws.proofs.twin_programs.Whole.{twin_programs}
+use Rattle.outcome_laws.proofs.text_faults.Texts.{right_twins}
+use Rattle.outcome_laws.specs.twin_scripts.Scripts.{SameScripts, read_with}
+use Rattle.outcome_laws.proofs.twin_scripts.Whole.{twin_scripts}
 use Rattle.report_cli.specs.Answers.{NamedText}
 use Rattle.report_cli.specs.Lowered.{AreRightTexts}
 use Rattle.report_cli.specs.Outcome.{Denotes}

@@ -4,13 +4,14 @@ use Rattle.std.specs.Prelude.{decimal}
 use Rattle.core_tree.specs.declared.node.Program.{Program}
 use Rattle.sol_model.specs.declared.system.System.{System}
 use Rattle.obj_space.specs.declared.location.Location.{Location}
-use Rattle.unit_system.specs.Of.{IsSystemOf}
+use Rattle.unit_report.specs.unit_system.Of.{IsSystemOf}
 use Rattle.alias_query.specs.Script.{lines_of}
 use Rattle.report_cli.specs.Answers.{NamedText, Answer, refusal}
 use Rattle.report_cli.specs.Told.{Told}
-use Rattle.report_cli.specs.Printed.{IsReport, AreAnswersTo, IsPrinted, IsRefusedScript}
+use Rattle.report_cli.specs.Printed.{AreAnswersTo, IsPrinted, IsRefusedScript}
 use Rattle.report_cli.specs.Outcome.{Denotes, IsScriptRefusal, Refuses, RefusesScript, RefusesTold, OutcomeOf, Outcome}
 use Rattle.report_cli.specs.Accepted.{IsTakenScript, TakesScript, AreAccepted}
+use Rattle.report_cli.proofs.Linked.{formed}
 use Rattle.report_cli.proofs.Together.{one_outcome}
 use Rattle.script_laws.specs.Scripted.{OneScript, SameFate, OneFate}
 use Rattle.script_laws.proofs.Settings.{same_scripts, within}
@@ -76,10 +77,10 @@ HasSystem : Program → System → Option NamedText → Type 0
 HasSystem p system None = (space : List Location) × IsSystemOf p space system
 HasSystem p system (Some script) = (space : List Location) × IsSystemOf p space system × IsTakenScript p space system script
 
-printed_system : (p : Program) (system : System) (script : Option NamedText) (out : List ℕ) → IsPrinted script p system out → HasSystem p system script
-unfolding HasSystem IsReport AreAnswersTo
-printed_system p system None out h = (h.0, h.1)
-printed_system p system (Some script) out h = (h.1.0, h.1.1, record { short = h.0; questions = h.1.2.questions; asked = h.1.2.asked })
+printed_system : (told : Told) (p : Program) (system : System) (script : Option NamedText) (out : List ℕ) → IsPrinted told.form script p system out → HasSystem p system script
+unfolding HasSystem AreAnswersTo
+printed_system told p system None out h = formed told.form p system out h
+printed_system told p system (Some script) out h = (h.1.0, h.1.1, record { short = h.0; questions = h.1.2.questions; asked = h.1.2.asked })
 
 system_or_refused : (texts : List NamedText) (p : Program) (system : System) (script : Option NamedText) (answer : Answer) → Denotes texts p → HasSystem p system script
     → Refuses texts answer ⊎ RefusesScript texts script answer → ⊥
@@ -89,8 +90,8 @@ system_or_refused texts p system None answer h has (inr k) = k
 system_or_refused texts p system (Some script) answer h has (inl k) = units_or_system texts p has.0 system answer h has.1 k
 system_or_refused texts p system (Some script) answer h has (inr k) = apart_so texts p has.0 system script answer h has.1 has.2 k
 
-printed : (told : Told) (p : Program) (system : System) (out : List ℕ) (answer : Answer) → Denotes told.units p → IsPrinted told.script p system out → RefusesTold told answer → ⊥
-printed told p system out answer h print k = system_or_refused told.units p system told.script answer h (printed_system p system told.script out print) k
+printed : (told : Told) (p : Program) (system : System) (out : List ℕ) (answer : Answer) → Denotes told.units p → IsPrinted told.form told.script p system out → RefusesTold told answer → ⊥
+printed told p system out answer h print k = system_or_refused told.units p system told.script answer h (printed_system told p system told.script out print) k
 
 accepted : (told : Told) (p : Program) (space : List Location) (system : System) → Denotes told.units p → IsSystemOf p space system → TakesScript p told.script → AreAccepted told
 accepted told p space system h of takes = record {

@@ -2,11 +2,15 @@
 use Rattle.std.specs.Prelude.{ℕ, suc, ◌+◌, ◌-◌, List, [], ◌∷◌, ◌++◌, length}
 use Rattle.c_lexer.specs.declared.Token.{Token}
 use Rattle.c_lexer.specs.declared.TokenKind.{TokenKind}
-use Rattle.c_lexer.specs.declared.TokenKind.TheVariants.{Identifier, Keyword, Punctuator, Integer, Character, Text, End}
+use Rattle.c_lexer.specs.declared.TokenKind.TheVariants.{Identifier, Keyword, Punctuator, Integer, Character, Text}
+use Rattle.c_lexer.specs.declared.TokenKind.TheVariants.{End}
 use Rattle.c_grammar.specs.declared.trees.SyntaxNode.{SyntaxNode}
 use Rattle.c_grammar.specs.Reads as reads
-use Rattle.c_grammar.specs.Productions.{p_specs, p_type, p_struct, p_declarator, p_either, p_suffix, p_parameter, p_rest, p_statement, p_expression, p_primary}
-use Rattle.c_grammar.specs.Words.{word_void, word_return, sign_semicolon, sign_comma, sign_left_parenthesis, sign_right_parenthesis, sign_left_bracket, sign_right_bracket, sign_left_brace, sign_right_brace, sign_star, sign_assign}
+use Rattle.c_grammar.specs.Productions.{p_specs, p_type, p_struct, p_declarator, p_either, p_suffix, p_parameter}
+use Rattle.c_grammar.specs.Productions.{p_rest, p_statement, p_expression, p_primary}
+use Rattle.c_grammar.specs.Words.{word_void, word_return, sign_semicolon, sign_comma, sign_left_parenthesis}
+use Rattle.c_grammar.specs.Words.{sign_right_parenthesis, sign_left_bracket, sign_right_bracket, sign_left_brace}
+use Rattle.c_grammar.specs.Words.{sign_right_brace, sign_star, sign_assign}
 use Rattle.c_mentions.specs.Syntax.{nodes_of}
 use Rattle.c_scope.specs.Resolves.{bindings}
 use Rattle.c_senses.specs.Tree.{Source}
@@ -23,7 +27,8 @@ mutual
     ◌▸◌ : (first : Branch) (rest : Branches) → Branches
 
 infixr 5 ◌▸◌
--- tokens: an identifier, a keyword and a punctuator by their numbers, a number, a character constant, a string literal
+-- tokens: an identifier, a keyword and a punctuator by their numbers, a number, a character constant, a string
+-- literal
 abbrev pub name : List ℕ → Branch
 name spelling = Leaf Identifier spelling
 
@@ -91,7 +96,8 @@ abbrev pub parameter_name : List ℕ → Branch
 parameter_name spelling = Node p_either (name spelling ▸ Done)
 
 abbrev pub void_list : Branch
-void_list = Node p_suffix (opening ▸ (Node p_parameter (of_word word_void ▸ (Node p_either Done) ▸ Done)) ▸ closing ▸ Done)
+void_list =
+    Node p_suffix (opening ▸ (Node p_parameter (of_word word_void ▸ (Node p_either Done) ▸ Done)) ▸ closing ▸ Done)
 
 abbrev pub ending : Branch
 ending = Node p_rest (semicolon ▸ Done)
@@ -120,13 +126,26 @@ nothing_written = record { bytes = []; tokens = []; nodes = [] }
 
 -- every token stands on line 1, in the column that is its number from 1 on
 abbrev pub token_after : Written → TokenKind → List ℕ → Token
-token_after w kind spelling = record { kind = kind; start = length w.bytes; end = length w.bytes + length spelling; line = 1; column = suc (length w.tokens) }
+token_after w kind spelling =
+    record {
+      kind = kind;
+      start = length w.bytes;
+      end = length w.bytes
+          + length spelling;
+      line = 1;
+      column = suc (length w.tokens);
+    }
 
 abbrev pub with_node : ℕ → ℕ → List ℕ → Written → Written
-with_node production first children w = record w { nodes = w.nodes ++ (record { production = production; token = first; children = record { items = children } }) ∷ [] }
+with_node production first children w =
+    record w {
+      nodes = w.nodes
+          ++ (record { production = production; token = first; children = record { items = children } }) ∷ [];
+    }
 
 abbrev pub with_token : TokenKind → List ℕ → Written → Written
-with_token kind spelling w = record w { bytes = w.bytes ++ spelling; tokens = w.tokens ++ token_after w kind spelling ∷ [] }
+with_token kind spelling w =
+    record w { bytes = w.bytes ++ spelling; tokens = w.tokens ++ token_after w kind spelling ∷ [] }
 
 -- children's numbers, and what is written with them
 pub record Parts : Type 0 where
@@ -136,11 +155,13 @@ pub record Parts : Type 0 where
 abbrev mutual
   pub written : Branch → Written → Written
   written (Leaf kind spelling) w = with_node reads.leaf (length w.tokens) [] (with_token kind spelling w)
-  written (Node production parts) w = let all = written_all parts [] w in with_node production (length w.tokens) all.children all.written
+  written (Node production parts) w =
+      let all = written_all parts [] w in with_node production (length w.tokens) all.children all.written
 
   pub written_all : Branches → List ℕ → Written → Parts
   written_all Done children w = record { children = children; written = w }
-  written_all (b ▸ rest) children w = let more = written b w in written_all rest (children ++ (length more.nodes - 1) ∷ []) more
+  written_all (b ▸ rest) children w =
+      let more = written b w in written_all rest (children ++ (length more.nodes - 1) ∷ []) more
 
 abbrev pub source_from : Written → Source
 source_from w = record {

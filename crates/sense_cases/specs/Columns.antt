@@ -1,7 +1,8 @@
 -- Entities and tags by the columns of the names that declare them.
 use Rattle.std.specs.Prelude.{ℕ, map}
 use Rattle.pta_base.specs.declared.place.Place.{Place}
-use Rattle.c_types.specs.Trees.{Ctype, Ctypes, NoTypes, MoreTypes, VoidType, BoolType, IntegerType, FloatingType, VaListType, PointerTo, ArrayOf, FunctionFrom, StructureOf, UnionOf}
+use Rattle.c_types.specs.Trees.{Ctype, Ctypes, NoTypes, MoreTypes, VoidType, BoolType, IntegerType, FloatingType}
+use Rattle.c_types.specs.Trees.{VaListType, PointerTo, ArrayOf, FunctionFrom, StructureOf, UnionOf}
 use Rattle.core_tree.specs.declared.node.NodeKind.{NodeKind}
 use Rattle.core_tree.specs.declared.node.NodeKind.TheVariants.{Named, Literal, FunctionName, Initialise, Block, For}
 use Rattle.c_consts.specs.Core.{Core, Cores, Of, NoCores, MoreCores}

@@ -1,5 +1,6 @@
 -- Conversions that the rows refuse: the kind and the column, written by hand from C11 and the rules of places.
-use Rattle.pta_base.specs.declared.kind.Kind.TheVariants.{CharacterCast, IntegerSizeCast, NumberToPointer, Operand, StructureCast}
+use Rattle.pta_base.specs.declared.kind.Kind.TheVariants.{CharacterCast, IntegerSizeCast, NumberToPointer, Operand}
+use Rattle.pta_base.specs.declared.kind.Kind.TheVariants.{StructureCast}
 use Rattle.sense_cases.specs.Cores.{IsRefused}
 use Rattle.sense_cases.specs.ConversionRefusalTexts as text
 

@@ -2,14 +2,19 @@
 use Rattle.std.specs.Prelude.{◌≡◌, ℕ, pos, false, true, List, [], ◌∷◌, Bool, Some}
 use Rattle.pta_base.specs.declared.kind.Kind.{Kind}
 use Rattle.c_types.specs.declared.term.Form.TheVariants.{Fixed, Variadic, Unspecified}
-use Rattle.c_types.specs.Trees.{Ctype, NoTypes, MoreTypes, VoidType, IntegerType, PointerTo, ArrayOf, FunctionFrom, StructureOf}
+use Rattle.c_types.specs.Trees.{Ctype, NoTypes, MoreTypes, VoidType, IntegerType, PointerTo, ArrayOf, FunctionFrom}
+use Rattle.c_types.specs.Trees.{StructureOf}
 use Rattle.core_tree.specs.declared.node.Op.{Op}
-use Rattle.core_tree.specs.declared.node.NodeKind.TheVariants.{Named, FunctionName, Text, Deref, Member, Number, NullValue, Fetch, AddressOf, Decay, PointerAdd, Convert, Upcast, Assign, Update, Choose, Arith, CallNode, Expression, Block, Return, Initialise}
+use Rattle.core_tree.specs.declared.node.NodeKind.TheVariants.{Named, FunctionName, Text, Deref, Member, Number}
+use Rattle.core_tree.specs.declared.node.NodeKind.TheVariants.{NullValue, Fetch, AddressOf, Decay, PointerAdd}
+use Rattle.core_tree.specs.declared.node.NodeKind.TheVariants.{Convert, Upcast, Assign, Update, Choose, Arith}
+use Rattle.core_tree.specs.declared.node.NodeKind.TheVariants.{CallNode, Expression, Block, Return, Initialise}
 use Rattle.core_tree.specs.declared.node.NodeKind.{NodeKind}
 use Rattle.c_inits.specs.Shapes.{Path}
 use Rattle.core_tree.specs.Rows.{int, character}
 use Rattle.c_grammar.specs.Productions.{p_init, p_primary, p_block}
-use Rattle.c_consts.specs.Core.{Core, Cores, Of, NoCores, MoreCores, place_of, ctype_of, leaf, over, over_two, over_three}
+use Rattle.c_consts.specs.Core.{Core, Cores, Of, NoCores, MoreCores, place_of, ctype_of, leaf, over, over_two}
+use Rattle.c_consts.specs.Core.{over_three}
 use Rattle.c_senses.specs.Sense.{IsCore}
 use Rattle.sense_cases.specs.Branches.{Branch}
 use Rattle.sense_cases.specs.Columns.{at}

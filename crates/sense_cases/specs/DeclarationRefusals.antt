@@ -1,5 +1,6 @@
 -- Declarations that the rows refuse: the kind and the column, written by hand from C11 and the rules of places.
-use Rattle.pta_base.specs.declared.kind.Kind.TheVariants.{Constant, ConstantRange, DivideByZero, InlineDefinition, Operand, VariadicDefinition, Vla}
+use Rattle.pta_base.specs.declared.kind.Kind.TheVariants.{Constant, ConstantRange, DivideByZero, InlineDefinition}
+use Rattle.pta_base.specs.declared.kind.Kind.TheVariants.{Operand, VariadicDefinition, Vla}
 use Rattle.sense_cases.specs.Cores.{IsRefused}
 use Rattle.sense_cases.specs.DeclarationRefusalTexts as text
 

@@ -5,7 +5,8 @@ use Rattle.c_types.specs.Trees.{Ctype}
 use Rattle.core_tree.specs.declared.node.Linkage.{Linkage}
 use Rattle.core_tree.specs.declared.node.Linkage.TheVariants.{External, Internal, Local}
 use Rattle.core_tree.specs.declared.node.Storage.{Storage}
-use Rattle.core_tree.specs.declared.node.Storage.TheVariants.{Static, Automatic, FunctionBody, Parameter, Declared as DeclaredStorage}
+use Rattle.core_tree.specs.declared.node.Storage.TheVariants.{Static, Automatic, FunctionBody, Parameter}
+use Rattle.core_tree.specs.declared.node.Storage.TheVariants.{Declared as DeclaredStorage}
 use Rattle.c_consts.specs.Core.{Core}
 use Rattle.c_inits.specs.Made.{Part, TagParts}
 use Rattle.c_senses.specs.Tree.{Source, all_nodes}
@@ -19,8 +20,8 @@ use Rattle.sense_cases.specs.Columns.{column_of, type_by, core_by}
 use Rattle.sense_cases.specs.Cores.{initialised}
 use Rattle.sense_cases.specs.Run.{all_senses}
 
--- an entity by the column of the name by which it is known, with the column of its place, its type, linkage and storage, the function
--- in which it is declared, and its body
+-- an entity by the column of the name by which it is known, with the column of its place, its type, linkage and
+-- storage, the function in which it is declared, and its body
 pub record Told : Type 0 where
   pub known_at : ℕ
   pub placed_at : ℕ
@@ -75,7 +76,8 @@ tagged s senses i = record {
 
 abbrev pub all_tagged : Source → List Sense → List ℕ → List TaggedAs
 all_tagged s senses [] = []
-all_tagged s senses (i ∷ rest) = elim (is_tag s i) [ true ↦ tagged s senses i ∷ all_tagged s senses rest | false ↦ all_tagged s senses rest ]
+all_tagged s senses (i ∷ rest) =
+    elim (is_tag s i) [ true ↦ tagged s senses i ∷ all_tagged s senses rest | false ↦ all_tagged s senses rest ]
 
 abbrev pub unit_of : Source → Given (List Sense) → Contents
 unit_of s (Fits senses) = Declares (all_told s senses (all_nodes s)) (all_tagged s senses (all_nodes s))
@@ -98,25 +100,70 @@ completed_by number s = completed_in (numbered number s) (all_senses (numbered n
 abbrev pub HasTags : Branch → (ℕ → ℕ) → List TagParts → Type 0
 HasTags b number tags = completed_by number (source b) ≡ tags
 
--- an object at file scope, a function that is only declared, one that is defined, a local object of a function, its parameter, and an
--- internal object with the column of its place
+-- an object at file scope, a function that is only declared, one that is defined, a local object of a function, its
+-- parameter, and an internal object with the column of its place
 abbrev pub file_object : ℕ → Ctype → Option Core → Told
-file_object column t body = record { known_at = column; placed_at = column; type = t; linkage = External; storage = Static; owner = None; body = body }
+file_object column t body =
+    record {
+      known_at = column;
+      placed_at = column;
+      type = t;
+      linkage = External;
+      storage = Static;
+      owner = None;
+      body = body;
+    }
 
 abbrev pub only_declared : ℕ → Ctype → Told
-only_declared column t = record { known_at = column; placed_at = column; type = t; linkage = External; storage = DeclaredStorage; owner = None; body = None }
+only_declared column t =
+    record {
+      known_at = column;
+      placed_at = column;
+      type = t;
+      linkage = External;
+      storage = DeclaredStorage;
+      owner = None;
+      body = None;
+    }
 
 abbrev pub defined : ℕ → Ctype → Core → Told
-defined column t body = record { known_at = column; placed_at = column; type = t; linkage = External; storage = FunctionBody; owner = None; body = Some body }
+defined column t body =
+    record {
+      known_at = column;
+      placed_at = column;
+      type = t;
+      linkage = External;
+      storage = FunctionBody;
+      owner = None;
+      body = Some body;
+    }
 
 abbrev pub local : ℕ → ℕ → Ctype → Option Core → Told
-local function column t body = record { known_at = column; placed_at = column; type = t; linkage = Local; storage = Automatic; owner = Some function; body = body }
+local function column t body =
+    record {
+      known_at = column;
+      placed_at = column;
+      type = t;
+      linkage = Local;
+      storage = Automatic;
+      owner = Some function;
+      body = body;
+    }
 
 abbrev pub parameter : ℕ → ℕ → Ctype → Told
 parameter function column t = record (local function column t None) { storage = Parameter }
 
 abbrev pub internal : ℕ → ℕ → Ctype → Option Core → Told
-internal column place t body = record { known_at = column; placed_at = place; type = t; linkage = Internal; storage = Static; owner = None; body = body }
+internal column place t body =
+    record {
+      known_at = column;
+      placed_at = place;
+      type = t;
+      linkage = Internal;
+      storage = Static;
+      owner = None;
+      body = body;
+    }
 
 -- the body of an object that is initialised as a whole
 abbrev pub whole : List Core → ℕ → ℕ → Option Core

@@ -1,5 +1,6 @@
 -- Expressions that the rows refuse: the kind and the column, written by hand from C11 and the rules of places.
-use Rattle.pta_base.specs.declared.kind.Kind.TheVariants.{ArrayOfValue, Builtin, Constant, ConstantRange, FlexibleMember, Floating, Operand}
+use Rattle.pta_base.specs.declared.kind.Kind.TheVariants.{ArrayOfValue, Builtin, Constant, ConstantRange}
+use Rattle.pta_base.specs.declared.kind.Kind.TheVariants.{FlexibleMember, Floating, Operand}
 use Rattle.sense_cases.specs.Cores.{IsRefused}
 use Rattle.sense_cases.specs.ExpressionRefusalTexts as text
 

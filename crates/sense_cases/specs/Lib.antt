@@ -26,3 +26,4 @@ pub mod ConversionRefusals
 pub mod ExpressionRefusals
 pub mod DeclarationRefusals
 pub mod OtherRefusals
+pub mod right_cases

@@ -1,4 +1,5 @@
--- Words, linkages, initialisers and statements that the rows refuse: the kind and the column, written by hand from C11 and the rules of places.
+-- Words, linkages, initialisers and statements that the rows refuse: the kind and the column, written by hand from
+-- C11 and the rules of places.
 use Rattle.pta_base.specs.declared.kind.Kind.TheVariants.{Constant, Initialiser, InlineDefinition, Operand}
 use Rattle.sense_cases.specs.Cores.{IsRefused}
 use Rattle.sense_cases.specs.OtherRefusalTexts as text

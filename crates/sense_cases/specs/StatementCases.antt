@@ -2,16 +2,21 @@
 use Rattle.std.specs.Prelude.{pos, false, true, [], ◌∷◌, codes}
 use Rattle.c_types.specs.Trees.{VoidType, PointerTo}
 use Rattle.core_tree.specs.declared.node.Op.TheVariants.{Plus, Minus}
-use Rattle.core_tree.specs.declared.node.NodeKind.TheVariants.{If, While, DoWhile, For, Switch, Case, Default, Label, Goto, Break, Continue, Return, Skip}
+use Rattle.core_tree.specs.declared.node.NodeKind.TheVariants.{If, While, DoWhile, For, Switch, Case, Default}
+use Rattle.core_tree.specs.declared.node.NodeKind.TheVariants.{Label, Goto, Break, Continue, Return, Skip}
 use Rattle.core_tree.specs.Rows.{int, character}
-use Rattle.sense_cases.specs.Cores.{procedure, object, function, deref, read, decayed, number, changed, assigned, updated, called, expression, returned, block, initialised, statement, HasBody}
+use Rattle.sense_cases.specs.Cores.{procedure, object, function, deref, read, decayed, number, changed, assigned}
+use Rattle.sense_cases.specs.Cores.{updated, called, expression, returned, block, initialised, statement, HasBody}
 use Rattle.sense_cases.specs.StatementTexts as text
 
 -- 6.8.4.2, 6.8.1: the value is promoted, and cases have its type
 abbrev pub Switched : Type 0
 Switched = HasBody text.switched (block [] 7 (
     statement Switch 8 (changed int (read (object 5 10 character))
-    ∷ block [] 12 (statement (Case (pos 1)) 13 (returned 16 (number 2 17 int) ∷ []) ∷ statement Default 19 (statement Break 21 [] ∷ []) ∷ []) ∷ [])
+    ∷ block [] 12
+    (statement (Case (pos 1)) 13 (returned 16 (number 2 17 int) ∷ [])
+    ∷ statement Default 19 (statement Break 21 [] ∷ []) ∷ [])
+    ∷ [])
     ∷ returned 24 (number 0 25 int)
     ∷ []))
 
@@ -22,7 +27,10 @@ NestedSwitches = HasBody text.nested_switches (block [] 7 (
     ∷ block [] 12 (
     statement (Case (pos 1)) 13 (
     statement Switch 16 (read (object 5 18 int)
-    ∷ block [] 20 (statement (Case (pos 1)) 21 (statement Skip 24 [] ∷ []) ∷ statement Default 25 (statement Skip 27 [] ∷ []) ∷ []) ∷ []) ∷ [])
+    ∷ block [] 20
+    (statement (Case (pos 1)) 21 (statement Skip 24 [] ∷ [])
+    ∷ statement Default 25 (statement Skip 27 [] ∷ []) ∷ [])
+    ∷ []) ∷ [])
     ∷ statement Default 29 (statement Skip 31 [] ∷ [])
     ∷ [])
     ∷ [])
@@ -31,39 +39,56 @@ NestedSwitches = HasBody text.nested_switches (block [] 7 (
 abbrev pub DeclaredInSwitch : Type 0
 DeclaredInSwitch = HasBody text.declared_in_switch (block [] 7 (
     statement Switch 8 (read (object 5 10 int)
-    ∷ block (14 ∷ []) 12 (statement (Case (pos 1)) 16 (expression 20 (assigned 20 (object 14 19 int) (number 2 21 int)) ∷ []) ∷ []) ∷ [])
+    ∷ block (14 ∷ []) 12
+    (statement (Case (pos 1)) 16 (expression 20 (assigned 20 (object 14 19 int) (number 2 21 int)) ∷ [])
+    ∷ [])
+    ∷ [])
     ∷ []))
 
 -- 6.8.5: of a do the statement comes first, and a for may lack its parts
 abbrev pub Loops : Type 0
 Loops = HasBody text.loops (block [] 7 (
-    statement While 8 (read (object 5 10 int) ∷ expression 13 (updated Minus true 13 (object 5 12 int) (number 1 13 int)) ∷ [])
-    ∷ statement DoWhile 15 (expression 17 (updated Plus true 17 (object 5 16 int) (number 1 17 int)) ∷ read (object 5 21 int) ∷ [])
+    statement While 8
+    (read (object 5 10 int) ∷ expression 13 (updated Minus true 13 (object 5 12 int) (number 1 13 int))
+    ∷ [])
+    ∷ statement DoWhile 15
+    (expression 17 (updated Plus true 17 (object 5 16 int) (number 1 17 int)) ∷ read (object 5 21 int) ∷ [])
     ∷ statement (For [] false false) 24 (statement Continue 29 [] ∷ [])
     ∷ []))
 
 abbrev pub DeclarationInLoop : Type 0
 DeclarationInLoop = HasBody text.declaration_in_loop (block [] 7 (
     statement While 8 (read (object 5 10 int)
-    ∷ block (14 ∷ []) 12 (initialised 14 16 ([] ∷ []) (read (object 5 16 int) ∷ []) ∷ expression 19 (assigned 19 (object 5 18 int) (read (object 14 20 int))) ∷ []) ∷ [])
+    ∷ block (14 ∷ []) 12
+    (initialised 14 16 ([] ∷ []) (read (object 5 16 int) ∷ [])
+    ∷ expression 19 (assigned 19 (object 5 18 int) (read (object 14 20 int))) ∷ [])
+    ∷ [])
     ∷ []))
 
 -- 6.8.4.1
 abbrev pub Branches : Type 0
 Branches = HasBody text.branches (block [] 8 (
-    statement If 9 (read (object 6 11 (PointerTo int)) ∷ expression 15 (assigned 15 (deref 13 int (read (object 6 14 (PointerTo int)))) (number 1 16 int)) ∷ statement Skip 19 [] ∷ [])
+    statement If 9
+    (read (object 6 11 (PointerTo int))
+    ∷ expression 15 (assigned 15 (deref 13 int (read (object 6 14 (PointerTo int)))) (number 1 16 int))
+    ∷ statement Skip 19 [] ∷ [])
     ∷ []))
 
 abbrev pub ElseIf : Type 0
 ElseIf = HasBody text.else_if (block [] 7 (
     statement If 8 (read (object 5 10 int)
     ∷ statement Skip 12 []
-    ∷ statement If 14 (read (object 5 16 int) ∷ expression 19 (assigned 19 (object 5 18 int) (number 1 20 int)) ∷ statement Skip 23 [] ∷ []) ∷ [])
+    ∷ statement If 14
+    (read (object 5 16 int) ∷ expression 19 (assigned 19 (object 5 18 int) (number 1 20 int))
+    ∷ statement Skip 23 [] ∷ [])
+    ∷ [])
     ∷ []))
 
 -- 6.8.1, 6.8.6.1
 abbrev pub Jumps : Type 0
-Jumps = HasBody text.jumps (block [] 6 (statement (Label (codes "again")) 7 (statement (Goto (codes "again")) 9 [] ∷ []) ∷ []))
+Jumps =
+    HasBody text.jumps
+    (block [] 6 (statement (Label (codes "again")) 7 (statement (Goto (codes "again")) 9 [] ∷ []) ∷ []))
 
 -- 6.8.2, 6.7.9: a block lists its automatic objects, and their initialisers run where they stand
 abbrev pub RunDeclarations : Type 0

@@ -4,3 +4,4 @@
 pub mod cases;
 pub mod laws;
 pub mod refusals;
+pub mod right_cases;

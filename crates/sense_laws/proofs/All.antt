@@ -5,11 +5,11 @@ use Rattle.c_types.specs.declared.term.PathStep.{PathStep}
 use Rattle.c_types.specs.declared.term.PathStep.TheVariants.{Index, Member as MemberStep}
 use Rattle.c_types.specs.Paths.{with_length as sized_type}
 use Rattle.c_types.specs.Trees.{Ctype, VoidType, ArrayOf, StructureOf, UnionOf}
-use Rattle.c_inits.specs.Made.{Part, shape_for}
-use Rattle.c_inits.specs.Initial.{Placed, Outcome, Places, NoPlace, lasting}
-use Rattle.c_inits.specs.View as view
+use Rattle.c_senses.specs.passed.c_inits.Made.{Part, shape_for}
+use Rattle.c_senses.specs.passed.c_inits.Initial.{Placed, Outcome, Places, NoPlace, lasting}
+use Rattle.c_senses.specs.passed.c_inits.View as view
 use Rattle.c_grammar.specs.declared.trees.SyntaxNode.{SyntaxNode}
-use Rattle.c_consts.specs.Core.{Core}
+use Rattle.c_senses.specs.passed.c_consts.Core.{Core}
 use Rattle.std.specs.Prelude.{⊤, nat_lt, option_and_then}
 use Rattle.std.proofs.lemmas.Bool.Decides.{eqb_tells}
 use Rattle.pta_base.specs.declared.kind.Kind.TheVariants.{Operand}

@@ -6,17 +6,17 @@ use Rattle.pta_base.specs.declared.kind.Kind.{Kind}
 use Rattle.pta_base.specs.declared.kind.Kind.TheVariants.{Operand, StructureCast, IntegerSizeCast}
 use Rattle.c_types.specs.declared.term.Form.{Form}
 use Rattle.c_types.specs.Trees.{Ctype, VoidType, BoolType, IntegerType, FloatingType, VaListType, PointerTo, ArrayOf, FunctionFrom, StructureOf, UnionOf}
-use Rattle.core_tree.specs.declared.node.NodeKind.TheVariants.{Upcast, Fetch}
-use Rattle.core_tree.specs.Typed.{Sort, NoNode, PlaceNode, ValueNode, StatementNode, IsInteger, IsStored, IsPromoted, decayed}
-use Rattle.core_tree.specs.Rows.{Converts, int}
-use Rattle.c_consts.specs.Core.{Core, Of, place_of, ctype_of, core_sort, over}
-use Rattle.c_inits.specs.Made.{Part}
+use Rattle.c_conversions.specs.passed.core_tree.declared.node.NodeKind.TheVariants.{Upcast, Fetch}
+use Rattle.c_conversions.specs.passed.core_tree.Typed.{Sort, NoNode, PlaceNode, ValueNode, StatementNode, IsInteger, IsStored, IsPromoted, decayed}
+use Rattle.c_conversions.specs.passed.core_tree.Rows.{Converts, int}
+use Rattle.c_senses.specs.passed.c_consts.Core.{Core, Of, place_of, ctype_of, core_sort, over}
+use Rattle.c_senses.specs.passed.c_inits.Made.{Part}
 use Rattle.c_senses.specs.Given.{Given, Fits}
 use Rattle.c_senses.specs.World.{World, same_type}
 use Rattle.c_senses.specs.Nulls.{is_null}
 use Rattle.c_senses.specs.Objects.{part_at}
 use Rattle.c_senses.specs.Conversions.{OperandSort, Whole, Address, Aggregate, Other, operand_of, is_fetched, fetched_or_decayed, value_of_sort, value_of, converted, made, is_narrow, read_width, promoted, promotion, higher, common, first_member_type, upcast_within, upcast, upcast_or, from_structure, character_kind, pointers, target_of, to_pointer, to_whole, to_other, conversion, null_value, typed}
-use Rattle.core_nodes.proofs.SameTypes.{type_sound}
+use Rattle.c_conversions.proofs.passed.core_nodes.SameTypes.{type_sound}
 use Rattle.sense_laws.specs.Sound.{Sound, SoundValue, SoundOf, IsProper, IsPartOf, IsFirstPart, Gives, ProperWorld}
 use Rattle.sense_laws.proofs.Giving.{if_given, if_holds, differs}
 

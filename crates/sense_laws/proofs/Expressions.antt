@@ -6,12 +6,12 @@ use Rattle.pta_base.specs.declared.place.Place.{Place}
 use Rattle.c_lexer.specs.declared.TokenKind.{TokenKind}
 use Rattle.c_lexer.specs.declared.TokenKind.TheVariants.{Identifier, Keyword, Punctuator, Integer, Character, Text}
 use Rattle.c_types.specs.Trees.{Ctype}
-use Rattle.core_tree.specs.declared.node.Op.{Op}
-use Rattle.core_tree.specs.declared.node.Op.TheVariants.{Multiply, Divide, Remainder, Plus, Minus, ShiftLeft, ShiftRight, And, Xor, Or, Complement}
-use Rattle.core_tree.specs.Rows.{IsUpdate}
+use Rattle.c_conversions.specs.passed.core_tree.declared.node.Op.{Op}
+use Rattle.c_conversions.specs.passed.core_tree.declared.node.Op.TheVariants.{Multiply, Divide, Remainder, Plus, Minus, ShiftLeft, ShiftRight, And, Xor, Or, Complement}
+use Rattle.c_conversions.specs.passed.core_tree.Rows.{IsUpdate}
 use Rattle.c_grammar.specs.Productions.{p_type_name, p_conditional, p_assignment, p_cast, p_unary, p_post, p_primary}
 use Rattle.c_grammar.specs.Words.{word_sizeof, word_alignof, sign_left_bracket, sign_left_parenthesis, sign_dot, sign_arrow, sign_increment, sign_decrement, sign_ampersand, sign_star, sign_plus, sign_minus, sign_tilde, sign_assign, sign_multiply_assign, sign_divide_assign, sign_remainder_assign, sign_add_assign, sign_subtract_assign, sign_shift_left_assign, sign_shift_right_assign, sign_and_assign, sign_xor_assign, sign_or_assign}
-use Rattle.c_consts.specs.Core.{Core, ctype_of, core_sort}
+use Rattle.c_senses.specs.passed.c_consts.Core.{Core, ctype_of, core_sort}
 use Rattle.c_senses.specs.Tree.{Source, is_a, is_leaf, place_at, spelling_at, kind_at, sign_at, last_where, all_where, left_of}
 use Rattle.c_senses.specs.Given.{Given, Fits, Refuses, ◌>>=◌}
 use Rattle.c_senses.specs.World.{World, Meaning}

@@ -3,8 +3,8 @@ use Rattle.std.proofs.Common.{arith, T, ◌≡◌, ◌≤◌, ℕ, Bool, true, f
 use Rattle.std.specs.Prelude.{⊤, ℤ, pos, negsuc, neg_ℤ, ◌+ℤ◌, nat_le, nat_lt, int_le, ◌&&◌, option_map, option_and_then, if◌then◌else◌}
 use Rattle.c_types.specs.declared.term.Form.TheVariants.{Fixed, Variadic, Unspecified}
 use Rattle.c_types.specs.Trees.{Ctype, ArrayOf, FunctionFrom}
-use Rattle.core_tree.specs.Rows.{int}
-use Rattle.core_tree.specs.Typed.{Holds}
+use Rattle.c_conversions.specs.passed.core_tree.Rows.{int}
+use Rattle.c_conversions.specs.passed.core_tree.Typed.{Holds}
 use Rattle.c_grammar.specs.Productions.{p_enumerator, p_conditional}
 use Rattle.c_senses.specs.PassedOn.{Declared as Declaration}
 use Rattle.c_senses.specs.Tree.{Source, is_a, child_of, parent_of, paired}

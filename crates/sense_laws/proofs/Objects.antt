@@ -12,15 +12,15 @@ use Rattle.c_types.specs.declared.term.Form.TheVariants.{Fixed, Variadic, Unspec
 use Rattle.c_types.specs.Trees.{Ctype, Ctypes, NoTypes, MoreTypes, VoidType, BoolType, IntegerType, PointerTo, ArrayOf, FunctionFrom, StructureOf, UnionOf}
 use Rattle.c_types.specs.Layout.{Extent}
 use Rattle.c_types.specs.Table.{size_below}
-use Rattle.core_tree.specs.declared.node.Op.{Op}
-use Rattle.core_tree.specs.declared.node.Op.TheVariants.{Plus, Minus}
-use Rattle.core_tree.specs.declared.node.NodeKind.{NodeKind}
-use Rattle.core_tree.specs.declared.node.NodeKind.TheVariants.{Named, Deref, AddressOf, Assign, CallNode}
-use Rattle.core_tree.specs.Typed.{Sort, NoNode, PlaceNode, ValueNode, StatementNode, sort_of, IsInteger, IsStored, IsPromoted, IsPointer, IsPassed, LacksLength, Holds}
+use Rattle.c_conversions.specs.passed.core_tree.declared.node.Op.{Op}
+use Rattle.c_conversions.specs.passed.core_tree.declared.node.Op.TheVariants.{Plus, Minus}
+use Rattle.c_conversions.specs.passed.core_tree.declared.node.NodeKind.{NodeKind}
+use Rattle.c_conversions.specs.passed.core_tree.declared.node.NodeKind.TheVariants.{Named, Deref, AddressOf, Assign, CallNode}
+use Rattle.c_conversions.specs.passed.core_tree.Typed.{Sort, NoNode, PlaceNode, ValueNode, StatementNode, sort_of, IsInteger, IsStored, IsPromoted, IsPointer, IsPassed, LacksLength, Holds}
 use Rattle.c_senses.specs.Literals.{unsigned_long}
-use Rattle.core_tree.specs.Rows.{IsUpdate, IsMove, IsArray}
-use Rattle.c_consts.specs.Core.{Core, Cores, Of, MoreCores, ctype_of, core_sort, leaf, over, over_two}
-use Rattle.c_inits.specs.Made.{Part}
+use Rattle.c_conversions.specs.passed.core_tree.Rows.{IsUpdate, IsMove, IsArray}
+use Rattle.c_senses.specs.passed.c_consts.Core.{Core, Cores, Of, MoreCores, ctype_of, core_sort, leaf, over, over_two}
+use Rattle.c_senses.specs.passed.c_inits.Made.{Part}
 use Rattle.c_senses.specs.Given.{Given, Fits, Refuses, ◌>>=◌, given_if}
 use Rattle.c_senses.specs.World.{World, Meaning, Object, Function, TypeName, Tag, Value, extent, members_of, way_to}
 use Rattle.c_senses.specs.Conversions.{OperandSort, Whole, Address, Aggregate, Other, operand_of, value_of, promotion, conversion, place_width}

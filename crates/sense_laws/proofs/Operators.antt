@@ -8,18 +8,18 @@ use Rattle.pta_base.specs.declared.place.Place.{Place}
 use Rattle.c_types.specs.Trees.{Ctype, VoidType, BoolType, IntegerType, PointerTo, FunctionFrom}
 use Rattle.c_types.specs.Layout.{Extent}
 use Rattle.c_types.specs.Table.{size_below}
-use Rattle.core_tree.specs.declared.node.Op.{Op}
-use Rattle.core_tree.specs.declared.node.Op.TheVariants.{Multiply, Divide, Remainder, Plus, Minus, ShiftLeft, ShiftRight, Less, Greater, LessEqual, GreaterEqual, Equal, NotEqual, And, Xor, Or, Not}
-use Rattle.core_tree.specs.declared.node.NodeKind.TheVariants.{PointerAdd, Choose, Arith}
-use Rattle.core_tree.specs.Typed.{IsInteger, IsScalar, IsPromoted, IsPointer}
-use Rattle.core_tree.specs.Rows.{int, long, Binary, Unary, Compares, Computes, Shifts, Converts}
-use Rattle.c_consts.specs.Core.{Core, ctype_of, over, over_two, over_three}
+use Rattle.c_conversions.specs.passed.core_tree.declared.node.Op.{Op}
+use Rattle.c_conversions.specs.passed.core_tree.declared.node.Op.TheVariants.{Multiply, Divide, Remainder, Plus, Minus, ShiftLeft, ShiftRight, Less, Greater, LessEqual, GreaterEqual, Equal, NotEqual, And, Xor, Or, Not}
+use Rattle.c_conversions.specs.passed.core_tree.declared.node.NodeKind.TheVariants.{PointerAdd, Choose, Arith}
+use Rattle.c_conversions.specs.passed.core_tree.Typed.{IsInteger, IsScalar, IsPromoted, IsPointer}
+use Rattle.c_conversions.specs.passed.core_tree.Rows.{int, long, Binary, Unary, Compares, Computes, Shifts, Converts}
+use Rattle.c_senses.specs.passed.c_consts.Core.{Core, ctype_of, over, over_two, over_three}
 use Rattle.c_senses.specs.Given.{Fits, Refuses, ◌>>=◌}
 use Rattle.c_senses.specs.World.{World, extent, has_size, same_type}
 use Rattle.c_senses.specs.Nulls.{is_null}
 use Rattle.c_senses.specs.Conversions.{OperandSort, Whole, Address, operand_of, is_scalar, promotion, converted, null_value}
 use Rattle.c_senses.specs.Operators.{common_of, in_common, arithmetic, comparison, numeric_row, shifted, shift_row, moved, plus_row, difference, minus_row, compared, order_row, is_void, is_object, Both, joined, pointers_joined, equality_row, number_core, truth, both_core, either_core, both_row, either_row, sequence, Between, Numeric, Shifting, Adding, Subtracting, Ordering, Equating, BothTrue, EitherTrue, Following, NoOperator, between, other_operator, operator, promoted_row, not_row, chosen, branches, choice_row}
-use Rattle.core_nodes.proofs.SameTypes.{type_sound}
+use Rattle.c_conversions.proofs.passed.core_nodes.SameTypes.{type_sound}
 use Rattle.sense_laws.specs.Sound.{SoundValue, SoundOf, IsProper, PointsToSized, Gives}
 use Rattle.sense_laws.proofs.Giving.{then_gives, gives_weaker, if_given, if_holds, and_left, and_right, differs}
 use Rattle.sense_laws.proofs.Conversions.{proper_of, whole_integer, address_pointer, converted_sound, made_sound, promotion_promoted, promotion_value, common_promoted, common_proper, promoted_integer, pointer_to_void}

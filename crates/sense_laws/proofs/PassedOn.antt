@@ -1,2 +1,2 @@
 -- What this crate passes on, from those below it to those above it.
-pub use Rattle.core_nodes.proofs.Reading.{core_is}
+pub use Rattle.c_conversions.proofs.passed.core_nodes.Reading.{core_is}

@@ -1,2 +1,2 @@
 -- What this crate passes on, from those below it to those above it.
-pub use Rattle.core_nodes.specs.Standing.{IsReady, core_at, cores_at}
+pub use Rattle.c_conversions.specs.passed.core_nodes.Standing.{IsReady, core_at, cores_at}

@@ -1,22 +1,26 @@
 -- Senses whose core trees are sound and whose types are proper.
-use Rattle.std.specs.Prelude.{ℕ, ◌≡◌, ◌<◌, ◌^◌, ⊤, Bool, true, false, ◌||◌, List, [], ◌∷◌, Option, Some, is_some, slice_get}
+use Rattle.std.specs.Prelude.{ℕ, ◌≡◌, ◌<◌, ◌^◌, ⊤, Bool, true, false, ◌||◌, List, [], ◌∷◌, Option, Some, is_some}
+use Rattle.std.specs.Prelude.{slice_get}
 use Rattle.c_lexer.specs.declared.TokenKind.TheVariants.{Integer}
 use Rattle.c_types.specs.Trees.{Ctype}
-use Rattle.core_tree.specs.declared.node.NodeKind.{NodeKind}
-use Rattle.core_tree.specs.declared.node.NodeKind.TheVariants.{Initialise}
-use Rattle.core_tree.specs.Typed.{StatementNode, IsInteger, Holds}
-use Rattle.core_tree.specs.Rows.{InitialisesOneOf, int}
+use Rattle.c_conversions.specs.passed.core_tree.declared.node.NodeKind.{NodeKind}
+use Rattle.c_conversions.specs.passed.core_tree.declared.node.NodeKind.TheVariants.{Initialise}
+use Rattle.c_conversions.specs.passed.core_tree.Typed.{StatementNode, IsInteger, Holds}
+use Rattle.c_conversions.specs.passed.core_tree.Rows.{InitialisesOneOf, int}
 use Rattle.c_grammar.specs.Productions.{p_statement, p_block, p_declaration, p_assert, p_expression}
-use Rattle.c_consts.specs.Core.{Core, kind_of, core_sort}
-use Rattle.c_inits.specs.Made.{Part, shape_for}
-use Rattle.c_inits.specs.Initial.{Placed, Outcome, Places, NoPlace, lasting}
+use Rattle.c_senses.specs.passed.c_consts.Core.{Core, kind_of, core_sort}
+use Rattle.c_senses.specs.passed.c_inits.Made.{Part, shape_for}
+use Rattle.c_senses.specs.passed.c_inits.Initial.{Placed, Outcome, Places, NoPlace, lasting}
 use Rattle.c_senses.specs.Entities.{with_length, entity_of, specified_of, derived_type}
-use Rattle.c_senses.specs.Initialised.{type_along, new_length, most_elements, seen, outcome_of, opening, brace, braced}
-use Rattle.c_inits.specs.View as view
+use Rattle.c_senses.specs.Initialised.{type_along, new_length, most_elements, seen, outcome_of, opening, brace}
+use Rattle.c_senses.specs.Initialised.{braced}
+use Rattle.c_senses.specs.passed.c_inits.View as view
 use Rattle.c_senses.specs.Tree.{Source, spelling_at, kind_at, is_a, is_leaf, children_at}
 use Rattle.c_senses.specs.World.{World}
 use Rattle.c_senses.specs.Literals.{value_of_integer}
-use Rattle.c_senses.specs.Sense.{Derivation, Pointing, Elements, Returning, Sense, Nothing, IsCore, IsType, IsSpecified, IsDeclarator, IsDerivation, IsParameter, IsMembers, IsValue, IsRun, IsInitial}
+use Rattle.c_senses.specs.Sense.{Derivation, Pointing, Elements, Returning, Sense, Nothing, IsCore, IsType}
+use Rattle.c_senses.specs.Sense.{IsSpecified, IsDeclarator, IsDerivation, IsParameter, IsMembers, IsValue, IsRun}
+use Rattle.c_senses.specs.Sense.{IsInitial}
 use Rattle.c_senses.specs.Statements.{objects_declared, returned_type}
 use Rattle.sense_laws.specs.Sound.{Sound, AreSound, IsProper, AreProper, IsListOf, type_down, Gives}
 
@@ -77,36 +81,53 @@ abbrev pub RunsIn : List ℕ → Sense → Type 0
 RunsIn entities (IsRun cores) = AllInitialise entities cores
 RunsIn entities x = ⊤
 
--- 6.8: what the grammar and the declarations before it say of a statement's parts: the senses of statements and blocks are statements, a
--- statement that begins with no token and no expression begins with a block, what stands in a block is no expression, and what a
--- declaration runs initialises its objects
+-- 6.8: what the grammar and the declarations before it say of a statement's parts: the senses of statements and
+-- blocks are statements, a statement that begins with no token and no expression begins with a block, what stands
+-- in a block is no expression, and what a declaration runs initialises its objects
 pub record StatementParts (w : World) (s : Source) (sense : ℕ → Sense) : Type 0 where
   pub statements : (i : ℕ) → is_a s p_statement i ≡ true → IsStatementSense (sense i)
-  pub begins : (i first : ℕ) (rest : List ℕ) → is_a s p_statement i ≡ true → children_at s i ≡ first ∷ rest → is_leaf s first ≡ false → is_a s p_expression first ≡ false → IsStatementSense (sense first)
-  pub blocks : (i k c : ℕ) → is_a s p_block i ≡ true → slice_get (children_at s i) k ≡ Some c → IsStatementSense (sense c)
+  pub begins : (i first : ℕ) (rest : List ℕ)
+      → is_a s p_statement i ≡ true
+      → children_at s i ≡ first ∷ rest
+      → is_leaf s first ≡ false
+      → is_a s p_expression first ≡ false
+      → IsStatementSense (sense first)
+  pub blocks : (i k c : ℕ)
+      → is_a s p_block i ≡ true
+      → slice_get (children_at s i) k ≡ Some c
+      → IsStatementSense (sense c)
   pub runs : (i : ℕ) → is_a s p_declaration i ≡ true → RunsIn (objects_declared w s sense i) (sense i)
   pub returns : (i : ℕ) (t : Ctype) → returned_type w s sense i ≡ Some t → IsProper t
 
--- 6.7.9: where a value goes in an object of type t, its type is found within the bounds of arrays, and is an integer type for a character
--- of a string
+-- 6.7.9: where a value goes in an object of type t, its type is found within the bounds of arrays, and is an
+-- integer type for a character of a string
 abbrev pub PlacedFit : World → Ctype → Placed → Ctype → Type 0
-PlacedFit w t p type = (type_down w (Some t) p.path ≡ Some type) × IsProper type × (is_some p.character ≡ true → IsInteger type)
+PlacedFit w t p type =
+    (type_down w (Some t) p.path ≡ Some type) × IsProper type × (is_some p.character ≡ true → IsInteger type)
 
 abbrev pub AllFit : World → Ctype → List Placed → Type 0
 AllFit w t [] = ⊤
-AllFit w t (p ∷ rest) = ((type : Ctype) → type_along w (Some t) p.path ≡ Some type → PlacedFit w t p type) × AllFit w t rest
+AllFit w t (p ∷ rest) =
+    ((type : Ctype) → type_along w (Some t) p.path ≡ Some type → PlacedFit w t p type) × AllFit w t rest
 
 -- an object that gets its length from its initialiser has the type with it, and each value fits there
 abbrev pub OutcomeFits : World → (ℕ → Option Ctype) → Source → (ℕ → Sense) → ℕ → Ctype → Outcome → Type 0
 OutcomeFits w entities s sense entity t (NoPlace node) = ⊤
 OutcomeFits w entities s sense entity t (Places actions) =
-    (entities entity ≡ Some (with_length (new_length w s sense t actions) t)) × AllFit w (with_length (new_length w s sense t actions) t) (lasting [] actions)
+    (entities entity ≡ Some (with_length (new_length w s sense t actions) t))
+    × AllFit w (with_length (new_length w s sense t actions) t) (lasting [] actions)
 
 -- the values of each initialiser and each compound literal fit in its object
 pub record InitialisersFit (w : World) (entities : ℕ → Option Ctype) (s : Source) (sense : ℕ → Sense) : Type 0 where
-  pub objects : (at declarator leaf : ℕ) (t : Ctype) → derived_type s sense (specified_of s sense leaf) (Some declarator) ≡ Some t
-      → Gives (OutcomeFits w entities s sense (entity_of s sense leaf) t) (outcome_of w s sense at (shape_for w.fillable most_elements t) (view.init_at (seen w s sense) s.nodes at))
-  pub literals : (at p : ℕ) (t : Ctype) → Gives (OutcomeFits w entities s sense (opening w s sense p) t) (outcome_of w s sense (brace w s sense p) (shape_for w.fillable most_elements t) (braced w s sense (brace w s sense p) (view.items_at (seen w s sense) s.nodes at)))
+  pub objects : (at declarator leaf : ℕ) (t : Ctype)
+      → derived_type s sense (specified_of s sense leaf) (Some declarator) ≡ Some t
+      → Gives (OutcomeFits w entities s sense (entity_of s sense leaf) t)
+      (outcome_of w s sense at (shape_for w.fillable most_elements t)
+      (view.init_at (seen w s sense) s.nodes at))
+  pub literals : (at p : ℕ) (t : Ctype)
+      → Gives (OutcomeFits w entities s sense (opening w s sense p) t)
+      (outcome_of w s sense (brace w s sense p) (shape_for w.fillable most_elements t)
+      (braced w s sense (brace w s sense p) (view.items_at (seen w s sense) s.nodes at)))
 
 -- each part of a node stands before it
 abbrev pub ChildrenFirst : Source → Type 0
@@ -116,8 +137,16 @@ ChildrenFirst s = (i k c : ℕ) → slice_get (children_at s i) k ≡ Some c →
 abbrev pub is_block_part : Source → ℕ → Bool
 is_block_part s i = is_leaf s i || (is_a s p_declaration i || (is_a s p_assert i || is_a s p_statement i))
 
--- 6.8, 6.8.2: what the grammar says of a tree's statements and blocks: a statement begins with a token, an expression or a block, and in a
--- block stand its parts alone
+-- 6.8, 6.8.2: what the grammar says of a tree's statements and blocks: a statement begins with a token, an
+-- expression or a block, and in a block stand its parts alone
 pub record StatementGrammar (s : Source) : Type 0 where
-  pub begins : (i first : ℕ) (rest : List ℕ) → is_a s p_statement i ≡ true → children_at s i ≡ first ∷ rest → is_leaf s first ≡ false → is_a s p_expression first ≡ false → is_a s p_block first ≡ true
-  pub blocks : (i k c : ℕ) → is_a s p_block i ≡ true → slice_get (children_at s i) k ≡ Some c → is_block_part s c ≡ true
+  pub begins : (i first : ℕ) (rest : List ℕ)
+      → is_a s p_statement i ≡ true
+      → children_at s i ≡ first ∷ rest
+      → is_leaf s first ≡ false
+      → is_a s p_expression first ≡ false
+      → is_a s p_block first ≡ true
+  pub blocks : (i k c : ℕ)
+      → is_a s p_block i ≡ true
+      → slice_get (children_at s i) k ≡ Some c
+      → is_block_part s c ≡ true

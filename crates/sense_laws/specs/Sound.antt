@@ -1,18 +1,36 @@
--- Core trees in which each node stands in the row of its kind, by its type and by what stands under it (C11 6.5, 6.8).
-use Rattle.std.specs.Prelude.{ℕ, ℤ, pos, ◌≡◌, ◌≢◌, ◌+◌, Bool, true, false, nat_lt, nat_le, ⊤, List, [], ◌∷◌, Option, Some, None, IsSome, length, reverse, slice_get, option_and_then, ◌⊎◌, All, if◌then◌else◌}
-use Rattle.c_types.specs.Trees.{Ctype, Ctypes, NoTypes, MoreTypes, VoidType, IntegerType, PointerTo, ArrayOf, FunctionFrom, StructureOf, UnionOf}
+-- Core trees in which each node stands in the row of its kind, by its type and by what stands under it (C11 6.5,
+-- 6.8).
+use Rattle.std.specs.Prelude.{ℕ, ℤ, pos, ◌≡◌, ◌≢◌, ◌+◌, Bool, true, false, nat_lt, nat_le, ⊤, List, [], ◌∷◌, Option}
+use Rattle.std.specs.Prelude.{Some, None, IsSome, length, reverse, slice_get, option_and_then, ◌⊎◌, All}
+use Rattle.std.specs.Prelude.{if◌then◌else◌}
+use Rattle.c_types.specs.Trees.{Ctype, Ctypes, NoTypes, MoreTypes, VoidType, IntegerType, PointerTo, ArrayOf}
+use Rattle.c_types.specs.Trees.{FunctionFrom, StructureOf, UnionOf}
 use Rattle.c_types.specs.declared.term.Form.{Form}
 use Rattle.c_types.specs.declared.term.Form.TheVariants.{Fixed, Variadic, Unspecified}
 use Rattle.c_types.specs.declared.term.PathStep.{PathStep}
 use Rattle.c_types.specs.declared.term.PathStep.TheVariants.{Index, Member as MemberStep}
 use Rattle.c_types.specs.Paths.{with_length}
-use Rattle.core_tree.specs.declared.node.Op.{Op}
-use Rattle.core_tree.specs.declared.node.NodeKind.{NodeKind}
-use Rattle.core_tree.specs.declared.node.NodeKind.TheVariants.{Named, Text, Literal, FunctionName, Deref, Member, Number, NullValue, Fetch, AddressOf, Decay, PointerAdd, Convert, Upcast, Assign, Update, Choose, Sequence, CallNode, MemberOfValue, Arith, Expression, Block, If, While, DoWhile, For, Switch, Case, Default, Label, Goto, Break, Continue, Return, Initialise, Skip}
-use Rattle.core_tree.specs.Typed.{Sort, PlaceNode, ValueNode, StatementNode, sort_of, IsInteger, IsPointer, IsScalar, IsStored, IsPassed, LacksLength, decayed, Holds}
-use Rattle.core_tree.specs.Rows.{IsFunction, IsArray, int, Agree, Converts, Unary, Binary, Updates, InitialisesEntity, InitialisesOneOf, character}
-use Rattle.c_consts.specs.Core.{Core, Cores, Of, NoCores, MoreCores, kind_of, ctype_of, core_sort}
-use Rattle.c_inits.specs.Made.{Part}
+use Rattle.c_conversions.specs.passed.core_tree.declared.node.Op.{Op}
+use Rattle.c_conversions.specs.passed.core_tree.declared.node.NodeKind.{NodeKind}
+use Rattle.c_conversions.specs.passed.core_tree.declared.node.NodeKind.TheVariants.{Named, Text, Literal}
+use Rattle.c_conversions.specs.passed.core_tree.declared.node.NodeKind.TheVariants.{FunctionName, Deref, Member}
+use Rattle.c_conversions.specs.passed.core_tree.declared.node.NodeKind.TheVariants.{Number, NullValue, Fetch}
+use Rattle.c_conversions.specs.passed.core_tree.declared.node.NodeKind.TheVariants.{AddressOf, Decay, PointerAdd}
+use Rattle.c_conversions.specs.passed.core_tree.declared.node.NodeKind.TheVariants.{Convert, Upcast, Assign, Update}
+use Rattle.c_conversions.specs.passed.core_tree.declared.node.NodeKind.TheVariants.{Choose, Sequence, CallNode}
+use Rattle.c_conversions.specs.passed.core_tree.declared.node.NodeKind.TheVariants.{MemberOfValue, Arith}
+use Rattle.c_conversions.specs.passed.core_tree.declared.node.NodeKind.TheVariants.{Expression, Block, If, While}
+use Rattle.c_conversions.specs.passed.core_tree.declared.node.NodeKind.TheVariants.{DoWhile, For, Switch, Case}
+use Rattle.c_conversions.specs.passed.core_tree.declared.node.NodeKind.TheVariants.{Default, Label, Goto, Break}
+use Rattle.c_conversions.specs.passed.core_tree.declared.node.NodeKind.TheVariants.{Continue, Return, Initialise}
+use Rattle.c_conversions.specs.passed.core_tree.declared.node.NodeKind.TheVariants.{Skip}
+use Rattle.c_conversions.specs.passed.core_tree.Typed.{Sort, PlaceNode, ValueNode, StatementNode, sort_of}
+use Rattle.c_conversions.specs.passed.core_tree.Typed.{IsInteger, IsPointer, IsScalar, IsStored, IsPassed}
+use Rattle.c_conversions.specs.passed.core_tree.Typed.{LacksLength, decayed, Holds}
+use Rattle.c_conversions.specs.passed.core_tree.Rows.{IsFunction, IsArray, int, Agree, Converts, Unary, Binary}
+use Rattle.c_conversions.specs.passed.core_tree.Rows.{Updates, InitialisesEntity, InitialisesOneOf, character}
+use Rattle.c_senses.specs.passed.c_consts.Core.{Core, Cores, Of, NoCores, MoreCores, kind_of, ctype_of, core_sort}
+use Rattle.c_senses.specs.passed.c_inits.Made.{Part}
 use Rattle.c_types.specs.Layout.{Extent}
 use Rattle.c_senses.specs.Given.{Given, Fits, Refuses}
 use Rattle.c_senses.specs.Literals.{unsigned_long}
@@ -208,7 +226,8 @@ module _ (w : World) where
 
   abbrev pub InitialOver : Option Ctype → List (List PathStep) → List Core → Type 0
   InitialOver t [] [] = ⊤
-  InitialOver t (path ∷ paths) (v ∷ values) = (core_sort v ≡ ValueNode) × (type_down t path ≡ Some (ctype_of v)) × InitialOver t paths values
+  InitialOver t (path ∷ paths) (v ∷ values) =
+      (core_sort v ≡ ValueNode) × (type_down t path ≡ Some (ctype_of v)) × InitialOver t paths values
   InitialOver t paths values = ⊥
 
   -- the row of each kind, over the types of entities: a node of type t over those parts
@@ -218,21 +237,26 @@ module _ (w : World) where
   RowOver entities (Literal e) t under = One (λ i. (entities e ≡ Some t) × InitialisesEntity (kind_of i) e) under
   RowOver entities (FunctionName e) t under = FunctionNameOver (entities e) t under
   RowOver entities Deref t under = One (λ v. IsValueCore v (PointerTo t) × (t ≢ VoidType)) under
-  RowOver entities (Member k) t under = One (λ p. (core_sort p ≡ PlaceNode) × IsPartOf (ctype_of p) k t × (LacksLength t → ⊥)) under
+  RowOver entities (Member k) t under =
+      One (λ p. (core_sort p ≡ PlaceNode) × IsPartOf (ctype_of p) k t × (LacksLength t → ⊥)) under
   RowOver entities (Number n) t under = NumberOver n t under
   RowOver entities NullValue t under = NullOver t under
   RowOver entities Fetch t under = One (λ p. IsPlaceCore p t × IsStored t) under
-  RowOver entities AddressOf t under = One (λ p. (core_sort p ≡ PlaceNode) × (t ≡ PointerTo (ctype_of p)) × (place_width w p ≡ None)) under
+  RowOver entities AddressOf t under =
+      One (λ p. (core_sort p ≡ PlaceNode) × (t ≡ PointerTo (ctype_of p)) × (place_width w p ≡ None)) under
   RowOver entities Decay t under = One (λ p. (core_sort p ≡ PlaceNode) × (decayed (ctype_of p) ≡ Some t)) under
-  RowOver entities (PointerAdd minus) t under = Two (λ v i. IsValueCore v t × PointsToSized t × IsNumeralCore i) under
-  RowOver entities Convert t under = One (λ v. (core_sort v ≡ ValueNode) × (ctype_of v ≢ t) × Converts (ctype_of v) t) under
+  RowOver entities (PointerAdd minus) t under =
+      Two (λ v i. IsValueCore v t × PointsToSized t × IsNumeralCore i) under
+  RowOver entities Convert t under =
+      One (λ v. (core_sort v ≡ ValueNode) × (ctype_of v ≢ t) × Converts (ctype_of v) t) under
   RowOver entities Upcast t under = One (λ v. (core_sort v ≡ ValueNode) × IsFirstPart (ctype_of v) t) under
   RowOver entities Assign t under = Two (λ p v. IsPlaceCore p t × IsValueCore v t × IsStored t) under
   RowOver entities (Update op post) t under = Two (λ p v. IsPlaceCore p t × IsNumeralCore v × Updates op t) under
   RowOver entities Choose t under = ChooseOver t under
   RowOver entities Sequence t under = Two (λ a b. (core_sort a ≡ ValueNode) × IsValueCore b t) under
   RowOver entities CallNode t under = CallOver t under
-  RowOver entities (MemberOfValue k) t under = One (λ v. (core_sort v ≡ ValueNode) × IsPartOf (ctype_of v) k t × (IsArray t → ⊥)) under
+  RowOver entities (MemberOfValue k) t under =
+      One (λ v. (core_sort v ≡ ValueNode) × IsPartOf (ctype_of v) k t × (IsArray t → ⊥)) under
   RowOver entities (Arith op) t under = ArithOver op t under
   RowOver entities Expression t under = One (λ v. core_sort v ≡ ValueNode) under
   RowOver entities (Block es) t under = All IsStatementCore under
@@ -255,7 +279,9 @@ module _ (w : World) (entities : ℕ → Option Ctype) where
   -- a tree is sound where each of its nodes stands in its row
   abbrev mutual
     pub Sound : Core → Type 0
-    Sound (Of kind place type under) = RowOver w entities kind type (list_of under) × IsProper type × HasNoType (sort_of kind) type × AllSound under
+    Sound (Of kind place type under) =
+        RowOver w entities kind type (list_of under) × IsProper type × HasNoType (sort_of kind) type
+        × AllSound under
 
     pub AllSound : Cores → Type 0
     AllSound NoCores = ⊤
@@ -277,7 +303,8 @@ abbrev pub Gives : {A : Type 0} → (A → Type 0) → Given A → Type 0
 Gives P (Fits x) = P x
 Gives P (Refuses kind node) = ⊤
 
--- what a name means: the type of an object or a function agrees with its entity's, and an enumerator's value is in the range of int
+-- what a name means: the type of an object or a function agrees with its entity's, and an enumerator's value is in
+-- the range of int
 abbrev pub SoundMeaning : (ℕ → Option Ctype) → Meaning → Type 0
 SoundMeaning entities (Object e t) = IsProper t × AgreesWith (entities e) t × (IsFunction t → ⊥)
 SoundMeaning entities (Function e t) = IsProper t × AgreesWith (entities e) t × IsFunction t
@@ -293,7 +320,10 @@ MeaningFits entities m = ⊤
 
 -- what the declarations around an expression give
 pub record SoundWorld (w : World) (entities : ℕ → Option Ctype) : Type 0 where
-  pub parts : (tag : ℕ) (members : List Part) (k : ℕ) (m : Part) → w.members tag ≡ Some members → slice_get members k ≡ Some m → IsProper m.type
+  pub parts : (tag : ℕ) (members : List Part) (k : ℕ) (m : Part)
+      → w.members tag ≡ Some members
+      → slice_get members k ≡ Some m
+      → IsProper m.type
   pub names : (leaf : ℕ) (m : Meaning) → w.meaning leaf ≡ Some m → SoundMeaning entities m
   pub aligns : (t : Ctype) (e : Extent) → IsProper t → extent w t ≡ Some e → Holds unsigned_long (pos e.align)
 
@@ -306,6 +336,9 @@ ProperMeaning (Tag tag) = ⊤
 ProperMeaning (Value n) = Holds int n
 
 pub record ProperWorld (w : World) : Type 0 where
-  pub parts : (tag : ℕ) (members : List Part) (k : ℕ) (m : Part) → w.members tag ≡ Some members → slice_get members k ≡ Some m → IsProper m.type
+  pub parts : (tag : ℕ) (members : List Part) (k : ℕ) (m : Part)
+      → w.members tag ≡ Some members
+      → slice_get members k ≡ Some m
+      → IsProper m.type
   pub names : (leaf : ℕ) (m : Meaning) → w.meaning leaf ≡ Some m → ProperMeaning m
   pub aligns : (t : Ctype) (e : Extent) → IsProper t → extent w t ≡ Some e → Holds unsigned_long (pos e.align)

@@ -7,9 +7,9 @@ use Rattle.std.proofs.lemmas.Nat.{same_from_place}
 use Rattle.sol_model.specs.declared.system.System.{System}
 use Rattle.sol_model.specs.Families.{Family, Has, IsInside}
 use Rattle.sol_model.specs.Solutions.{IsGiven}
-use Rattle.rows_core.specs.declared.event.Event.{Event}
-use Rattle.rows_core.specs.declared.event.Event.TheVariants.{Or}
-use Rattle.rows_core.specs.Machine.{Machine, with_fact, next, run, AllLicensed}
+use Rattle.set_rows.specs.declared.rows_core.event.Event.{Event}
+use Rattle.set_rows.specs.declared.rows_core.event.Event.TheVariants.{Or}
+use Rattle.set_rows.specs.rows_core.Machine.{Machine, with_fact, next, run, AllLicensed}
 use Rattle.sol_model.proofs.Closed.{given_more}
 use Rattle.sol_model.specs.Words.{At}
 

@@ -24,9 +24,9 @@ use Rattle.set_rows.specs.Rule.{rows_in, closing_word, IsReached, Stands, Held, 
 use Rattle.std.proofs.Common.{mul-zero}
 use Rattle.set_rows.proofs.Holding.{Grown, held_seen, held_start, held_add, held_behind, held_shut, held_split, held_meet}
 use Rattle.set_rows.proofs.Wholes.{SameShare, whole_same, whole_start, whole_split, whole_meet}
-use Rattle.rows_core.specs.declared.event.Event.TheVariants.{Shut}
-use Rattle.rows_core.specs.Machine.{Machine, start, run, next}
-use Rattle.rows_core.proofs.Runs.{run_snoc, may_join}
+use Rattle.set_rows.specs.declared.rows_core.event.Event.TheVariants.{Shut}
+use Rattle.set_rows.specs.rows_core.Machine.{Machine, start, run, next}
+use Rattle.set_rows.proofs.rows_core.Runs.{run_snoc, may_join}
 use Rattle.set_rows.proofs.Events.{In, ors, facts_of, in_facts, facts_in, ors_licensed, ors_keep, ors_add, ors_only, ors_open}
 
 abbrev Mine : Type 0

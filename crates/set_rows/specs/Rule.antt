@@ -1,7 +1,8 @@
 -- The rule of the shared words: it holds between any two steps of any threads. Its points: the rows are inside each
--- closed family; the closing word is 0 or 1, and 1 only where the rows are closed; what each live view has seen is in
--- the words; the words are a state of the rows machine; and what is in the words was seen by a live view.
-use Rattle.std.specs.Prelude.{◌≡◌, ℕ, ◌+◌, ◌<◌, ◌≤◌, ◌==◌, ◌*◌, ◌-◌, ◌^◌, true, if◌then◌else◌, List, [], ◌∷◌, length, slice_index, take}
+-- closed family; the closing word is 0 or 1, and 1 only where the rows are closed; what each live view has seen is
+-- in the words; the words are a state of the rows machine; and what is in the words was seen by a live view.
+use Rattle.std.specs.Prelude.{◌≡◌, ℕ, ◌+◌, ◌<◌, ◌≤◌, ◌==◌, ◌*◌, ◌-◌, ◌^◌, true, if◌then◌else◌, List, [], ◌∷◌}
+use Rattle.std.specs.Prelude.{length, slice_index, take}
 use mathlib.Core.Option.{some}
 use lib.ListN.{get_elem?}
 use Rattle.std.specs.Int.{bit_at}
@@ -11,8 +12,8 @@ use Rattle.sol_model.specs.Families.{Family, IsInside, shown}
 use Rattle.sol_model.specs.Solutions.{IsClosed, IsBelow}
 use Rattle.sol_model.specs.Systems.{IsValid, width_of}
 use Rattle.sol_model.specs.Words.{Within}
-use Rattle.rows_core.specs.declared.event.Event.{Event}
-use Rattle.rows_core.specs.Machine.{start, run, AllLicensed}
+use Rattle.set_rows.specs.declared.rows_core.event.Event.{Event}
+use Rattle.set_rows.specs.rows_core.Machine.{start, run, AllLicensed}
 use Rattle.set_rows.specs.declared.view.View.{View}
 use Rattle.set_rows.specs.Views.{words_of}
 
@@ -59,8 +60,8 @@ pub record Knower (views : List View) : Type 0 where
   pub live : view.live ≡ true
   pub knows : view.knows ≡ true
 
--- each fact of the n words of rows was seen by a live view, and where the closing word is 1 a live view knows it; so no
--- table starts with facts, or closed
+-- each fact of the n words of rows was seen by a live view, and where the closing word is 1 a live view knows it;
+-- so no table starts with facts, or closed
 pub record Held (n : ℕ) (words : List ℕ) (views : List View) : Type 0 where
   pub facts : (j k : ℕ) → j < n → bit_at (slice_index words j) k ≡ 1 → Holder views j k
   pub closing : slice_index words n ≡ 1 → Knower views

@@ -1,5 +1,6 @@
 -- What a seat knows, and how each kind of step changes it.
-use Rattle.std.specs.Prelude.{◌≡◌, ℕ, ◌+◌, ◌*◌, ◌/◌, ◌%◌, ◌^◌, ◌<◌, ◌≤◌, true, false, ◌||◌, ◌==◌, ◌↔◌, List, [], ◌∷◌, slice_index, slice_set, replicate, bit_or}
+use Rattle.std.specs.Prelude.{◌≡◌, ℕ, ◌+◌, ◌*◌, ◌/◌, ◌%◌, ◌^◌, ◌<◌, ◌≤◌, true, false, ◌||◌, ◌==◌, ◌↔◌, List, []}
+use Rattle.std.specs.Prelude.{◌∷◌, slice_index, slice_set, replicate, bit_or}
 use Rattle.std.specs.Int.{bit_at}
 use Rattle.atomic_table.specs.Table.{Me, Step}
 use Rattle.sol_model.specs.declared.system.System.{System}
@@ -18,13 +19,28 @@ abbrev pub known : View → Family
 known v = shown (width_of v.system) v.seen
 
 abbrev pub fresh : System → View
-fresh S = record { system = S; seen = replicate (words_of S) 0; ors = 0; shuts = 0; reads = 0; last = 0; knows = false; recent = []; found = 0; part = 1; halvings = 0; live = true }
+fresh S =
+    record {
+      system = S;
+      seen = replicate (words_of S) 0;
+      ors = 0;
+      shuts = 0;
+      reads = 0;
+      last = 0;
+      knows = false;
+      recent = [];
+      found = 0;
+      part = 1;
+      halvings = 0;
+      live = true;
+    }
 
 abbrev pub looked : View → ℕ → ℕ → View
 looked v word found = record v { seen = slice_set v.seen word found; recent = word ∷ v.recent }
 
 abbrev pub added : View → ℕ → ℕ → ℕ → View
-added v word mask found = record v { seen = slice_set v.seen word (bit_or found mask); ors = v.ors + 1; found = found }
+added v word mask found =
+    record v { seen = slice_set v.seen word (bit_or found mask); ors = v.ors + 1; found = found }
 
 abbrev pub shutting : View → View
 shutting v = record v { knows = true; ors = v.ors + 1; shuts = v.shuts + 1 }
@@ -36,7 +52,8 @@ abbrev pub half_kept : View → View
 half_kept v = record v { halvings = v.halvings + 1 }
 
 abbrev pub half_given : View → View
-half_given v = record v { ors = 0; shuts = 0; reads = 0; last = 0; recent = []; found = 0; halvings = v.halvings + 1 }
+half_given v =
+    record v { ors = 0; shuts = 0; reads = 0; last = 0; recent = []; found = 0; halvings = v.halvings + 1 }
 
 -- each word of one list with that of the other
 abbrev pub united : List ℕ → List ℕ → List ℕ
@@ -60,7 +77,8 @@ SamePart v w = v.part * 2 ^ w.halvings ≡ w.part * 2 ^ v.halvings
 
 -- each fact of the word is in each closed family
 abbrev pub IsBelowWord : System → ℕ → ℕ → Type 0
-IsBelowWord S word found = (row location : ℕ) → At (width_of S) word found row location → (G : Family) → IsClosed S G → Has G row location
+IsBelowWord S word found =
+    (row location : ℕ) → At (width_of S) word found row location → (G : Family) → IsClosed S G → Has G row location
 
 -- the seat has only loaded words of rows
 pub record OnlyLooked (v w : View) : Type 0 where
@@ -102,23 +120,42 @@ pub record OnlyAdded (v w : View) : Type 0 where
 -- the word is that of the least solution
 abbrev pub IsLeastWord : System → ℕ → ℕ → Type 0
 IsLeastWord S word found = (F : Family) × IsLeast S F
-    × ((row location : ℕ) → location < 64 * width_of S → row * width_of S + location / 64 ≡ word → (Has F row location ↔ (bit_at found (location % 64) ≡ 1)))
+    × ((row location : ℕ) → location < 64 * width_of S → row * width_of S + location / 64 ≡ word
+    → (Has F row location ↔ (bit_at found (location % 64) ≡ 1)))
 
 -- a view that is spent
 abbrev pub no_system : System
 no_system = record { rows = 0; locations = []; types = []; constraints = []; calls = []; functions = [] }
 
 abbrev pub nobody : View
-nobody = record { system = no_system; seen = []; ors = 0; shuts = 0; reads = 0; last = 0; knows = false; recent = []; found = 0; part = 0; halvings = 0; live = false }
+nobody =
+    record {
+      system = no_system;
+      seen = [];
+      ors = 0;
+      shuts = 0;
+      reads = 0;
+      last = 0;
+      knows = false;
+      recent = [];
+      found = 0;
+      part = 0;
+      halvings = 0;
+      live = false;
+    }
 
 abbrev Mine : Type 0
 Mine = Me (Unit {0}) View
 
 abbrev pub looked_at : Step (Unit {0}) → Mine → ℕ → Mine → Type 0
-looked_at st m found m' = (m' ≡ (looked m.0 st.word found, m.1)) × Within (slice_index m.0.seen st.word) found × (m.0.knows ≡ true → IsLeastWord m.0.system st.word found) × IsBelowWord m.0.system st.word found
+looked_at st m found m' =
+    (m' ≡ (looked m.0 st.word found, m.1)) × Within (slice_index m.0.seen st.word) found
+    × (m.0.knows ≡ true → IsLeastWord m.0.system st.word found) × IsBelowWord m.0.system st.word found
 
 abbrev pub added_at : Step (Unit {0}) → Mine → ℕ → Mine → Type 0
-added_at st m found m' = (m' ≡ (added m.0 st.word st.first found, m.1)) × Within (slice_index m.0.seen st.word) found × IsBelowWord m.0.system st.word found
+added_at st m found m' =
+    (m' ≡ (added m.0 st.word st.first found, m.1)) × Within (slice_index m.0.seen st.word) found
+    × IsBelowWord m.0.system st.word found
 
 abbrev pub shut_at : Step (Unit {0}) → Mine → ℕ → Mine → Type 0
 shut_at st m found m' = m' ≡ (shutting m.0, m.1)

@@ -3,6 +3,7 @@
 #![tactic(auto)]
 
 mod copy;
+pub mod rows_core;
 mod rule;
 mod seat;
 mod steps;

@@ -1,5 +1,6 @@
 -- Sets of locations, one for each row.
-use Rattle.std.specs.Prelude.{◌≡◌, ◌⊎◌, ℕ, ◌+◌, ◌*◌, ◌≤◌, length, sum_by, ◌-◌, ◌^◌, ◌/◌, ◌%◌, Bool, ◌&&◌, IsTrue, IsFalse, nat_lt, ◌==◌, List, slice_index}
+use Rattle.std.specs.Prelude.{◌≡◌, ◌⊎◌, ℕ, ◌+◌, ◌*◌, ◌≤◌, length, sum_by, ◌-◌, ◌^◌, ◌/◌, ◌%◌, Bool, ◌&&◌, IsTrue}
+use Rattle.std.specs.Prelude.{IsFalse, nat_lt, ◌==◌, List, slice_index}
 use Rattle.std.specs.Int.{bit_at}
 use Rattle.sol_model.specs.declared.rows.Rows.{Rows}
 use Rattle.sol_model.specs.declared.rows.Fact.{Fact}
@@ -34,7 +35,8 @@ pub record AddsAll (old new : Family) (from to : ℕ) : Type 0 where
 
 -- the family that words show: the bit location % 64 of the word row * width + location / 64
 unfoldable pub shown : ℕ → List ℕ → Family
-shown width words row location = nat_lt location (64 * width) && (bit_at (slice_index words (row * width + location / 64)) (location % 64) == 1)
+shown width words row location =
+    nat_lt location (64 * width) && (bit_at (slice_index words (row * width + location / 64)) (location % 64) == 1)
 
 -- the family of rows
 abbrev pub members : Rows → Family

@@ -23,7 +23,8 @@ pub record Grows (system : System) (old new : Rows) : Type 0 where
   pub room : room_left new ≤ room_left old
 
 -- a function that a call reaches whose rule is among the constraints
-pub record IsReached (system : System) (F : Family) (call : CallSite) (number : ℕ) (function : Function) : Type 0 where
+pub record IsReached (system : System) (F : Family) (call : CallSite) (number : ℕ)
+    (function : Function) : Type 0 where
   pub place : ℕ
   pub listed : Contains system.constraints (Call place)
   pub known : slice_get system.calls place ≡ Some call

@@ -1,18 +1,22 @@
 -- The rules of the constraint forms. A rule demands that one row's set is contained in another's (an edge), or that
 -- a row has a location (a fact), from what a family has.
-use Rattle.std.specs.Prelude.{◌≡◌, ℕ, zero, suc, ◌⊎◌, List, Option, Some, None, slice_get, option_and_then, Contains, zip, IsFalse}
+use Rattle.std.specs.Prelude.{◌≡◌, ℕ, zero, suc, ◌⊎◌, List, Option, Some, None, slice_get, option_and_then}
+use Rattle.std.specs.Prelude.{Contains, zip, IsFalse}
 use Rattle.pta_base.specs.declared.effect.Effect.{Effect}
-use Rattle.pta_base.specs.declared.effect.Effect.TheVariants.{Nothing, GivesArgument, GivesNew, GivesObject, Copies, StoresInto, CallsBack}
+use Rattle.pta_base.specs.declared.effect.Effect.TheVariants.{Nothing, GivesArgument, GivesNew, GivesObject, Copies}
+use Rattle.pta_base.specs.declared.effect.Effect.TheVariants.{StoresInto, CallsBack}
 use Rattle.sol_model.specs.declared.system.System.{System}
 use Rattle.sol_model.specs.declared.system.CallSite.{CallSite}
 use Rattle.sol_model.specs.declared.system.Function.{Function}
 use Rattle.sol_model.specs.declared.system.Constraint.{Constraint}
-use Rattle.sol_model.specs.declared.system.Constraint.TheVariants.{Address, Copy, Load, Store, Field, Contents, Call}
+use Rattle.sol_model.specs.declared.system.Constraint.TheVariants.{Address, Copy, Load, Store, Field, Contents}
+use Rattle.sol_model.specs.declared.system.Constraint.TheVariants.{Call}
 use Rattle.sol_model.specs.Families.{Family, Has, IsContained}
 use Rattle.sol_model.specs.Places.{sub_of, field_of, deep}
 
 -- a function that the callee's row has, with the call's signature
-pub record IsTarget (system : System) (F : Family) (call : CallSite) (number : ℕ) (function : Function) : Type 0 where
+pub record IsTarget (system : System) (F : Family) (call : CallSite) (number : ℕ)
+    (function : Function) : Type 0 where
   pub known : slice_get system.functions number ≡ Some function
   pub reached : Has F call.callee function.location
   pub agrees : function.signature ≡ call.signature
@@ -33,7 +37,8 @@ parameter_row function k = option_and_then first_row (slice_get function.paramet
 -- what an argument has; number 0 stands for the location that the call gets from the function
 abbrev pub IsInArgument : Family → CallSite → ℕ → ℕ → ℕ → Type 0
 IsInArgument F call number zero location = Contains call.fresh (number, location)
-IsInArgument F call number (suc k) location = (row : ℕ) × (argument_row call (suc k) ≡ Some row) × Has F row location
+IsInArgument F call number (suc k) location =
+    (row : ℕ) × (argument_row call (suc k) ≡ Some row) × Has F row location
 
 -- rows of two lists of rows, place by place
 abbrev pub AreJoined : List (List ℕ) → List (List ℕ) → ℕ → ℕ → Type 0
@@ -45,13 +50,14 @@ back_signature None = 1
 back_signature (Some _) = 0
 
 -- a function that argument k has, with the signature of the call back
-pub record IsCalledBack (system : System) (F : Family) (call : CallSite) (k : ℕ) (passed : Option (ℕ × ℕ)) (number : ℕ) (function : Function) : Type 0 where
+pub record IsCalledBack (system : System) (F : Family) (call : CallSite) (k : ℕ) (passed : Option (ℕ × ℕ))
+    (number : ℕ) (function : Function) : Type 0 where
   pub known : slice_get system.functions number ≡ Some function
   pub reached : (row : ℕ) × (argument_row call k ≡ Some row) × Has F row function.location
   pub agrees : function.signature ≡ back_signature passed
 
--- the arguments of a call back go into the parameters of the function that is called back; a library function that is
--- called back has no effect on sets
+-- the arguments of a call back go into the parameters of the function that is called back; a library function that
+-- is called back has no effect on sets
 abbrev pub PassesBack : CallSite → Option (ℕ × ℕ) → Function → ℕ → ℕ → Type 0
 PassesBack call None function a b = ⊥
 PassesBack call (Some pair) function a b =
@@ -62,20 +68,25 @@ PassesBack call (Some pair) function a b =
 -- an edge that an effect of a library function demands of a call
 abbrev pub EffectEdge : System → Family → CallSite → ℕ → Effect → ℕ → ℕ → Type 0
 EffectEdge system F call number Nothing a b = ⊥
-EffectEdge system F call number (GivesArgument k) a b = (argument_row call k ≡ Some a) × (first_row call.result ≡ Some b)
+EffectEdge system F call number (GivesArgument k) a b =
+    (argument_row call k ≡ Some a) × (first_row call.result ≡ Some b)
 EffectEdge system F call number GivesNew a b = ⊥
 EffectEdge system F call number (GivesObject object) a b = ⊥
 EffectEdge system F call number (Copies i j) a b =
-    (d : ℕ) × (s : ℕ) × IsInArgument F call number i d × IsInArgument F call number j s × Contains (deep system d s) (b, a)
+    (d : ℕ) × (s : ℕ) × IsInArgument F call number i d × IsInArgument F call number j s
+    × Contains (deep system d s) (b, a)
 EffectEdge system F call number (StoresInto i j) a b =
     (row : ℕ) × (argument_row call i ≡ Some row) × Has F row b × (argument_row call j ≡ Some a)
 EffectEdge system F call number (CallsBack k passed) a b =
-    (back : ℕ) × (function : Function) × IsCalledBack system F call k passed back function × PassesBack call passed function a b
+    (back : ℕ) × (function : Function) × IsCalledBack system F call k passed back function
+    × PassesBack call passed function a b
 
 -- a fact that an effect demands of a call
 abbrev pub EffectFact : CallSite → ℕ → Effect → ℕ → ℕ → Type 0
-EffectFact call number GivesNew row location = (first_row call.result ≡ Some row) × Contains call.fresh (number, location)
-EffectFact call number (GivesObject object) row location = (first_row call.result ≡ Some row) × Contains call.fresh (number, location)
+EffectFact call number GivesNew row location =
+    (first_row call.result ≡ Some row) × Contains call.fresh (number, location)
+EffectFact call number (GivesObject object) row location =
+    (first_row call.result ≡ Some row) × Contains call.fresh (number, location)
 EffectFact call number _ row location = ⊥
 
 -- an edge that a target demands of a call: that of a library function by its effects, of any other by its rows
@@ -132,7 +143,8 @@ IntoEdge system F to row a b = (from : ℕ) × Has F row from × PairEdge system
 
 -- those of copies to one object from each that an argument has
 abbrev pub IntoArgumentEdge : System → Family → CallSite → ℕ → ℕ → ℕ → ℕ → ℕ → Type 0
-IntoArgumentEdge system F call number to k a b = (from : ℕ) × IsInArgument F call number k from × PairEdge system to from a b
+IntoArgumentEdge system F call number to k a b =
+    (from : ℕ) × IsInArgument F call number k from × PairEdge system to from a b
 
 -- what is demanded by edges and facts is there
 pub record IsMet (Edge Fact : ℕ → ℕ → Type 0) (F : Family) : Type 0 where
@@ -154,8 +166,10 @@ Satisfies system F constraint = IsMet (DemandsEdge system F constraint) (Demands
 
 -- the rule of a constraint demands one fact from the facts of a family
 abbrev pub Gives : System → Family → Constraint → ℕ → ℕ → Type 0
-Gives system F constraint row location = IsDemanded (DemandsEdge system F constraint) (DemandsFact system F constraint) F row location
+Gives system F constraint row location =
+    IsDemanded (DemandsEdge system F constraint) (DemandsFact system F constraint) F row location
 
 -- a fact that the rule of a constraint demands, and that the family lacks
 abbrev pub Misses : System → Family → Constraint → ℕ → ℕ → Type 0
-Misses system F constraint row location = IsMissing (DemandsEdge system F constraint) (DemandsFact system F constraint) F row location
+Misses system F constraint row location =
+    IsMissing (DemandsEdge system F constraint) (DemandsFact system F constraint) F row location

@@ -11,7 +11,8 @@ Within a b = (k : ℕ) → bit_at a k ≡ 1 → bit_at b k ≡ 1
 
 -- a fact of a mask at the word of this number
 abbrev pub At : ℕ → ℕ → ℕ → ℕ → ℕ → Type 0
-At width word mask row location = (location < 64 * width) × (row * width + location / 64 ≡ word) × (bit_at mask (location % 64) ≡ 1)
+At width word mask row location =
+    (location < 64 * width) × (row * width + location / 64 ≡ word) × (bit_at mask (location % 64) ≡ 1)
 
 -- every fact in range
 abbrev pub full : System → Family

@@ -21,9 +21,9 @@ use Rattle.c_conversions.specs.Constants.{HasRows, HaveRows}
 use Rattle.sense_laws.specs.Sound.{Gives}
 use Rattle.sense_laws.proofs.Giving.{then_gives, if_given, some_given, if_holds}
 use Rattle.sense_laws.proofs.Conversions.{whole_integer}
-use Rattle.row_trees.specs.Trees.{AllHaveRows, RowsValue, RowsOf}
-use Rattle.row_trees.proofs.Conversions.{promotion_value, conversion_rows}
-use Rattle.row_trees.proofs.Expressions.{core_rows, value_in_rows}
+use Rattle.sense_laws.specs.row_trees.Trees.{AllHaveRows, RowsValue, RowsOf}
+use Rattle.sense_laws.proofs.row_trees.Conversions.{promotion_value, conversion_rows}
+use Rattle.sense_laws.proofs.row_trees.Expressions.{core_rows, value_in_rows}
 use Rattle.statement_rows.specs.Kept.{RunHasRows, HasAllRows}
 
 whole_sort : (x : OperandSort) → is_whole x ≡ true → x ≡ Whole

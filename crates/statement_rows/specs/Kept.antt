@@ -7,12 +7,12 @@ use Rattle.c_senses.specs.Sense.{Sense, IsRun, IsInitial}
 use Rattle.c_senses.specs.Statements.{statement_row, block_row, declaration_row, rest_row}
 use Rattle.c_conversions.specs.Constants.{HasRows}
 use Rattle.sense_laws.specs.Sound.{Gives}
-use Rattle.row_trees.specs.Trees.{SenseHasRows, AllHaveRows}
+use Rattle.sense_laws.specs.row_trees.Trees.{SenseHasRows, AllHaveRows}
 use Rattle.c_results.specs.declared.made.Made.{Made}
 use Rattle.c_results.specs.Standing.{sense_made}
 
--- what a declaration runs, and an initialiser: trees in which each node of a constant stands in its row; nothing is asked of other
--- senses
+-- what a declaration runs, and an initialiser: trees in which each node of a constant stands in its row; nothing is
+-- asked of other senses
 abbrev pub RunHasRows : Sense → Type 0
 RunHasRows (IsRun cores) = AllHaveRows cores
 RunHasRows (IsInitial c n) = HasRows c
@@ -33,4 +33,5 @@ pub record StatementsKept (w : World) (s : Source) (sense : ℕ → Sense) : Typ
   pub rests : (children : List ℕ) → Gives HasAllRows (rest_row w s sense children)
 
 abbrev pub RowsKept : Type 0
-RowsKept = (w : World) (s : Source) (sense : ℕ → Sense) → ((i : ℕ) → HasAllRows (sense i)) → StatementsKept w s sense
+RowsKept =
+    (w : World) (s : Source) (sense : ℕ → Sense) → ((i : ℕ) → HasAllRows (sense i)) → StatementsKept w s sense

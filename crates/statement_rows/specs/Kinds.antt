@@ -19,7 +19,8 @@ is_function_entry (Some d) = d.is_function && not (names_type d)
 -- the flags of leaves say which declare typedef names, and which functions
 pub record AreKinds (s : Source) (kinds : NameKinds) : Type 0 where
   pub typedefs : (sense : ℕ → Sense) (leaf : ℕ) → get_or kinds.typedefs.items leaf false ≡ is_typedef s sense leaf
-  pub functions : (sense : ℕ → Sense) (leaf : ℕ) → get_or kinds.functions.items leaf false ≡ declares_function s sense leaf
+  pub functions : (sense : ℕ → Sense) (leaf : ℕ)
+      → get_or kinds.functions.items leaf false ≡ declares_function s sense leaf
 
 -- the flags of leaves say it of some declarations
 pub record Flagged (ds : List Declared) (typedefs functions : List Bool) : Type 0 where

@@ -1,5 +1,6 @@
 -- What the parts of declarations bring.
-use Rattle.std.specs.Prelude.{ℕ, ◌≡◌, Bool, ◌&&◌, ◌||◌, is_some, List, [], ◌∷◌, Option, Some, None, map, if◌then◌else◌}
+use Rattle.std.specs.Prelude.{ℕ, ◌≡◌, Bool, ◌&&◌, ◌||◌, is_some, List, [], ◌∷◌, Option, Some, None, map}
+use Rattle.std.specs.Prelude.{if◌then◌else◌}
 use Rattle.c_grammar.specs.Productions.{p_external, p_declarator, p_declaration, p_block}
 use Rattle.core_tree.specs.declared.node.Unit.{Unit}
 use Rattle.std.specs.Borrow.{Bor}
@@ -32,9 +33,12 @@ RunSeen u (Some nodes) run = run ≡ Some (map (core_at u) nodes.now)
 abbrev pub is_definition : Source → ℕ → Bool
 is_definition s p = is_a s p_external p && is_some (child_of s p_block p)
 
--- what a leaf declares is a parameter, or stands at file scope, or has a word for storage with which it isn't automatic
+-- what a leaf declares is a parameter, or stands at file scope, or has a word for storage with which it isn't
+-- automatic
 abbrev pub is_placed : Source → (ℕ → Sense) → ℕ → Bool
-is_placed s sense leaf = is_parameter s sense leaf || (is_at_file s sense leaf || (has_storage s sense word_static leaf || has_storage s sense word_extern leaf))
+is_placed s sense leaf =
+    is_parameter s sense leaf
+    || (is_at_file s sense leaf || (has_storage s sense word_static leaf || has_storage s sense word_extern leaf))
 
 module _ (w : World) (s : Source) (sense : ℕ → Sense) where
   -- the automatic object that a node declares, if it is a declarator that does

@@ -19,4 +19,7 @@ pub record IsTold (w : World) (s : Source) (sense : ℕ → Sense) (at : ℕ) (c
 
 -- a statement, a block, a declaration or the rest of one
 abbrev pub IsStatementPart : ℕ → Type 0
-IsStatementPart production = IsTrue ((production == p_rest) || ((production == p_declaration) || ((production == p_block) || (production == p_statement))))
+IsStatementPart production =
+    IsTrue
+    ((production == p_rest)
+    || ((production == p_declaration) || ((production == p_block) || (production == p_statement))))

@@ -1,13 +1,15 @@
 -- Statements by the keyword with which they begin, as the code asks for them.
 use Rattle.std.specs.Prelude.{ℕ, ◌==◌, List, if◌then◌else◌}
 use Rattle.pta_base.specs.declared.kind.Kind.TheVariants.{Operand}
-use Rattle.c_grammar.specs.Words.{word_if, word_switch, word_while, word_do, word_for, word_goto, word_continue, word_break, word_return}
+use Rattle.c_grammar.specs.Words.{word_if, word_switch, word_while, word_do, word_for, word_goto, word_continue}
+use Rattle.c_grammar.specs.Words.{word_break, word_return}
 use Rattle.c_consts.specs.Core.{Core}
 use Rattle.c_senses.specs.Tree.{Source}
 use Rattle.c_senses.specs.Given.{Given, Refuses, ◌>>=◌}
 use Rattle.c_senses.specs.World.{World}
 use Rattle.c_senses.specs.Sense.{Sense, fits}
-use Rattle.c_senses.specs.Statements.{if_row, switch_row, while_row, do_row, for_row, goto_row, continue_row, break_row, return_row, expression_in}
+use Rattle.c_senses.specs.Statements.{if_row, switch_row, while_row, do_row, for_row, goto_row, continue_row}
+use Rattle.c_senses.specs.Statements.{break_row, return_row, expression_in}
 
 -- a core tree as the sense of its node
 abbrev pub sensed : Given Core → Given Sense

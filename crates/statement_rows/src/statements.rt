@@ -9,7 +9,7 @@ ghost use Rattle.c_senses.specs.Statements as spec;
 ghost use Rattle.sense_laws.specs.Senses.{ChildrenFirst};
 ghost use Rattle.core_nodes.specs.Standing.{IsReady, Builds, Made as CoreMade, Knows};
 ghost use Rattle.c_results.specs.Standing.{senses_made, IsWithin, Rowed};
-ghost use Rattle.constant_values.specs.Constants.{HasConstants};
+ghost use Rattle.c_conversions.specs.constant_values.Constants.{HasConstants};
 ghost use Rattle.tree_reads.specs.Sources.{source_read, source_in};
 ghost use Rattle.statement_rows.specs.Kinds.{AreKinds};
 ghost use Rattle.statement_rows.specs.Told.{AreSpelled, IsTold};

@@ -31,7 +31,10 @@ pub record Completes (old new : Unit) (tag : ℕ) (parts : List Part) : Type 0 w
   pub tags : new.types.tags ≡ old.types.tags
   pub entities : new.entities.items ≡ old.entities.items
   pub was_open : members_in old.types tag ≡ None
-  pub parts_are : (t : ℕ) → parts_in new.types (members_in new.types t) ≡ with_members (λ k. parts_in old.types (members_in old.types k)) tag parts t
+  pub parts_are : (t : ℕ)
+      → parts_in new.types (members_in new.types t)
+      ≡ with_members (λ k. parts_in old.types (members_in old.types k)) tag parts t
   pub look : (t : ℕ) → look_in new.types t ≡ with_extents (look_in old.types) tag parts t
   pub kept : (t : Ctype) (e : Extent) → extent_in old.types t ≡ Some e → extent_in new.types t ≡ Some e
-  pub completed : map (tag_parts new.types) new.types.completed ≡ map (tag_parts old.types) old.types.completed ++ record { tag = tag; members = parts } ∷ []
+  pub completed : map (tag_parts new.types) new.types.completed
+      ≡ map (tag_parts old.types) old.types.completed ++ record { tag = tag; members = parts } ∷ []

@@ -13,8 +13,14 @@ use Rattle.struct_rows.specs.Built.{built_struct, HasTagTypes}
 
 -- a built row is the whole row, or is NotBuilt at its node
 abbrev pub StructIsPart : Type 0
-StructIsPart = (w : World) (s : Source) (sense : ℕ → Sense) (at : ℕ) → (built_struct w s sense at ≡ struct_row w s sense at) ⊎ (built_struct w s sense at ≡ Refuses NotBuilt at)
+StructIsPart =
+    (w : World) (s : Source) (sense : ℕ → Sense) (at : ℕ)
+    → (built_struct w s sense at ≡ struct_row w s sense at) ⊎ (built_struct w s sense at ≡ Refuses NotBuilt at)
 
 -- types of tags stay while a unit grows
 abbrev pub TagTypesKept : Type 0
-TagTypesKept = (s : Source) (old new : Unit) (completed : List TagParts) → Grows old new completed → HasTagTypes s old.types → HasTagTypes s new.types
+TagTypesKept =
+    (s : Source) (old new : Unit) (completed : List TagParts)
+    → Grows old new completed
+    → HasTagTypes s old.types
+    → HasTagTypes s new.types

@@ -3,3 +3,4 @@ pub mod Taken
 pub mod Built
 pub mod Standing
 pub mod Laws
+pub mod tag_types

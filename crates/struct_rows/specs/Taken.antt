@@ -1,5 +1,6 @@
 -- Members that a structure or union may be completed with (C11 6.7.2.1).
-use Rattle.std.specs.Prelude.{ℕ, Bool, true, false, ◌&&◌, ◌||◌, not, nat_lt, nat_le, List, [], ◌∷◌, Option, Some, None, is_some}
+use Rattle.std.specs.Prelude.{ℕ, Bool, true, false, ◌&&◌, ◌||◌, not, nat_lt, nat_le, List, [], ◌∷◌, Option, Some}
+use Rattle.std.specs.Prelude.{None, is_some}
 use Rattle.c_types.specs.Trees.{Ctype, ArrayOf}
 use Rattle.c_types.specs.Layout.{Extent}
 use Rattle.c_inits.specs.Made.{Part}

@@ -4,6 +4,7 @@
 mod completion;
 pub mod laws;
 mod rows;
+pub mod tag_types;
 mod taking;
 
 pub use completion::{complete, is_small_type};

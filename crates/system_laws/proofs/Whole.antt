@@ -34,8 +34,8 @@ use Rattle.call_sites.specs.Calls.{calls_upto, givers_in, fresh_in, named_librar
 use Rattle.normal_form.specs.Facts.{location_fact, effects_by, IsFunctionFact}
 use Rattle.normal_form.specs.SystemOf.{setting_of, SystemOf}
 use Rattle.constraints.specs.System.{IsSized, AreLocated}
-use Rattle.call_laws.specs.Values.{AreCallsOfValues}
-use Rattle.main_laws.proofs.Objects.{body_begins}
+use Rattle.linked_laws.specs.call_laws.Values.{AreCallsOfValues}
+use Rattle.linked_laws.proofs.main_laws.Objects.{body_begins}
 use Rattle.system_laws.specs.Parts.{HasBody, AreDemandsValid}
 use Rattle.system_laws.proofs.Compact.{zip_right, zip_length, numbered_length}
 use Rattle.system_laws.proofs.Functions.{place_of, number_within, locations_valid}

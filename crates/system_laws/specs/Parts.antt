@@ -11,7 +11,7 @@ use Rattle.obj_space.specs.Space.{locations_in}
 use Rattle.obj_space.specs.View.{SpaceView, view_of}
 use Rattle.normal_form.specs.SystemOf.{SystemOf}
 use Rattle.constraints.specs.System.{IsSized, AreLocated}
-use Rattle.call_laws.specs.Values.{AreCallsOfValues}
+use Rattle.linked_laws.specs.call_laws.Values.{AreCallsOfValues}
 
 -- a program with a function that has a body
 pub record HasBody (p : Program) : Type 0 where
@@ -33,6 +33,9 @@ LocationsValid = (p : Program) (s : SpaceView) (system : System) → SystemOf p 
 -- these decide whether the system is valid, and nothing else does
 abbrev pub DemandsDecide : Type 0
 DemandsDecide =
-    (p : Program) (space : List Location) (system : System) → space ≡ locations_in p → SystemOf p (view_of space) system → HasBody p
+    (p : Program) (space : List Location) (system : System)
+    → space ≡ locations_in p
+    → SystemOf p (view_of space) system
+    → HasBody p
     → AreCallsOfValues p
     → IsSized system → AreLocated system → AreDemandsValid system → IsValid system

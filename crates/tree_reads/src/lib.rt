@@ -3,7 +3,9 @@
 
 mod above;
 mod held;
+pub mod leaf_maps;
 mod lists;
+pub mod node_roles;
 mod order;
 mod parents;
 mod reads;

@@ -1,6 +1,7 @@
 -- Which types agree, and which values turn into which.
 use Rattle.std.specs.Prelude.{◌≡◌, ⊤, Option, Some, None}
-use Rattle.c_types.specs.Trees.{Ctype, VoidType, BoolType, IntegerType, PointerTo, ArrayOf, FunctionFrom, StructureOf}
+use Rattle.c_types.specs.Trees.{Ctype, VoidType, BoolType, IntegerType, PointerTo, ArrayOf, FunctionFrom}
+use Rattle.c_types.specs.Trees.{StructureOf}
 use Rattle.c_types.specs.declared.term.Form.TheVariants.{Unspecified}
 use Rattle.c_types.specs.Table.{Table}
 use Rattle.type_rules.specs.Members.{IsMemberOf}

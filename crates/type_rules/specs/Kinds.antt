@@ -1,6 +1,7 @@
 -- What a type is.
 use Rattle.std.specs.Prelude.{◌≤◌, ⊤, true, None, ◌⊎◌}
-use Rattle.c_types.specs.Trees.{Ctype, BoolType, IntegerType, PointerTo, ArrayOf, FunctionFrom, StructureOf, UnionOf}
+use Rattle.c_types.specs.Trees.{Ctype, BoolType, IntegerType, PointerTo, ArrayOf, FunctionFrom, StructureOf}
+use Rattle.c_types.specs.Trees.{UnionOf}
 
 -- a type of whole numbers
 abbrev pub IsInteger : Ctype → Type 0

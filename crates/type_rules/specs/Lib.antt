@@ -3,3 +3,4 @@ pub mod Conversions
 pub mod Members
 pub mod Numbers
 pub mod Sizes
+pub mod term_types

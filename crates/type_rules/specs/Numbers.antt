@@ -5,7 +5,8 @@ use Rattle.c_types.specs.Trees.{Ctype, BoolType, IntegerType}
 -- half of the numbers of a size, which is 1, 2, 4 or 8
 abbrev pub half_of : ℕ → ℕ
 half_of size =
-    if nat_eq size 1 then 128 else (if nat_eq size 2 then 32768 else (if nat_eq size 4 then 2147483648 else 9223372036854775808))
+    if nat_eq size 1 then 128
+    else (if nat_eq size 2 then 32768 else (if nat_eq size 4 then 2147483648 else 9223372036854775808))
 
 abbrev pub InSigned : ℕ → ℤ → Type 0
 InSigned half n = (neg_ℤ (pos half) ≤ℤ n) × (n <ℤ pos half)

@@ -32,7 +32,8 @@ IsOpenIn table t = ⊥
 
 -- the structure or union has a size, if it is complete
 abbrev pub TagHasSize : Table → ℕ → Type 0
-TagHasSize table id = IsAggregate (type_of table id) → IsObject table (type_of table id) → HasSize table (type_of table id)
+TagHasSize table id =
+    IsAggregate (type_of table id) → IsObject table (type_of table id) → HasSize table (type_of table id)
 
 -- each complete structure or union has a size
 abbrev pub TagsHaveSizes : Table → Type 0
@@ -44,5 +45,6 @@ ResultHasSize table t = (result_of t ≡ VoidType) ⊎ HasSize table (result_of 
 
 -- a function type without parameters has its type with the list (void) in the table
 abbrev pub HasSignature : Table → Ctype → Type 0
-HasSignature table (FunctionFrom result NoTypes form) = (id : ℕ) × (id < length table.terms) × (type_of table id ≡ FunctionFrom result NoTypes Fixed)
+HasSignature table (FunctionFrom result NoTypes form) =
+    (id : ℕ) × (id < length table.terms) × (type_of table id ≡ FunctionFrom result NoTypes Fixed)
 HasSignature table t = ⊤

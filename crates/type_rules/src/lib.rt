@@ -6,3 +6,4 @@ pub mod kinds;
 pub mod members;
 pub mod numbers;
 pub mod sizes;
+pub mod term_types;

@@ -1,6 +1,6 @@
 // Maps of a few pairs.
-use leaf_maps::LeafMap;
 use std::test::Fail;
+use tree_reads::leaf_maps::LeafMap;
 
 // The first pair of a leaf counts, and what no pair has is missing.
 #[test]

@@ -5,7 +5,7 @@ ghost use Rattle.c_types.specs.Table.{type_of};
 ghost use Rattle.c_types.specs.Made.{ArePlain, IsComplete};
 
 use crate::tagged::{new_structure, new_union};
-use c_members::{has_members, member_of, member_refusal, way_to};
+use c_operators::c_members::{has_members, member_of, member_refusal, way_to};
 use c_types::table::TypeTable;
 use c_types::term::{MemberTerm, Name, OutOfMemory, Term, TypeId};
 use pta_base::Kind;

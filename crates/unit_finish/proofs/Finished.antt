@@ -3,9 +3,9 @@ use Rattle.std.proofs.Common.{◌≡◌, ◌∙◌, ℕ, List, Option, ap, map}
 use Rattle.c_types.specs.Table.{Table}
 use Rattle.core_tree.specs.declared.node.Node.{Node}
 use Rattle.core_tree.specs.declared.node.Unit.{Unit}
-use Rattle.unit_parts.specs.declared.declared.Declared.{Declared}
-use Rattle.unit_parts.specs.Renamed.{renamed_node}
-use Rattle.unit_parts.specs.Entities.{numbering_of, entities_from}
+use Rattle.unit_finish.specs.declared.unit_parts.declared.Declared.{Declared}
+use Rattle.unit_finish.specs.unit_parts.Renamed.{renamed_node}
+use Rattle.unit_finish.specs.unit_parts.Entities.{numbering_of, entities_from}
 use Rattle.unit_finish.specs.Complete.{IsMadeOf}
 
 -- functions that give the same are the same

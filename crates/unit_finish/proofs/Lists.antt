@@ -6,13 +6,13 @@ use Rattle.core_tree.specs.declared.node.Node.{Node}
 use Rattle.core_tree.specs.declared.node.NodeKind.{NodeKind}
 use Rattle.core_tree.specs.declared.node.NodeKind.TheVariants.{Literal}
 use Rattle.core_tree.specs.Range.{child_in}
-use Rattle.kept_nodes.specs.Marked.{marked}
+use Rattle.core_nodes.specs.kept_nodes.Marked.{marked}
 use Rattle.c_senses.specs.Tree.{paired}
-use Rattle.unit_parts.specs.declared.declared.Declared.{Declared}
-use Rattle.unit_parts.specs.declared.literals.LiteralAt.{LiteralAt}
-use Rattle.unit_parts.specs.Numbered.{numbered_from, staying}
-use Rattle.unit_parts.specs.Renamed.{renamed_node, with_literal, literals_in}
-use Rattle.unit_parts.specs.Entities.{leaves_from, numbering_of, with_body, bodies_of, entity_from, entities_from}
+use Rattle.unit_finish.specs.declared.unit_parts.declared.Declared.{Declared}
+use Rattle.unit_finish.specs.declared.unit_parts.literals.LiteralAt.{LiteralAt}
+use Rattle.unit_finish.specs.unit_parts.Numbered.{numbered_from, staying}
+use Rattle.unit_finish.specs.unit_parts.Renamed.{renamed_node, with_literal, literals_in}
+use Rattle.unit_finish.specs.unit_parts.Entities.{leaves_from, numbering_of, with_body, bodies_of, entity_from, entities_from}
 
 -- a marked node stays, under its new number
 pub kept_at : (f : Node → Node) (k : ℕ) (marks : List Bool) (nodes : List Node) (j : ℕ) (x : Node) → marked marks j → slice_get nodes j ≡ Some x → (i : ℕ) × (get_or (numbered_from k marks) j None ≡ Some (k + i)) × (slice_get (map f (staying nodes (numbered_from k marks))) i ≡ Some (f x))

@@ -9,10 +9,10 @@ use Rattle.core_nodes.specs.Standing.{IsReady}
 use Rattle.c_senses.specs.Tree.{Source}
 use Rattle.c_senses.specs.Sense.{Sense}
 use Rattle.c_senses.specs.Right.{Right}
-use Rattle.unit_parts.specs.declared.declared.Declared.{Declared}
-use Rattle.unit_parts.specs.Renamed.{literals_in}
-use Rattle.planted_nodes.specs.declared.planting.Planted.{Planted}
-use Rattle.planted_nodes.specs.Planted.{IsPlanted}
+use Rattle.unit_finish.specs.declared.unit_parts.declared.Declared.{Declared}
+use Rattle.unit_finish.specs.unit_parts.Renamed.{literals_in}
+use Rattle.unit_finish.specs.declared.planted_nodes.planting.Planted.{Planted}
+use Rattle.unit_finish.specs.planted_nodes.Planted.{IsPlanted}
 use Rattle.unit_finish.specs.declared.keeping.Kept.{Kept}
 use Rattle.unit_finish.specs.Complete.{IsKept, IsUnitOf, Completes}
 use Rattle.unit_finish.specs.Walked.{IsWalked, literal_entry}

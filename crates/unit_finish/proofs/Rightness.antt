@@ -14,18 +14,18 @@ use Rattle.core_tree.specs.Valid.{IsChild, child_in, entity_at}
 use Rattle.c_consts.specs.Core.{Core, Cores, kind_of, ctype_of, cores_under, core_in}
 use Rattle.core_nodes.specs.Standing.{core_at, cores_at, IsReady}
 use Rattle.core_nodes.proofs.Reading.{type_is, kind_is, under_is}
-use Rattle.kept_nodes.specs.Marked.{marked, ChildIn}
+use Rattle.core_nodes.specs.kept_nodes.Marked.{marked, ChildIn}
 use Rattle.c_senses.specs.Tree.{Source}
 use Rattle.c_senses.specs.Tags.{completed_from, members_under}
 use Rattle.c_senses.specs.Sense.{Sense, sense_in}
 use Rattle.c_senses.specs.Right.{Numbering, SameOwner, SameBody, IsEntityOf, IsBody, IsLiteralOf, IsDeclaredAt, declared_name, literal_as, KeysRight, is_tag, Right}
 use Rattle.c_senses.specs.Right as right
-use Rattle.unit_parts.specs.declared.declared.Declared.{Declared}
-use Rattle.unit_parts.specs.declared.literals.LiteralAt.{LiteralAt}
-use Rattle.unit_parts.specs.Numbered.{numbered_from, new_number, moved}
-use Rattle.unit_parts.specs.Renamed.{renamed_node, literals_in}
-use Rattle.unit_parts.specs.Entities.{numbering_of, is_owner_known, bodies_of, with_moved_body, entity_from}
-use Rattle.planted_nodes.specs.Planted.{IsBodyCopy, IsMoved, IsPlanted}
+use Rattle.unit_finish.specs.declared.unit_parts.declared.Declared.{Declared}
+use Rattle.unit_finish.specs.declared.unit_parts.literals.LiteralAt.{LiteralAt}
+use Rattle.unit_finish.specs.unit_parts.Numbered.{numbered_from, new_number, moved}
+use Rattle.unit_finish.specs.unit_parts.Renamed.{renamed_node, literals_in}
+use Rattle.unit_finish.specs.unit_parts.Entities.{numbering_of, is_owner_known, bodies_of, with_moved_body, entity_from}
+use Rattle.unit_finish.specs.planted_nodes.Planted.{IsBodyCopy, IsMoved, IsPlanted}
 use Rattle.unit_finish.specs.declared.keeping.Kept.{Kept}
 use Rattle.unit_finish.specs.Complete.{IsKept, IsUnitOf, Completes}
 use Rattle.unit_finish.specs.Walked.{declared_seen, literal_entry, IsWalked}

@@ -13,16 +13,16 @@ use Rattle.core_tree.specs.Range.{child_in}
 use Rattle.c_consts.specs.Core.{Core, Cores, core_in}
 use Rattle.core_nodes.specs.Standing.{core_at, cores_at, IsReady}
 use Rattle.core_nodes.proofs.Reading.{core_is, under_is}
-use Rattle.kept_nodes.specs.Marked.{marked, ChildIn}
+use Rattle.core_nodes.specs.kept_nodes.Marked.{marked, ChildIn}
 use Rattle.c_senses.specs.Right.{Numbering, SameEntities, SameKind, StandsBy, AllStandBy, IsPart, Within, Itself, Below}
 use Rattle.c_senses.specs.Tree.{Source}
 use Rattle.c_senses.specs.Sense.{Sense}
-use Rattle.unit_parts.specs.Marked.{AreMarked}
-use Rattle.unit_parts.specs.Numbered.{numbered_from, new_number, moved, kept_of}
-use Rattle.unit_parts.specs.Renamed.{entity_number, renamed, renamed_node, all_known, is_known}
-use Rattle.kept_nodes.proofs.Copying.{child_before}
-use Rattle.planted_nodes.specs.Copied.{no_node, node_of}
-use Rattle.planted_nodes.specs.Planted.{IsCopy}
+use Rattle.unit_finish.specs.unit_parts.Marked.{AreMarked}
+use Rattle.unit_finish.specs.unit_parts.Numbered.{numbered_from, new_number, moved, kept_of}
+use Rattle.unit_finish.specs.unit_parts.Renamed.{entity_number, renamed, renamed_node, all_known, is_known}
+use Rattle.core_nodes.proofs.kept_nodes.Copying.{child_before}
+use Rattle.unit_finish.specs.planted_nodes.Copied.{no_node, node_of}
+use Rattle.unit_finish.specs.planted_nodes.Planted.{IsCopy}
 use Rattle.unit_finish.proofs.Lists.{kept_at, get_map}
 
 pub number_same : (o : Option ℕ) → is_some o ≡ true → o ≡ Some (unwrap_or o 0)

@@ -12,8 +12,8 @@ use Rattle.c_senses.specs.Right.{declared_name, literal_storage, is_tag, TagsDif
 use Rattle.c_senses.specs.Right as right
 use Rattle.c_senses.specs.Rows.{AreSenses, world_at}
 use Rattle.c_senses.specs.Sense.{Sense, sense_in}
-use Rattle.unit_parts.specs.declared.declared.Declared.{Declared}
-use Rattle.unit_parts.specs.declared.literals.LiteralAt.{LiteralAt}
+use Rattle.unit_finish.specs.declared.unit_parts.declared.Declared.{Declared}
+use Rattle.unit_finish.specs.declared.unit_parts.literals.LiteralAt.{LiteralAt}
 
 -- what a unit's nodes and types make of it
 abbrev pub declared_seen : Unit → Declared → right.Declared
@@ -27,12 +27,25 @@ declared_seen u x = record {
   body = option_map (core_at u) x.body;
 }
 
--- the list has what each leaf of a name declares, once, in the order of the leaves, with a type of the table, and nothing else
+-- the list has what each leaf of a name declares, once, in the order of the leaves, with a type of the table, and
+-- nothing else
 pub record AreNames (s : Source) (senses : List Sense) (u : Unit) (names : List Declared) : Type 0 where
-  pub each : (k : ℕ) (x : Declared) → slice_get names k ≡ Some x → declared_name s senses x.leaf ≡ Some (declared_seen u x)
-  pub all : (d : ℕ) (what : right.Declared) → declared_name s senses d ≡ Some what → (k : ℕ) × (x : Declared) × (slice_get names k ≡ Some x) × (x.leaf ≡ d)
-  pub once : (j k : ℕ) (x y : Declared) → slice_get names j ≡ Some x → slice_get names k ≡ Some y → x.leaf ≡ y.leaf → j ≡ k
-  pub ascend : (j k : ℕ) (x y : Declared) → j < k → slice_get names j ≡ Some x → slice_get names k ≡ Some y → x.leaf < y.leaf
+  pub each : (k : ℕ) (x : Declared)
+      → slice_get names k ≡ Some x
+      → declared_name s senses x.leaf ≡ Some (declared_seen u x)
+  pub all : (d : ℕ) (what : right.Declared)
+      → declared_name s senses d ≡ Some what
+      → (k : ℕ) × (x : Declared) × (slice_get names k ≡ Some x) × (x.leaf ≡ d)
+  pub once : (j k : ℕ) (x y : Declared)
+      → slice_get names j ≡ Some x
+      → slice_get names k ≡ Some y
+      → x.leaf ≡ y.leaf
+      → j ≡ k
+  pub ascend : (j k : ℕ) (x y : Declared)
+      → j < k
+      → slice_get names j ≡ Some x
+      → slice_get names k ≡ Some y
+      → x.leaf < y.leaf
   pub typed : (k : ℕ) (x : Declared) → slice_get names k ≡ Some x → x.ty.0 < length u.types.terms
 
 -- what is declared at a compound literal
@@ -53,11 +66,15 @@ pub record AreTags (s : Source) (senses : List Sense) (u : Unit) : Type 0 where
   pub once : TagsDiffer s
   pub each : (d : ℕ) → is_tag s d ≡ true → s.tag_number d < u.types.tags
   pub no_other : (t : ℕ) → t < u.types.tags → (d : ℕ) × (is_tag s d ≡ true) × (s.tag_number d ≡ t)
-  pub members : (d : ℕ) → is_tag s d ≡ true → parts_in u.types (members_in u.types (s.tag_number d)) ≡ members_under (completed_from s senses (sense_in senses) 0) (s.tag_number d)
+  pub members : (d : ℕ)
+      → is_tag s d ≡ true
+      → parts_in u.types (members_in u.types (s.tag_number d))
+      ≡ members_under (completed_from s senses (sense_in senses) 0) (s.tag_number d)
 
--- the senses of a whole tree, with its tags, the keys of these, and the names that it declares; the table knows the members and the sizes at
--- its end
-pub record IsWalked (s : Source) (senses : List Sense) (u : Unit) (keys : List (Option (List ℕ))) (names : List Declared) : Type 0 where
+-- the senses of a whole tree, with its tags, the keys of these, and the names that it declares; the table knows the
+-- members and the sizes at its end
+pub record IsWalked (s : Source) (senses : List Sense) (u : Unit) (keys : List (Option (List ℕ)))
+    (names : List Declared) : Type 0 where
   pub are_senses : AreSenses s senses
   pub whole : length senses ≡ length s.nodes
   pub tags : AreTags s senses u

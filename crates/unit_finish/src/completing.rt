@@ -5,12 +5,12 @@ ghost use Rattle.std.specs.Prelude.{◌≡◌, MatchResult};
 ghost use Rattle.core_nodes.specs.declared.fault.CheckFault.TheVariants.{OutOfMemory};
 ghost use Rattle.unit_finish.specs.Complete.{MakesUnits, IsUnitOf};
 
+use crate::unit_parts::{Declared, entities_of, numbering, rename_all};
 use c_types::table::TypeTable;
 use core_nodes::CheckFault;
 use core_tree::node::{Node, Unit};
 use pta_base::Text;
 use std::alloc::Global;
-use unit_parts::{Declared, entities_of, numbering, rename_all};
 
 /// The name and the number of a unit.
 #[derive(Drop)]

@@ -8,20 +8,20 @@ ghost use Rattle.core_nodes.specs.Standing.{IsReady};
 ghost use Rattle.c_senses.specs.Tree.{Source};
 ghost use Rattle.c_senses.specs.Sense.{Sense};
 ghost use Rattle.c_senses.specs.Right.{Right};
-ghost use Rattle.unit_parts.specs.declared.declared.Declared.{Declared as DeclaredSpec};
-ghost use Rattle.unit_parts.specs.Renamed.{literals_in};
+ghost use Rattle.unit_finish.specs.declared.unit_parts.declared.Declared.{Declared as DeclaredSpec};
+ghost use Rattle.unit_finish.specs.unit_parts.Renamed.{literals_in};
 ghost use Rattle.unit_finish.specs.Complete.{IsKept, Completes, AlwaysCompletes};
 ghost use Rattle.unit_finish.specs.Walked.{IsWalked, literal_entry};
 
 use crate::completing::{Heading, complete};
 use crate::keeping::Kept;
+use crate::planted_nodes::plant;
+use crate::unit_parts::Declared;
 use c_types::table::TypeTable;
 use core_nodes::CheckFault;
 use core_tree::node::Unit;
-use planted_nodes::plant;
 use pta_base::Text;
 use std::alloc::Global;
-use unit_parts::Declared;
 
 /// The unit of what was kept of the walk's nodes and names, and of what is declared at the compound literals among these nodes: its nodes
 /// are made anew, as `plant` says, and the unit of those is as `complete` says. It is asked that all nodes which may be so made have such a

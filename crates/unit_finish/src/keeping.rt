@@ -3,14 +3,16 @@
 
 ghost use Rattle.std.specs.Prelude.{◌≡◌, ◌<◌, ◌^◌, length, All, IfOk, IsOkUnless};
 ghost use Rattle.core_nodes.specs.declared.fault.CheckFault.TheVariants.{OutOfMemory};
-ghost use Rattle.kept_nodes.specs.Marked.{ChildrenFirst};
-ghost use Rattle.unit_parts.specs.Entities.{bodies_of};
+ghost use Rattle.core_nodes.specs.kept_nodes.Marked.{ChildrenFirst};
+ghost use Rattle.unit_finish.specs.unit_parts.Entities.{bodies_of};
 ghost use Rattle.unit_finish.specs.Complete.{IsKept};
 
+use crate::unit_parts::{
+    Declared, bodies_of, kept_nodes, marks_under, numbers_of, with_moved_bodies,
+};
 use core_nodes::CheckFault;
 use core_tree::node::Node;
 use std::alloc::Global;
-use unit_parts::{Declared, bodies_of, kept_nodes, marks_under, numbers_of, with_moved_bodies};
 
 /// The nodes that stay, and what the names declare, with the new numbers of bodies.
 #[derive(Drop)]

@@ -4,6 +4,9 @@
 mod completing;
 mod finishing;
 mod keeping;
+pub mod own_bodies;
+pub mod planted_nodes;
+pub mod unit_parts;
 
 pub use completing::{Heading, complete};
 pub use finishing::finish;

@@ -10,7 +10,7 @@ use Rattle.c_senses.specs.Keys.{parts_of, parts_before}
 use Rattle.c_senses.specs.World.{or_else}
 use Rattle.c_senses.specs.Sense.{Sense, IsMembers}
 use Rattle.c_results.specs.Parts.{parts_in}
-use Rattle.leaf_maps.specs.Numbers.{number_at}
+use Rattle.tree_reads.specs.leaf_maps.Numbers.{number_at}
 use Rattle.unit_keys.specs.Placed.{position_below}
 use Rattle.unit_keys.proofs.Lists.{drop_step, first_more}
 

@@ -11,7 +11,7 @@ use Rattle.c_senses.specs.Tree.{Source, is_a, is_number, production_of, children
 use Rattle.c_senses.specs.Keys.{parts_before}
 use Rattle.c_senses.specs.World.{or_else}
 use Rattle.c_senses.specs.Sense.{Sense}
-use Rattle.leaf_maps.specs.Numbers.{number_at}
+use Rattle.tree_reads.specs.leaf_maps.Numbers.{number_at}
 use Rattle.unit_keys.specs.Placed.{position_below, ArePositions, AreNoted}
 
 same_number : (p q : ℕ) → (p == q) ≡ true → p ≡ q

@@ -8,7 +8,7 @@ use Rattle.c_senses.specs.Tags.{tag_leaf}
 use Rattle.c_senses.specs.Keys.{has_bytes, is_untagged, is_taken, first_free, names_with}
 use Rattle.c_senses.specs.Sense.{Sense}
 use Rattle.c_senses.specs.World.{or_else}
-use Rattle.leaf_maps.specs.Numbers.{number_at}
+use Rattle.tree_reads.specs.leaf_maps.Numbers.{number_at}
 use Rattle.unit_keys.specs.Specifiers.{is_specifier}
 use Rattle.unit_keys.specs.Free.{first_untaken, AreFree, TakenBelow}
 use Rattle.std.proofs.Math.ListN.{drop_of_length-le}

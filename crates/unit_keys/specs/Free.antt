@@ -1,10 +1,11 @@
 -- The name by which a specifier without a tag has its key.
-use Rattle.std.specs.Prelude.{ℕ, ◌≡◌, ◌<◌, ◌≤◌, Bool, true, List, [], ◌∷◌, Option, Some, None, option_map, if◌then◌else◌}
+use Rattle.std.specs.Prelude.{ℕ, ◌≡◌, ◌<◌, ◌≤◌, Bool, true, List, [], ◌∷◌, Option, Some, None, option_map}
+use Rattle.std.specs.Prelude.{if◌then◌else◌}
 use Rattle.c_grammar.specs.Productions.{p_declarator}
 use Rattle.c_senses.specs.Tree.{Source, is_a, spelling_at}
 use Rattle.c_senses.specs.Keys.{first_free, is_taken, names_with}
 use Rattle.c_senses.specs.Sense.{Sense, IsDeclarator}
-use Rattle.leaf_maps.specs.Numbers.{number_at}
+use Rattle.tree_reads.specs.leaf_maps.Numbers.{number_at}
 use Rattle.unit_keys.specs.Specifiers.{is_specifier}
 
 -- the name in a sense
@@ -27,5 +28,8 @@ TakenBelow s sense taken count = (name : List ℕ) → taken name ≡ is_taken s
 
 -- for each of the first so many nodes that is a specifier the leaf of the first free name that is declared with it
 pub record AreFree (s : Source) (sense : ℕ → Sense) (free : List (ℕ × ℕ)) (count : ℕ) : Type 0 where
-  pub each : (i : ℕ) → i < count → is_specifier s i ≡ true → option_map (spelling_at s) (number_at free i) ≡ first_free s sense i (names_with s sense i)
+  pub each : (i : ℕ)
+      → i < count
+      → is_specifier s i ≡ true
+      → option_map (spelling_at s) (number_at free i) ≡ first_free s sense i (names_with s sense i)
   pub fresh : (i : ℕ) → count ≤ i → number_at free i ≡ None

@@ -8,17 +8,17 @@ ghost use Rattle.c_senses.specs.Keys as keys;
 ghost use Rattle.c_senses.specs.Sense.{Sense, sense_in};
 ghost use Rattle.c_results.specs.Standing.{senses_made};
 ghost use Rattle.tree_reads.specs.Sources.{source_in};
-ghost use Rattle.node_roles.specs.Roles.{AreRoles};
+ghost use Rattle.tree_reads.specs.node_roles.Roles.{AreRoles};
 ghost use Rattle.unit_keys.specs.Words as words;
 ghost use Rattle.unit_keys.specs.Free.{first_untaken, AreFree, TakenBelow};
 
 use crate::names::leaves_with;
 use crate::words::{Words, add_word, has_word};
 use c_results::Results;
-use leaf_maps::LeafMap;
-use node_roles::{Role, is_specifier_at};
 use std::alloc::{AllocError, Global};
 use std::collections::BTreeMap;
+use tree_reads::leaf_maps::LeafMap;
+use tree_reads::node_roles::{Role, is_specifier_at};
 use tree_reads::{Syntax, Test, children_of, first_where, is_a, spelling_of};
 
 const P_STRUCT: u32 = 12;

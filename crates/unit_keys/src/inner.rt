@@ -5,12 +5,12 @@ ghost use Rattle.std.specs.Prelude.{◌≡◌, ◌<◌, ◌^◌, ◌+◌, ℕ, L
 ghost use Rattle.c_senses.specs.Keys as keys;
 ghost use Rattle.c_senses.specs.Sense.{Sense};
 ghost use Rattle.tree_reads.specs.Sources.{source_in, source_read};
-ghost use Rattle.node_roles.specs.Roles.{AreRoles};
+ghost use Rattle.tree_reads.specs.node_roles.Roles.{AreRoles};
 ghost use Rattle.unit_keys.specs.Placed.{ParentsBehind, AreInner};
 
-use node_roles::{Role, is_boundary_at};
 use std::alloc::{AllocError, Global};
 use tree_reads::Syntax;
+use tree_reads::node_roles::{Role, is_boundary_at};
 
 // Whether a node stands in a block or a parameter list, by what each node is, and by what is known of all nodes behind it, the last one
 // first.

@@ -3,10 +3,12 @@
 #![tactic(auto)]
 
 mod free;
+pub mod given_keys;
 mod inner;
 mod names;
 mod positions;
 mod specifiers;
+pub mod tag_keys;
 mod words;
 
 pub use free::free_names;

@@ -11,16 +11,16 @@ ghost use Rattle.c_senses.specs.Keys as keys;
 ghost use Rattle.c_senses.specs.World.{or_else};
 ghost use Rattle.c_senses.specs.Sense.{Sense, sense_in};
 ghost use Rattle.c_results.specs.Standing.{senses_made};
-ghost use Rattle.leaf_maps.specs.Numbers.{number_at};
+ghost use Rattle.tree_reads.specs.leaf_maps.Numbers.{number_at};
 ghost use Rattle.tree_reads.specs.Sources.{source_in};
-ghost use Rattle.node_roles.specs.Roles.{AreRoles};
+ghost use Rattle.tree_reads.specs.node_roles.Roles.{AreRoles};
 ghost use Rattle.unit_keys.specs.Placed.{AreNoted, ArePositions};
 
 use c_results::{Results, members_at};
-use leaf_maps::LeafMap;
-use node_roles::{Role, is_member_at};
 use pta_base::OutOfMemory;
 use std::alloc::{AllocError, Global};
+use tree_reads::leaf_maps::LeafMap;
+use tree_reads::node_roles::{Role, is_member_at};
 use tree_reads::{Syntax, children_of, is_a};
 
 const P_MEMBER: u32 = 14;

@@ -10,7 +10,7 @@ use Rattle.c_senses.specs.Names.{ordinary_at}
 use Rattle.c_senses.specs.Sense.{Sense, sense_in}
 use Rattle.c_senses.specs.Entities.{is_internal, is_internal_of, internal_among, is_typedef, entity_of, keep, first_of, some_such}
 use Rattle.c_senses.specs.Right.{is_declaring, stands_in_declaration, declares_entity}
-use Rattle.symbol_lists.specs.Symbols.{kept_at}
+use Rattle.name_chains.specs.symbol_lists.Symbols.{kept_at}
 use Rattle.tree_reads.specs.declared.syntax.Syntax.{Syntax}
 use Rattle.unit_names.specs.Firsts.{IsKnownBy, AreFirsts, may_declare}
 

@@ -14,8 +14,8 @@ use Rattle.c_senses.specs.Sense.{Sense}
 use Rattle.c_senses.specs.Right.{declared_name, declares_entity, is_declaring, stands_in_declaration, entity_type, declared_as}
 use Rattle.c_senses.specs.Right as right
 use Rattle.name_places.proofs.Standing.{name_below}
-use Rattle.unit_parts.specs.declared.declared.Declared.{Declared}
-use Rattle.unit_parts.specs.Entities.{bodies_of, with_body}
+use Rattle.unit_finish.specs.declared.unit_parts.declared.Declared.{Declared}
+use Rattle.unit_finish.specs.unit_parts.Entities.{bodies_of, with_body}
 use Rattle.unit_finish.specs.Walked.{declared_seen, AreNames}
 use Rattle.unit_names.specs.Entries.{IsDeclaredIn}
 

@@ -11,8 +11,8 @@ use Rattle.c_senses.specs.Sense.{Sense, Nothing, IsCore, IsType, IsSpecified, Is
 use Rattle.c_senses.specs.Entities.{is_defined, initialiser_for, entity_of, function_around}
 use Rattle.c_senses.specs.Right.{core_of_sense, block_for, body_at, declares_entity, entity_type, declared_as, declared_name, literal_storage}
 use Rattle.c_senses.specs.Right as right
-use Rattle.unit_parts.specs.declared.declared.Declared.{Declared}
-use Rattle.unit_parts.specs.declared.literals.LiteralAt.{LiteralAt}
+use Rattle.unit_finish.specs.declared.unit_parts.declared.Declared.{Declared}
+use Rattle.unit_finish.specs.declared.unit_parts.literals.LiteralAt.{LiteralAt}
 use Rattle.unit_finish.specs.Walked.{literal_entry}
 use Rattle.unit_names.specs.Bodies.{core_of, place_of_body}
 

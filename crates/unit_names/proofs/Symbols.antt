@@ -10,8 +10,8 @@ use Rattle.c_senses.specs.Sense.{Sense, sense_in}
 use Rattle.c_senses.specs.Entities.{keep, is_internal, internal_among}
 use Rattle.c_senses.specs.Right.{of_internal}
 use Rattle.c_named.specs.Lists.{leaves_of}
-use Rattle.symbol_lists.specs.Symbols.{of_symbol, leaf_of}
-use Rattle.symbol_lists.proofs.Before.{keep_of}
+use Rattle.name_chains.specs.symbol_lists.Symbols.{of_symbol, leaf_of}
+use Rattle.name_chains.proofs.symbol_lists.Before.{keep_of}
 use Rattle.unit_names.specs.Internal.{leaf_if, internal_of}
 
 -- the declaration at a place, by its leaf, and what stands behind it

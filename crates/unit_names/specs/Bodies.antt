@@ -15,4 +15,5 @@ core_of x = None
 -- the node that makes the body
 abbrev pub place_of_body : Source → List Sense → ℕ → Option ℕ
 place_of_body s senses leaf =
-    if is_defined s (sense_in senses) leaf then block_for s senses leaf else initialiser_for s (sense_in senses) leaf
+    if is_defined s (sense_in senses) leaf then block_for s senses leaf
+    else initialiser_for s (sense_in senses) leaf

@@ -1,7 +1,7 @@
 -- What is declared, in a unit, and by which leaf.
 use Rattle.std.specs.Prelude.{◌<◌, length, IfSome}
 use Rattle.core_tree.specs.declared.node.Unit.{Unit}
-use Rattle.unit_parts.specs.declared.declared.Declared.{Declared}
+use Rattle.unit_finish.specs.declared.unit_parts.declared.Declared.{Declared}
 
 -- its type and its body are the unit's
 pub record IsDeclaredIn (u : Unit) (x : Declared) : Type 0 where

@@ -10,14 +10,17 @@ use Rattle.c_senses.specs.Names.{ordinary_at}
 use Rattle.c_senses.specs.Sense.{Sense, sense_in}
 use Rattle.c_senses.specs.Entities.{is_internal, is_typedef, entity_of}
 use Rattle.c_senses.specs.Right.{is_declaring, stands_in_declaration}
-use Rattle.symbol_lists.specs.Symbols.{kept_at}
+use Rattle.name_chains.specs.symbol_lists.Symbols.{kept_at}
 use Rattle.tree_reads.specs.declared.syntax.Syntax.{Syntax}
 use Rattle.tree_reads.specs.Sources.{source_in}
 
 -- each declaration of a symbol that gives it internal linkage is known by that leaf
 abbrev pub IsKnownBy : Syntax → List Made → ℕ → ℕ → Type 0
 IsKnownBy syntax results symbol first =
-    (u : Unit) (uses : List (ℕ × ℕ)) (leaf : ℕ) (d : Declared) → ordinary_at (source_in syntax uses) leaf ≡ Some d → d.symbol ≡ symbol → is_internal (source_in syntax uses) (sense_in (senses_made u results)) leaf ≡ true
+    (u : Unit) (uses : List (ℕ × ℕ)) (leaf : ℕ) (d : Declared)
+    → ordinary_at (source_in syntax uses) leaf ≡ Some d
+    → d.symbol ≡ symbol
+    → is_internal (source_in syntax uses) (sense_in (senses_made u results)) leaf ≡ true
     → first ≡ entity_of (source_in syntax uses) (sense_in (senses_made u results)) leaf
 
 -- the leaves by symbols

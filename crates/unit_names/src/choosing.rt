@@ -6,7 +6,7 @@ ghost use Rattle.c_senses.specs.Entities as spec;
 ghost use Rattle.c_senses.specs.Right as right;
 ghost use Rattle.c_results.specs.Standing.{senses_made};
 ghost use Rattle.tree_reads.specs.Sources.{source_read, source_in};
-ghost use Rattle.symbol_lists.specs.Lists.{AreOf};
+ghost use Rattle.name_chains.specs.symbol_lists.Lists.{AreOf};
 ghost use Rattle.c_meanings.specs.Known.{AreNamed};
 ghost use Rattle.unit_names.specs.Choosing as choice;
 
@@ -15,8 +15,8 @@ use c_entities::{has_storage, initialiser_for, is_defined};
 use c_meanings::{Names, declares_function};
 use c_results::Results;
 use core_nodes::CheckFault;
+use name_chains::symbol_lists::SymbolLists;
 use std::alloc::Global;
-use symbol_lists::SymbolLists;
 use tree_reads::Syntax;
 
 const WORD_EXTERN: u8 = 11;

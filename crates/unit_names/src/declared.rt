@@ -13,7 +13,7 @@ ghost use Rattle.c_results.specs.Standing.{senses_made, IsWithin};
 ghost use Rattle.tree_reads.specs.declared.syntax.Syntax.{Syntax as SyntaxSpec};
 ghost use Rattle.tree_reads.specs.Sources.{source_read, source_in};
 ghost use Rattle.name_places.specs.Named.{IsNamedIn};
-ghost use Rattle.symbol_lists.specs.Lists.{AreOf};
+ghost use Rattle.name_chains.specs.symbol_lists.Lists.{AreOf};
 ghost use Rattle.c_meanings.specs.Known.{AreNamed};
 ghost use Rattle.unit_finish.specs.Walked.{declared_seen};
 ghost use Rattle.unit_names.specs.Entries.{IsDeclaredIn};
@@ -31,13 +31,13 @@ use c_results::Results;
 use c_types::term::TypeId;
 use core_nodes::CheckFault;
 use core_tree::node::{Linkage, Unit};
+use name_chains::symbol_lists::SymbolLists;
 use name_places::{is_declaring, stands_in_declaration};
 use pta_base::Text;
 use std::alloc::Global;
 use std::str::from_utf8;
-use symbol_lists::SymbolLists;
 use tree_reads::{Syntax, place_of, spelling_of};
-use unit_parts::Declared;
+use unit_finish::unit_parts::Declared;
 
 /// What is kept while the names of a unit are gone through: of the linkage of names, and by which declarations internal ones are known.
 #[derive(Drop)]

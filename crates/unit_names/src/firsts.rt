@@ -6,7 +6,7 @@ ghost use Rattle.c_results.specs.declared.made.Made.{Made as MadeSpec};
 ghost use Rattle.c_results.specs.Standing.{senses_made};
 ghost use Rattle.c_senses.specs.Sense.{sense_in};
 ghost use Rattle.c_senses.specs.Entities as spec;
-ghost use Rattle.symbol_lists.specs.Symbols.{kept_at};
+ghost use Rattle.name_chains.specs.symbol_lists.Symbols.{kept_at};
 ghost use Rattle.tree_reads.specs.declared.syntax.Syntax.{Syntax as SyntaxSpec};
 ghost use Rattle.tree_reads.specs.Sources.{source_in};
 ghost use Rattle.c_meanings.specs.Known.{AreNamed};

@@ -5,7 +5,7 @@ ghost use Rattle.c_senses.specs.Sense.{sense_in};
 ghost use Rattle.c_senses.specs.Right as right;
 ghost use Rattle.c_results.specs.Standing.{senses_made};
 ghost use Rattle.tree_reads.specs.Sources.{source_read, source_in};
-ghost use Rattle.symbol_lists.specs.Lists.{AreOf};
+ghost use Rattle.name_chains.specs.symbol_lists.Lists.{AreOf};
 ghost use Rattle.c_meanings.specs.Known.{AreNamed};
 ghost use Rattle.c_named.specs.Lists.{leaves_of};
 ghost use Rattle.unit_names.specs.Internal.{leaf_if, internal_of};
@@ -13,8 +13,8 @@ ghost use Rattle.unit_names.specs.Internal.{leaf_if, internal_of};
 use c_meanings::{Names, declared_at, is_internal_after, nothing_seen};
 use c_results::Results;
 use core_nodes::CheckFault;
+use name_chains::symbol_lists::SymbolLists;
 use std::alloc::Global;
-use symbol_lists::SymbolLists;
 use tree_reads::Syntax;
 
 // Adds a leaf that is wanted.

@@ -6,9 +6,9 @@ ghost use Rattle.core_nodes.specs.Standing.{IsReady, Builds};
 ghost use Rattle.c_results.specs.Standing.{senses_made, IsWithin};
 ghost use Rattle.tree_reads.specs.Sources.{source_read, source_in};
 ghost use Rattle.name_places.specs.Named.{IsNamedIn};
-ghost use Rattle.symbol_lists.specs.Lists.{AreOf};
+ghost use Rattle.name_chains.specs.symbol_lists.Lists.{AreOf};
 ghost use Rattle.c_meanings.specs.Known.{AreNamed};
-ghost use Rattle.unit_parts.specs.Entities.{bodies_of};
+ghost use Rattle.unit_finish.specs.unit_parts.Entities.{bodies_of};
 ghost use Rattle.unit_finish.specs.Walked.{AreNames};
 
 use crate::declared::{Asked, declared_at, may_declare};
@@ -17,10 +17,10 @@ use c_mentions::settings::place_of;
 use c_results::Results;
 use core_nodes::CheckFault;
 use core_tree::node::Unit;
+use name_chains::symbol_lists::SymbolLists;
 use std::alloc::Global;
-use symbol_lists::SymbolLists;
 use tree_reads::Syntax;
-use unit_parts::Declared;
+use unit_finish::unit_parts::Declared;
 
 // Adds what is declared, if something is.
 fn add_some(list: &mut Vec<Declared>, found: Option<Declared>) -> Result<(), CheckFault>

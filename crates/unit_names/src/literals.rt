@@ -9,7 +9,7 @@ ghost use Rattle.c_results.specs.Standing.{senses_made};
 ghost use Rattle.tree_reads.specs.Sources.{source_read, source_in};
 ghost use Rattle.name_places.specs.Named.{IsNamedIn};
 ghost use Rattle.c_meanings.specs.Known.{AreNamed};
-ghost use Rattle.unit_parts.specs.Renamed as renamed;
+ghost use Rattle.unit_finish.specs.unit_parts.Renamed as renamed;
 ghost use Rattle.unit_finish.specs.Walked.{literal_entry};
 
 use c_meanings::{Names, entity_of};
@@ -20,7 +20,7 @@ use name_places::function_around;
 use pta_base::Text;
 use std::alloc::Global;
 use tree_reads::{Syntax, place_of};
-use unit_parts::{Declared, LiteralAt, literals_in};
+use unit_finish::unit_parts::{Declared, LiteralAt, literals_in};
 
 // The function in whose definition a leaf stands, by the leaf of its name; none where it isn't a node of the tree.
 fn function_over(syntax: &Syntax, results: &Results, leaf: u32) -> Option<u32>

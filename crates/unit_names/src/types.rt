@@ -9,7 +9,7 @@ ghost use Rattle.core_nodes.specs.Standing.{IsReady, Builds};
 ghost use Rattle.c_results.specs.Standing.{senses_made, IsWithin};
 ghost use Rattle.tree_reads.specs.Sources.{source_read, source_in};
 ghost use Rattle.c_entities.specs.Types.{type_in};
-ghost use Rattle.symbol_lists.specs.Lists.{AreOf};
+ghost use Rattle.name_chains.specs.symbol_lists.Lists.{AreOf};
 ghost use Rattle.c_meanings.specs.Known.{AreNamed};
 ghost use Rattle.c_named.specs.Lists as lists;
 ghost use Rattle.unit_names.specs.Typing.{type_of_internal};
@@ -23,8 +23,8 @@ use c_types::table::TypeTable;
 use c_types::term::TypeId;
 use core_nodes::CheckFault;
 use core_tree::node::Unit;
+use name_chains::symbol_lists::SymbolLists;
 use std::alloc::Global;
-use symbol_lists::SymbolLists;
 use tree_reads::Syntax;
 
 // A type behind those before it.

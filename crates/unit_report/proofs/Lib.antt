@@ -1,0 +1,3 @@
+pub mod SharedReport
+pub mod SharedAnswers
+pub mod SharedProgram

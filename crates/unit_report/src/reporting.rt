@@ -1,36 +1,64 @@
 //! From units that can be linked to their report.
 
-ghost use Rattle.std.specs.Prelude.{◌≡◌, ◌<◌, ◌≤◌, IfErr, IfOk};
+ghost use Rattle.std.specs.Prelude.{◌≡◌, ◌<◌, ◌≤◌, IfErr, IfOk, length};
 ghost use Rattle.sol_model.specs.declared.system.System.{System};
-ghost use Rattle.filled_units.specs.Filled.{AreFilled};
+ghost use Rattle.sol_model.specs.Families.{members};
+ghost use Rattle.sol_model.specs.Systems.{IsValid, Fits, location_count};
+ghost use Rattle.link_model.specs.filled_units.Filled.{AreFilled};
 ghost use Rattle.unit_link.specs.Needs.{AreLinkable};
-ghost use Rattle.unit_system.specs.Of.{IsSystemOf};
-ghost use Rattle.unit_system.specs.Faults.{IsFaultOf};
-ghost use Rattle.unit_report.specs.Reported.{IsProgramReport, IsUnitReport};
-ghost use Rattle.unit_report.specs.Solved.{IsSolved};
+ghost use Rattle.unit_report.specs.unit_system.Of.{IsSystemOf};
+ghost use Rattle.unit_report.specs.unit_system.Faults.{IsFaultOf};
+ghost use Rattle.unit_report.specs.Reported.{IsProgramReport, IsReportAs, IsUnitReport};
+ghost use Rattle.unit_report.specs.Solved.{IsSolvedShared};
 
 use crate::names::strings_of;
+use crate::report_json::json_report;
+use crate::report_text::report;
+use crate::sharing::shared;
 use crate::solving::{Solved, solve_on_rows};
+use crate::unit_system::{UnitFault, UnitSystem, linked_system};
 use core_tree::Unit;
+use obj_space::Space;
 use pta_base::{Gate, OutOfMemory};
-use report_text::report;
+use sol_model::{Rows, System};
 use std::alloc::Global;
 use std::thread::Threads;
-use unit_system::{UnitFault, UnitSystem, linked_system};
 
-/// The report of a program whose system was made, with the system that was solved for it by so many workers on shared rows, each of
-/// whom passes the gate before each of its pieces. Only memory may want.
+/// The report of rows, as JSON or as lines. The one error is want of memory.
+fn report_as(
+    alloc: Global,
+    json: bool,
+    space: &Space,
+    names: &[String],
+    system: &System,
+    rows: &Rows,
+) -> Result<Vec<u8>, OutOfMemory>
+    requires valid { IsValid system.now }
+    requires fits { Fits system.now rows.now }
+    requires count { length space.now ≡ location_count system.now }
+    ensures { IfOk result (λ text. IsReportAs json space.now names.now system.now (members rows.now) text.items) }
+{
+    match json {
+        true => json_report(alloc, space, names, system, rows),
+        false => report(alloc, space, names, system, rows),
+    }
+}
+
+/// The report of a program whose system was made, as JSON or as lines, with the system that was solved for it by so many workers on shared
+/// rows, each of whom passes the gate before each of its pieces. That system has one row for all rows of a class (`row_share`). Only
+/// memory may want.
 pub fn report_of_system<R: Threads + Sync, G: Gate + Sync>(
     rt: &R,
     alloc: Global,
     made: UnitSystem,
+    json: bool,
     workers: u32,
     gate: &G,
 ) -> Result<(Vec<u8>, Solved), OutOfMemory>
     requires system { IsSystemOf made.program made.space made.system }
     requires workers { (0 < workers) × (workers ≤ 64) }
-    ensures reported { IfOk result (λ found. IsProgramReport made.program made.space made.system found.0.items) }
-    ensures solved { IfOk result (λ found. IsSolved made.system found.1) }
+    ensures reported { IfOk result (λ found. IsProgramReport json made.program made.space made.system found.0.items) }
+    ensures solved { IfOk result (λ found. IsSolvedShared made.system found.1) }
 {
     let UnitSystem {
         program,
@@ -38,8 +66,9 @@ pub fn report_of_system<R: Threads + Sync, G: Gate + Sync>(
         system,
     } = made;
     let names = strings_of(alloc, program.names.as_slice())?;
-    let (rows, solved) = solve_on_rows(rt, alloc, system, workers, gate)?;
-    let text = report(alloc, &space, names.as_slice(), &solved.system, &rows)?;
+    let reduced = shared(alloc, system)?;
+    let (rows, solved) = solve_on_rows(rt, alloc, reduced, workers, gate)?;
+    let text = report_as(alloc, json, &space, names.as_slice(), &solved.system, &rows)?;
     Ok((text, solved))
 }
 
@@ -56,10 +85,11 @@ pub fn report_of_units<R: Threads + Sync, G: Gate + Sync>(
     requires linkable { AreLinkable units.items }
     requires filled { AreFilled units.items }
     requires workers { (0 < workers) × (workers ≤ 64) }
-    ensures reported { IfOk result (λ found. (system : System) × IsUnitReport units.items system found.0.items × IsSolved system found.1) }
+    ensures reported { IfOk result (λ found. (system : System)
+        × IsUnitReport units.items system found.0.items × IsSolvedShared system found.1) }
     ensures refused { IfErr result (IsFaultOf units.items) }
 {
     let made = linked_system(alloc, units)?;
-    let found = report_of_system(rt, alloc, made, workers, gate)?;
+    let found = report_of_system(rt, alloc, made, false, workers, gate)?;
     Ok(found)
 }

@@ -13,9 +13,9 @@ use Rattle.c_results.specs.declared.made.Made.{Made}
 use Rattle.c_results.specs.declared.made.Made.TheVariants as made
 use Rattle.c_results.specs.Standing.{sense_made, senses_made, IsWithin}
 use Rattle.c_results.proofs.Keeping.{derivation_kept, derivations_kept, derivable_more, derivables_more, made_kept, within_kept}
-use Rattle.unit_rows.specs.PassedOn.{Keeps}
+use Rattle.unit_walk.specs.unit_rows.PassedOn.{Keeps}
 use Rattle.unit_worlds.specs.Growing.{Completes, Grows}
-use Rattle.unit_rows.specs.Standing.{AreKept}
+use Rattle.unit_walk.specs.unit_rows.Standing.{AreKept}
 
 map_same : {X Y : Type 0} (P : X → Type 0) (f g : X → Y) → ((x : X) → P x → f x ≡ g x) → (xs : List X) → All P xs → map f xs ≡ map g xs
 map_same P f g h [] all = refl

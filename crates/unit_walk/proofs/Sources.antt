@@ -11,21 +11,21 @@ use Rattle.c_senses.specs.Names.{names_of, source_of, source_with, numbered}
 use Rattle.c_meanings.specs.declared.names.Names.{Names}
 use Rattle.c_meanings.specs.Known.{AreLeaves, AreNamed}
 use Rattle.c_results.specs.declared.made.Made.{Made}
-use Rattle.name_sayings.specs.Listed.{AreListed}
-use Rattle.name_sayings.specs.Opening.{IsNotOpened}
-use Rattle.symbol_lists.specs.declared.lists.SymbolLists.{SymbolLists}
+use Rattle.name_uses.specs.name_sayings.Listed.{AreListed}
+use Rattle.name_uses.specs.name_sayings.Opening.{IsNotOpened}
+use Rattle.name_chains.specs.declared.symbol_lists.lists.SymbolLists.{SymbolLists}
 use Rattle.sense_laws.specs.Senses.{ChildrenFirst}
-use Rattle.source_laws.specs.Bound.{AreBefore}
-use Rattle.source_laws.proofs.Bound.{bound_stand}
-use Rattle.source_laws.proofs.Spelled.{names_spelled}
+use Rattle.reading_laws.specs.source_laws.Bound.{AreBefore}
+use Rattle.reading_laws.proofs.source_laws.Bound.{bound_stand}
+use Rattle.reading_laws.proofs.source_laws.Spelled.{names_spelled}
 use Rattle.statement_rows.specs.Told.{AreSpelled}
 use Rattle.core_nodes.specs.declared.fault.CheckFault.{CheckFault}
 use Rattle.core_nodes.specs.declared.fault.CheckFault.TheVariants.{BadOperand, Unsupported, OutOfMemory}
 use Rattle.tree_reads.specs.declared.syntax.Syntax.{Syntax}
 use Rattle.tree_reads.specs.Sources.{number_in, source_in, source_read}
-use Rattle.tag_numbers.specs.declared.tags.Tags.{Tags}
-use Rattle.tag_numbers.specs.Known.{AreTags}
-use Rattle.tag_numbers.specs.Ordered.{AreInOrder}
+use Rattle.c_tags.specs.declared.tag_numbers.tags.Tags.{Tags}
+use Rattle.c_tags.specs.tag_numbers.Known.{AreTags}
+use Rattle.c_tags.specs.tag_numbers.Ordered.{AreInOrder}
 use Rattle.unit_walk.specs.Walked.{AreDense}
 
 module _ (syntax : Syntax) (tokens : Tokens) (tree : Tree) (bound : Bound) (same_tokens : syntax.tokens.now ≡ tokens) (same_tree : syntax.tree.now ≡ tree) (bind : IsBound tokens tree bound) where

@@ -19,12 +19,12 @@ use Rattle.core_nodes.specs.declared.fault.CheckFault.TheVariants.{BadOperand, U
 use Rattle.c_results.specs.declared.made.Made.{Made}
 use Rattle.c_results.specs.Standing.{sense_made, senses_made, Rowed}
 use Rattle.unit_worlds.proofs.Sensing.{row_as}
-use Rattle.unit_rows.specs.Standing.{AreMade}
+use Rattle.unit_walk.specs.unit_rows.Standing.{AreMade}
 use Rattle.tree_reads.specs.declared.syntax.Syntax.{Syntax}
 use Rattle.tree_reads.specs.Sources.{number_in, source_in}
-use Rattle.tag_numbers.specs.declared.tags.Tags.{Tags}
-use Rattle.tag_numbers.specs.Known.{AreTags}
-use Rattle.tag_numbers.specs.Ordered.{AreInOrder}
+use Rattle.c_tags.specs.declared.tag_numbers.tags.Tags.{Tags}
+use Rattle.c_tags.specs.tag_numbers.Known.{AreTags}
+use Rattle.c_tags.specs.tag_numbers.Ordered.{AreInOrder}
 use Rattle.unit_walk.specs.Walked.{IsWalked, AreDense, RefusedIn}
 use Rattle.unit_walk.proofs.Sources.{source_same, dense_of}
 use Rattle.unit_walk.proofs.Walking.{Whole}

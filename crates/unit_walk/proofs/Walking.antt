@@ -17,8 +17,8 @@ use Rattle.c_results.specs.declared.made.Made.{Made}
 use Rattle.c_results.specs.Standing.{sense_made, senses_made, IsWithin}
 use Rattle.c_types.specs.Made.{IsMade}
 use Rattle.c_initials.specs.Filling.{Fills}
-use Rattle.filling_laws.proofs.Worlds.{fills_one}
-use Rattle.unit_rows.specs.PassedOn.{Keeps}
+use Rattle.unit_walk.proofs.filling_laws.Worlds.{fills_one}
+use Rattle.unit_walk.specs.unit_rows.PassedOn.{Keeps}
 use Rattle.unit_worlds.specs.Growing.{Grows, completed_at}
 use Rattle.unit_worlds.proofs.Sensing.{no_senses, senses_more}
 use Rattle.unit_worlds.proofs.Worlds.{known_one}
@@ -28,9 +28,9 @@ use Rattle.c_meanings.proofs.Onward.{linkages_more}
 use Rattle.c_structures.specs.Listed.{AreLists}
 use Rattle.c_structures.proofs.Opening.{lists_more}
 use Rattle.tree_reads.specs.declared.syntax.Syntax.{Syntax}
-use Rattle.unit_rows.specs.declared.along.Along.{Along}
-use Rattle.unit_rows.specs.Along.{AreAlong}
-use Rattle.unit_rows.specs.Standing.{Stand, AreMade}
+use Rattle.unit_walk.specs.declared.unit_rows.along.Along.{Along}
+use Rattle.unit_walk.specs.unit_rows.Along.{AreAlong}
+use Rattle.unit_walk.specs.unit_rows.Standing.{Stand, AreMade}
 use Rattle.unit_walk.proofs.Keeping.{mades_grown, withins_grown, kept_grown}
 
 -- before the first row

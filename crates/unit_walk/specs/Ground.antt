@@ -3,7 +3,7 @@ use Rattle.std.specs.Prelude.{ℕ, length}
 use Rattle.c_scope.specs.declared.resolving.Bound.{Bound}
 use Rattle.c_senses.specs.Tree.{Source}
 use Rattle.tree_reads.specs.Sources.{source_in}
-use Rattle.unit_rows.specs.Standing.{AreKnown}
+use Rattle.unit_walk.specs.unit_rows.Standing.{AreKnown}
 use Rattle.unit_walk.specs.declared.units.Ground.{Ground}
 
 abbrev pub IsGround : Ground → Bound → Type 0

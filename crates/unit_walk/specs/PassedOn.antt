@@ -1,2 +1,2 @@
 -- What this crate passes on, from those below it to those above it.
-pub use Rattle.unit_rows.specs.Standing.{AreKept, AreMade, Stand}
+pub use Rattle.unit_walk.specs.unit_rows.Standing.{AreKept, AreMade, Stand}

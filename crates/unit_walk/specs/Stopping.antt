@@ -9,7 +9,7 @@ use Rattle.c_results.specs.declared.made.Made.{Made}
 use Rattle.c_senses.specs.Tree.{Source}
 use Rattle.c_senses.specs.Names.{numbered}
 use Rattle.c_senses.specs.Rows.{RefusedAt}
-use Rattle.unit_rows.specs.Standing.{AreMade}
+use Rattle.unit_walk.specs.unit_rows.Standing.{AreMade}
 use Rattle.unit_walk.specs.Walked.{AreDense}
 
 -- the results of the first so many nodes

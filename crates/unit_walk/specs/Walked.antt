@@ -10,8 +10,8 @@ use Rattle.c_senses.specs.Names.{numbered}
 use Rattle.c_senses.specs.Tags.{tags_below}
 use Rattle.c_senses.specs.Right.{is_tag, TagsDiffer}
 use Rattle.c_senses.specs.Rows.{RefusedAt}
-use Rattle.tag_numbers.specs.Ordered.{AreInOrder}
-use Rattle.unit_rows.specs.Standing.{AreMade}
+use Rattle.c_tags.specs.tag_numbers.Ordered.{AreInOrder}
+use Rattle.unit_walk.specs.unit_rows.Standing.{AreMade}
 
 -- the results of all nodes
 pub record IsWalked (s : Source) (u : Unit) (results : List Made) : Type 0 where
@@ -24,7 +24,8 @@ RefusedBy s (BadOperand named) = RefusedAt s Operand named
 RefusedBy s (Unsupported kind named) = RefusedAt s kind named
 RefusedBy s OutOfMemory = ⊤
 
--- the numbers of a source's structures and unions are those below a count, each of one tag, in the order of their first specifiers
+-- the numbers of a source's structures and unions are those below a count, each of one tag, in the order of their
+-- first specifiers
 pub record AreDense (s : Source) : Type 0 where
   pub differ : TagsDiffer s
   pub below : (d : ℕ) → is_tag s d ≡ true → s.tag_number d < tags_below s
@@ -34,4 +35,5 @@ pub record AreDense (s : Source) : Type 0 where
 -- with such numbers, a source is refused
 abbrev pub RefusedIn : Source → CheckFault → Type 0
 RefusedIn s OutOfMemory = ⊤
-RefusedIn s fault = (tag_number : ℕ → ℕ) × AreDense (numbered tag_number s) × RefusedBy (numbered tag_number s) fault
+RefusedIn s fault =
+    (tag_number : ℕ → ℕ) × AreDense (numbered tag_number s) × RefusedBy (numbered tag_number s) fault

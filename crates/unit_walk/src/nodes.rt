@@ -1,19 +1,19 @@
 // The first nodes of a unit's tree, in the order in which productions end.
 ghost use Rattle.std.specs.Prelude.{◌≡◌, ◌≤◌, ℕ, [], IfOk, MatchResult};
-ghost use Rattle.expression_rows.specs.Readable.{IsReadable};
-ghost use Rattle.family_laws.specs.Families.{Families};
+ghost use Rattle.name_uses.specs.passed.expression_rows.Readable.{IsReadable};
+ghost use Rattle.parsed_tree_laws.specs.family_laws.Families.{Families};
 ghost use Rattle.core_nodes.specs.Standing.{IsReady};
 ghost use Rattle.limit_laws.specs.Limits.{AlwaysLimited};
 ghost use Rattle.struct_rows.specs.Built.{HasTagTypes};
-ghost use Rattle.unit_rows.specs.Standing.{IsKnown, Stand, source_known, nodes_known};
+ghost use Rattle.unit_walk.specs.unit_rows.Standing.{IsKnown, Stand, source_known, nodes_known};
 ghost use Rattle.unit_walk.specs.Stopping.{IsWalkedTo, RefusedBefore};
 
+use crate::unit_choices::{no_choices, note};
+use crate::unit_rows::{Along, Known, row};
 use c_results::Results;
 use core_nodes::CheckFault;
 use core_tree::node::Unit;
 use std::alloc::Global;
-use unit_choices::{no_choices, note};
-use unit_rows::{Along, Known, row};
 
 /// What each of a unit's first nodes stands for, over what was made for those before it (C11 6.5 to 6.9). The unit's table of types has
 /// all tags of structures and unions before the first row, none of them complete. A refusal is that of the first of these nodes whose row

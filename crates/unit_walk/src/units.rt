@@ -6,37 +6,37 @@ ghost use Rattle.core_nodes.specs.Standing.{IsReady};
 ghost use Rattle.c_lexer.specs.Cut.{IsTokens};
 ghost use Rattle.c_scope.specs.Resolves.{IsBound};
 ghost use Rattle.c_senses.specs.Names.{source_of, numbered};
-ghost use Rattle.expression_rows.specs.Readable.{IsReadable};
-ghost use Rattle.family_laws.specs.Families.{Families};
+ghost use Rattle.name_uses.specs.passed.expression_rows.Readable.{IsReadable};
+ghost use Rattle.parsed_tree_laws.specs.family_laws.Families.{Families};
 ghost use Rattle.limit_laws.specs.Limits.{AlwaysLimited};
 ghost use Rattle.sense_laws.specs.Senses.{ChildrenFirst};
 ghost use Rattle.struct_rows.specs.Built.{HasTagTypes};
-ghost use Rattle.tag_numbers.specs.Known.{AreTags};
-ghost use Rattle.tag_numbers.specs.Ordered.{AreInOrder};
+ghost use Rattle.c_tags.specs.tag_numbers.Known.{AreTags};
+ghost use Rattle.c_tags.specs.tag_numbers.Ordered.{AreInOrder};
 ghost use Rattle.tree_reads.specs.Sources.{source_in, number_in};
-ghost use Rattle.unit_rows.specs.Standing.{Stand};
+ghost use Rattle.unit_walk.specs.unit_rows.Standing.{Stand};
 ghost use Rattle.unit_walk.specs.Ground.{IsGround, source_ground, nodes_ground};
 ghost use Rattle.unit_walk.specs.Walked.{IsWalked, RefusedIn};
 ghost use Rattle.unit_walk.specs.Stopping.{IsWalkedTo, RefusedEarly};
 
 use crate::nodes::walk_nodes;
+use crate::unit_choices::name_kinds;
+use crate::unit_rows::Known;
 use c_grammar::Tree;
 use c_lexer::Tokens;
 use c_meanings::Names;
 use c_results::Results;
 use c_scope::Bound;
+use c_tags::tag_numbers::{Numbered, number_tags};
 use core_nodes::CheckFault;
 use core_tree::node::Unit;
-use name_sayings::open_names;
+use name_chains::symbol_lists::SymbolLists;
+use name_uses::name_sayings::open_names;
 use pta_base::Text;
 use statement_rows::NameKinds;
 use std::alloc::Global;
-use symbol_lists::SymbolLists;
-use tag_numbers::{Numbered, number_tags};
-use tag_types::open_types;
+use struct_rows::tag_types::open_types;
 use tree_reads::Syntax;
-use unit_choices::name_kinds;
-use unit_rows::Known;
 
 /// What is known of a unit before its rows, and owned.
 #[derive(Drop)]

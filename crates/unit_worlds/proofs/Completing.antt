@@ -5,7 +5,7 @@ use Rattle.c_types.specs.Layout.{Extent, Look, Completed, repeated, of_members, 
 use Rattle.c_types.specs.Table.{look_in, extent_in, members_in}
 use Rattle.core_tree.specs.declared.node.Unit.{Unit}
 use Rattle.c_inits.specs.Made.{Part, TagParts}
-use Rattle.core_nodes.specs.Standing.{parts_in, Knows}
+use Rattle.c_results.specs.passed.core_nodes.Standing.{parts_in, Knows}
 use Rattle.c_senses.specs.World.{World, extent}
 use Rattle.c_senses.specs.Tags.{members_under, completions_of, look_of, types_of_parts}
 

@@ -6,8 +6,8 @@ use Rattle.c_types.specs.Layout.{Extent, Look, of_members, structure_of, extent_
 use Rattle.c_types.specs.Table.{look_in, extent_in, members_in}
 use Rattle.core_tree.specs.declared.node.Unit.{Unit}
 use Rattle.c_inits.specs.Made.{Part, TagParts}
-use Rattle.core_nodes.specs.Standing.{parts_in, Knows}
-use Rattle.core_nodes.proofs.Growing.{knows_on}
+use Rattle.c_results.specs.passed.core_nodes.Standing.{parts_in, Knows}
+use Rattle.c_results.proofs.passed.core_nodes.Growing.{knows_on}
 use Rattle.c_senses.specs.Tree.{Source}
 use Rattle.c_senses.specs.Sense.{Sense, sense_in}
 use Rattle.c_senses.specs.Tags.{members_under, look_of, types_of_parts, completed_from}

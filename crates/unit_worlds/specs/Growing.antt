@@ -4,7 +4,7 @@ use Rattle.c_types.specs.Layout.{Extent, member_extent}
 use Rattle.c_types.specs.Table.{type_of, members_in, look_in}
 use Rattle.core_tree.specs.declared.node.Unit.{Unit}
 use Rattle.c_inits.specs.Made.{Part, TagParts}
-use Rattle.core_nodes.specs.Standing.{core_at, parts_in, Builds}
+use Rattle.c_results.specs.passed.core_nodes.Standing.{core_at, parts_in, Builds}
 use Rattle.c_senses.specs.Tree.{Source}
 use Rattle.c_senses.specs.Sense.{Sense, Nothing}
 use Rattle.c_senses.specs.Tags.{completed_from, types_of_parts}
@@ -22,8 +22,13 @@ pub record Completes (old new : Unit) (tag : ℕ) (parts : List Part) : Type 0 w
   pub tags : new.types.tags ≡ old.types.tags
   pub entities : new.entities.items ≡ old.entities.items
   pub was_open : members_in old.types tag ≡ None
-  pub members : (t : ℕ) → parts_in new.types (members_in new.types t) ≡ (if tag == t then Some parts else parts_in old.types (members_in old.types t))
-  pub look : (t : ℕ) → look_in new.types t ≡ (if tag == t then Some (map (member_extent (look_in old.types)) (types_of_parts parts)) else look_in old.types t)
+  pub members : (t : ℕ)
+      → parts_in new.types (members_in new.types t)
+      ≡ (if tag == t then Some parts else parts_in old.types (members_in old.types t))
+  pub look : (t : ℕ)
+      → look_in new.types t
+      ≡ (if tag == t then Some (map (member_extent (look_in old.types)) (types_of_parts parts))
+      else look_in old.types t)
 
 -- what a row does to its unit, by what its node completes
 abbrev pub Grows : Unit → Unit → List TagParts → Type 0

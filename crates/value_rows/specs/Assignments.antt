@@ -14,7 +14,8 @@ use Rattle.c_senses.specs.Objects.{assign_row, assigned_op, update_row}
 
 -- a place that takes a value
 abbrev pub assigned_to : World → Place → ℕ → Core → Core → Given Core
-assigned_to w place at p v = conversion w false at v (ctype_of p) >>= (λ x. Fits (over_two Assign place (ctype_of p) p x))
+assigned_to w place at p v =
+    conversion w false at v (ctype_of p) >>= (λ x. Fits (over_two Assign place (ctype_of p) p x))
 
 -- a place over the value of an expression
 abbrev pub assigned_from : World → Place → ℕ → Core → Core → Given Core
@@ -27,7 +28,8 @@ updated_from w op place at p b = value_of w at b >>= update_row w op false place
 abbrev pub cast_to : World → ℕ → Core → Ctype → Given Core
 cast_to w at x t = value_of w at x >>= (λ v. conversion w true at v t)
 
--- the row of an assignment by its sign, which stands at that place: the right operand's value is taken, and then the place's new one
+-- the row of an assignment by its sign, which stands at that place: the right operand's value is taken, and then
+-- the place's new one
 abbrev pub assignment_by : World → Place → ℕ → Core → Core → ℕ → Given Core
 assignment_by w place at p b sign =
     if sign == sign_assign then (value_of w at b >>= assign_row w place at p)

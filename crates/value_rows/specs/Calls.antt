@@ -68,13 +68,20 @@ cores_before u (i ∷ is) more = MoreCores (core_at u i) (cores_before u is more
 -- a call with so many arguments as it takes
 abbrev pub call_over : World → Place → ℕ → Core → Ctype → List Core → Given Core
 call_over w place at c t args =
-    arguments w at (parameters_in t) args >>= (λ cores. given_if (is_returned w (result_in t)) Operand at (Fits (Of CallNode place (result_in t) (MoreCores c cores))))
+    arguments w at (parameters_in t) args >>=
+    (λ cores. given_if (is_returned w (result_in t)) Operand at
+    (Fits (Of CallNode place (result_in t) (MoreCores c cores))))
 
 -- a function to which a pointer of that type points, if it points to one
 abbrev pub PointsTo : Ctype → Table → Option TypeId → Type 0
 PointsTo t table None = (r : Ctype) (ps : Ctypes) (form : Form) → t ≡ PointerTo (FunctionFrom r ps form) → ⊥
-PointsTo t table (Some f) = t ≡ PointerTo (FunctionFrom (result_in (type_of table f.0)) (parameters_in (type_of table f.0)) (form_in (type_of table f.0)))
+PointsTo t table (Some f) =
+    t ≡ PointerTo
+    (FunctionFrom (result_in (type_of table f.0)) (parameters_in (type_of table f.0))
+    (form_in (type_of table f.0)))
 
 -- a call of a value that points to a function of that type, where calls may stand
 abbrev pub called : World → Place → ℕ → Bool → Core → Ctype → List Core → Given Core
-called w place at may c t args = typed at (result_in t) (given_if may Operand at (call_of w place at c (result_in t) (parameters_in t) (form_in t) args))
+called w place at may c t args =
+    typed at (result_in t)
+    (given_if may Operand at (call_of w place at c (result_in t) (parameters_in t) (form_in t) args))

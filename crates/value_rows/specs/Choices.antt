@@ -12,8 +12,10 @@ pair a b = record { left = a; right = b }
 
 -- branches that aren't both numbers
 abbrev pub alike_or_joined : ℕ → Core → Core → OperandSort → OperandSort → Given Both
-alike_or_joined at a b x y = if same_type (ctype_of a) (ctype_of b) then Fits (pair a b) else pointers_joined at a b x y
+alike_or_joined at a b x y =
+    if same_type (ctype_of a) (ctype_of b) then Fits (pair a b) else pointers_joined at a b x y
 
 -- where the condition is a scalar
 abbrev pub chosen_of : World → Place → ℕ → Core → Core → Core → Given Core
-chosen_of w place at c a b = branches w at a b (operand_of (ctype_of a)) (operand_of (ctype_of b)) >>= (λ both. Fits (chosen place c both))
+chosen_of w place at c a b =
+    branches w at a b (operand_of (ctype_of a)) (operand_of (ctype_of b)) >>= (λ both. Fits (chosen place c both))

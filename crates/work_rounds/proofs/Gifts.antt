@@ -15,7 +15,7 @@ use Rattle.sol_model.specs.Rules.{DemandsEdge, EffectEdge, TargetEdge, EffectFac
 use Rattle.sol_model.specs.Solutions.{IsClosed}
 use Rattle.sol_model.proofs.Members.{Contains-at}
 use Rattle.work_rounds.specs.Gift.{gift, gift_sets, library, the_call, GiftWork}
-use Rattle.work_rounds.proofs.Sums.{In, in_list, list_has, list_apart}
+use Rattle.round_pieces.proofs.Sums.{In, in_list, list_has, list_apart}
 
 no_effect : (call : CallSite) (target a b : ℕ) (effect : Effect) → In effect (GivesNew ∷ []) → EffectEdge gift gift_sets call target effect a b → ⊥
 no_effect call target a b effect (inl e) d = subst (λ (x : Effect). EffectEdge gift gift_sets call target x a b) e d

@@ -1,17 +1,2 @@
-pub mod Asking
-pub mod Blocks
-pub mod Costs
-pub mod Counts
-pub mod Ending
 pub mod Gifts
-pub mod Growing
-pub mod Marking
-pub mod Once
-pub mod Parts
-pub mod Rests
 pub mod Rings
-pub mod Serving
-pub mod Sharing
-pub mod Steps
-pub mod Sums
-pub mod Working

@@ -7,7 +7,7 @@ use Rattle.sol_model.specs.Families.{Family, Has}
 use Rattle.sol_model.specs.Rules.{DemandsEdge, Satisfies}
 use Rattle.sol_model.specs.Solutions.{IsClosed, IsEdge}
 use Rattle.work_rounds.specs.Ring.{ring, ring_sets, RingWork}
-use Rattle.work_rounds.proofs.Sums.{In, in_list, list_has, list_apart}
+use Rattle.round_pieces.proofs.Sums.{In, in_list, list_has, list_apart}
 
 -- what a Copy and an Address ask for holds of the sets
 copy_met : (from to : ℕ) → ((location : ℕ) → Has ring_sets from location → Has ring_sets to location) → Satisfies ring ring_sets (Copy from to)

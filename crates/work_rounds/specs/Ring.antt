@@ -5,7 +5,7 @@ use Rattle.sol_model.specs.declared.system.LocationFact.{LocationFact}
 use Rattle.sol_model.specs.declared.system.Constraint.TheVariants.{Address, Copy}
 use Rattle.sol_model.specs.Families.{Family}
 use Rattle.sol_model.specs.Solutions.{IsLeast}
-use Rattle.work_rounds.specs.Work.{IsWork}
+use Rattle.round_pieces.specs.Work.{IsWork}
 
 abbrev pub pointer : LocationFact
 pointer = record { collapsed = false; ty = 0; function = None }

@@ -1,7 +1,7 @@
 //! What holds of the work of families.
 ghost use Rattle.work_rounds.specs.Gift.{GiftWork};
 ghost use Rattle.work_rounds.specs.Ring.{RingWork};
-ghost use Rattle.work_rounds.specs.Work.{OneWork, WorkGrows};
+ghost use Rattle.round_pieces.specs.Work.{OneWork, WorkGrows};
 
 /// A family has one work at most: it doesn't depend on the order in which edges are counted.
 pub fn one_work()

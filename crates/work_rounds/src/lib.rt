@@ -3,14 +3,7 @@
 //! piece carries along the row's edges only what is new in it (2007, section 4). Between rounds new members bring new edges.
 #![tactic(auto)]
 
-mod dealing;
-mod growth;
-mod joining;
 pub mod laws;
-mod ordering;
-mod pieces;
-mod round;
-mod settling;
 mod solving;
 
 pub use pta_base::Gate;

@@ -2,7 +2,7 @@ use Rattle.std.proofs.Common.{◌≡◌, ◌∙◌, ℕ, inr, List, ◌++◌, Op
 use Rattle.std.specs.Prelude.{MatchOption}
 use Rattle.unit_walk.specs.Ground.{source_ground}
 use Rattle.c_check.specs.declared.expression.CarriedTree.{CarriedTree}
-use Rattle.known_tags.specs.declared.known.Meaning.{Meaning}
+use Rattle.c_check.specs.declared.known_tags.known.Meaning.{Meaning}
 use Rattle.c_check.specs.Expressed.{IsCarried, IsUnknown}
 use Rattle.c_check.proofs.Answering.{no_tree}
 use Rattle.c_check.proofs.expression.carried.Goals as goal

@@ -6,15 +6,15 @@ use Rattle.core_tree.specs.declared.node.Entity.{Entity}
 use Rattle.core_tree.specs.declared.node.Node.{Node}
 use Rattle.core_tree.specs.declared.node.Unit.{Unit}
 use Rattle.core_nodes.specs.Standing.{core_at, parts_in}
-use Rattle.kept_nodes.specs.Keeps.{AllUnder}
-use Rattle.leaf_maps.specs.Numbers.{number_at}
+use Rattle.core_nodes.specs.kept_nodes.Keeps.{AllUnder}
+use Rattle.tree_reads.specs.leaf_maps.Numbers.{number_at}
 use Rattle.c_results.specs.Standing.{senses_made}
 use Rattle.unit_walk.specs.Ground.{source_ground}
-use Rattle.carried_types.specs.Terms.{AreTagIds, tag_type}
+use Rattle.carried_trees.specs.carried_types.Terms.{AreTagIds, tag_type}
 use Rattle.carried_trees.specs.declared.carrying.WholeTree.{WholeTree}
 use Rattle.carried_trees.specs.Extends.{IsMissing, IsWhole}
 use Rattle.carried_trees.proofs.Extending.{extends_on}
-use Rattle.literal_entities.specs.Entities.{literal_entity}
+use Rattle.c_check.specs.literal_entities.Entities.{literal_entity}
 use Rattle.c_check.specs.Expressed.{AreOwn, members_behind}
 use Rattle.c_check.proofs.Answering.{tags_tagged, members_there, carried_there, unknown_there}
 use Rattle.c_check.proofs.Growing.{extends_grows, grows_on, all_under_kept, whole_kept, nodes_there}

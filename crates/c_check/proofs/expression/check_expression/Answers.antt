@@ -1,8 +1,8 @@
 use Rattle.std.proofs.Common.{arith, rules, ◌≡◌, ◌+◌, ◌<◌, ℕ, length, sym, subst}
-use Rattle.family_laws.specs.Families.{Families}
-use Rattle.family_laws.proofs.Reading.{units_families}
-use Rattle.limit_laws.proofs.Limited.{units_limited}
-use Rattle.literal_laws.proofs.Readable.{units_readable}
+use Rattle.parsed_tree_laws.specs.family_laws.Families.{Families}
+use Rattle.parsed_tree_laws.proofs.family_laws.Reading.{units_families}
+use Rattle.unit_walk.proofs.passed.limit_laws.Limited.{units_limited}
+use Rattle.unit_walk.proofs.passed.limit_laws.literal_laws.Readable.{units_readable}
 use Rattle.c_senses.specs.Names.{source_of}
 use Rattle.tree_reads.specs.Sources.{number_in}
 use Rattle.unit_walk.specs.Ground.{source_ground}

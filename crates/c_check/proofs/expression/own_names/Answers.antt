@@ -1,7 +1,7 @@
 use Rattle.std.proofs.Common.{◌∙◌, ◌++◌, ℕ, List, sym, ap, subst}
 use Rattle.tree_reads.specs.Sources.{source_read}
-use Rattle.known_tags.specs.declared.known.Meaning.{Meaning}
-use Rattle.known_tags.specs.Own.{AreUnder}
+use Rattle.c_check.specs.declared.known_tags.known.Meaning.{Meaning}
+use Rattle.c_check.specs.known_tags.Own.{AreUnder}
 use Rattle.c_check.proofs.expression.own_names.Goals as goal
 
 pub returns-clause-own : goal.returns-clause-own

@@ -2,12 +2,12 @@ use Rattle.std.proofs.Common.{◌≡◌, ℕ, List, Option, length, refl, sym, s
 use Rattle.std.specs.Prelude.{slice_index}
 use Rattle.c_senses.specs.Names.{names_of}
 use Rattle.tree_reads.specs.Sources.{source_in, source_read}
-use Rattle.tag_numbers.specs.Firsts.{Declares}
-use Rattle.carried_types.specs.Terms.{AreTagIds}
-use Rattle.known_tags.specs.declared.known.Meaning.{Meaning}
-use Rattle.known_tags.specs.declared.own.OwnTags.{OwnTags}
-use Rattle.known_tags.specs.Given.{AreGiven, AreIdsOf}
-use Rattle.known_tags.specs.Own.{AreUnder, AreOpened}
+use Rattle.c_tags.specs.tag_numbers.Firsts.{Declares}
+use Rattle.carried_trees.specs.carried_types.Terms.{AreTagIds}
+use Rattle.c_check.specs.declared.known_tags.known.Meaning.{Meaning}
+use Rattle.c_check.specs.declared.known_tags.own.OwnTags.{OwnTags}
+use Rattle.c_check.specs.known_tags.Given.{AreGiven, AreIdsOf}
+use Rattle.c_check.specs.known_tags.Own.{AreUnder, AreOpened}
 use Rattle.c_check.specs.Expressed.{AreOwn}
 use Rattle.c_check.proofs.Answering.{both_ok}
 use Rattle.c_check.proofs.expression.own_tags.Goals as goal

@@ -1,6 +1,6 @@
 use Rattle.std.proofs.Common.{sym}
 use Rattle.c_types.specs.Table.{type_of}
-use Rattle.c_senses.specs.Conversions.{target_of}
+use Rattle.core_nodes.specs.passed.c_senses.Conversions.{target_of}
 use Rattle.core_nodes.specs.Standing.{core_at}
 use Rattle.c_conversions.specs.Targets.{target_seen}
 use Rattle.c_conversions.proofs.Failing.{targets_same, refusal_made}

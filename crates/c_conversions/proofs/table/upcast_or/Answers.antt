@@ -1,6 +1,6 @@
 use Rattle.std.proofs.Common.{Ok, Option, ℕ, subst}
 use Rattle.c_types.specs.Table.{type_of}
-use Rattle.c_senses.specs.Conversions.{upcast}
+use Rattle.core_nodes.specs.passed.c_senses.Conversions.{upcast}
 use Rattle.core_nodes.specs.Standing.{core_at}
 use Rattle.c_conversions.specs.Targets.{UpcastMade}
 use Rattle.c_conversions.proofs.Failing.{structure_stays, structure_ends, refusal_made}

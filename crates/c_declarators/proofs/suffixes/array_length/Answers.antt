@@ -1,8 +1,8 @@
-use Rattle.c_senses.specs.Sense.{sense_in}
+use Rattle.core_nodes.specs.passed.c_senses.Sense.{sense_in}
 use Rattle.c_results.specs.Standing.{senses_made}
 use Rattle.tree_reads.specs.Sources.{source_read}
 use Rattle.c_declarators.proofs.Lengths.{brackets_core, brackets_none, brackets_star}
-use Rattle.constant_values.proofs.Valuing.{rows_read}
+use Rattle.c_conversions.proofs.constant_values.Valuing.{rows_read}
 use Rattle.core_nodes.specs.Standing.{core_at}
 use Rattle.c_declarators.proofs.suffixes.array_length.Goals as goal
 

@@ -1,16 +1,16 @@
 use Rattle.std.proofs.Common.{sym, ◌∙◌, ap, subst, List}
-use Rattle.c_senses.specs.Sense.{sense_in}
+use Rattle.core_nodes.specs.passed.c_senses.Sense.{sense_in}
 use Rattle.c_results.specs.Standing.{senses_made}
 use Rattle.tree_reads.specs.Sources.{source_read}
 use Rattle.std.proofs.Common.{Err, ℤ, pos, ◌<ℤ◌, ◌^◌, to_z-of_z}
 use Rattle.core_tree.specs.declared.node.Node.{Node}
-use Rattle.c_senses.specs.Declarators.{positive}
+use Rattle.core_nodes.specs.passed.c_senses.Declarators.{positive}
 use Rattle.c_declarators.specs.Suffixes.{LengthMade}
 use Rattle.c_consts.specs.Core.{Stands}
 use Rattle.core_nodes.specs.Standing.{core_at}
-use Rattle.constant_values.proofs.PassedOn.{core_stands, rows_under}
+use Rattle.c_conversions.proofs.constant_values.PassedOn.{core_stands, rows_under}
 use Rattle.c_consts.specs.Nodes.{RowsUnder}
-use Rattle.constant_values.proofs.Valuing.{holds_below, holds_fits}
+use Rattle.c_conversions.proofs.constant_values.Valuing.{holds_below, holds_fits}
 use Rattle.c_declarators.proofs.Lengths.{value_made, form_made, range_made, zero_made}
 use Rattle.c_declarators.proofs.suffixes.value_length.Goals as goal
 

@@ -1,6 +1,6 @@
 use Rattle.std.proofs.Common.{ℕ, Bool, false, Option, Some, None, ap, ◌∙◌}
 use Rattle.c_grammar.specs.Productions.{p_parameter}
-use Rattle.c_senses.specs.Tree.{is_a}
+use Rattle.core_nodes.specs.passed.c_senses.Tree.{is_a}
 use Rattle.tree_reads.specs.Sources.{source_read}
 use Rattle.c_entities.proofs.declaring.is_parameter.Goals as goal
 

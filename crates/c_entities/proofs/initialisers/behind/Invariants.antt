@@ -1,5 +1,5 @@
 use Rattle.std.proofs.Common.{◌≡◌, drop}
-use Rattle.c_senses.specs.Entities.{behind}
+use Rattle.core_nodes.specs.passed.c_senses.Entities.{behind}
 use Rattle.c_entities.proofs.initialisers.behind.Given as goal
 
 -- what stands behind the node in the rest stands behind it in the list

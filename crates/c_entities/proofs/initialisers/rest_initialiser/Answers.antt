@@ -1,7 +1,7 @@
 use Rattle.std.proofs.Common.{None, sym, ap, ◌∙◌}
 use Rattle.c_grammar.specs.Productions.{p_rest}
-use Rattle.c_senses.specs.Tree.{is_a}
-use Rattle.c_senses.specs.Entities.{initialiser_in}
+use Rattle.core_nodes.specs.passed.c_senses.Tree.{is_a}
+use Rattle.core_nodes.specs.passed.c_senses.Entities.{initialiser_in}
 use Rattle.tree_reads.specs.Sources.{source_read}
 use Rattle.c_entities.proofs.Reading.{chosen}
 use Rattle.c_entities.proofs.initialisers.rest_initialiser.Goals as goal

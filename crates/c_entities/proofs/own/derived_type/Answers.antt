@@ -1,9 +1,9 @@
 use Rattle.std.proofs.Common.{◌≡◌, ℕ, Option, Some, sym, ap, ◌∙◌, option_and_then}
 use Rattle.c_types.specs.Table.{type_of}
-use Rattle.c_senses.specs.Sense.{Sense, Specified, sense_in}
-use Rattle.c_senses.specs.Tree.{Source}
-use Rattle.c_senses.specs.Declarators.{specs_of, outermost_of}
-use Rattle.c_senses.specs.Entities.{specified, specified_of, derived_type}
+use Rattle.core_nodes.specs.passed.c_senses.Sense.{Sense, Specified, sense_in}
+use Rattle.core_nodes.specs.passed.c_senses.Tree.{Source}
+use Rattle.core_nodes.specs.passed.c_senses.Declarators.{specs_of, outermost_of}
+use Rattle.core_nodes.specs.passed.c_senses.Entities.{specified, specified_of, derived_type}
 use Rattle.c_results.specs.Standing.{senses_made}
 use Rattle.tree_reads.specs.Sources.{source_read}
 use Rattle.c_entities.proofs.Reading.{specs_missing, type_seen, type_missing}

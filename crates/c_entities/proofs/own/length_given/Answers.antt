@@ -1,5 +1,5 @@
 use Rattle.std.proofs.Common.{ℕ, Option, Some, None, ap, ◌∙◌}
-use Rattle.c_senses.specs.Sense.{sense_in}
+use Rattle.core_nodes.specs.passed.c_senses.Sense.{sense_in}
 use Rattle.c_results.specs.Standing.{senses_made}
 use Rattle.c_entities.specs.Words.{length_in}
 use Rattle.c_entities.proofs.own.length_given.Goals as goal

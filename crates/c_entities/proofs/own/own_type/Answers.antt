@@ -1,8 +1,8 @@
 use Rattle.std.proofs.Common.{ℕ, Option, Some, sym, ap, ◌∙◌, option_map}
 use Rattle.c_types.specs.Trees.{Ctype}
 use Rattle.c_types.specs.Table.{type_of}
-use Rattle.c_senses.specs.Sense.{sense_in}
-use Rattle.c_senses.specs.Entities as spec
+use Rattle.core_nodes.specs.passed.c_senses.Sense.{sense_in}
+use Rattle.core_nodes.specs.passed.c_senses.Entities as spec
 use Rattle.core_nodes.proofs.Growing.{builds_on}
 use Rattle.c_results.specs.Standing.{senses_made}
 use Rattle.tree_reads.specs.Sources.{source_read}

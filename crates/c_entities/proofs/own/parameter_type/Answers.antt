@@ -1,6 +1,6 @@
 use Rattle.std.proofs.Common.{ap, ◌∙◌}
-use Rattle.c_senses.specs.Sense.{sense_in}
-use Rattle.c_senses.specs.Entities as spec
+use Rattle.core_nodes.specs.passed.c_senses.Sense.{sense_in}
+use Rattle.core_nodes.specs.passed.c_senses.Entities as spec
 use Rattle.c_results.specs.Standing.{senses_made}
 use Rattle.tree_reads.specs.Sources.{source_read}
 use Rattle.c_entities.proofs.Reading.{param_seen, param_missing}

@@ -1,6 +1,6 @@
 use Rattle.std.proofs.Common.{◌≡◌, ◌<◌, drop, length}
 use Rattle.std.specs.Option.{IfSome}
-use Rattle.c_senses.specs.Entities.{all_together}
+use Rattle.core_nodes.specs.passed.c_senses.Entities.{all_together}
 use Rattle.c_entities.specs.Types.{type_in, types_in}
 use Rattle.c_entities.proofs.types.all_together.Given as goal
 

@@ -1,8 +1,8 @@
 use Rattle.std.proofs.Common.{arith, sym, ◌∙◌}
 use Rattle.c_grammar.specs.Productions.{p_init, p_items}
 use Rattle.c_inits.specs.View.{all_designators}
-use Rattle.c_braces.specs.Tree.{init_at}
-use Rattle.c_braces.proofs.Grown.{grows_on}
+use Rattle.c_initialise.specs.c_braces.Tree.{init_at}
+use Rattle.c_initialise.proofs.c_braces.Grown.{grows_on}
 use Rattle.c_initialise.specs.Facts.{told}
 use Rattle.c_initialise.specs.Read.{before, part_at}
 use Rattle.c_initialise.proofs.Viewed.{kids}

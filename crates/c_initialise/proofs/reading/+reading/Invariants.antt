@@ -1,6 +1,6 @@
 use Rattle.std.proofs.Common.{◌≡◌, drop, slice_get, length}
 use Rattle.c_inits.specs.View.{all_items}
-use Rattle.c_braces.specs.Tree.{init_at, ItemsBefore, Grows}
+use Rattle.c_initialise.specs.c_braces.Tree.{init_at, ItemsBefore, Grows}
 use Rattle.c_initialise.specs.Facts.{told}
 use Rattle.c_initialise.specs.Nodes.{children_of}
 use Rattle.c_initialise.specs.Read.{part_at, before}

@@ -1,6 +1,6 @@
 use Rattle.std.proofs.Common.{ap, ◌∙◌}
 use Rattle.c_inits.specs.Syntax.{Braces}
-use Rattle.c_braces.specs.Tree.{init_at, items_over}
+use Rattle.c_initialise.specs.c_braces.Tree.{init_at, items_over}
 use Rattle.c_initialise.specs.Facts.{told}
 use Rattle.c_initialise.proofs.Given.{seen_items, answers}
 use Rattle.c_initialise.proofs.whole.initialise_literal.Goals as goal

@@ -1,5 +1,5 @@
 use Rattle.std.proofs.Common.{ap}
-use Rattle.c_braces.specs.Tree.{init_at}
+use Rattle.c_initialise.specs.c_braces.Tree.{init_at}
 use Rattle.c_initialise.specs.Facts.{told}
 use Rattle.c_initialise.proofs.Given.{seen_init, answers}
 use Rattle.c_initialise.proofs.whole.initialise_node.Goals as goal

@@ -2,7 +2,7 @@ use Rattle.std.proofs.Common.{◌≡◌, ◌<◌, length, drop, Some}
 use Rattle.c_types.specs.Table.{type_of}
 use Rattle.c_senses.specs.World.{World}
 use Rattle.c_senses.specs.Initialised as spec
-use Rattle.c_members.specs.Worlds.{IsWorldOf}
+use Rattle.c_operators.specs.c_members.Worlds.{IsWorldOf}
 use Rattle.c_initials.proofs.along.type_along.Given as goal
 
 -- what is left of the path

@@ -1,6 +1,6 @@
 use Rattle.std.proofs.Common.{refl, Some, None}
 use Rattle.c_types.specs.Table.{type_of}
-use Rattle.c_members.specs.Worlds.{part_of}
+use Rattle.c_operators.specs.c_members.Worlds.{part_of}
 use Rattle.c_initials.proofs.Parts.{below_member}
 use Rattle.c_initials.proofs.along.type_below.Goals as goal
 

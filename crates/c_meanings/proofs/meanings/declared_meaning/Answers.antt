@@ -4,8 +4,8 @@ use Rattle.c_senses.specs.Sense.{sense_in}
 use Rattle.c_senses.specs.Entities.{declared_meaning}
 use Rattle.c_results.specs.Standing.{senses_made}
 use Rattle.tree_reads.specs.Sources.{source_in}
-use Rattle.remembered_names.specs.Remembering.{AreRemembered}
-use Rattle.remembered_names.proofs.Onward.{means_now}
+use Rattle.c_entities.specs.remembered_names.Remembering.{AreRemembered}
+use Rattle.c_entities.proofs.remembered_names.Onward.{means_now}
 use Rattle.c_meanings.proofs.meanings.declared_meaning.Goals as goal
 
 pub returns-in-Some-clause-made : goal.returns-in-Some-clause-made

@@ -7,7 +7,7 @@ use Rattle.core_nodes.proofs.Growing.{builds_on}
 use Rattle.c_results.specs.Standing.{senses_made}
 use Rattle.c_results.proofs.Keeping.{mades_kept}
 use Rattle.tree_reads.specs.Sources.{source_in}
-use Rattle.remembered_names.proofs.Onward.{means_now}
+use Rattle.c_entities.proofs.remembered_names.Onward.{means_now}
 use Rattle.c_meanings.proofs.Tests.{some_of}
 use Rattle.c_meanings.proofs.meanings.first_meaning.Goals as goal
 

@@ -1,6 +1,6 @@
 use Rattle.std.proofs.Common.{Bool, Some, ap, sym, ◌∙◌}
 use Rattle.c_types.specs.Table.{type_of}
-use Rattle.remembered_names.specs.Remembering.{named}
+use Rattle.c_entities.specs.remembered_names.Remembering.{named}
 use Rattle.c_meanings.proofs.meanings.meaning_by.Goals as goal
 
 pub returns-else-found-clause-gives : goal.returns-else-found-clause-gives

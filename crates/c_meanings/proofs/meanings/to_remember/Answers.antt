@@ -1,7 +1,7 @@
 use Rattle.std.proofs.Common.{ℕ, Some, option_map, ap, sym, ◌∙◌}
 use Rattle.c_senses.specs.Entities.{entity_of}
 use Rattle.tree_reads.specs.Sources.{source_in}
-use Rattle.remembered_names.specs.Remembering.{named}
+use Rattle.c_entities.specs.remembered_names.Remembering.{named}
 use Rattle.c_meanings.specs.Later.{later}
 use Rattle.c_meanings.proofs.Onward.{not_false}
 use Rattle.c_meanings.proofs.Tests.{some_of}

@@ -1,6 +1,6 @@
 use Rattle.core_nodes.specs.Standing.{core_at}
 use Rattle.c_types.specs.Table.{type_of}
-use Rattle.c_members.specs.Worlds.{part_of}
+use Rattle.c_operators.specs.c_members.Worlds.{part_of}
 use Rattle.core_nodes.proofs.Failing.{made_same}
 use Rattle.c_operators.proofs.Ways.{world_is, stepped_is}
 use Rattle.c_operators.proofs.members.one_step.Goals as goal

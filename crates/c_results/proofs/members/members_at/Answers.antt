@@ -1,5 +1,5 @@
 use Rattle.std.proofs.Common.{sym, ap, subst}
-use Rattle.c_senses.specs.Sense.{Sense}
+use Rattle.core_nodes.specs.passed.c_senses.Sense.{Sense}
 use Rattle.c_results.specs.Parts.{parts_in, MembersSeen}
 use Rattle.c_results.proofs.members.members_at.Goals as goal
 

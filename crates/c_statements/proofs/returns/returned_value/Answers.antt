@@ -10,7 +10,7 @@ use Rattle.c_results.specs.Standing.{senses_made}
 use Rattle.core_nodes.specs.Standing.{core_at, Made}
 use Rattle.core_nodes.proofs.Failing.{fails, follows}
 use Rattle.core_nodes.proofs.Growing.{knows_on}
-use Rattle.constant_values.proofs.Valuing.{rows_read}
+use Rattle.c_conversions.proofs.constant_values.Valuing.{rows_read}
 use Rattle.c_statements.proofs.Bodies.{value_none}
 use Rattle.c_statements.proofs.Returning.{value_some}
 use Rattle.c_statements.proofs.returns.returned_value.Goals as goal

@@ -3,7 +3,7 @@ use Rattle.std.specs.Int.{w128}
 use Rattle.core_nodes.specs.declared.fault.CheckFault.{CheckFault}
 use Rattle.c_senses.specs.Constants.{constant_in}
 use Rattle.c_senses.specs.Tags.{bit_field, field_name}
-use Rattle.constant_values.specs.Constants.{ConstantMade}
+use Rattle.c_conversions.specs.constant_values.Constants.{ConstantMade}
 use Rattle.pta_base.specs.declared.kind.Kind.TheVariants.{Operand}
 use Rattle.c_types.specs.Table.{type_of}
 use Rattle.c_senses.specs.Given.{Given, Refuses, Fits}

@@ -1,8 +1,8 @@
 use Rattle.std.proofs.Common.{arith, rules, ◌≡◌, ◌<◌, ◌+◌, ◌∙◌, ℕ, Bool, true, false, Option, List, length, get_or, refl, sym, ap, subst}
 use Rattle.std.specs.Prelude.{IfSome, MatchOption}
 use Rattle.core_tree.specs.declared.node.Node.{Node}
-use Rattle.kept_nodes.specs.Keeps.{AllUnder}
-use Rattle.leaf_maps.specs.Numbers.{number_at}
+use Rattle.core_nodes.specs.kept_nodes.Keeps.{AllUnder}
+use Rattle.tree_reads.specs.leaf_maps.Numbers.{number_at}
 use Rattle.carried_trees.specs.Numbered.{AreNumbered}
 use Rattle.carried_trees.proofs.Behind.{ids_there}
 use Rattle.carried_trees.proofs.Moved.{all_moved, tree_there, not_there}

@@ -1,5 +1,5 @@
 use Rattle.std.proofs.Common.{rules, ◌≡◌, ◌+◌, true, false, None, is_some}
-use Rattle.leaf_maps.specs.Numbers.{number_at}
+use Rattle.tree_reads.specs.leaf_maps.Numbers.{number_at}
 use Rattle.carried_trees.specs.declared.literals.OwnLiterals.{OwnLiterals}
 use Rattle.carried_trees.proofs.Listing.{none_of, listed_again, listed_new}
 use Rattle.carried_trees.proofs.literals.note.Goals as goal

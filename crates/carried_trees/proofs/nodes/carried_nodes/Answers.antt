@@ -3,8 +3,8 @@ use Rattle.std.specs.VecDeque.{deque_len}
 use Rattle.c_types.specs.Table.{Table, type_of}
 use Rattle.core_tree.specs.declared.node.Node.{Node}
 use Rattle.core_nodes.proofs.Growing.{builds_on}
-use Rattle.leaf_maps.specs.Numbers.{number_at}
-use Rattle.carried_types.specs.Types.{carried_type}
+use Rattle.tree_reads.specs.leaf_maps.Numbers.{number_at}
+use Rattle.carried_trees.specs.carried_types.Types.{carried_type}
 use Rattle.carried_trees.specs.Carried.{is_given_kind}
 use Rattle.carried_trees.specs.Copied.{AreCarried, all_flagged}
 use Rattle.carried_trees.proofs.Behind.{next_node, carried_more}

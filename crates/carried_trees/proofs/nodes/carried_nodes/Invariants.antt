@@ -2,9 +2,9 @@ use Rattle.std.proofs.Common.{◌≡◌, ◌+◌, ◌≤◌, ℕ, Option, length
 use Rattle.c_types.specs.Trees.{Ctype}
 use Rattle.core_tree.specs.declared.node.Unit.{Unit}
 use Rattle.core_nodes.specs.Standing.{IsReady, Builds}
-use Rattle.leaf_maps.specs.Numbers.{number_at}
+use Rattle.tree_reads.specs.leaf_maps.Numbers.{number_at}
 use Rattle.carried_trees.specs.Copied.{AreCarried}
-use Rattle.carried_types.specs.Terms.{AreTypes}
+use Rattle.carried_trees.specs.carried_types.Terms.{AreTypes}
 use Rattle.carried_trees.proofs.nodes.carried_nodes.Given as goal
 
 -- so many nodes are carried

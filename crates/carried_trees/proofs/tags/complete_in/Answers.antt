@@ -1,7 +1,7 @@
 use Rattle.std.proofs.Common.{refl}
 use Rattle.core_tree.specs.declared.node.Unit.{Unit}
-use Rattle.carried_types.specs.Terms.{tag_type}
-use Rattle.carried_types.proofs.Widening.{wider_added}
+use Rattle.carried_trees.specs.carried_types.Terms.{tag_type}
+use Rattle.carried_trees.proofs.carried_types.Widening.{wider_added}
 use Rattle.carried_trees.proofs.Extending.{wider_extends, table_filled}
 use Rattle.carried_trees.proofs.tags.complete_in.Goals as goal
 

@@ -2,11 +2,11 @@ use Rattle.std.proofs.Common.{◌≡◌, ◌∙◌, ℕ, Option, IfOk, inr, leng
 use Rattle.std.specs.Prelude.{MatchOption}
 use Rattle.c_consts.specs.Core.{Core}
 use Rattle.c_types.specs.Trees.{Ctype}
-use Rattle.leaf_maps.specs.Numbers.{number_at}
+use Rattle.tree_reads.specs.leaf_maps.Numbers.{number_at}
 use Rattle.core_nodes.specs.Standing.{core_at}
-use Rattle.carried_types.specs.Terms.{tag_type}
-use Rattle.carried_types.specs.Members.{AreTagged}
-use Rattle.carried_types.proofs.Adding.{types_same}
+use Rattle.carried_trees.specs.carried_types.Terms.{tag_type}
+use Rattle.carried_trees.specs.carried_types.Members.{AreTagged}
+use Rattle.carried_trees.proofs.carried_types.Adding.{types_same}
 use Rattle.carried_trees.specs.declared.carrying.WholeTree.{WholeTree}
 use Rattle.carried_trees.specs.Extends.{AreFilled, LacksPart, IsMissing, IsWhole}
 use Rattle.carried_trees.proofs.Extending.{extends_on, builds_extends, tags_grown, filled_between, lacks_first, whole_answer}

@@ -1,6 +1,6 @@
 use Rattle.std.proofs.Common.{codes}
 use Rattle.std.proofs.lemmas.Result.{IfOk-weaker}
-use Rattle.command_line.specs.Language.{positional_words, value_option}
+use Rattle.command_line.specs.Language.{flag, positional_words, value_option}
 use Rattle.command_line.proofs.Program.{added}
 use Rattle.command_line.proofs.builder.program.Goals as goal
 
@@ -8,4 +8,6 @@ pub returns : goal.returns
 returns c =
     let one = added _ _ _ (value_option (codes "workers")) c.in_ok-command.ensures c.bare-command.ensures in
     let two = added _ _ _ (value_option (codes "ask")) c.in_ok-command-2.ensures one in
-    IfOk-weaker c.with_words.result _ _ (λ m h. added _ _ _ (positional_words (codes "unit")) h two) c.with_words.ensures
+    let three = added _ _ _ (flag (codes "json")) c.in_ok-command-3.ensures two in
+    let four = added _ _ _ (value_option (codes "gen")) c.in_ok-command-4.ensures three in
+    IfOk-weaker c.with_words.result _ _ (λ m h. added _ _ _ (positional_words (codes "unit")) h four) c.with_words.ensures

@@ -1,4 +1,4 @@
-use Rattle.std.proofs.Common.{◌≤◌}
+use Rattle.std.proofs.Common.{take}
 use Rattle.sol_model.specs.Systems.{width_of}
 use Rattle.set_rows.specs.Calls.{system_of, view, IsOf}
 use Rattle.delta_prop.proofs.Carries.{Carried}
@@ -7,6 +7,5 @@ use Rattle.delta_prop.proofs.along.carry.Given as goal
 abbrev pub invariant-loop-k : goal.invariant-loop-k
 invariant-loop-k l = record {
   own : IsOf l.table l.seat;
-  within : l.k ≤ width_of (system_of l.table);
-  carried : Carried (width_of (system_of l.table)) l.to l.k l.done l.now (view l.initial.seat) (view l.seat) l.any;
+  carried : Carried (width_of (system_of l.table)) l.to (take l.k-index l.news) (view l.initial.seat) (view l.seat);
 }

@@ -1,16 +1,11 @@
-use Rattle.std.proofs.Common.{◌≡◌, ◌≤◌, length}
 use Rattle.sol_model.specs.Systems.{width_of}
 use Rattle.edge_book.specs.Leaving.{targets_of}
 use Rattle.set_rows.specs.Calls.{system_of, view, IsOf}
-use Rattle.delta_prop.specs.Deltas.{IsSameBeside}
 use Rattle.delta_prop.proofs.Going.{Going}
 use Rattle.delta_prop.proofs.work.propagate.Given as goal
 
 abbrev pub invariant-loop-to : goal.invariant-loop-to
 invariant-loop-to l = record {
   own : IsOf l.table l.seat;
-  sized : length l.read.words.items ≡ width_of (system_of l.table);
-  beside : IsSameBeside (width_of (system_of l.table)) l.read.first l.read.end l.done l.read.words.items;
-  range : (l.read.first ≤ width_of (system_of l.table)) × (l.read.end ≤ width_of (system_of l.table));
   going : Going (width_of (system_of l.table)) l.row l.to-index (targets_of l.row l.book) l.done l.read.words.items l.grown.items (view l.fn.seat) (view l.seat);
 }

@@ -7,9 +7,9 @@ use Rattle.c_senses.specs.World.{World}
 use Rattle.c_senses.specs.Sense.{Sense, sense_in}
 use Rattle.c_results.specs.Standing.{senses_made, Rowed}
 use Rattle.tree_reads.specs.Sources.{source_read}
-use Rattle.row_trees.proofs.Expressions.{post_rows, cast_row_rows, conditional_rows, assignment_rows, binary_rows}
-use Rattle.whole_rows.proofs.Keeping.{sense_rows}
-use Rattle.whole_rows.proofs.Prefixes.{made_rows}
+use Rattle.sense_laws.proofs.row_trees.Expressions.{post_rows, cast_row_rows, conditional_rows, assignment_rows, binary_rows}
+use Rattle.expression_rows.proofs.whole_rows.Keeping.{sense_rows}
+use Rattle.expression_rows.proofs.whole_rows.Prefixes.{made_rows}
 use Rattle.expression_rows.specs.Built.{built_row}
 use Rattle.expression_rows.proofs.Productions.{chain_row, other_row, first_fits}
 use Rattle.expression_rows.proofs.Keeping.{named_world, named_knows, named_calls, named_fits, named_values, primary_kept}

@@ -1,6 +1,6 @@
 use Rattle.std.proofs.Common.{length, get_or, refl, ◌∙◌}
 use Rattle.std.proofs.lemmas.Option.{slice_get_read}
-use Rattle.link_types.specs.Joined.{tag_in}
+use Rattle.link_model.specs.link_types.Joined.{tag_in}
 use Rattle.link_merge.proofs.Listing.{types_kept, listed_more}
 use Rattle.link_merge.proofs.complete.complete_all.Goals as goal
 

@@ -1,5 +1,5 @@
 use Rattle.std.proofs.Common.{◌≡◌}
-use Rattle.link_types.specs.Joined.{tag_in}
+use Rattle.link_model.specs.link_types.Joined.{tag_in}
 use Rattle.link_merge.specs.Complete.{AreListed}
 use Rattle.link_merge.proofs.complete.complete_all.Given as goal
 

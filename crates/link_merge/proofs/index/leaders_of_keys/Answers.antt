@@ -4,8 +4,8 @@ use Rattle.std.proofs.lemmas.Option.{slice_get-map, slice_get_read}
 use Rattle.std.proofs.lemmas.List.{length-map}
 use Rattle.std.specs.List.{slice_get}
 use Rattle.c_types.specs.Index.{number_at}
-use Rattle.link_program.specs.Alike.{AreAlike, IsLeader}
-use Rattle.link_program.proofs.Leading.{leader_next, knows_more, led_more, alike_leaders}
+use Rattle.unit_link.specs.link_program.Alike.{AreAlike, IsLeader}
+use Rattle.unit_link.proofs.link_program.Leading.{leader_next, knows_more, led_more, alike_leaders}
 use Rattle.link_merge.specs.Keys.{key_of, keys_of}
 use Rattle.link_merge.proofs.index.leaders_of_keys.Goals as goal
 

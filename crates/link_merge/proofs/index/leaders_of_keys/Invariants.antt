@@ -1,6 +1,6 @@
 use Rattle.std.proofs.Common.{◌≡◌, ◌<◌, ℕ, length, get_or}
 use Rattle.c_types.specs.Index.{number_at}
-use Rattle.link_program.specs.Alike.{IsLeader, KnowsLabels}
+use Rattle.unit_link.specs.link_program.Alike.{IsLeader, KnowsLabels}
 use Rattle.link_merge.specs.Keys.{keys_of}
 use Rattle.link_merge.proofs.index.leaders_of_keys.Given as goal
 

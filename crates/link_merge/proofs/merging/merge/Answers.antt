@@ -1,5 +1,5 @@
 use Rattle.std.proofs.Common.{ℕ, List, subst}
-use Rattle.link_program.specs.Merging.{AreMerged}
+use Rattle.unit_link.specs.link_program.Merging.{AreMerged}
 use Rattle.link_merge.proofs.merging.merge.Goals as goal
 
 pub returns : goal.returns

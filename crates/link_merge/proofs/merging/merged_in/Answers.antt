@@ -1,5 +1,5 @@
 use Rattle.std.proofs.Common.{◌<◌, ℕ, List, Option, All, length, sym, subst}
-use Rattle.link_types.specs.Joined.{AreStarts, tag_in}
+use Rattle.link_model.specs.link_types.Joined.{AreStarts, tag_in}
 use Rattle.link_merge.specs.Complete.{AreListed}
 use Rattle.link_merge.specs.Classes.{AreCollected, AreShown}
 use Rattle.link_merge.proofs.Beginning.{merged_right}

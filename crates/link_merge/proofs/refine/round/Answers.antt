@@ -1,6 +1,6 @@
 use Rattle.std.proofs.Common.{◌<◌, ℕ, List, All, length, sym, subst, ◌∙◌, arith}
-use Rattle.link_types.specs.Joined.{AreStarts, AreKeyed, AreJoined, tag_in}
-use Rattle.link_types.specs.Leaders.{AreNumbers}
+use Rattle.link_model.specs.link_types.Joined.{AreStarts, AreKeyed, AreJoined, tag_in}
+use Rattle.link_model.specs.link_types.Leaders.{AreNumbers}
 use Rattle.link_merge.proofs.Rounding.{of_tags, counted_within, starts_of_numbers, known_numbers, keyed_numbers, stand_shown}
 use Rattle.link_merge.proofs.Settling.{joined_shown}
 use Rattle.link_merge.proofs.refine.round.Goals as goal

@@ -1,8 +1,8 @@
 use Rattle.std.proofs.Common.{◌≡◌, ℕ, List, length, sym, ap, subst, ◌∙◌, arith}
 use Rattle.std.specs.Cmp.Lexicographic.{bytes_decides}
 use Rattle.std.proofs.lemmas.Bool.{false≢true}
-use Rattle.link_types.specs.Leaders.{AreLeaders}
-use Rattle.link_program.proofs.Leading.{alike_leaders}
+use Rattle.link_model.specs.link_types.Leaders.{AreLeaders}
+use Rattle.unit_link.proofs.link_program.Leading.{alike_leaders}
 use Rattle.link_merge.specs.Classes.{AreClasses, IsRound}
 use Rattle.link_merge.specs.Kids.{IsTold}
 use Rattle.link_merge.specs.Parted.{lists_of}

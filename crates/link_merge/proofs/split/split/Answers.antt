@@ -1,5 +1,5 @@
 use Rattle.std.proofs.Common.{List, ℕ, Option, length, ap, subst}
-use Rattle.link_program.specs.Alike.{AreAlike}
+use Rattle.unit_link.specs.link_program.Alike.{AreAlike}
 use Rattle.link_merge.specs.Keys.{keys_of}
 use Rattle.link_merge.specs.Parted.{lists_of, IsRenumbered}
 use Rattle.link_merge.proofs.Splitting.{split_right, keys_given}

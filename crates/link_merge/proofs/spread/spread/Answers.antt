@@ -1,5 +1,5 @@
 use Rattle.std.proofs.Common.{◌≡◌, ◌<◌, ◌∷◌, [], ℕ, List, Option, Some, All, length, map, get_or, take, sym, ap, subst, ◌∙◌, arith}
-use Rattle.link_program.specs.Alike.{AreAlike}
+use Rattle.unit_link.specs.link_program.Alike.{AreAlike}
 use Rattle.link_merge.specs.Keys.{keys_of}
 use Rattle.link_merge.specs.Parted.{lists_of, AreParted}
 use Rattle.link_merge.proofs.Begun.{begun_many, begun_within, begun_itself}

@@ -1,18 +1,18 @@
 use Rattle.std.proofs.Common.{ℕ, List, sym, subst, arith}
 use Rattle.core_tree.specs.declared.node.Unit.{Unit}
 use Rattle.core_tree.specs.declared.node.Program.{Program}
-use Rattle.link_types.specs.Starts.{AreSums}
-use Rattle.link_program.specs.Checked.{joined_by}
-use Rattle.link_program.specs.Merging.{AreMerged}
-use Rattle.link_whole.specs.Entities.{AreEntitiesOf}
+use Rattle.link_model.specs.link_types.Starts.{AreSums}
+use Rattle.unit_link.specs.link_program.Checked.{joined_by}
+use Rattle.unit_link.specs.link_program.Merging.{AreMerged}
+use Rattle.link_units.specs.link_whole.Entities.{AreEntitiesOf}
 use Rattle.link_units.specs.Nodes.{node_counts_of}
 use Rattle.link_units.proofs.Growing.{are_merged_grown}
 use Rattle.link_units.proofs.Noding.{units_placeable}
 use Rattle.link_units.proofs.Typing.{in_range_all}
 use Rattle.link_units.proofs.Whole.{linked_all}
 use Rattle.link_merge.specs.Tags.{AreMade}
-use Rattle.merged_laws.specs.Merged.{AreTables}
-use Rattle.valid_laws.proofs.Whole.{linked_valid}
+use Rattle.linked_laws.specs.merged_laws.Merged.{AreTables}
+use Rattle.linked_laws.proofs.valid_laws.Whole.{linked_valid}
 use Rattle.link_units.proofs.linking.link_merged.Goals as goal
 
 pub entities_of-requires-clause-merged : goal.entities_of-requires-clause-merged

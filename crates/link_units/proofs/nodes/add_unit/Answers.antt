@@ -1,5 +1,5 @@
 use Rattle.std.proofs.Common.{◌+◌, ℕ, List, length, get_or, drop, length-drop, sym, ap, subst, ◌∙◌, arith, OnOk}
-use Rattle.link_whole.specs.Placed.{AreNamed}
+use Rattle.link_units.specs.link_whole.Placed.{AreNamed}
 use Rattle.link_units.specs.Nodes.{AreAdded}
 use Rattle.link_units.proofs.Noding.{entities_from, named_more}
 use Rattle.link_units.proofs.nodes.add_unit.Goals as goal

@@ -2,7 +2,7 @@ use Rattle.std.proofs.Common.{◌≡◌, ℕ, List, Option, [], ◌∷◌, ◌++
 use Rattle.c_scope.specs.declared.kinds.Declared.{Declared}
 use Rattle.c_senses.specs.World.{or_else}
 use Rattle.c_senses.specs.Names.{linked_along, has_linkage}
-use Rattle.leaf_maps.specs.Numbers.{number_at}
+use Rattle.tree_reads.specs.leaf_maps.Numbers.{number_at}
 use Rattle.name_chains.specs.declared.links.Link.{Link}
 use Rattle.name_chains.specs.declared.building.Seen.{Seen}
 use Rattle.name_chains.specs.Links.{listed, IsLinkOf, Adds, TypedBy, HaveLeaves}

@@ -1,4 +1,4 @@
-use Rattle.leaf_maps.proofs.Apart.{not_equal}
+use Rattle.tree_reads.proofs.leaf_maps.Apart.{not_equal}
 use Rattle.name_chains.proofs.symbols.put.Goals as goal
 
 pub returns-clause-others : goal.returns-clause-others

@@ -11,8 +11,8 @@ use Rattle.expression_rows.specs.Fitting.{FitsAround}
 use Rattle.expression_rows.proofs.Readable.{row_whole}
 use Rattle.expression_rows.proofs.Keeping.{named_world, named_knows}
 use Rattle.tree_reads.specs.Sources.{source_in}
-use Rattle.whole_rows.proofs.Keeping.{sense_rows}
-use Rattle.whole_rows.proofs.Prefixes.{made_rows}
+use Rattle.expression_rows.proofs.whole_rows.Keeping.{sense_rows}
+use Rattle.expression_rows.proofs.whole_rows.Prefixes.{made_rows}
 use Rattle.name_uses.proofs.Passing.{whole_alone, built_alone, named_alone}
 use Rattle.name_uses.specs.Built.{names_strangely}
 use Rattle.name_uses.proofs.Giving.{part_named, named_made}

@@ -13,13 +13,13 @@ lower_unit-requires-clause-first c = c.children_first.ensures c.in-Ok.read.token
 pub returns-in-Ok-lower_unit : goal.returns-in-Ok-lower_unit
 returns-in-Ok-lower_unit c = record {
   right = lowered_right c.args.number (c.args.name.now, c.args.text.now) c.in-Ok.read.tokens c.in-Ok.read.tree c.in-Ok.ensures.parsed c.in_ok-title.title c.in-Ok-lower_unit.unit c.in_ok-title.ensures
-      c.in-Ok-lower_unit.ensures;
+      c.in-Ok-lower_unit.ensures.lowered;
   refused = tt;
 }
 
 pub returns-clause-refused : goal.returns-clause-refused
 returns-clause-refused c =
-    node_refused c.args.number (c.args.name.now, c.args.text.now) c.in-Ok.read.tokens c.in-Ok.read.tree c.in-Ok.ensures.parsed c.in-Err-lower_unit.fault _ c.in-Err-lower_unit.ensures
+    node_refused c.args.number (c.args.name.now, c.args.text.now) c.in-Ok.read.tokens c.in-Ok.read.tree c.in-Ok.ensures.parsed c.in-Err-lower_unit.fault _ c.in-Err-lower_unit.ensures.lowered
     c.in_ok-row_refusal-in-Err-lower_unit.ensures
 
 pub lower_unit-requires-clause-tokens : goal.lower_unit-requires-clause-tokens

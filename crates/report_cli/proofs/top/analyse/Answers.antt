@@ -1,7 +1,8 @@
 use Rattle.std.proofs.Common.{◌≡◌, ℕ, List, [], Some, inl, inr, refl, sym, ◌∙◌, ap, subst, arith, codes, Err, slice_get}
 use Rattle.std.specs.Prelude.{Contains}
 use Rattle.sol_model.proofs.Members.{Contains-at}
-use Rattle.command_line.specs.Rules.{AreRight}
+use Rattle.command_line.specs.Language.{found_in}
+use Rattle.command_line.specs.Rules.{AreRight, gen_word, unit_words}
 use Rattle.command_line.specs.Distinct.{AreDistinct}
 use Rattle.report_cli.specs.Words.{names_of, texts_of, AreUnitNames}
 use Rattle.report_cli.specs.Answers.{Answer, refusal}
@@ -11,8 +12,8 @@ use Rattle.report_cli.proofs.Lifted.{IsStatus, names_asked, with_told_for, told_
 use Rattle.report_cli.proofs.Exclusion.{told_read}
 use Rattle.report_cli.proofs.OneOutcome.{told_right}
 use Rattle.report_cli.proofs.Together.{accepted_or_refused}
-use Rattle.report_cli.proofs.Naming.{unit_names}
-use Rattle.report_cli.proofs.Answered.{not_risen, grows_nothing, receives_nothing, always, same_name, number_of_workers, few_names}
+use Rattle.report_cli.proofs.Naming.{distinct_units, few_units, formed_units, unit_names}
+use Rattle.report_cli.proofs.Answered.{not_risen, grows_nothing, receives_nothing, always, same_name, number_of_workers, number_generated, few_names}
 use Rattle.report_cli.proofs.top.analyse.Goals as goal
 
 -- the statuses of refusals are those of no other answer
@@ -116,16 +117,19 @@ returns-in-Err-Source-clause-accepted g c =
 pub answer_units-requires-clause-workers : goal.answer_units-requires-clause-workers
 answer_units-requires-clause-workers g c κs within = number_of_workers _ _ c.in-Ok.ensures.ok.right.rules.workers c.in-Ok.ensures.ok.says.workers
 
+pub answer_units-requires-clause-number : goal.answer_units-requires-clause-number
+answer_units-requires-clause-number g c κs within = number_generated (gen_word (found_in (texts_of c.args.words.now))) _ c.in-Ok.ensures.ok.right.rules.gen c.in-Ok.ensures.ok.says.generated
+
 pub answer_units-requires-clause-distinct : goal.answer_units-requires-clause-distinct
 answer_units-requires-clause-distinct g c κs within =
-    let D : List (List ℕ) → Type 0 = AreDistinct in subst D (sym c.in-Ok.ensures.ok.says.units) c.in-Ok.ensures.ok.right.rules.units.distinct
+    let D : List (List ℕ) → Type 0 = AreDistinct in subst D (sym c.in-Ok.ensures.ok.says.units) (distinct_units (gen_word (found_in (texts_of c.args.words.now))) (unit_words (found_in (texts_of c.args.words.now))) c.in-Ok.ensures.ok.right.rules.units)
 
 pub answer_units-requires-clause-bytes : goal.answer_units-requires-clause-bytes
 answer_units-requires-clause-bytes g c κs within =
-    let N : List (List ℕ) → Type 0 = AreUnitNames in subst N (sym c.in-Ok.ensures.ok.says.units) (unit_names _ c.in-Ok.ensures.ok.right.rules.units.formed)
+    let N : List (List ℕ) → Type 0 = AreUnitNames in subst N (sym c.in-Ok.ensures.ok.says.units) (unit_names _ (formed_units (gen_word (found_in (texts_of c.args.words.now))) (unit_words (found_in (texts_of c.args.words.now))) c.in-Ok.ensures.ok.right.rules.units))
 
 pub answer_units-requires-clause-few : goal.answer_units-requires-clause-few
-answer_units-requires-clause-few g c κs within = few_names _ _ c.in-Ok.ensures.ok.says.units c.in-Ok.ensures.ok.right.rules.units.few
+answer_units-requires-clause-few g c κs within = few_names _ _ c.in-Ok.ensures.ok.says.units (few_units (gen_word (found_in (texts_of c.args.words.now))) (unit_words (found_in (texts_of c.args.words.now))) c.in-Ok.ensures.ok.right.rules.units)
 
 pub returns-clause-headline : goal.returns-clause-headline
 returns-clause-headline g c zero =

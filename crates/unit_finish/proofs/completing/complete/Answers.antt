@@ -1,6 +1,6 @@
 use Rattle.std.proofs.Common.{refl}
 use Rattle.core_tree.specs.declared.node.Unit.{Unit}
-use Rattle.leaf_maps.specs.Numbers.{number_at}
+use Rattle.tree_reads.specs.leaf_maps.Numbers.{number_at}
 use Rattle.unit_finish.proofs.Finished.{made_of}
 use Rattle.unit_finish.proofs.completing.complete.Goals as goal
 

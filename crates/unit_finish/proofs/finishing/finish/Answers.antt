@@ -1,7 +1,7 @@
 use Rattle.std.proofs.Common.{◌≡◌, ◌∙◌, ◌++◌, List, ap, sym, subst}
 use Rattle.std.specs.Prelude.{MatchResult}
 use Rattle.core_nodes.specs.declared.fault.CheckFault.TheVariants.{OutOfMemory}
-use Rattle.unit_parts.specs.declared.declared.Declared.{Declared}
+use Rattle.unit_finish.specs.declared.unit_parts.declared.Declared.{Declared}
 use Rattle.unit_finish.specs.Complete.{Completes, AlwaysCompletes}
 use Rattle.unit_finish.proofs.Results.{completes_so, right_result}
 use Rattle.unit_finish.proofs.finishing.finish.Goals as goal

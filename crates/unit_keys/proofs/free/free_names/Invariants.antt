@@ -3,7 +3,7 @@ use Rattle.core_tree.specs.declared.node.Unit.{Unit}
 use Rattle.c_senses.specs.Sense.{sense_in}
 use Rattle.c_results.specs.Standing.{senses_made}
 use Rattle.tree_reads.specs.Sources.{source_in}
-use Rattle.node_roles.specs.Roles.{AreRoles}
+use Rattle.tree_reads.specs.node_roles.Roles.{AreRoles}
 use Rattle.unit_keys.specs.Words.{has_word}
 use Rattle.unit_keys.specs.Free.{AreFree, TakenBelow}
 use Rattle.unit_keys.proofs.free.free_names.Given as goal

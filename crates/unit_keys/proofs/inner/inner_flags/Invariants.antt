@@ -1,7 +1,7 @@
 use Rattle.std.proofs.Common.{◌≡◌, ◌+◌, ℕ, List, length}
 use Rattle.c_senses.specs.Sense.{Sense}
 use Rattle.tree_reads.specs.Sources.{source_in}
-use Rattle.node_roles.specs.Roles.{AreRoles}
+use Rattle.tree_reads.specs.node_roles.Roles.{AreRoles}
 use Rattle.unit_keys.specs.Placed.{AreInner}
 use Rattle.unit_keys.proofs.inner.inner_flags.Given as goal
 

@@ -6,7 +6,7 @@ use Rattle.c_senses.specs.Keys.{parts_before}
 use Rattle.c_senses.specs.World.{or_else}
 use Rattle.c_senses.specs.Sense.{Sense, sense_in}
 use Rattle.c_results.specs.Standing.{senses_made}
-use Rattle.leaf_maps.specs.Numbers.{number_at}
+use Rattle.tree_reads.specs.leaf_maps.Numbers.{number_at}
 use Rattle.tree_reads.specs.Sources.{source_in}
 use Rattle.unit_keys.proofs.Noting.{noted_skip, noted_had, noted_alone, noted_list}
 use Rattle.unit_keys.proofs.positions.note_member.Goals as goal

@@ -2,7 +2,7 @@ use Rattle.std.proofs.Common.{◌∙◌, ◌+◌, ℕ, ap}
 use Rattle.c_senses.specs.Tree.{Source}
 use Rattle.c_senses.specs.Sense.{Sense, sense_in}
 use Rattle.c_results.specs.Standing.{senses_made}
-use Rattle.leaf_maps.specs.Numbers.{number_at}
+use Rattle.tree_reads.specs.leaf_maps.Numbers.{number_at}
 use Rattle.tree_reads.specs.Sources.{source_in}
 use Rattle.unit_keys.proofs.Counting.{position_more, positions_done}
 use Rattle.unit_keys.proofs.positions.note_positions.Goals as goal

@@ -8,7 +8,7 @@ use Rattle.c_senses.specs.World.{or_else}
 use Rattle.c_senses.specs.Sense.{sense_in}
 use Rattle.c_results.specs.Standing.{senses_made}
 use Rattle.c_senses.specs.Tree.{Source, is_a, is_number, parent_of}
-use Rattle.leaf_maps.specs.Numbers.{number_at}
+use Rattle.tree_reads.specs.leaf_maps.Numbers.{number_at}
 use Rattle.tree_reads.specs.Sources.{source_in}
 use Rattle.unit_keys.proofs.positions.note_positions.Given as goal
 

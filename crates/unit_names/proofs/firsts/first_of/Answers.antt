@@ -2,7 +2,7 @@ use Rattle.std.proofs.Common.{◌≡◌, Some, refl, sym, ◌∙◌}
 use Rattle.c_senses.specs.Sense.{sense_in}
 use Rattle.c_results.specs.Standing.{senses_made}
 use Rattle.tree_reads.specs.Sources.{source_in}
-use Rattle.symbol_lists.specs.Symbols.{kept_at}
+use Rattle.name_chains.specs.symbol_lists.Symbols.{kept_at}
 use Rattle.unit_names.proofs.Known.{entity_same, firsts_more}
 use Rattle.unit_names.proofs.firsts.first_of.Goals as goal
 

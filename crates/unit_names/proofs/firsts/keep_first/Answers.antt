@@ -1,4 +1,4 @@
-use Rattle.symbol_lists.proofs.Kept.{number_updated}
+use Rattle.name_chains.proofs.symbol_lists.Kept.{number_updated}
 use Rattle.unit_names.proofs.firsts.keep_first.Goals as goal
 
 pub returns-in-Ok-clause-kept : goal.returns-in-Ok-clause-kept

@@ -1,5 +1,5 @@
 use Rattle.std.proofs.Common.{◌∙◌}
-use Rattle.symbol_lists.proofs.Kept.{found_number}
+use Rattle.name_chains.proofs.symbol_lists.Kept.{found_number}
 use Rattle.unit_names.proofs.firsts.kept_first.Goals as goal
 
 pub returns : goal.returns

@@ -3,7 +3,7 @@ use Rattle.c_senses.specs.Sense.{sense_in}
 use Rattle.c_results.specs.Standing.{senses_made}
 use Rattle.tree_reads.specs.Sources.{source_read, source_in}
 use Rattle.c_meanings.specs.Known.{nodes_in}
-use Rattle.symbol_lists.specs.Symbols.{of_symbol}
+use Rattle.name_chains.specs.symbol_lists.Symbols.{of_symbol}
 use Rattle.unit_names.specs.Internal.{internal_of}
 use Rattle.unit_names.proofs.Symbols.{left_of, symbol_within, kept_more, kept_missing, kept_all, within_more}
 use Rattle.unit_names.proofs.internal.of_symbol.Goals as goal

@@ -3,7 +3,7 @@ use Rattle.core_tree.specs.declared.node.Unit.{Unit}
 use Rattle.c_senses.specs.Sense.{sense_in}
 use Rattle.c_results.specs.Standing.{senses_made}
 use Rattle.tree_reads.specs.Sources.{source_in}
-use Rattle.symbol_lists.specs.Symbols.{of_symbol}
+use Rattle.name_chains.specs.symbol_lists.Symbols.{of_symbol}
 use Rattle.unit_names.specs.Internal.{internal_of}
 use Rattle.c_meanings.specs.Statics.{IsStaticSeen}
 use Rattle.unit_names.proofs.Symbols.{left_of}

@@ -8,7 +8,7 @@ use Rattle.core_nodes.proofs.Growing.{builds_on}
 use Rattle.c_senses.specs.Sense.{Sense}
 use Rattle.c_senses.specs.Right.{declared_name}
 use Rattle.c_results.proofs.Keeping.{mades_kept, withins_kept}
-use Rattle.unit_parts.specs.declared.declared.Declared.{Declared}
+use Rattle.unit_finish.specs.declared.unit_parts.declared.Declared.{Declared}
 use Rattle.unit_names.specs.Entries.{IsDeclaredIn}
 use Rattle.unit_names.specs.Firsts.{may_declare}
 use Rattle.unit_names.proofs.Known.{declares_none}

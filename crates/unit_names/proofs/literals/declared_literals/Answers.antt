@@ -2,7 +2,7 @@ use Rattle.std.proofs.Common.{List, map, ap, ◌∙◌}
 use Rattle.c_results.specs.Standing.{senses_made}
 use Rattle.tree_reads.specs.Sources.{source_in}
 use Rattle.std.proofs.lemmas.Result.{IfOk-weaker}
-use Rattle.unit_parts.specs.declared.literals.LiteralAt.{LiteralAt}
+use Rattle.unit_finish.specs.declared.unit_parts.literals.LiteralAt.{LiteralAt}
 use Rattle.unit_finish.specs.Walked.{literal_entry}
 use Rattle.unit_names.proofs.literals.declared_literals.Goals as goal
 

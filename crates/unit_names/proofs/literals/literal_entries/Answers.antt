@@ -1,10 +1,10 @@
 use Rattle.std.proofs.Common.{◌≡◌, List, [], ◌∷◌, ◌++◌, None, map, take, length, arith, sym, ap, ◌∙◌}
-use Rattle.unit_parts.specs.declared.declared.Declared.{Declared}
+use Rattle.unit_finish.specs.declared.unit_parts.declared.Declared.{Declared}
 use Rattle.c_results.specs.Standing.{senses_made}
 use Rattle.tree_reads.specs.Sources.{source_in}
 use Rattle.std.proofs.lemmas.List.{map_more}
 use Rattle.std.proofs.Math.Seq.{take-length}
-use Rattle.unit_parts.specs.declared.literals.LiteralAt.{LiteralAt}
+use Rattle.unit_finish.specs.declared.unit_parts.literals.LiteralAt.{LiteralAt}
 use Rattle.unit_finish.specs.Walked.{literal_entry}
 use Rattle.unit_names.proofs.literals.literal_entries.Goals as goal
 

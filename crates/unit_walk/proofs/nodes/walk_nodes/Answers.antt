@@ -6,12 +6,12 @@ use Rattle.c_senses.specs.Rows.{world_at, AreSenses}
 use Rattle.c_initials.specs.Filling.{Fills}
 use Rattle.c_results.specs.Standing.{sense_made, senses_made, IsWithin, Rowed}
 use Rattle.statement_rows.specs.Told.{IsTold}
-use Rattle.filling_laws.proofs.Worlds.{fills_first}
+use Rattle.unit_walk.proofs.filling_laws.Worlds.{fills_first}
 use Rattle.struct_rows.proofs.Growing.{tag_types_grow}
 use Rattle.unit_worlds.specs.Growing.{Grows, completed_at}
 use Rattle.c_declarators.specs.Limited.{AreLimited}
-use Rattle.unit_rows.specs.Along.{AreAlong}
-use Rattle.unit_rows.specs.Standing.{Stand, AreMade, source_known, nodes_known}
+use Rattle.unit_walk.specs.unit_rows.Along.{AreAlong}
+use Rattle.unit_walk.specs.unit_rows.Standing.{Stand, AreMade, source_known, nodes_known}
 use Rattle.unit_walk.proofs.Keeping.{entities_grown}
 use Rattle.unit_walk.proofs.Walking.{stand_empty, made_empty, Whole, length_made, made_there, stand_more, along_more, senses_with, fills_more}
 use Rattle.unit_walk.proofs.Stopping.{refused_before}

@@ -4,8 +4,8 @@ use Rattle.c_senses.specs.Rows.{world_at}
 use Rattle.c_results.specs.Standing.{senses_made}
 use Rattle.c_initials.specs.Filling.{Fills}
 use Rattle.struct_rows.specs.Built.{HasTagTypes}
-use Rattle.unit_rows.specs.Along.{AreAlong}
-use Rattle.unit_rows.specs.Standing.{Stand, AreMade, ChoicesFit, source_known, nodes_known}
+use Rattle.unit_walk.specs.unit_rows.Along.{AreAlong}
+use Rattle.unit_walk.specs.unit_rows.Standing.{Stand, AreMade, ChoicesFit, source_known, nodes_known}
 use Rattle.unit_walk.proofs.nodes.walk_nodes.Given as goal
 
 -- the rows fit up to where it stands

@@ -2,8 +2,8 @@ use Rattle.std.proofs.Common.{ℕ, subst, sym}
 use Rattle.c_senses.specs.Tree.{Source}
 use Rattle.c_senses.specs.Names.{source_of, numbered}
 use Rattle.tree_reads.specs.Sources.{number_in}
-use Rattle.expression_rows.specs.Readable.{IsReadable}
-use Rattle.family_laws.specs.Families.{Families}
+use Rattle.name_uses.specs.passed.expression_rows.Readable.{IsReadable}
+use Rattle.parsed_tree_laws.specs.family_laws.Families.{Families}
 use Rattle.limit_laws.specs.Limits.{AlwaysLimited}
 use Rattle.unit_walk.proofs.Sources.{source_same}
 use Rattle.unit_walk.proofs.Stopping.{refused_there, memory_refused}

@@ -5,12 +5,12 @@ use Rattle.sol_model.specs.Systems.{Fits, width_of}
 use Rattle.set_rows.specs.declared.view.View.{View}
 use Rattle.set_rows.specs.Views.{known, shutting, reading}
 use Rattle.set_rows.specs.Calls.{view}
-use Rattle.work_rounds.specs.Rounds.{AreRowsApart, HasClosed, HasWorked, IsSettled}
-use Rattle.work_rounds.proofs.Parts.{worked_alone, worked_again, worked_and_closed, on_err}
-use Rattle.work_rounds.proofs.Marking.{settled_more}
-use Rattle.work_rounds.proofs.Ending.{settled_same, closed_when_done, least_when_done, closing, has_closed}
-use Rattle.work_rounds.specs.Work.{IsWork}
-use Rattle.work_rounds.proofs.Working.{work_done}
+use Rattle.round_pieces.specs.Rounds.{AreRowsApart, HasClosed, HasWorked, IsSettled}
+use Rattle.round_pieces.proofs.Parts.{worked_alone, worked_again, worked_and_closed, on_err}
+use Rattle.round_pieces.proofs.Marking.{settled_more}
+use Rattle.round_pieces.proofs.Ending.{settled_same, closed_when_done, least_when_done, closing, has_closed}
+use Rattle.round_pieces.specs.Work.{IsWork}
+use Rattle.round_settling.proofs.Working.{work_done}
 use Rattle.work_rounds.proofs.solving.solve.Goals as goal
 
 empty : (xs : List ℕ) → length xs ≡ 0 → xs ≡ []

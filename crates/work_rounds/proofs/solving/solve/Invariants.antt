@@ -1,7 +1,7 @@
 use Rattle.set_rows.specs.Calls.{view, IsOf}
 use Rattle.std.proofs.Common.{◌+◌, ◌≤◌}
-use Rattle.work_rounds.specs.Rounds.{HasWorked, IsSettled}
-use Rattle.work_rounds.specs.Balance.{IsBooked, paid_for}
+use Rattle.round_pieces.specs.Rounds.{HasWorked, IsSettled}
+use Rattle.round_pieces.specs.Balance.{IsBooked, paid_for}
 use Rattle.work_rounds.proofs.solving.solve.Given as goal
 
 abbrev pub invariant-loop-round : goal.invariant-loop-round

@@ -4,14 +4,14 @@ use Rattle.sol_model.specs.declared.system.System.{System}
 use Rattle.sol_model.specs.Systems.{IsRow, width_of}
 use Rattle.set_rows.specs.Calls.{view}
 use Rattle.delta_prop.specs.declared.turn.Turn.{Turn}
-use Rattle.work_rounds.specs.Rounds.{HasServed, IsChange}
+use Rattle.round_pieces.specs.Rounds.{HasServed, IsChange}
 use Rattle.new_members.specs.News.{words_at}
 use Rattle.new_members.proofs.Answering.{on_ok}
-use Rattle.work_rounds.specs.Turns.{row_of, HasShares}
-use Rattle.work_rounds.specs.Balance.{paid_for, spent}
-use Rattle.work_rounds.proofs.Parts.{worked_alone, worked_again}
-use Rattle.work_rounds.proofs.Sharing.{each_changed, each_row, rows_apart}
-use Rattle.work_rounds.proofs.Sums.{IsApart, list_apart}
+use Rattle.round_pieces.specs.Turns.{row_of, HasShares}
+use Rattle.round_pieces.specs.Balance.{paid_for, spent}
+use Rattle.round_pieces.proofs.Parts.{worked_alone, worked_again}
+use Rattle.round_pieces.proofs.Sharing.{each_changed, each_row, rows_apart}
+use Rattle.round_pieces.proofs.Sums.{IsApart, list_apart}
 use Rattle.work_rounds.proofs.solving.work_pieces.Goals as goal
 
 pub all_pieces-requires-clause-todo : goal.all_pieces-requires-clause-todo

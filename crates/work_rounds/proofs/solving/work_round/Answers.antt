@@ -4,12 +4,12 @@ use Rattle.sol_model.specs.Systems.{IsRow, Fits}
 use Rattle.set_rows.specs.Calls.{view}
 use Rattle.delta_prop.proofs.Going.{looked_adds}
 use Rattle.new_members.proofs.Answering.{any_ok, if_ok}
-use Rattle.work_rounds.specs.Rounds.{IsRest, IsSettled}
-use Rattle.work_rounds.specs.Balance.{IsBooked, paid_for}
-use Rattle.work_rounds.proofs.Ending.{settled_same}
-use Rattle.work_rounds.proofs.Parts.{worked_alone, worked_again}
-use Rattle.work_rounds.proofs.Rests.{settled_left}
-use Rattle.work_rounds.proofs.Sharing.{both_ok}
+use Rattle.round_pieces.specs.Rounds.{IsRest, IsSettled}
+use Rattle.round_pieces.specs.Balance.{IsBooked, paid_for}
+use Rattle.round_pieces.proofs.Ending.{settled_same}
+use Rattle.round_pieces.proofs.Parts.{worked_alone, worked_again}
+use Rattle.round_settling.proofs.Rests.{settled_left}
+use Rattle.round_pieces.proofs.Sharing.{both_ok}
 use Rattle.work_rounds.proofs.solving.work_round.Goals as goal
 
 pub still_grown-requires-clause-fits : goal.still_grown-requires-clause-fits

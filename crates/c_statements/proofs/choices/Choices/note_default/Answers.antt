@@ -4,7 +4,7 @@ use Rattle.c_senses.specs.Sense.{sense_in}
 use Rattle.c_results.specs.Standing.{senses_made}
 use Rattle.tree_reads.specs.Sources.{source_in}
 use Rattle.c_senses.specs.Statements.{is_default_again}
-use Rattle.leaf_maps.specs.Numbers.{number_at}
+use Rattle.tree_reads.specs.leaf_maps.Numbers.{number_at}
 use Rattle.c_statements.proofs.Choosing.{added, none_put}
 use Rattle.c_statements.proofs.choices.Choices.note_default.Goals as goal
 

@@ -1,4 +1,0 @@
-//! That the declarations of an internal name agree as a whole: a function that does nothing, whose contract is that law.
-#![tactic(auto)]
-
-pub mod laws;

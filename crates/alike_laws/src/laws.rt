@@ -1,8 +1,0 @@
-//! What a declaration's type is in the program that is linked from its unit (C11 6.2.7p3, 6.9.2).
-ghost use Rattle.alike_laws.specs.Alike.{EntityTypes};
-
-/// A program's entity gives what each of its declarations says that it gives, and has the type of each declaration whose type is neither a
-/// function's nor an array's without a length.
-pub fn entity_types()
-    ensures { EntityTypes }
-{}

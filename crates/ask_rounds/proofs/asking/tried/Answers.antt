@@ -1,5 +1,0 @@
-use Rattle.ask_rounds.proofs.Keeping.{held_one}
-use Rattle.ask_rounds.proofs.asking.tried.Goals as goal
-
-pub returns-in-NotYet-clause-held : goal.returns-in-NotYet-clause-held
-returns-in-NotYet-clause-held c = held_one _ _ _ _ _ c.ask.ensures.answer

@@ -1,7 +1,0 @@
-use Rattle.std.proofs.Common.{◌≡◌, ◌++◌, codes, take}
-use Rattle.std.specs.List.{flat_map}
-use Rattle.ask_rounds.specs.Said.{line_of}
-use Rattle.ask_rounds.proofs.text.answers_text.Given as goal
-
-abbrev pub invariant-loop-answer : goal.invariant-loop-answer
-invariant-loop-answer l = l.text.items ≡ codes "ask 1\n" ++ flat_map line_of (take l.answer-index l.answers)

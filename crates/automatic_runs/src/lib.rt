@@ -1,4 +1,0 @@
-//! Where the initialiser of an automatic object runs.
-#![tactic(auto)]
-
-pub mod laws;

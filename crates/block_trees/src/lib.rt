@@ -1,4 +1,0 @@
-//! That what a block declares is named in trees below it alone.
-#![tactic(auto)]
-
-pub mod laws;

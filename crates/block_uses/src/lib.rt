@@ -1,4 +1,0 @@
-//! That what a block declares is used in it alone.
-#![tactic(auto)]
-
-pub mod laws;

@@ -1,4 +1,0 @@
-//! The law of bodies in units that are built: a function that does nothing, whose contract it is.
-#![tactic(auto)]
-
-pub mod laws;

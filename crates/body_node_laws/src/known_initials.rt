@@ -1,0 +1,2 @@
+//! What the initialisers in bodies are of.
+pub mod laws;

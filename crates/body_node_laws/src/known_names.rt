@@ -1,0 +1,2 @@
+//! What the names declare that the trees of bodies have.
+pub mod laws;

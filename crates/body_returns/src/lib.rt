@@ -1,4 +1,0 @@
-//! What the functions of a unit return that is built from a text.
-#![tactic(auto)]
-
-pub mod laws;

@@ -1,4 +1,0 @@
-//! Laws of units that are made of the walk over a tree: these functions do nothing, and their contracts are the laws.
-#![tactic(auto)]
-
-pub mod laws;

@@ -1,6 +1,0 @@
-use Rattle.built_standing.proofs.Built.{statements_built}
-use Rattle.built_standing.proofs.laws.statements_built.Goals as goal
-
-pub returns : goal.returns
-returns c = λ tokens unit tree tag_number name u cut is built w entities sound rows bodies n node at.
-    statements_built tokens unit tree tag_number name u cut is built w entities sound rows bodies n node at

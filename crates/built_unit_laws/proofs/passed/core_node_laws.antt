@@ -1,0 +1,2 @@
+pub mod literal_nodes
+pub mod standing_laws

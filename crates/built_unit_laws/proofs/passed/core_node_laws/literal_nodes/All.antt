@@ -1,0 +1,1 @@
+pub use Rattle.core_node_laws.proofs.literal_nodes.All.{all_kept}

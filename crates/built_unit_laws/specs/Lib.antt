@@ -1,0 +1,14 @@
+pub mod built_units
+pub mod built_laws
+pub mod built_parts
+pub mod built_rows
+pub mod value_laws
+pub mod unlinked_laws
+pub mod align_laws
+pub mod tag_sizes
+pub mod literal_types
+pub mod run_laws
+pub mod parameter_bodies
+pub mod lasting_literals
+pub mod built_standing
+pub mod passed

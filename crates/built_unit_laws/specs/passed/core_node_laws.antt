@@ -1,0 +1,2 @@
+pub mod standing_laws
+pub mod literal_nodes

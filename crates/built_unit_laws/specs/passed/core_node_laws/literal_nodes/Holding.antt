@@ -1,0 +1,1 @@
+pub use Rattle.core_node_laws.specs.literal_nodes.Holding.{Holds, OfSense, RowGives, MeaningGives}

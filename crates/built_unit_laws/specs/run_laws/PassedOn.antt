@@ -1,0 +1,3 @@
+-- What this crate passes on, from those below it to those above it.
+pub use Rattle.core_node_laws.specs.passed.parsed_tree_laws.grown_parts.Parts.{Brings, IsBrought}
+pub use Rattle.core_node_laws.specs.standing_laws.Standing.{IsGrown}

@@ -1,0 +1,2 @@
+//! What stands where in a unit that is built from a text.
+pub mod laws;

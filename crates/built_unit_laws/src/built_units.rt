@@ -1,0 +1,1 @@
+//! What a unit is for sure that is made of the walk over its tree: definitions alone.

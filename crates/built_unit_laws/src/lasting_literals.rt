@@ -1,0 +1,2 @@
+//! How long the objects of compound literals live.
+pub mod laws;

@@ -1,0 +1,2 @@
+//! Parameters have no initialisers.
+pub mod laws;

@@ -1,0 +1,2 @@
+//! What declarations run: a function that does nothing, whose contract is that law.
+pub mod laws;

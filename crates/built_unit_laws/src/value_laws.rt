@@ -1,0 +1,2 @@
+//! Values of structures and unions of a unit that is built.
+pub mod laws;

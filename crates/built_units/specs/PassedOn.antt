@@ -1,2 +1,0 @@
--- What this crate passes on, from those below it to those above it.
-pub use Rattle.unit_parts.specs.Uses.{earlier, is_before, is_use, least_use, used_by}

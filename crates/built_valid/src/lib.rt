@@ -1,4 +1,0 @@
-//! The law that joins those of fields: a function that does nothing, whose contract it is.
-#![tactic(auto)]
-
-pub mod laws;

@@ -1,0 +1,9 @@
+use Rattle.std.proofs.Common.{◌∙◌, Bool, cond, ap, sym}
+use Rattle.core_tree.specs.declared.node.Storage.TheVariants.{Static, Automatic}
+use Rattle.c_check.proofs.literal_entities.entities.literal_storage.Goals as goal
+
+pub returns-then-is_in_function : goal.returns-then-is_in_function
+returns-then-is_in_function c = λ u uses. ap (λ (b : Bool). cond b Automatic Static) (sym c.if-is_in_function.true ∙ c.is_in_function.ensures u)
+
+pub returns-else-is_in_function : goal.returns-else-is_in_function
+returns-else-is_in_function c = λ u uses. ap (λ (b : Bool). cond b Automatic Static) (sym c.if-is_in_function.false ∙ c.is_in_function.ensures u)

@@ -1,0 +1,4 @@
+pub mod declared
+pub mod Typed
+pub mod Rows
+pub mod Valid

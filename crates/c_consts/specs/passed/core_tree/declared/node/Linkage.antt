@@ -1,0 +1,2 @@
+pub use Rattle.core_tree.specs.declared.node.Linkage.{Linkage}
+pub mod TheVariants

@@ -1,0 +1,2 @@
+pub mod core_nodes
+pub mod core_tree

@@ -1,0 +1,1 @@
+pub use Rattle.core_nodes.specs.Sorts.{bits_of}

@@ -1,0 +1,4 @@
+pub mod Typed
+pub mod declared
+pub mod Rows
+pub mod Valid

@@ -1,0 +1,5 @@
+pub mod Node
+pub mod Unit
+pub mod NodeKind
+pub mod Op
+pub mod Entity

@@ -1,0 +1,1 @@
+pub use Rattle.core_tree.specs.declared.node.Unit.{Unit}

@@ -1,0 +1,1 @@
+pub use Rattle.sense_laws.proofs.Completing.{grown_by_one}

@@ -1,0 +1,5 @@
+pub mod Senses
+pub mod Sound
+pub mod Asked
+pub mod Laws
+pub mod PassedOn

@@ -1,0 +1,1 @@
+pub use Rattle.sense_laws.specs.PassedOn.{core_at, cores_at, IsReady}

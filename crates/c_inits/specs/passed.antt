@@ -1,0 +1,2 @@
+pub mod c_grammar
+pub mod c_types

@@ -1,0 +1,1 @@
+pub use Rattle.c_grammar.specs.Terminals.{contains, own_meaning, own_words, spelled}

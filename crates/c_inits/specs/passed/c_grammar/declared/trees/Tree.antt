@@ -1,0 +1,1 @@
+pub use Rattle.c_grammar.specs.declared.trees.Tree.{Tree}

@@ -1,0 +1,4 @@
+pub mod Trees
+pub mod declared
+pub mod Layout
+pub mod Table

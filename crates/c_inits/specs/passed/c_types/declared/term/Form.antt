@@ -1,0 +1,2 @@
+pub use Rattle.c_types.specs.declared.term.Form.{Form}
+pub mod TheVariants

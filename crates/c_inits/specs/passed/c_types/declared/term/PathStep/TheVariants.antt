@@ -1,0 +1,1 @@
+pub use Rattle.c_types.specs.declared.term.PathStep.TheVariants.{Index, Member}

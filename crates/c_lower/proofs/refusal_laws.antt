@@ -1,0 +1,7 @@
+mod Steps
+mod Values
+mod Expressions
+mod Declaring
+mod Statements
+pub mod Rows
+pub mod Faults

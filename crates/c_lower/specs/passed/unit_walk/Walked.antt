@@ -1,0 +1,1 @@
+pub use Rattle.unit_walk.specs.Walked.{AreDense, RefusedIn}

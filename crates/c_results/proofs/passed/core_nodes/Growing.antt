@@ -1,0 +1,1 @@
+pub use Rattle.core_nodes.proofs.Growing.{knows_on}

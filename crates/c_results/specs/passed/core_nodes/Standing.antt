@@ -1,0 +1,1 @@
+pub use Rattle.core_nodes.specs.Standing.{Builds, core_at, parts_in, Knows}

@@ -1,5 +1,0 @@
-use Rattle.c_rows.proofs.Cores.{core_none}
-use Rattle.c_rows.proofs.parts.core_of.Goals as goal
-
-pub returns-in-None-clause-made : goal.returns-in-None-clause-made
-returns-in-None-clause-made c = core_none c.args.at _ (c.in-None.ensures.seen c.args.unit.now)

@@ -1,0 +1,2 @@
+pub use Rattle.pta_base.specs.declared.kind.Kind.{Kind}
+pub mod TheVariants

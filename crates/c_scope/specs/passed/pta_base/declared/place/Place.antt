@@ -1,0 +1,1 @@
+pub use Rattle.pta_base.specs.declared.place.Place.{Place}

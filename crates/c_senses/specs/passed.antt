@@ -1,0 +1,2 @@
+pub mod c_consts
+pub mod c_inits

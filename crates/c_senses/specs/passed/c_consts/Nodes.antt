@@ -1,0 +1,1 @@
+pub use Rattle.c_consts.specs.Nodes.{AreRows, IsConstantKind, bare}

@@ -1,0 +1,1 @@
+pub use Rattle.c_consts.specs.Operators.{NoForm, OutOfRange, ZeroDivisor}

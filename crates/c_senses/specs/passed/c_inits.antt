@@ -1,0 +1,4 @@
+pub mod Made
+pub mod Initial
+pub mod View
+pub mod Tables

@@ -1,0 +1,1 @@
+pub use Rattle.c_inits.specs.Made.{shape_for, Part, TagParts}

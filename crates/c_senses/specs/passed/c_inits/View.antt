@@ -1,0 +1,1 @@
+pub use Rattle.c_inits.specs.View.{init_at, items_at}

@@ -1,0 +1,5 @@
+use Rattle.c_scope.proofs.Keys.{updated}
+use Rattle.c_tags.proofs.tag_numbers.declaring.put.Goals as goal
+
+pub returns : goal.returns
+returns c = λ scope symbol. updated c.args.d.scope c.args.d.symbol c.args.places.now c.insert.new.self c.args.d.node c.in_ok-insert.ensures.updates scope symbol

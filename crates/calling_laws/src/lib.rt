@@ -1,4 +1,0 @@
-//! Where the calls of a unit stand.
-#![tactic(auto)]
-
-pub mod laws;

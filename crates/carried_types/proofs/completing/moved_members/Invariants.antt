@@ -1,6 +1,0 @@
-use Rattle.std.proofs.Common.{◌≡◌, map, take}
-use Rattle.carried_types.specs.Members.{moved_member}
-use Rattle.carried_types.proofs.completing.moved_members.Given as goal
-
-abbrev pub invariant-loop-member : goal.invariant-loop-member
-invariant-loop-member l = l.list.items ≡ map (moved_member l.ids) (take l.member-index l.members)

@@ -1,6 +1,0 @@
-use Rattle.std.proofs.Common.{◌≡◌, drop}
-use Rattle.carried_types.specs.Terms.{all_in}
-use Rattle.carried_types.proofs.types.all_in.Given as goal
-
-abbrev pub invariant-loop-id : goal.invariant-loop-id
-invariant-loop-id l = all_in l.given (drop l.id-index l.list) ≡ all_in l.given l.list

@@ -1,9 +1,0 @@
-use Rattle.carried_types.specs.Terms.{AreTypes, IsGrown, tag_type}
-use Rattle.carried_types.proofs.types.carried_types.Given as goal
-
--- so many types are carried
-abbrev pub invariant-loop-id : goal.invariant-loop-id
-invariant-loop-id l = record {
-  grown : IsGrown l.fn.types l.types;
-  carried : AreTypes (tag_type l.fn.types l.tags) l.old l.id l.ids.items l.given.items l.types;
-}

@@ -1,6 +1,0 @@
-use Rattle.std.proofs.Common.{◌≡◌, map, take}
-use Rattle.carried_types.specs.Terms.{id_in}
-use Rattle.carried_types.proofs.types.moved_ids.Given as goal
-
-abbrev pub invariant-loop-id : goal.invariant-loop-id
-invariant-loop-id l = l.new.items ≡ map (id_in l.ids) (take l.id-index l.list)

@@ -1,0 +1,264 @@
+-- The places of expressions.
+use Rattle.std.proofs.Common.{◌==◌, ℕ, Bool, true, false, not, List, [], ◌∷◌, Option, Some, None}
+use Rattle.std.specs.Prelude.{⊤, is_none, if◌then◌else◌}
+use Rattle.pta_base.specs.declared.kind.Kind.TheVariants.{Operand}
+use Rattle.pta_base.specs.declared.place.Place.{Place}
+use Rattle.c_lexer.specs.declared.TokenKind.{TokenKind}
+use Rattle.c_lexer.specs.declared.TokenKind.TheVariants.{Identifier, Keyword, Punctuator, Integer, Character, Text}
+use Rattle.core_tree.specs.declared.node.Op.TheVariants.{Plus, Minus, Complement}
+use Rattle.c_grammar.specs.Productions.{p_type_name, p_conditional, p_assignment, p_cast, p_unary, p_post, p_primary}
+use Rattle.c_grammar.specs.Words.{word_sizeof, word_alignof, sign_left_bracket, sign_left_parenthesis, sign_dot, sign_arrow, sign_increment, sign_decrement, sign_ampersand, sign_star, sign_plus, sign_minus, sign_tilde, sign_assign}
+use Rattle.c_consts.specs.Core.{Core, ctype_of, core_sort}
+use Rattle.core_nodes.specs.passed.c_senses.Tree.{Source, is_a, is_leaf, place_at, spelling_at, kind_at, sign_at, last_where, all_where, left_of}
+use Rattle.core_nodes.specs.passed.c_senses.Given.{Given, Fits, Refuses, ◌>>=◌}
+use Rattle.core_nodes.specs.passed.c_senses.World.{World}
+use Rattle.core_nodes.specs.passed.c_senses.Conversions.{operand_of, value_of}
+use Rattle.core_nodes.specs.passed.c_senses.Operators.{between, operator, number_core, choice_row}
+use Rattle.core_nodes.specs.passed.c_senses.Objects.{name_row, index_row, member_row, arrow_row, assign_row, assigned_op, update_row, call_row, cast_row, size_row, align_row, named_width, sized_expression}
+use Rattle.core_nodes.specs.passed.c_senses.Sense.{Sense, IsCore, core_of, value_in, type_of_sense, last_of}
+use Rattle.core_nodes.specs.passed.c_senses.Expressions.{as_sense, indexed_core, is_operator, value_core, operator_core, passed, named_of, step, chained, is_single, binary_row, primary_of, primary_row, indexed, dotted, pointed, all_cores, called, counted_after, post_of, post_signed, post_row, prefixed_core, prefixed, sized, aligned, worded, unary_of, unary_row, cast_over, cast_last, cast_of, cast_row_of, conditional_row, assigned, assigned_by, assignment_row, is_binary, expression_row}
+use Rattle.core_node_laws.specs.literal_nodes.Holding.{Holds, AreOf, OfSense, RowGives}
+use Rattle.core_node_laws.proofs.literal_nodes.Giving.{Gives, then_gives, after, if_given, some_given, if_holds}
+use Rattle.core_node_laws.proofs.literal_nodes.Values.{value_kept}
+use Rattle.core_node_laws.proofs.literal_nodes.Operators.{between_kept, promoted_kept, not_kept, choice_kept, name_kept, address_kept, indirection_kept, index_kept, member_kept, arrow_kept, assign_kept, update_kept, call_kept, cast_kept, size_kept, align_kept}
+
+pub at_unit : (s : Source) (i : ℕ) → ⊤
+at_unit s i = tt
+
+module _ (asks : Core → Type 0) (w : World) where
+  pub as_sense_kept : (g : Given Core) → Gives (Holds asks) g → Gives (OfSense asks) (as_sense g)
+  as_sense_kept (Fits c) h = h
+  as_sense_kept (Refuses kind node) h = tt
+
+  pub core_kept : (at : ℕ) (x : Sense) → OfSense asks x → Gives (Holds asks) (core_of at x)
+  core_kept at (IsCore c) h = h
+  core_kept at x h = tt
+
+  pub value_in_kept : (at : ℕ) (x : Sense) → OfSense asks x → Gives (Holds asks) (value_in w at x)
+  value_in_kept at x h = then_gives (Holds asks) (Holds asks) (core_of at x) (value_of w at) (core_kept at x h) (λ c k. value_kept asks w at c k)
+
+  indexed_core_kept : (place : Place) (at : ℕ) (x y : Sense) → ⊤ → OfSense asks x → OfSense asks y → Gives (Holds asks) (indexed_core w place at x y)
+  indexed_core_kept place at x y p h k =
+      then_gives (Holds asks) (Holds asks) (value_in w at x) (λ a. value_in w at y >>= (λ b. index_row w place at a b (operand_of (ctype_of a)) (operand_of (ctype_of b)))) (value_in_kept at x h)
+      (λ a l.
+      then_gives (Holds asks) (Holds asks) (value_in w at y) (λ b. index_row w place at a b (operand_of (ctype_of a)) (operand_of (ctype_of b))) (value_in_kept at y k)
+      (λ b m. index_kept asks w place at a b (operand_of (ctype_of a)) (operand_of (ctype_of b)) p l m))
+
+  value_core_kept : (place : Place) (at : ℕ) (v : Core) (sign : ℕ) → ⊤ → Holds asks v → Gives (Holds asks) (value_core w place at v sign)
+  value_core_kept place at v sign p h =
+      if_holds (Gives (Holds asks)) (sign == sign_star) _ _ (indirection_kept asks place at v (operand_of (ctype_of v)) p h)
+      (if_holds (Gives (Holds asks)) (sign == sign_plus) _ _ (promoted_kept asks w Plus place at v (operand_of (ctype_of v)) p h)
+      (if_holds (Gives (Holds asks)) (sign == sign_minus) _ _ (promoted_kept asks w Minus place at v (operand_of (ctype_of v)) p h)
+      (if_holds (Gives (Holds asks)) (sign == sign_tilde) _ _ (promoted_kept asks w Complement place at v (operand_of (ctype_of v)) p h) (not_kept asks place at v p h))))
+
+  operator_core_kept : (place : Place) (at : ℕ) (x : Core) (sign : ℕ) → ⊤ → Holds asks x → Gives (Holds asks) (operator_core w place at x sign)
+  operator_core_kept place at x sign p h =
+      if_holds (Gives (Holds asks)) (sign == sign_ampersand) _ _ (address_kept asks w place at x (core_sort x) p h)
+      (then_gives (Holds asks) (Holds asks) (value_of w at x) (λ v. value_core w place at v sign) (value_kept asks w at x h) (λ v k. value_core_kept place at v sign p k))
+
+module _ (asks : Core → Type 0) (w : World) (s : Source) (sense : ℕ → Sense) (gives : RowGives asks w s sense) (each : (i : ℕ) → OfSense asks (sense i)) where
+  -- operators between operands
+  step_kept : (named o : ℕ) (a b : Core) (sign : Option ℕ) → Holds asks a → Holds asks b → Gives (Holds asks) (step w s sense (between w) named o a b sign)
+  step_kept named o a b None h k = tt
+  step_kept named o a b (Some sign) h k =
+      then_gives (Holds asks) (Holds asks) (value_of w named a) (λ x. value_of w named b >>= between w (operator sign) (place_at s o) named x) (value_kept asks w named a h)
+      (λ x l.
+      then_gives (Holds asks) (Holds asks) (value_of w named b) (between w (operator sign) (place_at s o) named x) (value_kept asks w named b k)
+      (λ y m. between_kept asks w (operator sign) (place_at s o) named x y (at_unit s o) l m))
+
+  chained_kept : (at : ℕ) (single : Bool) (left : Core) (list : List ℕ) → Holds asks left → Gives (Holds asks) (chained w s sense (between w) at single left list)
+  chained_kept at single left [] h = h
+  chained_kept at single left (o ∷ []) h = tt
+  chained_kept at single left (o ∷ c ∷ rest) h =
+      let named : ℕ = named_of w s sense (between w) at o single in
+      then_gives (Holds asks) (Holds asks) (core_of named (sense c)) (λ b. step w s sense (between w) named o left b (sign_at s o) >>= (λ x. chained w s sense (between w) at single x rest)) (core_kept asks w named (sense c) (each c))
+      (λ b k.
+      then_gives (Holds asks) (Holds asks) (step w s sense (between w) named o left b (sign_at s o)) (λ x. chained w s sense (between w) at single x rest) (step_kept named o left b (sign_at s o) h k)
+      (λ x q. chained_kept at single x rest q))
+
+  binary_kept : (at : ℕ) (children : List ℕ) → Gives (OfSense asks) (binary_row w s sense (between w) at children)
+  binary_kept at [] = tt
+  binary_kept at (first ∷ []) = each first
+  binary_kept at (first ∷ o ∷ rest) =
+      as_sense_kept asks w (core_of at (sense first) >>= (λ a. chained w s sense (between w) at (is_single w s sense (between w) (o ∷ rest)) a (o ∷ rest)))
+      (then_gives (Holds asks) (Holds asks) (core_of at (sense first)) (λ a. chained w s sense (between w) at (is_single w s sense (between w) (o ∷ rest)) a (o ∷ rest)) (core_kept asks w at (sense first) (each first))
+      (λ a h. chained_kept at (is_single w s sense (between w) (o ∷ rest)) a (o ∷ rest) h))
+
+  passed_kept : (at : ℕ) (children : List ℕ) → Gives (OfSense asks) (passed sense at children)
+  passed_kept at [] = tt
+  passed_kept at (c ∷ rest) = each c
+
+  primary_of_kept : (at first : ℕ) (rest : List ℕ) (kind : TokenKind) → Gives (OfSense asks) (primary_of w s sense at first rest kind)
+  primary_of_kept at first rest Identifier = as_sense_kept asks w (name_row w (place_at s first) at (w.meaning first)) (name_kept asks w (place_at s first) at (w.meaning first) (at_unit s first) (gives.names first))
+  primary_of_kept at first rest Integer = (at_unit s first, tt)
+  primary_of_kept at first rest Character = (at_unit s first, tt)
+  primary_of_kept at first rest Text = (at_unit s first, tt)
+  primary_of_kept at first rest (Punctuator p) = passed_kept at rest
+  primary_of_kept at first rest kind = tt
+
+  primary_kept : (at : ℕ) (children : List ℕ) → Gives (OfSense asks) (primary_row w s sense at children)
+  primary_kept at [] = tt
+  primary_kept at (first ∷ rest) = primary_of_kept at first rest (kind_at s first)
+
+  -- what follows a primary
+  indexed_kept : (place : Place) (at : ℕ) (left : Sense) (list : List ℕ) → ⊤ → OfSense asks left → Gives (OfSense asks) (indexed w s sense place at left list)
+  indexed_kept place at left [] p h = tt
+  indexed_kept place at left (e ∷ rest) p h = as_sense_kept asks w (indexed_core w place at left (sense e)) (indexed_core_kept asks w place at left (sense e) p h (each e))
+
+  dotted_kept : (place : Place) (at : ℕ) (left : Sense) (list : List ℕ) → ⊤ → OfSense asks left → Gives (OfSense asks) (dotted w s sense place at left list)
+  dotted_kept place at left [] p h = tt
+  dotted_kept place at left (name ∷ rest) p h =
+      as_sense_kept asks w (core_of at left >>= member_row w place at (spelling_at s name))
+      (then_gives (Holds asks) (Holds asks) (core_of at left) (member_row w place at (spelling_at s name)) (core_kept asks w at left h) (λ c k. member_kept asks w place at (spelling_at s name) c p k))
+
+  pointed_kept : (place : Place) (at : ℕ) (left : Sense) (list : List ℕ) → ⊤ → OfSense asks left → Gives (OfSense asks) (pointed w s sense place at left list)
+  pointed_kept place at left [] p h = tt
+  pointed_kept place at left (name ∷ rest) p h =
+      as_sense_kept asks w (value_in w at left >>= (λ v. arrow_row w place at (spelling_at s name) v (operand_of (ctype_of v))))
+      (then_gives (Holds asks) (Holds asks) (value_in w at left) (λ v. arrow_row w place at (spelling_at s name) v (operand_of (ctype_of v))) (value_in_kept asks w at left h)
+      (λ v k. arrow_kept asks w place at (spelling_at s name) v (operand_of (ctype_of v)) p k))
+
+  all_cores_kept : (at : ℕ) (list : List ℕ) → Gives (AreOf asks) (all_cores w s sense at list)
+  all_cores_kept at [] = tt
+  all_cores_kept at (c ∷ rest) =
+      then_gives (Holds asks) (AreOf asks) (core_of at (sense c)) (λ x. all_cores w s sense at rest >>= (λ more. Fits (x ∷ more))) (core_kept asks w at (sense c) (each c))
+      (λ x h. then_gives (AreOf asks) (AreOf asks) (all_cores w s sense at rest) (λ more. Fits (x ∷ more)) (all_cores_kept at rest) (λ more k. (h, k)))
+
+  called_kept : (place : Place) (at : ℕ) (left : Sense) (rest : List ℕ) → ⊤ → OfSense asks left → Gives (OfSense asks) (called w s sense place at left rest)
+  called_kept place at left rest p h =
+      let list : List ℕ = all_where (λ c. not (is_leaf s c)) rest in
+      as_sense_kept asks w (core_of at left >>= (λ f. all_cores w s sense at list >>= call_row w place at f))
+      (then_gives (Holds asks) (Holds asks) (core_of at left) (λ f. all_cores w s sense at list >>= call_row w place at f) (core_kept asks w at left h)
+      (λ f k. then_gives (AreOf asks) (Holds asks) (all_cores w s sense at list) (call_row w place at f) (all_cores_kept at list) (λ args l. call_kept asks w place at f args p k l)))
+
+  counted_kept : (post : Bool) (place : Place) (at : ℕ) (q : Core) (down : Bool) → ⊤ → Holds asks q → Gives (Holds asks) (update_row w (if down then Minus else Plus) post place at q (number_core 1 place))
+  counted_kept post place at q down p h = update_kept asks w (if down then Minus else Plus) post place at q (number_core 1 place) p h (p, tt)
+
+  counted_after_kept : (place : Place) (at : ℕ) (left : Sense) (down : Bool) → ⊤ → OfSense asks left → Gives (OfSense asks) (counted_after w s sense place at left down)
+  counted_after_kept place at left down p h =
+      as_sense_kept asks w (core_of at left >>= (λ q. update_row w (if down then Minus else Plus) true place at q (number_core 1 place)))
+      (then_gives (Holds asks) (Holds asks) (core_of at left) (λ q. update_row w (if down then Minus else Plus) true place at q (number_core 1 place)) (core_kept asks w at left h) (λ q k. counted_kept true place at q down p k))
+
+  post_of_kept : (place : Place) (at : ℕ) (left : Sense) (rest : List ℕ) (sign : ℕ) → ⊤ → OfSense asks left → Gives (OfSense asks) (post_of w s sense place at left rest sign)
+  post_of_kept place at left rest sign p h =
+      if_holds (Gives (OfSense asks)) (sign == sign_left_bracket) _ _ (indexed_kept place at left rest p h)
+      (if_holds (Gives (OfSense asks)) (sign == sign_left_parenthesis) _ _ (called_kept place at left rest p h)
+      (if_holds (Gives (OfSense asks)) (sign == sign_dot) _ _ (dotted_kept place at left rest p h)
+      (if_holds (Gives (OfSense asks)) (sign == sign_arrow) _ _ (pointed_kept place at left rest p h)
+      (if_holds (Gives (OfSense asks)) (sign == sign_increment) _ _ (counted_after_kept place at left false p h)
+      (if_holds (Gives (OfSense asks)) (sign == sign_decrement) _ (Refuses Operand at) (counted_after_kept place at left true p h) tt)))))
+
+  post_signed_kept : (place : Place) (at : ℕ) (left : Sense) (rest : List ℕ) (sign : Option ℕ) → ⊤ → OfSense asks left → Gives (OfSense asks) (post_signed w s sense place at left rest sign)
+  post_signed_kept place at left rest None p h = tt
+  post_signed_kept place at left rest (Some sign) p h = post_of_kept place at left rest sign p h
+
+  post_kept : (at : ℕ) (children : List ℕ) → Gives (OfSense asks) (post_row w s sense at children)
+  post_kept at [] = tt
+  post_kept at (first ∷ rest) = post_signed_kept (place_at s first) at (sense (left_of s first)) rest (sign_at s first) (at_unit s first) (each (left_of s first))
+
+  -- operators before their operands
+  prefixed_core_kept : (place : Place) (at : ℕ) (x : Core) (sign : ℕ) → ⊤ → Holds asks x → Gives (Holds asks) (prefixed_core w s sense place at x sign)
+  prefixed_core_kept place at x sign p h =
+      if_holds (Gives (Holds asks)) (is_operator sign) _ _ (operator_core_kept asks w place at x sign p h)
+      (if_holds (Gives (Holds asks)) (sign == sign_increment) _ _ (counted_kept false place at x false p h)
+      (if_holds (Gives (Holds asks)) (sign == sign_decrement) _ (Refuses Operand at) (counted_kept false place at x true p h) tt))
+
+  prefixed_kept : (place : Place) (at sign : ℕ) (list : List ℕ) → ⊤ → Gives (OfSense asks) (prefixed w s sense place at sign list)
+  prefixed_kept place at sign [] p = tt
+  prefixed_kept place at sign (operand ∷ rest) p =
+      as_sense_kept asks w (core_of at (sense operand) >>= (λ x. prefixed_core w s sense place at x sign))
+      (then_gives (Holds asks) (Holds asks) (core_of at (sense operand)) (λ x. prefixed_core w s sense place at x sign) (core_kept asks w at (sense operand) (each operand)) (λ x h. prefixed_core_kept place at x sign p h))
+
+  sized_kept : (place : Place) (at : ℕ) (o : Option ℕ) → ⊤ → Gives (OfSense asks) (sized w s sense place at o)
+  sized_kept place at None p = tt
+  sized_kept place at (Some c) p =
+      if_holds (Gives (OfSense asks)) (is_a s p_type_name c) _ _
+      (as_sense_kept asks w (type_of_sense at (sense c) >>= size_row w place at) (after (Holds asks) (type_of_sense at (sense c)) (size_row w place at) (λ t. size_kept asks w place at t p)))
+      (as_sense_kept asks w (core_of at (sense c) >>= sized_expression w place at)
+      (after (Holds asks) (core_of at (sense c)) (sized_expression w place at) (λ x. if_given (Holds asks) (is_none (named_width w x)) Operand at (size_row w place at (ctype_of x)) (size_kept asks w place at (ctype_of x) p))))
+
+  aligned_kept : (place : Place) (at : ℕ) (o : Option ℕ) → ⊤ → Gives (OfSense asks) (aligned w s sense place at o)
+  aligned_kept place at None p = tt
+  aligned_kept place at (Some c) p =
+      as_sense_kept asks w (type_of_sense at (sense c) >>= align_row w place at) (after (Holds asks) (type_of_sense at (sense c)) (align_row w place at) (λ t. align_kept asks w place at t p))
+
+  worded_kept : (place : Place) (at : ℕ) (rest : List ℕ) (word : ℕ) → ⊤ → Gives (OfSense asks) (worded w s sense place at rest word)
+  worded_kept place at rest word p =
+      if_holds (Gives (OfSense asks)) (word == word_sizeof) _ _ (sized_kept place at (last_where (λ c. not (is_leaf s c)) rest) p)
+      (if_holds (Gives (OfSense asks)) (word == word_alignof) _ (Refuses Operand at) (aligned_kept place at (last_where (λ c. not (is_leaf s c)) rest) p) tt)
+
+  unary_of_kept : (at first : ℕ) (rest : List ℕ) (leafy : Bool) (kind : TokenKind) → Gives (OfSense asks) (unary_of w s sense at first rest leafy kind)
+  unary_of_kept at first rest false kind = each (last_of first rest)
+  unary_of_kept at first rest true (Punctuator p) = prefixed_kept (place_at s first) at p rest (at_unit s first)
+  unary_of_kept at first rest true (Keyword k) = worded_kept (place_at s first) at rest k (at_unit s first)
+  unary_of_kept at first rest true kind = tt
+
+  unary_kept : (at : ℕ) (children : List ℕ) → Gives (OfSense asks) (unary_row w s sense at children)
+  unary_kept at [] = tt
+  unary_kept at (first ∷ rest) = unary_of_kept at first rest (is_leaf s first) (kind_at s first)
+
+  -- casts
+  cast_with : (at c : ℕ) (rest : List ℕ) → Gives (Holds asks) (elim rest as (λ _. Given Core) [ [] ↦ Refuses Operand at | t ∷ more ↦ type_of_sense at (sense t) >>= (λ type. core_of at (sense c) >>= (λ x. cast_row w at x type)) ])
+  cast_with at c [] = tt
+  cast_with at c (t ∷ more) =
+      after (Holds asks) (type_of_sense at (sense t)) (λ type. core_of at (sense c) >>= (λ x. cast_row w at x type))
+      (λ type. then_gives (Holds asks) (Holds asks) (core_of at (sense c)) (λ x. cast_row w at x type) (core_kept asks w at (sense c) (each c)) (λ x h. cast_kept asks w at x type h))
+
+  cast_over_kept : (at : ℕ) (rest : List ℕ) (c : ℕ) → Gives (OfSense asks) (cast_over w s sense at rest c)
+  cast_over_kept at rest c = if_holds (Gives (OfSense asks)) (is_a s p_cast c) _ (Fits (sense c)) (as_sense_kept asks w _ (cast_with at c rest)) (each c)
+
+  cast_last_kept : (at : ℕ) (rest : List ℕ) (o : Option ℕ) → Gives (OfSense asks) (cast_last w s sense at rest o)
+  cast_last_kept at rest None = tt
+  cast_last_kept at rest (Some c) = cast_over_kept at rest c
+
+  cast_of_kept : (at first : ℕ) (rest : List ℕ) (leafy : Bool) → Gives (OfSense asks) (cast_of w s sense at first rest leafy)
+  cast_of_kept at first rest false = each first
+  cast_of_kept at first rest true = cast_last_kept at rest (last_where (λ c. not (is_leaf s c)) rest)
+
+  cast_row_kept : (at : ℕ) (children : List ℕ) → Gives (OfSense asks) (cast_row_of w s sense at children)
+  cast_row_kept at [] = tt
+  cast_row_kept at (first ∷ rest) = cast_of_kept at first rest (is_leaf s first)
+
+  -- choices and assignments
+  chosen_kept : (at c question a b : ℕ) → Gives (Holds asks) (value_in w at (sense c) >>= (λ x. value_in w at (sense a) >>= (λ y. value_in w at (sense b) >>= choice_row w (place_at s question) at x y)))
+  chosen_kept at c question a b =
+      then_gives (Holds asks) (Holds asks) (value_in w at (sense c)) (λ x. value_in w at (sense a) >>= (λ y. value_in w at (sense b) >>= choice_row w (place_at s question) at x y)) (value_in_kept asks w at (sense c) (each c))
+      (λ x g.
+      then_gives (Holds asks) (Holds asks) (value_in w at (sense a)) (λ y. value_in w at (sense b) >>= choice_row w (place_at s question) at x y) (value_in_kept asks w at (sense a) (each a))
+      (λ y h.
+      then_gives (Holds asks) (Holds asks) (value_in w at (sense b)) (choice_row w (place_at s question) at x y) (value_in_kept asks w at (sense b) (each b))
+      (λ z k. choice_kept asks w (place_at s question) at x y z (at_unit s question) g h k)))
+
+  conditional_kept : (at : ℕ) (children : List ℕ) → Gives (OfSense asks) (conditional_row w s sense at children)
+  conditional_kept at (c ∷ []) = each c
+  conditional_kept at (c ∷ question ∷ a ∷ colon ∷ b ∷ []) = as_sense_kept asks w _ (chosen_kept at c question a b)
+  conditional_kept at children = tt
+
+  assigned_kept : (at o : ℕ) (q b : Core) (sign : ℕ) → Holds asks q → Holds asks b → Gives (Holds asks) (assigned w s sense at o q b sign)
+  assigned_kept at o q b sign h k =
+      if_holds (Gives (Holds asks)) (sign == sign_assign) _ _
+      (then_gives (Holds asks) (Holds asks) (value_of w at b) (assign_row w (place_at s o) at q) (value_kept asks w at b k) (λ v l. assign_kept asks w (place_at s o) at q v (at_unit s o) h l))
+      (some_given (Holds asks) (assigned_op sign) Operand at _
+      (λ op. then_gives (Holds asks) (Holds asks) (value_of w at b) (update_row w op false (place_at s o) at q) (value_kept asks w at b k) (λ v l. update_kept asks w op false (place_at s o) at q v (at_unit s o) h l)))
+
+  assigned_by_kept : (at o : ℕ) (q b : Core) (sign : Option ℕ) → Holds asks q → Holds asks b → Gives (Holds asks) (assigned_by w s sense at o q b sign)
+  assigned_by_kept at o q b None h k = tt
+  assigned_by_kept at o q b (Some sign) h k = assigned_kept at o q b sign h k
+
+  assignment_kept : (at : ℕ) (children : List ℕ) → Gives (OfSense asks) (assignment_row w s sense at children)
+  assignment_kept at (c ∷ []) = each c
+  assignment_kept at (p ∷ o ∷ v ∷ []) =
+      as_sense_kept asks w (core_of at (sense p) >>= (λ a. core_of at (sense v) >>= (λ b. assigned_by w s sense at o a b (sign_at s o))))
+      (then_gives (Holds asks) (Holds asks) (core_of at (sense p)) (λ a. core_of at (sense v) >>= (λ b. assigned_by w s sense at o a b (sign_at s o))) (core_kept asks w at (sense p) (each p))
+      (λ a h. then_gives (Holds asks) (Holds asks) (core_of at (sense v)) (λ b. assigned_by w s sense at o a b (sign_at s o)) (core_kept asks w at (sense v) (each v)) (λ b k. assigned_by_kept at o a b (sign_at s o) h k)))
+  assignment_kept at children = tt
+
+  pub expression_kept : (production at : ℕ) (children : List ℕ) → Gives (OfSense asks) (expression_row w s sense production at children)
+  expression_kept production at children =
+      if_holds (Gives (OfSense asks)) (production == p_primary) _ _ (primary_kept at children)
+      (if_holds (Gives (OfSense asks)) (production == p_post) _ _ (post_kept at children)
+      (if_holds (Gives (OfSense asks)) (production == p_unary) _ _ (unary_kept at children)
+      (if_holds (Gives (OfSense asks)) (production == p_cast) _ _ (cast_row_kept at children)
+      (if_holds (Gives (OfSense asks)) (production == p_conditional) _ _ (conditional_kept at children)
+      (if_holds (Gives (OfSense asks)) (production == p_assignment) _ _ (assignment_kept at children)
+      (if_holds (Gives (OfSense asks)) (is_binary w s sense production) _ (Refuses Operand at) (binary_kept at children) tt))))))

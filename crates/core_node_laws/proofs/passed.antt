@@ -1,0 +1,1 @@
+pub mod parsed_tree_laws

@@ -1,0 +1,5 @@
+pub mod Once
+pub mod Adding
+pub mod Climbing
+pub mod Rows
+pub mod Names

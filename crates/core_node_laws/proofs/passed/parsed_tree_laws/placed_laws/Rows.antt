@@ -1,0 +1,1 @@
+pub use Rattle.parsed_tree_laws.proofs.placed_laws.Rows.{one_chosen, all_bring, rows_bring, row_brings, left}

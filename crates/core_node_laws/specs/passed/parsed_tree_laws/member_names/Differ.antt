@@ -1,0 +1,1 @@
+pub use Rattle.parsed_tree_laws.specs.member_names.Differ.{InOrder}

@@ -1,0 +1,2 @@
+//! Where initialisers stand in the trees that rows give.
+pub mod laws;

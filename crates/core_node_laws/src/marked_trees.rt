@@ -1,0 +1,2 @@
+//! How often marked kinds stand in the trees of statements.
+pub mod laws;

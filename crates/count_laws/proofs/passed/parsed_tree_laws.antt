@@ -1,0 +1,9 @@
+pub mod placed_laws
+pub mod span_laws
+pub mod sign_parts
+pub mod grown_parts
+pub mod family_laws
+pub mod member_names
+pub mod nesting_laws
+pub mod counted_parts
+pub mod ordered_parts

@@ -1,0 +1,1 @@
+pub use Rattle.parsed_tree_laws.proofs.span_laws.Whole.{units_are_spanned}

@@ -1,0 +1,2 @@
+pub mod parsed_tree_laws
+pub mod location_laws

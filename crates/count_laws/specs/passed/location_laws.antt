@@ -1,0 +1,3 @@
+pub mod named_laws
+pub mod name_shapes
+pub mod name_laws

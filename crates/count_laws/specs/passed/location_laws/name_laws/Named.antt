@@ -1,0 +1,1 @@
+pub use Rattle.location_laws.specs.name_laws.Named.{AreMembers, IsText}

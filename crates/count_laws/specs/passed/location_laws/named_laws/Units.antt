@@ -1,0 +1,1 @@
+pub use Rattle.location_laws.specs.named_laws.Units.{IsLocalOf, HasFunction, IsNamedUnit, IsNarrow, SamePlace}

@@ -1,0 +1,1 @@
+pub use Rattle.parsed_tree_laws.specs.nesting_laws.Nested.{Nested}

@@ -1,0 +1,2 @@
+//! Nodes of a unit that the rows make once.
+pub mod laws;

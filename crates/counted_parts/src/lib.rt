@@ -1,4 +1,0 @@
-//! How many parts of some sorts the nodes have in the tree of a unit that is read.
-#![tactic(auto)]
-
-pub mod laws;

@@ -1,0 +1,2 @@
+pub mod standing_laws
+pub mod marked_trees

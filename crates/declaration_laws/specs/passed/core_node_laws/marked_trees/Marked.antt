@@ -1,0 +1,1 @@
+pub use Rattle.core_node_laws.specs.marked_trees.Marked.{MarksOnly}

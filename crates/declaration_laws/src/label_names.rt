@@ -1,0 +1,2 @@
+//! What the resolution of names says of labels.
+pub mod laws;

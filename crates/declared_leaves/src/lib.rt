@@ -1,4 +1,0 @@
-//! Where declared names stand: a function that does nothing, whose contract is that law.
-#![tactic(auto)]
-
-pub mod laws;

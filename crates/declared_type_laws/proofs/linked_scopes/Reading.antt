@@ -1,0 +1,18 @@
+-- What is seen in the units that are read.
+use Rattle.std.proofs.Common.{refl}
+use Rattle.c_senses.specs.Names.{source_of, names_of, numbered}
+use Rattle.count_laws.proofs.passed.parsed_tree_laws.span_laws.Whole.{units_are_spanned}
+use Rattle.owner_laws.proofs.passed.definition_laws.scope_laws.Whole.{names_declared_once}
+use Rattle.count_laws.proofs.passed.parsed_tree_laws.sign_parts.Reading.{units_bring}
+use Rattle.owner_laws.proofs.passed.definition_laws.linkage_laws.Reading.{tree_is}
+use Rattle.declared_type_laws.proofs.seen_onward.Reading.{shape}
+use Rattle.declared_type_laws.specs.linked_scopes.Scoped.{LinkedScoped}
+use Rattle.declared_type_laws.proofs.linked_scopes.Whole.{scoped}
+
+pub linked_scoped : LinkedScoped
+unfolding source_of names_of
+linked_scoped tokens unit tree tag_number cut is =
+    let s = numbered tag_number (source_of tokens tree) in
+    let t = tree_is tokens unit tree is tag_number in
+    scoped s t (shape s t (units_are_spanned tokens unit tree tag_number is) (units_bring tokens unit tree tag_number is))
+    (names_declared_once tokens tree tag_number (record { before = t.grown.before; single = t.grown.once; externals = t.nested.externals; units = t.nested.units })) refl

@@ -1,0 +1,2 @@
+pub mod owner_laws
+pub mod built_unit_laws

@@ -1,0 +1,1 @@
+pub use Rattle.owner_laws.proofs.Whole.{grown_of}

@@ -1,0 +1,1 @@
+pub use Rattle.owner_laws.proofs.automatic_runs.PassedOn.{units_run_initialisers}

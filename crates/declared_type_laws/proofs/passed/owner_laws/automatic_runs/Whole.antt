@@ -1,0 +1,1 @@
+pub use Rattle.owner_laws.proofs.automatic_runs.Whole.{automatic_runs}

@@ -1,0 +1,1 @@
+pub use Rattle.owner_laws.proofs.internal_laws.Reading.{definitions_known}

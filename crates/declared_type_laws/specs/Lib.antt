@@ -1,0 +1,16 @@
+pub mod declared_leaves
+pub mod plain_names
+pub mod object_types
+pub mod linked_names
+pub mod settled_types
+pub mod function_types
+pub mod declared_once
+pub mod agreed_internals
+pub mod seen_onward
+pub mod linked_scopes
+pub mod known_entities
+pub mod declared_uses
+pub mod right_nodes
+pub mod owned_locals
+pub mod named_rest
+pub mod passed

@@ -1,0 +1,1 @@
+pub use Rattle.built_unit_laws.specs.built_laws.Placed.{IsInBody}

@@ -1,0 +1,1 @@
+pub use Rattle.owner_laws.specs.left_laws.PassedOn.{LeftsStand}

@@ -1,0 +1,1 @@
+pub mod built_unit_laws

@@ -1,0 +1,39 @@
+-- Definitions of functions (C11 6.9.1): what their names declare.
+use Rattle.std.specs.Prelude.{ℕ, ◌≡◌, true, List, Some, length}
+use Rattle.c_lexer.specs.declared.Tokens.{Tokens}
+use Rattle.c_lexer.specs.Cut.{IsTokens}
+use Rattle.c_types.specs.Trees.{Ctype, Ctypes, FunctionFrom}
+use Rattle.c_types.specs.declared.term.Form.{Form}
+use Rattle.c_grammar.specs.declared.trees.Tree.{Tree}
+use Rattle.c_parser.specs.c_units.Units.{IsUnit}
+use Rattle.c_senses.specs.Tree.{Source}
+use Rattle.c_senses.specs.Names.{source_of, numbered}
+use Rattle.c_senses.specs.Sense.{Sense, sense_in}
+use Rattle.c_senses.specs.Rows.{AreSenses}
+use Rattle.c_senses.specs.Entities.{declaration_of, declares_function, is_linked, own_type, defined_name}
+use Rattle.c_senses.specs.Right.{is_declaring}
+use Rattle.definition_laws.specs.linkage_laws.PassedOn.{is_definition}
+
+-- the definition has a name, which it declares as a function, with linkage and of a function's type
+pub record Defines (s : Source) (senses : List Sense) (d : ℕ) : Type 0 where
+  pub name : ℕ
+  pub named : defined_name s (sense_in senses) d ≡ Some name
+  pub declaring : is_declaring s senses name ≡ true
+  pub declaration : declaration_of s (sense_in senses) name ≡ Some d
+  pub function : declares_function s (sense_in senses) name ≡ true
+  pub linked : is_linked s (sense_in senses) name ≡ true
+  pub result : Ctype
+  pub parameters : Ctypes
+  pub form : Form
+  pub type : own_type s (sense_in senses) name ≡ Some (FunctionFrom result parameters form)
+
+-- so does each in a unit that is read, whose rows all fit
+abbrev pub DefinitionsDeclare : Type 0
+DefinitionsDeclare =
+    (tokens : Tokens) (unit : ℕ) (tree : Tree) (tag_number : ℕ → ℕ) (senses : List Sense) (d : ℕ)
+    → IsTokens tokens.text.now tokens.list.items
+    → IsUnit tokens unit tree
+    → AreSenses (numbered tag_number (source_of tokens tree)) senses
+    → length senses ≡ length (numbered tag_number (source_of tokens tree)).nodes
+    → is_definition (numbered tag_number (source_of tokens tree)) d ≡ true
+    → Defines (numbered tag_number (source_of tokens tree)) senses d

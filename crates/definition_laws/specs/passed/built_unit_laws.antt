@@ -1,0 +1,2 @@
+pub mod built_units
+pub mod parameter_bodies

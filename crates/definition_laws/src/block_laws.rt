@@ -1,0 +1,2 @@
+//! The blocks of functions of a parsed unit.
+pub mod laws;

@@ -1,0 +1,2 @@
+//! Where the declarations of functions come from: a function that does nothing, whose contract is that law.
+pub mod laws;

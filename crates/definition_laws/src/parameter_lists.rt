@@ -1,0 +1,2 @@
+//! Parameters of a parsed unit stand in parameter lists.
+pub mod laws;

@@ -1,4 +1,0 @@
-//! Facts of the values of places and of calls, in all trees that rows give.
-#![tactic(auto)]
-
-pub mod laws;

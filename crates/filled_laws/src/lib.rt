@@ -1,4 +1,0 @@
-//! Laws of initialised objects in linked programs: these functions do nothing, and their contracts are the laws.
-#![tactic(auto)]
-
-pub mod laws;

@@ -1,2 +1,0 @@
-//! Which units initialise only objects that they define: definitions alone.
-#![tactic(auto)]

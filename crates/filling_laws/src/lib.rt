@@ -1,4 +1,0 @@
-//! What can be initialised in a unit's types is what the world around a node says, from one node to the next.
-#![tactic(auto)]
-
-pub mod laws;

@@ -1,4 +1,0 @@
-//! The initialisers of objects that live for the whole run, in a unit that is built.
-#![tactic(auto)]
-
-pub mod laws;

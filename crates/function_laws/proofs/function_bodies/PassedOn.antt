@@ -1,0 +1,2 @@
+-- What this crate passes on, from those below it to those above it.
+pub use Rattle.definition_laws.proofs.function_definitions.Reading.{definitions_declare}

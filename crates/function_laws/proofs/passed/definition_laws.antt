@@ -1,0 +1,9 @@
+pub mod linkage_laws
+pub mod initialiser_laws
+pub mod function_definitions
+pub mod own_initialisers
+pub mod single_initialisers
+pub mod scope_laws
+pub mod parameter_lists
+pub mod block_laws
+pub mod Reading

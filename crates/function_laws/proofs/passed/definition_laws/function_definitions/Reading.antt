@@ -1,0 +1,1 @@
+pub use Rattle.definition_laws.proofs.function_definitions.Reading.{definitions_declare, heads}

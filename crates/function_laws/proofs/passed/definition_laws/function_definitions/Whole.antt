@@ -1,0 +1,1 @@
+pub use Rattle.definition_laws.proofs.function_definitions.Whole.{declarator_gives, declarator_asks}

@@ -1,0 +1,6 @@
+pub mod Seen
+pub mod Linked
+pub mod Reading
+pub mod Unlinked
+pub mod Roles
+pub mod Standings

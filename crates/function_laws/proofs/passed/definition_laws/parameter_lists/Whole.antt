@@ -1,0 +1,1 @@
+pub use Rattle.definition_laws.proofs.parameter_lists.Whole.{parameters_listed}

@@ -1,0 +1,5 @@
+pub mod Standings
+pub mod Scopes
+pub mod Whole
+pub mod Tree
+pub mod Knowing

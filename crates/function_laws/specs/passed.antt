@@ -1,0 +1,1 @@
+pub mod definition_laws

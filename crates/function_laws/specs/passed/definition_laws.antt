@@ -1,0 +1,7 @@
+pub mod scope_laws
+pub mod Definitions
+pub mod function_definitions
+pub mod earlier_initialisers
+pub mod initialiser_laws
+pub mod own_initialisers
+pub mod linkage_laws

@@ -1,0 +1,1 @@
+pub use Rattle.definition_laws.specs.function_definitions.Defined.{Defines}

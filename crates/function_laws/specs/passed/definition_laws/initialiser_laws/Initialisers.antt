@@ -1,0 +1,1 @@
+pub use Rattle.definition_laws.specs.initialiser_laws.Initialisers.{InitialisersAreOf}

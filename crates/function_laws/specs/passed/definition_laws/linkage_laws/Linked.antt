@@ -1,0 +1,1 @@
+pub use Rattle.definition_laws.specs.linkage_laws.Linked.{StandsLinked}

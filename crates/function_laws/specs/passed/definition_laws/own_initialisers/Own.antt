@@ -1,0 +1,1 @@
+pub use Rattle.definition_laws.specs.own_initialisers.Own.{InitialisersAreOwn}

@@ -1,0 +1,2 @@
+//! What the functions of a unit return that is built from a text.
+pub mod laws;

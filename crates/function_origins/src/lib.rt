@@ -1,4 +1,0 @@
-//! Where the declarations of functions come from: a function that does nothing, whose contract is that law.
-#![tactic(auto)]
-
-pub mod laws;

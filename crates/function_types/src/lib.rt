@@ -1,4 +1,0 @@
-//! The types of what is declared as a function: a function that does nothing, whose contract is that law.
-#![tactic(auto)]
-
-pub mod laws;

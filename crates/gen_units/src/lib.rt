@@ -1,0 +1,8 @@
+// Generated programs.
+#![tactic(auto)]
+
+#[cfg(test)]
+mod tests;
+mod texts;
+
+pub use texts::generate;

@@ -1,5 +1,0 @@
-use Rattle.leaf_maps.proofs.Apart.{not_equal}
-use Rattle.given_keys.proofs.kept.KeptKeys.put.Goals as goal
-
-pub returns-clause-others : goal.returns-clause-others
-returns-clause-others c q apart = rw (← c.self.view_is) (c.in_ok-insert.ensures.updates.2 q (not_equal c.args.node q apart))

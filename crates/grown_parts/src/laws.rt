@@ -1,8 +1,0 @@
-//! That each node's parts are what the grammar's row brings.
-ghost use Rattle.grown_parts.specs.Parts.{UnitsBring};
-
-/// In a unit that is read (C11 Annex A.2), the productions of each node's parts are, in order, what the items of its production's row
-/// bring: a token a leaf, a production with a node of its own that node, and another one what its own row brings.
-pub fn units_bring()
-    ensures { UnitsBring }
-{}

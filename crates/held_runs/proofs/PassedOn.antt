@@ -1,2 +1,0 @@
--- What this crate passes on, from those below it to those above it.
-pub use Rattle.held_parts.proofs.Whole.{units_hold_parts}

@@ -1,4 +1,0 @@
-//! Where what declarations run stands in a unit.
-#![tactic(auto)]
-
-pub mod laws;

@@ -1,4 +1,0 @@
-//! The laws of objects' initialisers: functions that do nothing, whose contracts they are.
-#![tactic(auto)]
-
-pub mod laws;

@@ -1,4 +1,0 @@
-//! Where the values of initialisers go: a function that does nothing, whose contract is that law.
-#![tactic(auto)]
-
-pub mod laws;

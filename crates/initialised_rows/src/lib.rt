@@ -1,4 +1,0 @@
-//! What initialisers say of the rows of nodes: a function that does nothing, whose contract is that law.
-#![tactic(auto)]
-
-pub mod laws;

@@ -1,4 +1,0 @@
-//! The laws of initialisers and their declarators: functions that do nothing, whose contracts they are.
-#![tactic(auto)]
-
-pub mod laws;

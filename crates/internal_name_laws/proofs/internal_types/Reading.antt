@@ -1,0 +1,33 @@
+-- The types of the entities of internal names, in the units that are read.
+use Rattle.c_senses.specs.Tree.{Source}
+use Rattle.c_senses.specs.Names.{source_of, numbered}
+use Rattle.function_laws.proofs.passed.definition_laws.linkage_laws.Reading.{tree_is}
+use Rattle.function_laws.proofs.passed.definition_laws.function_definitions.Reading.{definitions_declare}
+use Rattle.function_laws.proofs.function_bodies.Reading.{parts_of, declarators_of}
+use Rattle.function_laws.proofs.body_returns.Built.{grown}
+use Rattle.parsed_tree_laws.proofs.grown_parts.Reading.{units_bring}
+use Rattle.function_laws.proofs.passed.definition_laws.initialiser_laws.Found.{initialisers_found}
+use Rattle.function_laws.proofs.passed.definition_laws.own_initialisers.Standing.{initialisers_stand}
+use Rattle.internal_name_laws.proofs.initialised_rows.Owning.{initialiser_owned}
+use Rattle.declared_type_laws.proofs.agreed_internals.PassedOn.{declared_once}
+use Rattle.declared_type_laws.proofs.agreed_internals.Agreeing.{internals_agree}
+use Rattle.internal_name_laws.specs.internal_types.Internal.{EntityTypesKnown, InitialisedInternals}
+use Rattle.internal_name_laws.proofs.internal_types.Functions.{function_name}
+use Rattle.internal_name_laws.proofs.internal_types.Entities.{entity_typed}
+use Rattle.internal_name_laws.proofs.internal_types.Initials.{internal_initialised}
+
+pub entity_types_known : EntityTypesKnown
+entity_types_known tokens unit tree tag_number senses cut is are whole leaf internal =
+    let s : Source = numbered tag_number (source_of tokens tree) in
+    entity_typed s senses (declared_once tokens unit tree tag_number senses cut is are whole) (internals_agree tokens unit tree tag_number senses cut is are whole)
+    (λ k linked defined.
+    function_name s (tree_is tokens unit tree is tag_number) senses are whole (parts_of tokens unit tree tag_number is) (λ q h. definitions_declare tokens unit tree tag_number senses q cut is are whole h)
+    (declarators_of tokens unit tree tag_number senses cut is are whole) k linked defined) leaf internal
+
+pub internals_initialised : InitialisedInternals
+internals_initialised tokens unit tree tag_number senses cut is are whole i lt p d leaf t actions init parent rest by_it name type placed internal =
+    let s : Source = numbered tag_number (source_of tokens tree) in
+    let tree_of = tree_is tokens unit tree is tag_number in
+    internal_initialised s tree_of.grown (initialisers_found tokens unit tree tag_number cut is) senses are whole (declared_once tokens unit tree tag_number senses cut is are whole) (internals_agree tokens unit tree tag_number senses cut is are whole)
+    (λ k h. entity_types_known tokens unit tree tag_number senses cut is are whole k h) i p d leaf t actions lt init parent rest by_it name type placed internal
+    (initialiser_owned s senses are (grown tokens unit tree tag_number cut is) tree_of.grown (units_bring tokens unit tree tag_number is) (initialisers_stand tokens unit tree tag_number cut is) i lt p d leaf init parent rest by_it name)

@@ -1,0 +1,2 @@
+pub mod declared_type_laws
+pub mod function_laws

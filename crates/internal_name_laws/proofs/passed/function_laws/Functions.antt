@@ -1,0 +1,1 @@
+pub use Rattle.function_laws.proofs.Functions.{functions_fit}

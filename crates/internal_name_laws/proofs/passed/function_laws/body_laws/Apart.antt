@@ -1,0 +1,1 @@
+pub use Rattle.function_laws.proofs.body_laws.Apart.{one_body_each}

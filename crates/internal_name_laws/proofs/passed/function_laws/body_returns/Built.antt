@@ -1,0 +1,1 @@
+pub use Rattle.function_laws.proofs.body_returns.Built.{grown, placed}

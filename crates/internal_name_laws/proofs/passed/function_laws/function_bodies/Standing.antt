@@ -1,0 +1,1 @@
+pub use Rattle.function_laws.proofs.function_bodies.Standing.{named_by}

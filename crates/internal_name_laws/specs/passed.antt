@@ -1,0 +1,2 @@
+pub mod function_laws
+pub mod declared_type_laws

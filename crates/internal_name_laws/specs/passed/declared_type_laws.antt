@@ -1,0 +1,2 @@
+pub mod declared_leaves
+pub mod known_entities

@@ -1,0 +1,1 @@
+pub use Rattle.declared_type_laws.specs.known_entities.Entities.{IsKnownAt}

@@ -1,0 +1,2 @@
+pub mod body_laws
+pub mod function_bodies

@@ -1,0 +1,1 @@
+pub use Rattle.function_laws.specs.function_bodies.PassedOn.{Defines}

@@ -1,4 +1,0 @@
-//! What internal names mean: a function that does nothing, whose contract is that law.
-#![tactic(auto)]
-
-pub mod laws;

@@ -1,4 +1,0 @@
-//! The types that declarations of one name give together: a function that does nothing, whose contract is that law.
-#![tactic(auto)]
-
-pub mod laws;

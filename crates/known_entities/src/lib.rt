@@ -1,4 +1,0 @@
-//! The laws of entities that are known before the end: functions that do nothing, whose contracts they are.
-#![tactic(auto)]
-
-pub mod laws;

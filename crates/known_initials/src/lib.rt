@@ -1,4 +1,0 @@
-//! What the initialisers in bodies are of.
-#![tactic(auto)]
-
-pub mod laws;

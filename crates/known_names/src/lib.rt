@@ -1,4 +1,0 @@
-//! What the names declare that the trees of bodies have.
-#![tactic(auto)]
-
-pub mod laws;

@@ -1,4 +1,0 @@
-//! What the resolution of names says of labels.
-#![tactic(auto)]
-
-pub mod laws;

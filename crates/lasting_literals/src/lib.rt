@@ -1,4 +1,0 @@
-//! How long the objects of compound literals live.
-#![tactic(auto)]
-
-pub mod laws;

@@ -1,6 +1,0 @@
-//! Numbers by the leaves of a syntax tree, found without a look through a list.
-#![tactic(auto)]
-
-mod map;
-
-pub use map::LeafMap;

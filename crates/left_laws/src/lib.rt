@@ -1,4 +1,0 @@
-//! What stands to the left of an operator behind it.
-#![tactic(auto)]
-
-pub mod laws;

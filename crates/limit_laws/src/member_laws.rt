@@ -1,0 +1,2 @@
+//! Members of structures and unions of a unit that is built.
+pub mod laws;

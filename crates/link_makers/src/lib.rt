@@ -1,5 +1,0 @@
-//! What makes each external name's object or function, and where the name is used first.
-#![tactic(auto)]
-
-pub mod gathered;
-pub mod makers;

@@ -1,0 +1,4 @@
+pub mod Moved
+pub mod Joined
+pub mod Starts
+pub mod Leaders

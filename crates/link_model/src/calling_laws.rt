@@ -1,0 +1,2 @@
+//! Where the calls of a unit stand.
+pub mod laws;

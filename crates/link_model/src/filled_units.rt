@@ -1,0 +1,1 @@
+//! Which units initialise only objects that they define: definitions alone.

@@ -1,0 +1,4 @@
+//! The objects and functions of a linked program.
+pub mod entities;
+pub mod types;
+pub mod uses;

@@ -1,0 +1,2 @@
+//! The entities of the program that units are, or the first fault of linking them.
+pub mod single;

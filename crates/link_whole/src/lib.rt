@@ -1,4 +1,0 @@
-//! The entities of the program that units are, or the first fault of linking them.
-#![tactic(auto)]
-
-pub mod single;

@@ -1,0 +1,2 @@
+//! Laws of the initialisers of linked programs: these functions do nothing, and their contracts are the laws.
+pub mod laws;

@@ -1,0 +1,2 @@
+//! Laws of sizes in tables that are merged from units': these functions do nothing, and their contracts are the laws.
+pub mod laws;

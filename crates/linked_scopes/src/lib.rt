@@ -1,4 +1,0 @@
-//! In which scopes names with linkage are declared and seen: a function that does nothing, whose contract is that law.
-#![tactic(auto)]
-
-pub mod laws;

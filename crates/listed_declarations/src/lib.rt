@@ -1,4 +1,0 @@
-//! That objects are listed by one declaration.
-#![tactic(auto)]
-
-pub mod laws;

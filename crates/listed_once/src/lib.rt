@@ -1,4 +1,0 @@
-//! That objects are listed once.
-#![tactic(auto)]
-
-pub mod laws;

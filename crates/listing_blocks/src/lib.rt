@@ -1,4 +1,0 @@
-//! Which block lists an automatic object.
-#![tactic(auto)]
-
-pub mod laws;

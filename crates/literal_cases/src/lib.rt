@@ -1,5 +1,0 @@
-//! Worked expressions with compound literals, from their texts to their core nodes and the entities of the unit.
-#![tactic(auto)]
-
-#[cfg(test)]
-mod tests;

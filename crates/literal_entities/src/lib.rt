@@ -1,6 +1,0 @@
-//! The entities of compound literals, from their places in a syntax tree and their core nodes.
-#![tactic(auto)]
-
-mod entities;
-
-pub use entities::push_entities;

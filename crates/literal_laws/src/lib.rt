@@ -1,4 +1,0 @@
-//! What the reading of a unit says of its constants and strings: the rows of its primaries are built whole.
-#![tactic(auto)]
-
-pub mod laws;

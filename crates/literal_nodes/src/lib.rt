@@ -1,4 +1,0 @@
-//! Facts of the nodes that name entities, in all trees that rows give.
-#![tactic(auto)]
-
-pub mod laws;

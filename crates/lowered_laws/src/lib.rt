@@ -1,4 +1,0 @@
-//! The law of the units that are made of texts: a function that does nothing, whose contract it is.
-#![tactic(auto)]
-
-pub mod laws;

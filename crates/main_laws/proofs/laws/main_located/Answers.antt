@@ -1,5 +1,0 @@
-use Rattle.main_laws.proofs.Mains.{located}
-use Rattle.main_laws.proofs.laws.main_located.Goals as goal
-
-pub returns : goal.returns
-returns c = located

@@ -1,4 +1,0 @@
-//! Laws of the locations of linked programs: these functions do nothing, and their contracts are the laws.
-#![tactic(auto)]
-
-pub mod laws;

@@ -1,5 +1,0 @@
-use Rattle.marked_trees.proofs.Once.{marked_once}
-use Rattle.marked_trees.proofs.laws.marked_once.Goals as goal
-
-pub returns : goal.returns
-returns c = λ s senses numbering u grown counted made runs rows marked plain block b p core is sensed stands sole x y m n at_x at_y mark_x mark_y under_x under_y. marked_once s senses numbering u grown counted made runs rows marked plain block b p core is sensed stands sole x y m n at_x at_y mark_x mark_y under_x under_y

@@ -1,4 +1,0 @@
-//! Members of structures and unions of a unit that is built.
-#![tactic(auto)]
-
-pub mod laws;

@@ -1,4 +1,0 @@
-//! What the rows of fields say of the members of one structure or union: their names differ.
-#![tactic(auto)]
-
-pub mod laws;

@@ -1,0 +1,75 @@
+// Each script on a memory of its own.
+use crate::scripts::SCRIPTS;
+use crate::words::{arg_of, args_from, count, numbers_from, type_of, word, words_of};
+use case_worlds::world::World;
+use std::alloc::Global;
+use std::test::Fail;
+
+/// Makes, ends or changes an object without an answer; whether the step is one that does so.
+fn prepares(alloc: Global, world: &mut World, words: &[&str]) -> Result<bool, Fail> {
+    let ty = type_of(word(words, 1));
+    match word(words, 0) {
+        "object" => {
+            world.object(ty, word(words, 2) == "zero")?;
+        }
+        "hold" => {
+            let numbers = numbers_from(alloc, words, 3)?;
+            world.holding(ty, type_of(word(words, 2)), numbers.as_slice())?;
+        }
+        "give" => world.give(count(word(words, 1)), type_of(word(words, 2))),
+        "stop" => world.stop(count(word(words, 1))),
+        _ => return Ok(false),
+    }
+    Ok(true)
+}
+
+/// What another step answers.
+fn answer(alloc: Global, world: &mut World, words: &[&str]) -> Result<String, Fail> {
+    let ty = type_of(word(words, 2));
+    match word(words, 0) {
+        "put" => world.put(arg_of(word(words, 1)), ty, arg_of(word(words, 3))),
+        "get" => world.get(arg_of(word(words, 1)), ty),
+        "elements" => {
+            let many = u64::from(count(word(words, 3)));
+            world.elements(count(word(words, 1)), ty, many)
+        }
+        "state" => world.state(count(word(words, 1))),
+        "call" => {
+            let args = args_from(alloc, words, 3)?;
+            let input = u64::from(count(word(words, 1)));
+            world.call(word(words, 2), args.as_slice(), input)
+        }
+        _ => Err(Fail::new("no such step")),
+    }
+}
+
+/// Whether a step answers what its line says.
+fn holds(alloc: Global, world: &mut World, line: &str) -> Result<bool, Fail> {
+    let mut parts = line.split('`');
+    let words = words_of(alloc, parts.next().unwrap_or(""))?;
+    if prepares(alloc, world, words.as_slice())? {
+        return Ok(true);
+    }
+    let given = answer(alloc, world, words.as_slice())?;
+    Ok(given.as_str() == parts.next().unwrap_or(""))
+}
+
+/// The number of the first step that doesn't answer what its line says.
+fn first_wrong(alloc: Global, script: &str) -> Result<Option<usize>, Fail> {
+    let mut world = World::new(alloc)?;
+    for (at, line) in script.split('\n').enumerate() {
+        if at > 0 && !holds(alloc, &mut world, line)? {
+            return Ok(Some(at));
+        }
+    }
+    Ok(None)
+}
+
+#[test]
+fn scripts(rt: HostRuntime) -> Result<(), Fail> {
+    for script in SCRIPTS.split("\n\n") {
+        let wrong = first_wrong(rt.alloc(), script)?;
+        assert!(rt; wrong.is_none(), "{wrong:?} of {script}");
+    }
+    Ok(())
+}

@@ -1,5 +1,0 @@
-use Rattle.memory_laws.proofs.Copies.{written_follows}
-use Rattle.memory_laws.proofs.laws.write_follows.Goals as goal
-
-pub returns : goal.returns
-returns c table types memory place t value known = written_follows table types memory known place t value

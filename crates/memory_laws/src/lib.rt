@@ -1,4 +1,0 @@
-//! What each change of a memory keeps: these functions do nothing, and their contracts are the laws.
-#![tactic(auto)]
-
-pub mod laws;

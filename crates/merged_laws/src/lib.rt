@@ -1,4 +1,0 @@
-//! Laws of tables that are merged from units': these functions do nothing, and their contracts are the laws.
-#![tactic(auto)]
-
-pub mod laws;

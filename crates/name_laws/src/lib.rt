@@ -1,4 +1,0 @@
-//! That locations have distinct names: this crate's function does nothing, and its contract is the law.
-#![tactic(auto)]
-
-pub mod laws;

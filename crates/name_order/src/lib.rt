@@ -1,4 +1,0 @@
-//! In what order names are declared and used: a function that does nothing, whose contract is that law.
-#![tactic(auto)]
-
-pub mod laws;

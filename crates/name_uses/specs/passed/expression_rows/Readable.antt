@@ -1,0 +1,1 @@
+pub use Rattle.expression_rows.specs.Readable.{IsReadable}

@@ -1,4 +1,0 @@
-//! What is first used at one place of the units of texts has one name.
-#![tactic(auto)]
-
-pub mod laws;

@@ -1,4 +1,0 @@
-//! That the locations of linked programs have distinct names: these functions do nothing, and their contracts are the laws.
-#![tactic(auto)]
-
-pub mod laws;

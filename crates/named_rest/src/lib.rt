@@ -1,4 +1,0 @@
-//! The parts of a parsed unit are told apart by their names and places.
-#![tactic(auto)]
-
-pub mod laws;

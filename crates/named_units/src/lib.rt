@@ -1,4 +1,0 @@
-//! That the parts of a unit are told apart by their names and places.
-#![tactic(auto)]
-
-pub mod laws;

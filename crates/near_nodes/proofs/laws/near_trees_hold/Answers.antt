@@ -1,6 +1,0 @@
-use Rattle.std.proofs.Common.{◌≡◌, true}
-use Rattle.near_nodes.proofs.All.{near_kept}
-use Rattle.near_nodes.proofs.laws.near_trees_hold.Goals as goal
-
-pub returns : goal.returns
-returns c = λ asks s senses near are closed gives i is. near_kept (λ x. asks x ≡ true) s senses (λ j. near j ≡ true) are closed gives i is

@@ -1,4 +1,0 @@
-//! Facts of the nodes that name or list entities, in the trees of nodes near each other.
-#![tactic(auto)]
-
-pub mod laws;

@@ -1,4 +1,0 @@
-//! What stands in what in the tree of a unit that is read: external declarations, blocks and statements.
-#![tactic(auto)]
-
-pub mod laws;

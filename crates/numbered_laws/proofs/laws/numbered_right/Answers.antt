@@ -1,5 +1,0 @@
-use Rattle.numbered_laws.proofs.Whole.{numbered}
-use Rattle.numbered_laws.proofs.laws.numbered_right.Goals as goal
-
-pub returns : goal.returns
-returns c = numbered

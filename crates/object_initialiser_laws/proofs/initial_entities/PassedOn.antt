@@ -1,0 +1,2 @@
+-- What this crate passes on, from those below it to those above it.
+pub use Rattle.internal_name_laws.proofs.text_rows.Fitting.{asked_fit, grown}

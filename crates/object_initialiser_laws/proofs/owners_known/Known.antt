@@ -1,0 +1,24 @@
+-- What other laws give is all that is asked.
+use Rattle.core_tree.specs.declared.node.Unit.{Unit}
+use Rattle.core_tree.specs.Typed.{trees_of}
+use Rattle.link_model.specs.filled_units.Filled.{IsFilled}
+use Rattle.static_value_laws.proofs.built_filled.Filling.{built_are_filled}
+use Rattle.owner_laws.proofs.left_laws.Left.{lefts_stand}
+use Rattle.owner_laws.proofs.passed.definition_laws.parameter_lists.Whole.{parameters_listed}
+use Rattle.owner_laws.specs.Owners.{IsOwnable}
+use Rattle.owner_laws.proofs.Whole.{owners_built}
+use Rattle.owner_laws.proofs.list_laws.Whole.{lists_built}
+use Rattle.object_initialiser_laws.specs.owners_known.Known.{HasOwners, OwnersKnown}
+
+ownable : (u : Unit) → HasOwners (trees_of u) → IsFilled u → IsOwnable u
+ownable u h filled = record { rows = h.rows; owned = h.owned; bodied = h.bodied; fixed = h.fixed; filled = filled; forward = h.forward }
+
+pub owners_known : OwnersKnown
+owners_known tokens unit tree tag_number name u cut is built names h =
+    let whole = ownable u h (built_are_filled tokens unit tree tag_number name u is built) in
+    let lefts = lefts_stand tokens unit tree tag_number is in
+    let listed = parameters_listed tokens unit tree tag_number cut is in
+    record {
+      in_owner = owners_built tokens unit tree tag_number name u cut is built listed lefts names whole;
+      lists = lists_built tokens unit tree tag_number name u cut is built listed lefts names whole;
+    }

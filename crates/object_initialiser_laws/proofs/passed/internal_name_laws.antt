@@ -1,0 +1,5 @@
+pub mod representative_names
+pub mod text_rows
+pub mod internal_types
+pub mod initialised_rows
+pub mod internal_names

@@ -1,0 +1,5 @@
+pub mod Reading
+pub mod Order
+pub mod Seen
+pub mod Lists
+pub mod PassedOn

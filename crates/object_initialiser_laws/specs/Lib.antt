@@ -1,0 +1,15 @@
+pub mod once_initialised
+pub mod initial_entities
+pub mod object_bodies
+pub mod placed_initialisers
+pub mod initialised_objects
+pub mod bodies_fit
+pub mod listed_declarations
+pub mod listed_once
+pub mod block_uses
+pub mod block_trees
+pub mod listing_blocks
+pub mod owners_known
+pub mod owned_initialisers
+pub mod all_listed
+pub mod passed

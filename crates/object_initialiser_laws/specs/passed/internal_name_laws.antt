@@ -1,0 +1,4 @@
+pub mod text_rows
+pub mod representative_names
+pub mod initialised_rows
+pub mod internal_names

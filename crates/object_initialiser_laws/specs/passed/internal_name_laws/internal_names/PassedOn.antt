@@ -1,0 +1,1 @@
+pub use Rattle.internal_name_laws.specs.internal_names.PassedOn.{AreScoped}

@@ -1,0 +1,2 @@
+//! That automatic objects are listed once, around their names.
+pub mod laws;

@@ -1,0 +1,2 @@
+//! That what a block declares is used in it alone.
+pub mod laws;

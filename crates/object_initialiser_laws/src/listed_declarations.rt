@@ -1,0 +1,2 @@
+//! That objects are listed by one declaration.
+pub mod laws;

@@ -1,0 +1,2 @@
+//! That objects are listed once.
+pub mod laws;

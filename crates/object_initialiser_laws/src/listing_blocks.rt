@@ -1,0 +1,2 @@
+//! Which block lists an automatic object.
+pub mod laws;

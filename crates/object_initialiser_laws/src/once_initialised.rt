@@ -1,0 +1,2 @@
+//! That names are initialised once in all bodies.
+pub mod laws;

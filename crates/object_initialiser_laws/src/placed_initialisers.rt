@@ -1,0 +1,2 @@
+//! Where initialisers stand in declarations.
+pub mod laws;

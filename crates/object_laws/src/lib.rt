@@ -1,4 +1,0 @@
-//! That each location belongs to one object: these functions do nothing, and their contracts are the laws.
-#![tactic(auto)]
-
-pub mod laws;

@@ -1,0 +1,2 @@
+pub mod object_initialiser_laws
+pub mod limit_laws

@@ -1,0 +1,1 @@
+pub use Rattle.limit_laws.proofs.member_laws.Measured.{values_have_sizes}

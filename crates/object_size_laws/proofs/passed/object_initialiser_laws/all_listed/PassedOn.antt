@@ -1,0 +1,1 @@
+pub use Rattle.object_initialiser_laws.proofs.all_listed.PassedOn.{initialisers_owned}

@@ -1,0 +1,1 @@
+pub use Rattle.object_initialiser_laws.proofs.owners_known.Known.{owners_known}

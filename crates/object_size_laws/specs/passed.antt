@@ -1,0 +1,1 @@
+pub mod object_initialiser_laws

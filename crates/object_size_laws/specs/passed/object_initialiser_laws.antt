@@ -1,0 +1,2 @@
+pub mod owners_known
+pub mod bodies_fit

@@ -1,0 +1,1 @@
+pub use Rattle.object_initialiser_laws.specs.bodies_fit.PassedOn.{InternalFit}

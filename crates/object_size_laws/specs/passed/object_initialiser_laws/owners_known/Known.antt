@@ -1,0 +1,1 @@
+pub use Rattle.object_initialiser_laws.specs.owners_known.Known.{OwnersRight}

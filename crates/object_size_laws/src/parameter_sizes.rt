@@ -1,0 +1,2 @@
+//! The sizes of parameters: a function that does nothing, whose contract is that law.
+pub mod laws;

@@ -1,8 +1,0 @@
-//! That an initialised object without internal linkage has the type that its declarator gives it.
-ghost use Rattle.object_types.specs.Objects.{ObjectsTyped};
-
-/// At the initialiser of an object that has no internal linkage (C11 6.2.2, 6.7.9), the object's type is the declarator's, with the length
-/// that the initialiser gives an array: where that type has a length, and where the initialiser is the one of that name.
-pub fn objects_typed()
-    ensures { ObjectsTyped }
-{}

@@ -1,4 +1,0 @@
-//! That names are initialised once in all bodies.
-#![tactic(auto)]
-
-pub mod laws;

@@ -1,0 +1,5 @@
+use Rattle.outcome_laws.proofs.fault_laws.Faults.{no_link_fault}
+use Rattle.outcome_laws.proofs.fault_laws.laws.no_link_fault.Goals as goal
+
+pub returns : goal.returns
+returns c = no_link_fault

@@ -1,0 +1,12 @@
+pub mod Options
+pub mod Members
+pub mod Uses
+pub mod Parts
+pub mod Calls
+pub mod Library
+pub mod Names
+pub mod Made
+pub mod Cells
+pub mod Objects
+pub mod Fixed
+pub mod Whole

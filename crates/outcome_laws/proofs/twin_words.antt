@@ -1,0 +1,12 @@
+pub mod Sums
+pub mod Options
+pub mod Members
+pub mod Extents
+pub mod Kept
+pub mod Tables
+pub mod Uses
+pub mod Calls
+pub mod Locations
+pub mod Library
+pub mod Results
+pub mod Whole

@@ -1,0 +1,23 @@
+-- Programs that are one, but for numbers, have rows of one size.
+use Rattle.std.proofs.Common.{◌∙◌, ◌+◌, ◌*◌, ◌/◌, ℕ, length, ap}
+use Rattle.core_tree.specs.Typed.{trees_in}
+use Rattle.obj_space.specs.Space.{locations_in}
+use Rattle.obj_space.specs.View.{view_of}
+use Rattle.row_numbers.specs.Setting.{row_total}
+use Rattle.outcome_laws.specs.twin_programs.One.{AreOne}
+use Rattle.outcome_laws.proofs.twin_programs.Whole.{twin_programs}
+use Rattle.outcome_laws.specs.twin_words.Words.{AsManyLocations, AsManyRows, OneWordTotal}
+use Rattle.outcome_laws.proofs.twin_words.Locations.{as_many_locations as locations_same}
+use Rattle.outcome_laws.proofs.twin_words.Results.{as_many_rows as rows_same}
+
+pub as_many_locations : AsManyLocations
+as_many_locations p q o sound other = locations_same p q o.to o.back o.forth o.returned sound other
+
+pub as_many_rows : AsManyRows
+as_many_rows p q o sound other = rows_same p q o.to o.back o.forth o.returned sound other
+
+pub one_word_total : OneWordTotal
+one_word_total us vs p q all rooted other_rooted h k sound other =
+    let o : AreOne p q = twin_programs us vs p q all rooted other_rooted h k in
+    ap (λ (rows : ℕ). rows * ((length (locations_in p) + 63) / 64)) (as_many_rows p q o sound other)
+    ∙ ap (λ (count : ℕ). row_total (trees_in q) (view_of (locations_in q)) * ((count + 63) / 64)) (as_many_locations p q o sound other)

@@ -1,4 +1,0 @@
-//! Initialisers are those of their declarators: a function that does nothing, whose contract is that law.
-#![tactic(auto)]
-
-pub mod laws;

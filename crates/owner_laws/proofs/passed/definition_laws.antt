@@ -1,0 +1,11 @@
+pub mod linkage_laws
+pub mod block_laws
+pub mod own_initialisers
+pub mod scope_laws
+pub mod single_initialisers
+pub mod initialiser_laws
+pub mod parameter_lists
+pub mod Locals
+pub mod function_definitions
+pub mod earlier_initialisers
+pub mod function_origins

@@ -1,0 +1,1 @@
+pub use Rattle.definition_laws.proofs.block_laws.Whole.{blocks_differ}

@@ -1,0 +1,1 @@
+pub use Rattle.definition_laws.proofs.earlier_initialisers.Coming.{initialisers_earlier}

@@ -1,0 +1,1 @@
+pub use Rattle.definition_laws.proofs.function_origins.Declaring.{declares}

@@ -1,0 +1,9 @@
+pub mod Unlinked
+pub mod Seen
+pub mod Linked
+pub mod Reading
+pub mod Standings
+pub mod Roles
+pub mod Chains
+pub mod Origins
+pub mod Scopes

@@ -1,0 +1,4 @@
+pub mod Standing
+pub mod PassedOn
+pub mod Parts
+pub mod Searching

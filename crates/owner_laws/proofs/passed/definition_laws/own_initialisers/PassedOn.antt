@@ -1,0 +1,1 @@
+pub use Rattle.definition_laws.proofs.own_initialisers.PassedOn.{sign_taken}

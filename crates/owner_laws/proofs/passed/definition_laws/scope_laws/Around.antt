@@ -1,0 +1,1 @@
+pub use Rattle.definition_laws.proofs.scope_laws.Around.{above_external}

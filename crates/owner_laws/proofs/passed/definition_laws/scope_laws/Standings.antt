@@ -1,0 +1,1 @@
+pub use Rattle.definition_laws.proofs.scope_laws.Standings.{each_stands}

@@ -1,0 +1,1 @@
+pub use Rattle.definition_laws.specs.earlier_initialisers.Earlier.{StandsDeclaring, InitialisersComeFirst}

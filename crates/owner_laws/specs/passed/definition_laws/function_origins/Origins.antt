@@ -1,0 +1,1 @@
+pub use Rattle.definition_laws.specs.function_origins.Origins.{In, IsFunctionBy, Listed, Typed}

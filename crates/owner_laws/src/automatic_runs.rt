@@ -1,0 +1,2 @@
+//! Where the initialiser of an automatic object runs.
+pub mod laws;

@@ -1,0 +1,2 @@
+//! Where what declarations run stands in a unit.
+pub mod laws;

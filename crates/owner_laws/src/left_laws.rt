@@ -1,0 +1,2 @@
+//! What stands to the left of an operator behind it.
+pub mod laws;

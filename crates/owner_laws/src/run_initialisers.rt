@@ -1,0 +1,2 @@
+//! Which initialisers a declaration runs.
+pub mod laws;

@@ -1,4 +1,0 @@
-//! Locals and the lists of blocks in a unit that is built of a text.
-#![tactic(auto)]
-
-pub mod laws;

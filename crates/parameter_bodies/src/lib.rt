@@ -1,4 +1,0 @@
-//! Parameters have no initialisers.
-#![tactic(auto)]
-
-pub mod laws;

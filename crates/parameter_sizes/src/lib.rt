@@ -1,4 +1,0 @@
-//! The sizes of parameters: a function that does nothing, whose contract is that law.
-#![tactic(auto)]
-
-pub mod laws;

@@ -1,4 +1,0 @@
-//! What reading a text says of its syntax tree, in the words of the laws on senses.
-#![tactic(auto)]
-
-pub mod laws;

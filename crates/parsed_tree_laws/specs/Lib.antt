@@ -1,0 +1,11 @@
+pub mod family_laws
+pub mod member_names
+pub mod counted_parts
+pub mod statement_shapes
+pub mod span_laws
+pub mod ordered_parts
+pub mod placed_laws
+pub mod nesting_laws
+pub mod grown_parts
+pub mod sign_parts
+pub mod passed

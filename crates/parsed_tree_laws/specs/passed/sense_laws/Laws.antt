@@ -1,0 +1,1 @@
+pub use Rattle.sense_laws.specs.Laws.{Grows}

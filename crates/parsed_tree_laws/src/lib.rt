@@ -1,0 +1,13 @@
+//! Which parts the nodes of a parsed tree have, how many, in which order.
+#![tactic(auto)]
+
+pub mod counted_parts;
+pub mod family_laws;
+pub mod grown_parts;
+pub mod member_names;
+pub mod nesting_laws;
+pub mod ordered_parts;
+pub mod placed_laws;
+pub mod sign_parts;
+pub mod span_laws;
+pub mod statement_shapes;

@@ -1,0 +1,2 @@
+//! That what is initialised in a unit is an object that the unit defines.
+pub mod laws;

@@ -1,0 +1,2 @@
+//! Which numbers the nodes under a node of a parsed tree have.
+pub mod laws;

@@ -1,4 +1,0 @@
-//! Where a unit that is made of a parsed tree's senses initialises its objects.
-#![tactic(auto)]
-
-pub mod laws;

@@ -1,4 +1,0 @@
-//! The laws of the names of what is planted: functions that do nothing, whose contracts they are.
-#![tactic(auto)]
-
-pub mod laws;

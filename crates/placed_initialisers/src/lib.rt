@@ -1,4 +1,0 @@
-//! Where initialisers stand in declarations.
-#![tactic(auto)]
-
-pub mod laws;

@@ -1,4 +1,0 @@
-//! That what is initialised in a unit is an object that the unit defines.
-#![tactic(auto)]
-
-pub mod laws;

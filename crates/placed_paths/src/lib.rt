@@ -1,4 +1,0 @@
-//! Where an initialiser puts its values: a law of `c_inits`, as the contract of a function that does nothing.
-#![tactic(auto)]
-
-pub mod laws;

@@ -1,9 +1,0 @@
-use Rattle.std.proofs.Common.{◌≡◌, ◌++◌, length, take}
-use Rattle.planted_nodes.specs.Grown.{Notes}
-use Rattle.planted_nodes.proofs.growing.append.Given as goal
-
-abbrev pub invariant-loop-child : goal.invariant-loop-child
-invariant-loop-child l = record {
-  origins : l.origins.items ≡ l.fn.origins.items ++ take l.child-index l.children;
-  met : Notes (length l.fn.origins.items) l.children l.child-index l.fn.met.items l.met.items;
-}

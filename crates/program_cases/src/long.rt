@@ -1,0 +1,93 @@
+// Texts at the limits: as in `rows`, but that a text stands by its pieces, each of them and how often it stands there, apart by bars. They are
+// blocks that nest, closed or not; alignments, which are read as deep as memory goes; and a unit and a script of one byte more than a text may
+// have (a script is looked at when the units are linked).
+use crate::calls::{Case, OpenGate, is_answered};
+use crate::tests::case_of;
+use pta_base::OutOfMemory;
+use std::alloc::Global;
+
+const LONG: &str = "a.i`a.i`0`int main(void){|1|{|255|;|1|}|255|return 0;}|1`pta 1
+end
+`~
+a.i`a.i`6`int main(void){|1|{|256|;|1|}|256|return 0;}|1``a.i:1:272: too deep 257
+~
+a.i`a.i`6`int main(void){|1|{|256|;|1``a.i:1:272: too deep 257
+~
+a.i`a.i`3`int main(void){|1|{|255|;|1``a.i:1:272: malformed
+~
+a.i`a.i`3`_Alignas(|10000``a.i:1:90001: malformed
+~
+a.i`a.i`6` |1|                                |524288``a.i: too large text 16777217
+~
+--ask s a.i`s a.i`6`
+
+
+
+
+
+
+
+
+
+
+
+
+
+
+
+
+
+
+
+
+
+
+
+
+
+
+
+
+
+
+
+|524288|
+^int x,*p,*q,*r; int main(void){p=&x;return 0;}|1``s: too large text 16777217
+";
+
+/// The same piece so many times more.
+fn repeat(text: &mut String, piece: &str, times: usize) -> Result<(), OutOfMemory> {
+    for _ in 0..times {
+        text.push_str(piece)?;
+    }
+    Ok(())
+}
+
+/// The text of these pieces.
+fn text_of(alloc: Global, pieces: &str) -> Result<String, OutOfMemory> {
+    let mut text = String::new(alloc);
+    let mut piece = "";
+    for (at, word) in pieces.split('|').enumerate() {
+        if at % 2 == 0 {
+            piece = word;
+        } else {
+            repeat(&mut text, piece, word.parse().unwrap_or(0))?;
+        }
+    }
+    Ok(text)
+}
+
+#[test]
+fn texts_at_the_limits(rt: HostRuntime) -> Result<(), OutOfMemory> {
+    for row in LONG.split("~\n") {
+        let said = case_of(row, 0);
+        let text = text_of(rt.alloc(), said.texts)?;
+        let case = Case {
+            texts: text.as_str(),
+            ..said
+        };
+        let answered = is_answered(&rt, rt.alloc(), &case, &OpenGate)?;
+        assert!(rt; answered, "{row}");
+    }
+    Ok(())
+}

@@ -1,4 +1,0 @@
-//! That the unit which is put together of the parts of a walk initialises each object once.
-#![tactic(auto)]
-
-pub mod laws;

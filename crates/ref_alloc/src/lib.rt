@@ -1,5 +1,0 @@
-// Library functions that make objects and end them, and those that look at no object.
-#![tactic(auto)]
-
-pub mod allocation;
-pub mod plain;

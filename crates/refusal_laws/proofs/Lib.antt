@@ -1,6 +1,0 @@
-mod Steps
-mod Values
-mod Expressions
-mod Declaring
-mod Statements
-pub mod Rows

@@ -1,6 +1,0 @@
-use Rattle.std.proofs.Common.{◌≡◌, take}
-use Rattle.remembered_names.proofs.same.same_ids.Given as goal
-
--- those so far are the same
-abbrev pub invariant-loop-i : goal.invariant-loop-i
-invariant-loop-i l = take l.i l.one ≡ take l.i l.other

@@ -1,4 +1,0 @@
-//! Laws of what functions of linked programs return: these functions do nothing, and their contracts are the laws.
-#![tactic(auto)]
-
-pub mod laws;

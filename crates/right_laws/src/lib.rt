@@ -1,4 +1,0 @@
-//! Laws of right units: two units that are right for one source are alike, but for the numbers of their entities and nodes.
-#![tactic(auto)]
-
-pub mod laws;

@@ -1,0 +1,10 @@
+pub mod Blocks
+pub mod Counts
+pub mod Ending
+pub mod Growing
+pub mod Marking
+pub mod Once
+pub mod Parts
+pub mod Serving
+pub mod Sharing
+pub mod Sums

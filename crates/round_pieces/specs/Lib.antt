@@ -1,0 +1,5 @@
+pub mod Balance
+pub mod Orders
+pub mod Rounds
+pub mod Turns
+pub mod Work

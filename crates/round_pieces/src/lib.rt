@@ -1,0 +1,14 @@
+//! A round of workers on shared rows: in which order its rows have their turns, how they are dealt out, and the pieces of
+//! each worker, one row's turn each (Pearce, Kelly and Hankin 2003, on the order of visits).
+#![tactic(auto)]
+
+mod dealing;
+mod joining;
+mod ordering;
+mod pieces;
+mod round;
+
+pub use dealing::dealt;
+pub use ordering::{put_once, turn_order};
+pub use pieces::Round;
+pub use round::all_pieces;

@@ -1,0 +1,5 @@
+pub mod Asking
+pub mod Costs
+pub mod Rests
+pub mod Steps
+pub mod Working

@@ -1,9 +1,0 @@
-//! The rows machine, a table of shared words and a book of edges on the smallest systems, step by step.
-#![tactic(auto)]
-
-#[cfg(test)]
-mod edges;
-#[cfg(test)]
-mod machine;
-#[cfg(test)]
-mod shared;

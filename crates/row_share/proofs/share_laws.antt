@@ -1,0 +1,17 @@
+pub mod Parts
+pub mod Forward
+pub mod EqualSets
+pub mod Numbers
+pub mod Members
+pub mod Twins
+pub mod Valid
+pub mod Agreeing
+pub mod Numbering
+pub mod Times
+pub mod Searching
+pub mod Gathering
+pub mod Marking
+pub mod Firsting
+pub mod Leasts
+pub mod Graphs
+pub mod Onward

@@ -1,0 +1,2 @@
+pub mod share_laws
+pub mod row_classes

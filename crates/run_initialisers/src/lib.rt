@@ -1,4 +1,0 @@
-//! Which initialisers a declaration runs.
-#![tactic(auto)]
-
-pub mod laws;

@@ -1,4 +1,0 @@
-//! What declarations run: a function that does nothing, whose contract is that law.
-#![tactic(auto)]
-
-pub mod laws;

@@ -1,0 +1,2 @@
+//! Whole units that are right for their syntax trees.
+pub mod laws;

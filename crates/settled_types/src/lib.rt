@@ -1,4 +1,0 @@
-//! Which types of declarations are settled: a function that does nothing, whose contract is that law.
-#![tactic(auto)]
-
-pub mod laws;

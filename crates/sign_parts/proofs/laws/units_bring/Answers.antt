@@ -1,5 +1,0 @@
-use Rattle.sign_parts.proofs.Reading.{units_bring}
-use Rattle.sign_parts.proofs.laws.units_bring.Goals as goal
-
-pub returns : goal.returns
-returns c = units_bring

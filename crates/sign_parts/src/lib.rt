@@ -1,4 +1,0 @@
-//! Which parts the nodes of a parsed tree have, in order: a function that does nothing, whose contract is that law.
-#![tactic(auto)]
-
-pub mod laws;

@@ -1,5 +1,0 @@
-use Rattle.standing_laws.proofs.Whole.{statements_stand}
-use Rattle.standing_laws.proofs.laws.statements_stand.Goals as goal
-
-pub returns : goal.returns
-returns c = λ s senses numbering u grown made runs rows bodies n node at. statements_stand s senses numbering u grown made runs rows bodies n node at

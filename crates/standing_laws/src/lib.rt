@@ -1,4 +1,0 @@
-//! Where the statements of a unit stand that is made of the senses of a whole tree.
-#![tactic(auto)]
-
-pub mod laws;

@@ -1,4 +1,0 @@
-//! What the grammar says of statements and blocks, in the words of the laws on senses.
-#![tactic(auto)]
-
-pub mod laws;

@@ -1,4 +1,0 @@
-//! What the rows before a specifier say of its tag and its list of members.
-#![tactic(auto)]
-
-pub mod laws;

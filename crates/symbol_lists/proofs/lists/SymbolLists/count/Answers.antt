@@ -1,5 +1,0 @@
-use Rattle.std.proofs.Common.{◌∙◌}
-use Rattle.symbol_lists.proofs.lists.SymbolLists.count.Goals as goal
-
-pub returns : goal.returns
-returns c = λ ds says. c.count_of.ensures ∙ says.counted c.args.symbol

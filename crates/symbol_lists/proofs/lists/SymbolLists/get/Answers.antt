@@ -1,5 +1,0 @@
-use Rattle.std.proofs.Common.{◌∙◌}
-use Rattle.symbol_lists.proofs.lists.SymbolLists.get.Goals as goal
-
-pub returns : goal.returns
-returns c = λ ds says. c.leaf_of.ensures ∙ says.each c.args.symbol c.args.place

@@ -1,6 +1,0 @@
-use Rattle.std.proofs.Common.{◌∙◌}
-use Rattle.symbol_lists.proofs.Kept.{found_number}
-use Rattle.symbol_lists.proofs.maps.kept_count.Goals as goal
-
-pub returns : goal.returns
-returns c = c.copied.ensures ∙ (c.get.ensures.value ∙ found_number c.args.symbol c.args.counts.now.entries)

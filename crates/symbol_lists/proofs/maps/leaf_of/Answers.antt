@@ -1,6 +1,0 @@
-use Rattle.std.proofs.Common.{◌∙◌}
-use Rattle.c_scope.proofs.Keys.{found_at}
-use Rattle.symbol_lists.proofs.maps.leaf_of.Goals as goal
-
-pub returns : goal.returns
-returns c = c.copied.ensures ∙ (c.get.ensures.value ∙ found_at c.args.symbol c.args.place c.args.leaves.now.entries)

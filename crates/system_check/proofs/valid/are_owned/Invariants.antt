@@ -1,8 +1,0 @@
-use Rattle.std.proofs.Common.{◌≡◌, ℕ, ◌<◌, Some, slice_get}
-use Rattle.sol_model.specs.declared.system.Function.{Function}
-use Rattle.system_check.specs.Owners.{IsOwned}
-use Rattle.system_check.proofs.valid.are_owned.Given as goal
-
--- the locations of the functions so far know them
-abbrev pub invariant-loop-number : goal.invariant-loop-number
-invariant-loop-number l = (k : ℕ) (function : Function) → k < l.number → slice_get l.system.functions k ≡ Some function → IsOwned l.system k function

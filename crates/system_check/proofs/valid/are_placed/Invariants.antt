@@ -1,8 +1,0 @@
-use Rattle.std.proofs.Common.{◌≡◌, ℕ, ◌<◌, Some, slice_get}
-use Rattle.sol_model.specs.declared.system.LocationFact.{LocationFact}
-use Rattle.system_check.specs.Owners.{IsPlaced}
-use Rattle.system_check.proofs.valid.are_placed.Given as goal
-
--- what the locations so far are said to be fits them
-abbrev pub invariant-loop-location : goal.invariant-loop-location
-invariant-loop-location l = (k : ℕ) (fact : LocationFact) → k < l.location → slice_get l.system.locations k ≡ Some fact → IsPlaced l.system k fact

@@ -1,0 +1,12 @@
+-- Objects that are initialised, in linked programs (C11 6.9.2).
+use Rattle.std.specs.Prelude.{List}
+use Rattle.core_tree.specs.declared.node.Unit.{Unit}
+use Rattle.core_tree.specs.declared.node.Program.{Program}
+use Rattle.unit_link.specs.Linked.{Linked}
+use Rattle.unit_link.specs.Needs.{AreLinkable}
+use Rattle.link_model.specs.filled_units.Filled.{AreFilled}
+use Rattle.system_laws.specs.item_laws.Items.{ArePlaced}
+
+abbrev pub LinkedPlaced : Type 0
+LinkedPlaced =
+    (units : List Unit) (p : Program) → AreLinkable units → AreFilled units → Linked units p → ArePlaced p

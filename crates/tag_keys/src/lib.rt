@@ -1,8 +1,0 @@
-//! The structure around a specifier in a structure's members, and its place there.
-#![tactic(auto)]
-
-mod around;
-mod texts;
-
-pub use around::{has_members, member_around, position_in, structure_around};
-pub use texts::{member_key, named_key, tagged_key};

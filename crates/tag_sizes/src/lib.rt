@@ -1,4 +1,0 @@
-//! Sizes of structures and unions of a unit that is built.
-#![tactic(auto)]
-
-pub mod laws;

@@ -1,4 +1,0 @@
-//! Types of a table by their terms.
-#![tactic(auto)]
-
-pub mod laws;

@@ -1,4 +1,0 @@
-//! What a text is: these functions do nothing, and their contracts are the laws.
-#![tactic(auto)]
-
-pub mod laws;

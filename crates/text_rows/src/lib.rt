@@ -1,4 +1,0 @@
-//! Nodes of units that are made of texts: a function that does nothing, whose contract is that law.
-#![tactic(auto)]
-
-pub mod laws;

@@ -1,4 +1,0 @@
-//! Laws of programs that are one, but for numbers: these functions do nothing, and their contracts are the laws.
-#![tactic(auto)]
-
-pub mod laws;

@@ -1,0 +1,2 @@
+//! Types of a table by their terms.
+pub mod laws;

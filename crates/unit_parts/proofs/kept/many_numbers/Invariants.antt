@@ -1,6 +1,0 @@
-use Rattle.std.proofs.Common.{◌≡◌, ◌++◌, map, drop}
-use Rattle.unit_parts.specs.Numbered.{new_number}
-use Rattle.unit_parts.proofs.kept.many_numbers.Given as goal
-
-abbrev pub invariant-loop-node : goal.invariant-loop-node
-invariant-loop-node l = l.list.items ++ map (new_number l.numbers) (drop l.node-index l.nodes) ≡ map (new_number l.numbers) l.nodes

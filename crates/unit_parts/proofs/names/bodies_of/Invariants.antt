@@ -1,6 +1,0 @@
-use Rattle.std.proofs.Common.{◌≡◌, ◌++◌, drop}
-use Rattle.unit_parts.specs.Entities.{bodies_of}
-use Rattle.unit_parts.proofs.names.bodies_of.Given as goal
-
-abbrev pub invariant-loop-item : goal.invariant-loop-item
-invariant-loop-item l = l.bodies.items ++ bodies_of (drop l.item-index l.list) ≡ bodies_of l.list

@@ -1,0 +1,4 @@
+mod Values
+mod CallValues
+mod Plain
+mod Read

@@ -1,0 +1,10 @@
+-- What is right for the tree of a unit is that unit.
+use Rattle.std.proofs.Common.{ℕ, subst}
+use Rattle.reading_laws.specs.numbered_laws.Numbered.{AreOfUnit}
+use Rattle.reading_laws.proofs.numbered_laws.Whole.{numbered}
+use Rattle.unit_report.specs.unit_system.Numbered.{RightIsNumbered}
+
+pub right_numbered : RightIsNumbered
+right_numbered s name x n is right =
+    let own = subst (λ (k : ℕ). AreOfUnit k x) is (numbered s name x right) in
+    record { nodes = own.nodes; entities = own.entities }

@@ -1,0 +1,25 @@
+use Rattle.system_laws.proofs.filled_laws.Placed.{linked_placed}
+use Rattle.unit_report.proofs.unit_system.Refused.{program_refused}
+use Rattle.unit_report.proofs.unit_system.Rightness.{right_of}
+use Rattle.unit_report.proofs.unit_system.systems.linked_system.Goals as goal
+
+pub system_of-requires-clause-right : goal.system_of-requires-clause-right
+system_of-requires-clause-right c =
+    let told = c.type_count-types.ensures in
+    right_of c.args.units.items c.in_ok-program.program c.requires.linkable c.in_ok-program.ensures.tables told.made told.named c.in_ok-program.ensures.linked
+
+pub system_of-requires-clause-placed : goal.system_of-requires-clause-placed
+system_of-requires-clause-placed c = linked_placed c.args.units.items c.in_ok-program.program c.requires.linkable c.requires.filled c.in_ok-program.ensures.linked
+
+pub returns-in-Ok : goal.returns-in-Ok
+returns-in-Ok c =
+    let told = c.type_count-types.ensures in
+    record {
+      own = record { linked = c.in_ok-program.ensures.linked; made = told.made; named = told.named; room = c.in_ok-program.ensures.room };
+      system_of = c.in-Ok.ensures;
+    }
+
+pub returns-in-Err : goal.returns-in-Err
+returns-in-Err c =
+    let told = c.type_count-types.ensures in
+    program_refused c.args.units.items c.in_ok-program.program c.in-Err.fault (record { linked = c.in_ok-program.ensures.linked; made = told.made; named = told.named; room = c.in_ok-program.ensures.room }) c.in-Err.ensures

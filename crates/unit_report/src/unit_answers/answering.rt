@@ -1,0 +1,90 @@
+//! From a script of questions on a program to its answers.
+
+ghost use Rattle.std.specs.Prelude.{◌≡◌, ◌<◌, ◌≤◌, ◌^◌, All, IfErr, IfOk, length};
+ghost use Rattle.sol_model.specs.Families.{Family};
+ghost use Rattle.sol_model.specs.Solutions.{IsLeast};
+ghost use Rattle.sol_model.specs.Systems.{IsValid};
+ghost use Rattle.obj_space.specs.Space.{DistinctNames};
+ghost use Rattle.alias_query.specs.Answers.{IsKnown};
+ghost use Rattle.alias_query.specs.ask_rounds.Said.{AreAnswers};
+ghost use Rattle.unit_report.specs.unit_system.Of.{IsSystemOf};
+ghost use Rattle.unit_report.specs.Solved.{IsSolved, IsSolvedShared};
+ghost use Rattle.unit_report.specs.unit_answers.Answered.{IsProgramAnswers};
+ghost use Rattle.unit_report.specs.unit_answers.Fault.{IsAnswersFault};
+
+use crate::Solved;
+use crate::sharing::shared;
+use crate::unit_answers::fault::{AnswersFault, fault_of};
+use crate::unit_system::UnitSystem;
+use alias_query::ask_rounds::{answers_text, solve_and_ask};
+use alias_query::{Answer, Question, questions};
+use pta_base::{Gate, OutOfMemory};
+use set_rows::RowTable;
+use sol_model::System;
+use std::alloc::Global;
+use std::thread::Threads;
+
+/// Solves a system by workers on shared rows, with an asker beside them, and answers questions whose numbers are in range.
+fn answer_on_rows<R: Threads + Sync, G: Gate + Sync>(
+    rt: &R,
+    alloc: Global,
+    system: System,
+    questions: &[Question],
+    workers: u32,
+    gate: &G,
+) -> Result<(Vec<Answer>, Solved), OutOfMemory>
+    requires valid { IsValid system }
+    requires known { All (IsKnown system) questions.now }
+    requires workers { (0 < workers) × (workers ≤ 64) }
+    ensures answers { IfOk result (λ found. (F : Family) → IsLeast system F → AreAnswers system F questions.now found.0.items) }
+    ensures solved { IfOk result (λ found. IsSolved system found.1) }
+{
+    let (table, seat) = RowTable::new(alloc, &system)?;
+    let (seat, answers) = solve_and_ask(
+        rt, alloc, &system, &table, seat, questions, workers, gate,
+    )?;
+    Ok((
+        answers,
+        Solved {
+            system,
+            table,
+            seat,
+        },
+    ))
+}
+
+/// The answers to a script of at most 2^24 bytes on a program whose system was made, no two of whose locations have one name, with the
+/// system that was solved for them by so many workers on shared rows, each of whom passes the gate before each of its pieces. That system
+/// has one row for all rows of a class (`row_share`), and the same numbers of locations, calls and functions. An asker
+/// beside them tries each question, and what is open then is asked when the system is solved. At Err it is the first line that isn't in the
+/// grammar or names nothing of the right sort. The text stands whole in memory before any of it is written.
+pub fn answers_of_system<R: Threads + Sync, G: Gate + Sync>(
+    rt: &R,
+    alloc: Global,
+    made: UnitSystem,
+    script: &[u8],
+    workers: u32,
+    gate: &G,
+) -> Result<(Vec<u8>, Solved), AnswersFault>
+    requires system { IsSystemOf made.program made.space made.system }
+    requires distinct { DistinctNames made.space }
+    requires script { length script.now ≤ 2 ^ 24 }
+    requires workers { (0 < workers) × (workers ≤ 64) }
+    ensures answered { IfOk result (λ found. IsProgramAnswers made.program made.space made.system script.now found.0.items) }
+    ensures solved { IfOk result (λ found. IsSolvedShared made.system found.1) }
+    ensures refused { IfErr result (IsAnswersFault made.program made.space made.system script.now) }
+{
+    let UnitSystem {
+        program,
+        space,
+        system,
+    } = made;
+    let asked = match questions(alloc, script, &space, &system, program.names.as_slice()) {
+        Ok(asked) => asked,
+        Err(fault) => return Err(fault_of(fault)),
+    };
+    let reduced = shared(alloc, system)?;
+    let (answers, solved) = answer_on_rows(rt, alloc, reduced, asked.as_slice(), workers, gate)?;
+    let text = answers_text(alloc, answers.as_slice())?;
+    Ok((text, solved))
+}

@@ -1,0 +1,1 @@
+pub use Rattle.limit_laws.proofs.Limited.{units_limited}

@@ -1,0 +1,1 @@
+pub use Rattle.limit_laws.proofs.literal_laws.Readable.{units_readable}

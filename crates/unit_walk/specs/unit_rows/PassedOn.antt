@@ -1,0 +1,2 @@
+-- What this crate passes on, from those below it to those above it.
+pub use Rattle.unit_walk.specs.row_shapes.Kept.{Keeps}

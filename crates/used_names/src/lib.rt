@@ -1,4 +1,0 @@
-//! Where a unit's names are used, and what its nodes at one place name.
-#![tactic(auto)]
-
-pub mod laws;

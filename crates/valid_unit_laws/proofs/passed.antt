@@ -1,0 +1,1 @@
+pub mod body_node_laws

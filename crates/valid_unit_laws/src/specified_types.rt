@@ -1,0 +1,2 @@
+//! Structures and unions of a table are those of specifiers.
+pub mod laws;

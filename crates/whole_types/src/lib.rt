@@ -1,4 +1,0 @@
-//! The type that all declarations of an internal name give: a function that does nothing, whose contract is that law.
-#![tactic(auto)]
-
-pub mod laws;
