@@ -1,0 +1,9 @@
+mod Above
+mod Around
+mod Ended
+mod Entered
+mod Kept
+mod Objects
+mod Ordered
+mod Searches
+mod Waits

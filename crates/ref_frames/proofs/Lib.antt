@@ -1,0 +1,6 @@
+pub mod Reversed
+pub mod ChangedFrames
+pub mod Owned
+pub mod Arguments
+pub mod ListedTypes
+pub mod OpenedItems

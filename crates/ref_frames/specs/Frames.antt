@@ -1,0 +1,157 @@
+-- Functions are entered and left, and the program ends (C11 5.1.2.2.3, 6.9.1p10).
+use Rattle.std.specs.Prelude.{ℕ, ◌+◌, ◌&&◌, ℤ, pos, Bool, true, false, if◌then◌else◌, List, [], ◌∷◌, ◌++◌, Option}
+use Rattle.std.specs.Prelude.{Some, None, Result, Ok, Err, length, slice_get}
+use Rattle.std.specs.List.{range_with_len}
+use Rattle.c_types.specs.declared.key.ObjectKey.{ObjectKey}
+use Rattle.c_types.specs.declared.key.ObjectKey.TheVariants.{Entity as EntityKey}
+use Rattle.c_types.specs.declared.term.TypeId.{TypeId}
+use Rattle.c_types.specs.Trees.{Ctype, IntegerType, FunctionFrom, Ctypes, NoTypes, MoreTypes}
+use Rattle.c_types.specs.Table.{Table, type_of}
+use Rattle.core_tree.specs.declared.node.Entity.{Entity}
+use Rattle.core_tree.specs.Typed.{CoreTrees}
+use Rattle.obj_space.specs.View.{view_of}
+use Rattle.row_numbers.specs.declared.functions.Role.TheVariants.{Main}
+use Rattle.row_numbers.specs.Functions.{plays, entity_in, key_id, parameters_of}
+use Rattle.call_sites.specs.Signatures.{called_type}
+use Rattle.ref_cells.specs.declared.cells.Reason.{Reason}
+use Rattle.ref_cells.specs.declared.cells.Reason.TheVariants.{Mismatch}
+use Rattle.ref_cells.specs.declared.cells.Cell.{Cell}
+use Rattle.ref_cells.specs.declared.cells.Cell.TheVariants.{Number}
+use Rattle.ref_cells.specs.declared.cells.Value.{Value}
+use Rattle.ref_cells.specs.declared.instance.Instance.{Instance}
+use Rattle.ref_cells.specs.Cells.{CellList}
+use Rattle.ref_cells.specs.Numbers.{converted}
+use Rattle.ref_mem.specs.Reads.{one_cell}
+use Rattle.ref_elements.specs.Types.{same_type}
+use Rattle.ref_elements.specs.Outcomes.{pointers_in}
+use Rattle.ref_state.specs.declared.items.Item.TheVariants.{Do}
+use Rattle.ref_state.specs.declared.frames.Frame.{Frame}
+use Rattle.ref_state.specs.declared.state.State.{State}
+use Rattle.ref_state.specs.Values.{cell_of}
+use Rattle.ref_state.specs.Items.{settled}
+use Rattle.ref_state.specs.Changes.{ended_all}
+use Rattle.ref_frames.specs.declared.entering.Entry.{Entry}
+use Rattle.ref_frames.specs.declared.entering.Activation.{Activation}
+use Rattle.ref_frames.specs.Running.{Running}
+
+-- an object of a parameter that holds its argument
+abbrev pub parameter_object : CoreTrees → ObjectKey → Value → Instance
+parameter_object u key value =
+    record { key = key; live = true; ty = key_id u key; bytes = 0; zero = false; cells = value.cells }
+
+-- those of a list of parameters
+abbrev pub parameter_objects : CoreTrees → List ObjectKey → List Value → List Instance
+parameter_objects u (key ∷ keys) (value ∷ values) = parameter_object u key value ∷ parameter_objects u keys values
+parameter_objects u keys values = []
+
+-- the pointers that instances hold, the first of them of that number
+abbrev pub pointers_from : ℕ → List Instance → List (Cell × Cell)
+pointers_from i [] = []
+pointers_from i (inst ∷ rest) = pointers_in i inst.cells ++ pointers_from (i + 1) rest
+
+-- the frame of a function over its body
+abbrev pub frame_over : Entry → ℕ → ℕ → List Instance → Frame
+frame_over entry count body fresh = record {
+  function = EntityKey entry.function;
+  call = entry.call;
+  by = entry.by;
+  instances = range_with_len count (length fresh);
+  items = Do body ∷ [];
+}
+
+abbrev pub activation : Entry → ℕ → ℕ → List Instance → Activation
+activation entry count body fresh =
+    record { frame = frame_over entry count body fresh; fresh = fresh; stores = pointers_from count fresh }
+
+-- the list of a function's type
+abbrev pub list_of : Ctype → Ctypes
+list_of (FunctionFrom result parameters form) = parameters
+list_of t = NoTypes
+
+abbrev pub is_typed : Table → Option TypeId → Ctype → Bool
+is_typed table None t = false
+is_typed table (Some id) t = same_type (type_of table id.0) t
+
+-- objects have the types of a list, one for one
+abbrev pub have_types : CoreTrees → List ObjectKey → Ctypes → Bool
+have_types u [] NoTypes = true
+have_types u (key ∷ keys) (MoreTypes t types) = is_typed u.types (key_id u key) t && have_types u keys types
+have_types u keys types = false
+
+-- the list of the type by which a function is called
+abbrev pub called_list : CoreTrees → Entity → Ctypes
+called_list u entity = list_of (called_type (type_of u.types entity.ty.0))
+
+-- a function whose parameters don't have the types of its own list isn't entered
+abbrev pub activation_over : Running → ℕ → Entry → List Value → Ctypes → List ObjectKey → ℕ → Result Activation Reason
+activation_over w count entry arguments types parameters body =
+    if have_types w.trees parameters types
+    then Ok (activation entry count body (parameter_objects w.trees parameters arguments)) else Err Mismatch
+
+abbrev pub activation_by : Running → ℕ → Entry → List Value → Ctypes → Option ℕ → Result Activation Reason
+activation_by w count entry arguments types None = Err Mismatch
+activation_by w count entry arguments types (Some body) =
+    activation_over w count entry arguments types (parameters_of w.trees (view_of w.space) entry.function) body
+
+abbrev pub activation_of : Running → ℕ → Entry → List Value → Option Entity → Result Activation Reason
+activation_of w count entry arguments None = Err Mismatch
+activation_of w count entry arguments (Some entity) =
+    activation_by w count entry arguments (called_list w.trees entity) entity.body
+
+-- a function that is entered with these arguments, in a memory of so many instances
+unfoldable pub entered : Running → ℕ → Entry → List Value → Result Activation Reason
+entered w count entry arguments = activation_of w count entry arguments (slice_get w.trees.entities entry.function)
+
+abbrev pub is_main_in : Option Entity → Bool
+is_main_in None = false
+is_main_in (Some entity) = plays Main entity
+
+abbrev pub is_empty : CellList → Bool
+is_empty [] = true
+is_empty (e ∷ rest) = false
+
+-- what a call gets where a function is left: 0 from main that ends without a value
+abbrev pub given_by : CoreTrees → ObjectKey → Value → Value
+given_by u function value =
+    if is_empty value.cells
+    then (if is_main_in (entity_in u function) then one_cell (Number (pos 0)) else value) else value
+
+-- the value of a call goes to the item below it
+abbrev pub caller_given : ℕ → Value → List Frame → List Frame
+caller_given n value [] = []
+caller_given n value (f ∷ rest) = record f { items = settled n value f.items } ∷ rest
+
+abbrev pub status_by : Cell → ℤ
+status_by (Number n) = converted (IntegerType 4 4 true) n
+status_by cell = pos 0
+
+abbrev pub all_ended : List Instance → List Frame → List Instance
+all_ended memory [] = memory
+all_ended memory (f ∷ rest) = all_ended (ended_all memory f.instances) rest
+
+abbrev pub kept_after : Bool → List (ObjectKey × ℕ) → List (ObjectKey × ℕ)
+kept_after true kept = []
+kept_after false kept = kept
+
+-- the program ends with a status: every frame is left
+abbrev pub finished : State → ℤ → Bool → State
+finished state status at_once = record state {
+  memory = all_ended state.memory state.frames;
+  frames = [];
+  kept = kept_after at_once state.kept;
+  status = Some status;
+}
+
+abbrev pub left_with : CoreTrees → State → Frame → List Frame → Value → Option ℕ → Option ℕ → State
+left_with u state f rest value (Some n) by =
+    record state {
+      memory = ended_all state.memory f.instances;
+      frames = caller_given n (given_by u f.function value) rest;
+    }
+left_with u state f rest value None (Some k) =
+    record state { memory = ended_all state.memory f.instances; frames = rest }
+left_with u state f rest value None None = finished state (status_by (cell_of value)) false
+
+-- the top frame is left with a value
+abbrev pub left_frame : CoreTrees → State → Frame → List Frame → Value → State
+left_frame u state f rest value = left_with u state f rest value f.call f.by

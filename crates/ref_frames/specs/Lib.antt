@@ -1,0 +1,5 @@
+pub mod Running
+pub mod Frames
+pub mod Made
+pub mod Tops
+pub mod OnTop

@@ -1,0 +1,4 @@
+pub mod Fresh
+pub mod Nearest
+pub mod Initialised
+pub mod Computed
