@@ -1,0 +1,30 @@
+//! Parameters that get their arguments (C11 6.5.2.2p4, 6.9.1p10).
+ghost use Rattle.covered_calls.specs.Activations.{ActivationsCovered};
+ghost use Rattle.covered_calls.specs.Entering.{ArgumentsHeld, StepsCalled};
+ghost use Rattle.covered_calls.specs.Results.{ResultsGiven, StepsGiven};
+
+/// The objects of a function's parameters, with the arguments of a call that reaches it, are covered beside the memory, and each has its
+/// type.
+pub fn activations_covered()
+    ensures { ActivationsCovered }
+{}
+
+/// What a function returns is covered at the call that reached it.
+pub fn results_given()
+    ensures { ResultsGiven }
+{}
+
+/// The step that leaves the frame of a called function leaves the state covered (6.8.6.4p3).
+pub fn steps_given()
+    ensures { StepsGiven }
+{}
+
+/// The values of a call's operands are covered as its arguments.
+pub fn arguments_held()
+    ensures { ArgumentsHeld }
+{}
+
+/// The step in which a call enters a function leaves the state covered (6.5.2.2p4).
+pub fn steps_called()
+    ensures { StepsCalled }
+{}

@@ -1,0 +1,96 @@
+//! What steps make, end and go on to (C11 6.2.4, 6.8, 6.9.1).
+ghost use Rattle.covered_steps.specs.Frames.{BlocksEntered, BlocksLeft, StepsChosen, StepsEntered, StepsLeft, StepsPassed};
+ghost use Rattle.covered_steps.specs.Made.{InstancesEnded, InstancesMade, ParametersCovered, UnsetCovered};
+ghost use Rattle.covered_steps.specs.Owned.{OwnersPass};
+ghost use Rattle.covered_steps.specs.Placed.{EntitiesPlaced, FunctionsFound};
+ghost use Rattle.covered_steps.specs.Steps.{StepsBegun, StepsComputed, StepsMoved, StepsReturned, StepsTaken};
+
+/// Each object and each function of a program has its first location, made of what its declaration says (6.2.4, 6.9.1).
+pub fn entities_placed()
+    ensures { EntitiesPlaced }
+{}
+
+/// A function that is named has a location, where it has a body or is the library's (6.9p5).
+pub fn functions_found()
+    ensures { FunctionsFound }
+{}
+
+/// The children of a node stand in the function in which it stands.
+pub fn owners_pass()
+    ensures { OwnersPass }
+{}
+
+/// Instances that are covered leave the memory covered when they are made behind it.
+pub fn instances_made()
+    ensures { InstancesMade }
+{}
+
+/// Instances that end leave the memory covered (6.2.4p6).
+pub fn instances_ended()
+    ensures { InstancesEnded }
+{}
+
+/// An object of a block is covered when it is made.
+pub fn unset_covered()
+    ensures { UnsetCovered }
+{}
+
+/// A parameter is covered by an argument that is (6.9.1p10).
+pub fn parameters_covered()
+    ensures { ParametersCovered }
+{}
+
+/// A covered memory with covered items of the top frame is a covered state, where no object waits for its type.
+pub fn steps_moved()
+    ensures { StepsMoved }
+{}
+
+/// The step that computes a place or a value leaves the state covered (6.5).
+pub fn steps_computed()
+    ensures { StepsComputed }
+{}
+
+/// So does the one that takes an operand.
+pub fn steps_taken()
+    ensures { StepsTaken }
+{}
+
+/// So does the one that begins a node with operands.
+pub fn steps_begun()
+    ensures { StepsBegun }
+{}
+
+/// So does the one in which a return has its value (6.8.6.4).
+pub fn steps_returned()
+    ensures { StepsReturned }
+{}
+
+/// Leaving blocks leaves the memory covered (6.2.4p6).
+pub fn blocks_left()
+    ensures { BlocksLeft }
+{}
+
+/// So does entering them, where their objects have their places.
+pub fn blocks_entered()
+    ensures { BlocksEntered }
+{}
+
+/// The step that enters a function leaves the state covered (6.9.1p10).
+pub fn steps_entered()
+    ensures { StepsEntered }
+{}
+
+/// So does the one that leaves a function that a call entered (6.8.6.4p3).
+pub fn steps_left()
+    ensures { StepsLeft }
+{}
+
+/// So does the one in which a choice takes its branch (6.5.15p4).
+pub fn steps_chosen()
+    ensures { StepsChosen }
+{}
+
+/// So does the one in which a choice passes on what its branch gave.
+pub fn steps_passed()
+    ensures { StepsPassed }
+{}

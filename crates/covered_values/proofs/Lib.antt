@@ -1,0 +1,14 @@
+pub mod Types
+pub mod Operands
+pub mod Places
+pub mod Pointers
+pub mod Fetched
+pub mod Converts
+pub mod Members
+pub mod Computed
+pub mod Passed
+pub mod Awaited
+pub mod Above
+pub mod Rows
+pub mod Standing
+pub mod Bare

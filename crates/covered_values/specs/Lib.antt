@@ -1,0 +1,4 @@
+pub mod Values
+pub mod Passed
+pub mod Met
+pub mod Bare

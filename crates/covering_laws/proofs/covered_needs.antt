@@ -1,0 +1,4 @@
+pub mod Grounded
+pub mod Named
+pub mod Fresh
+pub mod Arguments

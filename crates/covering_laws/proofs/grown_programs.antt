@@ -1,0 +1,6 @@
+pub mod Tables
+pub mod Types
+pub mod Numbers
+pub mod Demanded
+pub mod Listed
+pub mod Systems

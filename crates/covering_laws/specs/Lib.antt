@@ -1,0 +1,9 @@
+pub mod covered_memory
+pub mod covered_rows
+pub mod covered_library
+pub mod covered_types
+pub mod object_contents
+pub mod grown_programs
+pub mod covered_needs
+pub mod covered_state
+pub mod calm_effects

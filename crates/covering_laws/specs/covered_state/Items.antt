@@ -1,0 +1,88 @@
+-- What items hold, and that sets cover it.
+use Rattle.std.specs.Prelude.{◌≡◌, ◌⊎◌, ℕ, ⊤, List, [], ◌∷◌, Some, slice_get}
+use Rattle.c_types.specs.declared.key.ObjectKey.{ObjectKey}
+use Rattle.c_types.specs.declared.key.ObjectKey.TheVariants.{Entity as EntityKey, Function as FunctionKey}
+use Rattle.core_tree.specs.declared.node.Node.{Node}
+use Rattle.core_tree.specs.Typed.{Sort, PlaceNode, ValueNode, sort_at, type_at}
+use Rattle.sol_model.specs.Targets.{CallsBackIn}
+use Rattle.row_numbers.specs.Kept.{kept_row}
+use Rattle.row_numbers.specs.Functions.{number_of}
+use Rattle.row_numbers.specs.Setting.{result_row}
+use Rattle.ref_cells.specs.declared.cells.Value.{Value}
+use Rattle.ref_cells.specs.declared.instance.Instance.{Instance}
+use Rattle.ref_state.specs.declared.items.Item.{Item}
+use Rattle.ref_state.specs.declared.items.Item.TheVariants.{Do, Wait, Library, Result}
+use Rattle.ref_state.specs.Values.{cell_of}
+use Rattle.call_sites.specs.Calls.{rest_of}
+use Rattle.normal_form.specs.Assignments.{given_type, type_nodes}
+use Rattle.covering_laws.specs.covered_types.Whole.{IsHeld}
+use Rattle.covering_laws.specs.covered_memory.Covered.{ValueIn}
+use Rattle.covering_laws.specs.covered_rows.Nodes.{PlaceIn, HeldIn}
+use Rattle.covering_laws.specs.covered_state.World.{World, trees_of, view_in, sets_of, setting_in, IsTargetAt, IsFunctionAt}
+
+-- a fact of each element
+abbrev pub Each : {X : Type 0} → (X → Type 0) → List X → Type 0
+Each P [] = Unit {0}
+Each P (x ∷ rest) = P x × Each P rest
+
+-- what a node holds: a place is in its row, a value in its rows; and a value that has cells is of a type that values
+-- may have
+abbrev pub SortIn : World → List Instance → Sort → ℕ → Value → Type 0
+SortIn world memory PlaceNode n v = PlaceIn (sets_of world) (setting_in world) memory n (cell_of v)
+SortIn world memory ValueNode n v =
+    HeldIn (sets_of world) (setting_in world) memory n v
+    × ((v.cells ≡ []) ⊎ IsHeld world.program.types (type_at (trees_of world) n))
+SortIn world memory sort n v = ⊤
+
+abbrev pub NodeIn : World → List Instance → ℕ → Value → Type 0
+NodeIn world memory n v = SortIn world memory (sort_at (trees_of world) n) n v
+
+-- a node of a function's body
+abbrev pub IsOwned : World → ObjectKey → ℕ → Type 0
+IsOwned world (EntityKey f) n = slice_get world.is_system.owners n ≡ Some (Some f)
+IsOwned world key n = ⊥
+
+-- a value that is returned is in the rows of its function's result
+abbrev pub ReturnedIn : World → List Instance → ObjectKey → Value → Type 0
+ReturnedIn world memory (EntityKey f) v =
+    ValueIn (sets_of world) memory
+    (kept_row (result_row (trees_of world) (view_in world) (number_of (trees_of world) (view_in world) f))
+    (type_nodes (setting_in world) (given_type (setting_in world) f)))
+    (given_type (setting_in world) f) v
+ReturnedIn world memory key v = ⊥
+
+-- the arguments of a call of the library, place by place
+abbrev pub ArgumentsIn : World → List Instance → List ℕ → List Value → Type 0
+ArgumentsIn world memory (a ∷ nodes) (v ∷ values) =
+    HeldIn (sets_of world) (setting_in world) memory a v × ArgumentsIn world memory nodes values
+ArgumentsIn world memory nodes values = ⊤
+
+-- a library function that a call at a node waits for: it is a target of the call and has its arguments, or one of
+-- the targets calls it back
+pub record IsPending (world : World) (memory : List Instance) (n function : ℕ)
+    (arguments : List Value) : Type 0 where
+  pub node : Node
+  pub there : slice_get (trees_of world).nodes n ≡ Some node
+  pub target : IsTargetAt world n (FunctionKey function)
+  pub arguments_in : ArgumentsIn world memory (rest_of node.children) arguments
+
+pub record IsCalledBackAt (world : World) (n : ℕ) (library back : ℕ) (key : ObjectKey) : Type 0 where
+  pub caller : ObjectKey
+  pub library_is : IsFunctionAt world library caller
+  pub target : IsTargetAt world n caller
+  pub back_is : IsFunctionAt world back key
+  pub edge : CallsBackIn world.system world.family library back
+
+pub record IsPendingBack (world : World) (n function : ℕ) : Type 0 where
+  pub library : ℕ
+  pub back : ℕ
+  pub called : IsCalledBackAt world n library back (FunctionKey function)
+
+-- what an item of a function's frame holds is covered
+abbrev pub ItemIn : World → List Instance → ObjectKey → Item → Type 0
+ItemIn world memory f (Do n) = IsOwned world f n
+ItemIn world memory f (Wait n left values) =
+    IsOwned world f n × Each (IsOwned world f) left × Each (λ v. NodeIn world memory v.0 v.1) values
+ItemIn world memory f (Library n function arguments) =
+    IsPending world memory n function arguments ⊎ IsPendingBack world n function
+ItemIn world memory f (Result v) = ReturnedIn world memory f v

@@ -1,0 +1,17 @@
+//! What stays covered from step to step.
+ghost use Rattle.covering_laws.specs.covered_state.Laws.{FramesStay, NothingAwaited, ValuesSettle};
+
+/// Frames that a step doesn't touch stay covered, whatever it does to memory.
+pub fn frames_stay()
+    ensures { FramesStay }
+{}
+
+/// The item that takes a covered value is covered.
+pub fn values_settle()
+    ensures { ValuesSettle }
+{}
+
+/// Where a library call is on top, no object waits for the type of the conversion above its call.
+pub fn nothing_awaited()
+    ensures { NothingAwaited }
+{}

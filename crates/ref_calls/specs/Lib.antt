@@ -1,0 +1,6 @@
+pub mod Signatures
+pub mod Calls
+pub mod Reached
+pub mod Library
+pub mod Outcomes
+pub mod Ending
