@@ -1,0 +1,4 @@
+pub mod Makers
+pub mod Spots
+pub mod Units
+pub mod Linking

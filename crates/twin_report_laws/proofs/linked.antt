@@ -1,0 +1,4 @@
+pub mod Names
+pub mod Ready
+pub mod Called
+pub mod Whole

@@ -1,0 +1,79 @@
+-- Programs that are linked from units which are alike print the same bytes.
+use Rattle.std.proofs.Common.{◌∙◌, ◌<◌, ◌^◌, ℕ, List, length, sym, ap, subst}
+use Rattle.core_tree.specs.declared.node.Unit.{Unit}
+use Rattle.core_tree.specs.declared.node.Program.{Program}
+use Rattle.sol_model.specs.declared.system.System.{System}
+use Rattle.obj_space.specs.declared.location.Location.{Location}
+use Rattle.obj_space.specs.Space.{locations_in}
+use Rattle.obj_space.specs.View.{view_of}
+use Rattle.normal_form.specs.SystemOf.{SystemOf}
+use Rattle.location_laws.specs.name_laws.Named.{HasNames}
+use Rattle.location_laws.proofs.named_laws.Whole.{linked_names, linked_distinct}
+use Rattle.unit_report.specs.unit_system.Of.{IsProgramOf, IsSystemOf}
+use Rattle.outcome_laws.specs.twin_programs.One.{AreOne}
+use Rattle.outcome_laws.specs.twin_words.Words.{IsSound}
+use Rattle.twin_report_laws.specs.reports.Same.{AreOneSystem}
+use Rattle.twin_report_laws.specs.prints.Prints.{AreOnePrint}
+use Rattle.twin_report_laws.proofs.prints.Whole.{one_report as one_print, one_text as one_answer}
+use Rattle.twin_report_laws.specs.orders.Order.{MadeApart}
+use Rattle.twin_report_laws.proofs.orders.Whole.{same_order}
+use Rattle.twin_report_laws.proofs.apart.Linking.{linked_apart}
+use Rattle.twin_report_laws.specs.rows.Paired.{ArePaired}
+use Rattle.twin_report_laws.specs.rows.Ready.{IsReady, HasCalled}
+use Rattle.twin_report_laws.proofs.rows.Whole.{one_system}
+use Rattle.twin_report_laws.specs.linked.Linked.{IsOf, OneReport, OneText}
+use Rattle.twin_report_laws.proofs.linked.Names.{same_names, calls_apart, calls_told}
+use Rattle.twin_report_laws.proofs.linked.Ready.{ready_of, few_locations}
+use Rattle.twin_report_laws.proofs.linked.Called.{has_called}
+
+-- the other way round
+abbrev turned : (p q : Program) → AreOne p q → AreOne q p
+turned p q o = record { to = o.back; back = o.to; forth = o.returned; returned = o.forth }
+
+sound_of : (units : List Unit) (p : Program) → IsProgramOf units p → IsSound p
+sound_of units p own = record { made = own.made; named = own.named }
+
+apart_of : (units : List Unit) (p : Program) (space : List Location) (system : System) → IsOf units p space system → MadeApart p
+apart_of units p space system h = linked_apart units p h.known.linkable h.known.apart h.program.linked
+
+ready_so : (units : List Unit) (p : Program) (space : List Location) (system : System) → IsOf units p space system → IsReady p
+ready_so units p space system h =
+    let few : length (locations_in p) < 2 ^ 32 =
+    subst (λ (n : ℕ). n < 2 ^ 32) (sym (ap (λ (locations : List Location). length locations) (sym h.system_of.space_is) ∙ h.system_of.count)) (few_locations system h.system_of.valid) in
+    ready_of units p h.known.linkable h.program.linked h.known.tables h.known.filled h.program.made h.program.named few
+
+called_so : (units : List Unit) (p : Program) (space : List Location) (system : System) → IsOf units p space system → HasCalled p
+called_so units p space system h = has_called units p h.known.linkable h.program.linked (ready_so units p space system h) h.plain h.program.room
+
+system_so : (p : Program) (space : List Location) (system : System) → IsSystemOf p space system → SystemOf p (view_of (locations_in p)) system
+system_so p space system of = subst (λ (locations : List Location). SystemOf p (view_of locations) system) of.space_is of.system_is
+
+module _ (us vs : List Unit) (p q : Program) (space more : List Location) (one other : System) (o : AreOne p q) (h : IsOf us p space one) (k : IsOf vs q more other) where
+  paired : ArePaired p q o.to o.back
+  paired = record {
+    lead = o.forth;
+    again = o.returned;
+    sound = sound_of us p h.program;
+    other_sound = sound_of vs q k.program;
+    order = same_order p q o h.program.made h.program.named k.program.made k.program.named (apart_of us p space one h);
+    order_back = same_order q p (turned p q o) k.program.made k.program.named h.program.made h.program.named (apart_of vs q more other k);
+  }
+
+  systems : AreOneSystem one other
+  systems = one_system p q o.to o.back one other paired (ready_so us p space one h) (ready_so vs q more other k) (called_so us p space one h) (called_so vs q more other k)
+      (system_so p space one h.system_of) (system_so q more other k.system_of) h.system_of.valid k.system_of.valid
+
+  prints : AreOnePrint p q one other
+  prints = record { units = o.forth.names; spaces = same_names p q o.to o.back paired; systems = systems }
+
+pub one_report : OneReport
+one_report json us vs p q space more one other text again o h k r t =
+    one_print json p q space more one other text again h.system_of k.system_of (prints us vs p q space more one other o h k)
+    (calls_apart p one (system_so p space one h.system_of) (apart_of us p space one h)) r t
+
+pub one_text : OneText
+one_text us vs p q space more one other script text again o named h k r t =
+    let names : HasNames p = linked_names us p h.known.linkable named h.program.linked h.program.made h.program.named in
+    one_answer p q space more one other script text again h.system_of k.system_of (prints us vs p q space more one other o h k)
+    (linked_distinct us p h.known.linkable named h.program.linked h.program.made h.program.named)
+    (calls_told p one (system_so p space one h.system_of) names) r t

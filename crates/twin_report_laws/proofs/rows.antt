@@ -1,0 +1,15 @@
+pub mod Views
+pub mod Types
+pub mod Rows
+pub mod Copies
+pub mod Parts
+pub mod Nodes
+pub mod Owners
+pub mod Statements
+pub mod Calls
+pub mod Functions
+pub mod Facts
+pub mod Systems
+pub mod Tags
+pub mod Keeping
+pub mod Whole

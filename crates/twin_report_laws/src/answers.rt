@@ -1,0 +1,2 @@
+//! Laws of answers on systems that are one, but for numbers: these functions do nothing, and their contracts are the laws.
+pub mod laws;

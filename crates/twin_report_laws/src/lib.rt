@@ -1,0 +1,11 @@
+//! That two runs on the same texts print the same bytes: these functions do nothing, and their contracts are the laws.
+#![tactic(auto)]
+
+pub mod answers;
+pub mod apart;
+pub mod linked;
+pub mod orders;
+pub mod prints;
+pub mod reports;
+pub mod rows;
+pub mod systems;
