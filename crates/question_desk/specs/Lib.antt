@@ -1,0 +1,5 @@
+pub mod Views
+pub mod Order
+pub mod Senders
+pub mod Calls
+pub mod Settled
