@@ -1,0 +1,9 @@
+pub mod Known
+pub mod KnownMoves
+pub mod KnownRows
+pub mod KnownSteps
+pub mod Longer
+pub mod PreparedFacts
+pub mod Stepped
+pub mod TopFrame
+pub mod WordFree

@@ -1,0 +1,63 @@
+use Rattle.std.proofs.Common.{arith, length, ap, sym, subst, ◌∙◌}
+use Rattle.core_tree.specs.Typed.{CoreTrees}
+use Rattle.ref_cells.specs.Places.{AreKnown}
+use Rattle.ref_state.specs.ref_types.Types.{library_ids}
+use Rattle.ref_blocks.specs.Plans.{IsPlan}
+use Rattle.ref_frames.specs.Running.{Running}
+use Rattle.ref_calls.specs.Outcomes.{Steps}
+use Rattle.ref_machine.specs.Types.{running}
+use Rattle.ref_machine.specs.Step.{item_step, outside_step, step}
+use Rattle.ref_machine.proofs.KnownSteps.{step_kept, after_step}
+use Rattle.ref_machine.proofs.Stepped.{framed, unframed}
+use Rattle.ref_machine.proofs.machine.stepped.Goals as goal
+
+pub frame_step-requires-clause-plan : goal.frame_step-requires-clause-plan
+frame_step-requires-clause-plan c =
+    subst (λ (u : CoreTrees). IsPlan u c.args.prepared.now.plan) (sym (ap (λ (w : Running). w.trees) c.running-running.ensures.seen))
+    c.requires.prepared.plan
+
+pub frame_step-requires-clause-memory : goal.frame_step-requires-clause-memory
+frame_step-requires-clause-memory c =
+    subst (λ (w : Running). AreKnown (length w.trees.types.terms) c.args.state.now.memory) (sym c.running-running.ensures.seen) c.requires.known
+
+pub outside_step-requires-clause-library : goal.outside_step-requires-clause-library
+outside_step-requires-clause-library c =
+    c.requires.prepared.library ∙ ap (λ (w : Running). library_ids w.characters.0) (sym c.running-running.ensures.seen)
+
+pub returns-then-depth-gt0-clause-step : goal.returns-then-depth-gt0-clause-step
+returns-then-depth-gt0-clause-step c =
+    let st = c.args.state.now in
+    let new = c.frame_step.new.state in
+    framed c.frame_step.result st new (running c.args.program.now) c.args.word (omega (arith, c.if-depth-gt0.true, c.depth.ensures))
+    (λ f rest e. subst (λ (w : Running). Steps c.frame_step.result st new (item_step w st f rest f.items c.args.word))
+    c.running-running.ensures.seen (c.frame_step.ensures f rest e))
+
+pub returns-then-depth-gt0-clause-known : goal.returns-then-depth-gt0-clause-known
+returns-then-depth-gt0-clause-known c =
+    let st = c.args.state.now in
+    let new = c.frame_step.new.state in
+    let w = running c.args.program.now in
+    let g = c.running-running.ensures.grounded in
+    after_step w g c.frame_step.result st new (step w st c.args.word)
+    (framed c.frame_step.result st new w c.args.word (omega (arith, c.if-depth-gt0.true, c.depth.ensures))
+    (λ f rest e. subst (λ (w : Running). Steps c.frame_step.result st new (item_step w st f rest f.items c.args.word))
+    c.running-running.ensures.seen (c.frame_step.ensures f rest e)))
+    (step_kept w g st c.args.word c.requires.known) c.requires.known
+
+pub returns-else-depth-gt0-clause-step : goal.returns-else-depth-gt0-clause-step
+returns-else-depth-gt0-clause-step c =
+    let st = c.args.state.now in
+    let new = c.outside_step.new.state in
+    unframed c.outside_step.result st new (running c.args.program.now) c.args.word (omega (arith, c.if-depth-gt0.false, c.depth.ensures))
+    (subst (λ (w : Running). Steps c.outside_step.result st new (outside_step w st st.status c.args.word)) c.running-running.ensures.seen c.outside_step.ensures)
+
+pub returns-else-depth-gt0-clause-known : goal.returns-else-depth-gt0-clause-known
+returns-else-depth-gt0-clause-known c =
+    let st = c.args.state.now in
+    let new = c.outside_step.new.state in
+    let w = running c.args.program.now in
+    let g = c.running-running.ensures.grounded in
+    after_step w g c.outside_step.result st new (step w st c.args.word)
+    (unframed c.outside_step.result st new w c.args.word (omega (arith, c.if-depth-gt0.false, c.depth.ensures))
+    (subst (λ (w : Running). Steps c.outside_step.result st new (outside_step w st st.status c.args.word)) c.running-running.ensures.seen c.outside_step.ensures))
+    (step_kept w g st c.args.word c.requires.known) c.requires.known

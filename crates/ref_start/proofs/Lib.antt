@@ -1,0 +1,7 @@
+pub mod CellsInOrder
+pub mod ObjectSteps
+pub mod FixedSteps
+pub mod BodySteps
+pub mod MemoryKept
+pub mod FilledSteps
+pub mod BeginSteps

@@ -1,0 +1,4 @@
+pub mod Objects
+pub mod Fixed
+pub mod Start
+pub mod Begin

@@ -1,0 +1,7 @@
+// The start of a run: the objects that live for the whole run, their fixed initialisers, and the first step.
+#![tactic(auto)]
+
+pub mod begin;
+pub mod fixed;
+pub mod objects;
+pub mod start;

@@ -1,0 +1,4 @@
+pub mod OneReading
+mod Spots
+mod Stores
+mod Telling
