@@ -1,5 +1,5 @@
 -- A call enters a function with a body.
-use Rattle.std.proofs.Common.{arith, ◌≡◌, ◌∙◌, ℕ, zero, suc, ◌+◌, ◌≤◌, All, List, [], ◌∷◌, ◌++◌, length, map, Option, Some, None, slice_get, slice_index_or, refl, sym, ap, subst}
+use Rattle.std.proofs.Common.{arith, ◌≡◌, ◌∙◌, ℕ, zero, suc, ◌+◌, ◌≤◌, All, List, [], ◌∷◌, ◌++◌, length, map, Some, None, slice_get, slice_index_or, refl, sym, ap, subst}
 use Rattle.std.proofs.lemmas.Option.{slice_get_within}
 use Rattle.c_types.specs.declared.key.ObjectKey.TheVariants.{Entity as EntityKey}
 use Rattle.c_types.specs.declared.term.Form.{Form}
@@ -18,26 +18,21 @@ use Rattle.call_sites.specs.Calls.{rest_of}
 use Rattle.ref_cells.specs.declared.cells.Value.{Value}
 use Rattle.ref_cells.specs.declared.instance.Instance.{Instance}
 use Rattle.ref_elements.specs.Outcomes.{pointers_in}
-use Rattle.ref_state.specs.declared.items.Item.{Item}
-use Rattle.ref_state.specs.declared.items.Item.TheVariants.{Do, Wait}
-use Rattle.ref_state.specs.declared.frames.Frame.{Frame}
-use Rattle.ref_state.specs.declared.state.State.{State}
+use Rattle.ref_state.specs.declared.items.Item.TheVariants.{Wait}
 use Rattle.ref_state.specs.Values.{value_in}
 use Rattle.ref_frames.specs.Frames.{parameter_objects, pointers_from, frame_over}
-use Rattle.covering_laws.specs.covered_memory.Covered.{Sets, InstanceIn, Extends, Leaves}
+use Rattle.covering_laws.specs.covered_memory.Covered.{InstanceIn, Extends, Leaves}
 use Rattle.covering_laws.specs.covered_library.Calls.{StoresIn}
 use Rattle.covering_laws.proofs.covered_library.Stores.{stores_append, own_stored}
 use Rattle.covering_laws.proofs.covered_types.Calls.{calls_fit}
 use Rattle.covering_laws.specs.covered_state.World.{World, trees_of, view_in, sets_of}
-use Rattle.covering_laws.specs.covered_state.Items.{Each, NodeIn, ItemIn, ArgumentsIn}
-use Rattle.covering_laws.specs.covered_state.State.{FrameIn, Covered}
+use Rattle.covering_laws.specs.covered_state.Items.{Each, NodeIn, ArgumentsIn}
 use Rattle.covered_values.specs.Values.{Stands}
 use Rattle.covered_values.proofs.Operands.{value_held}
 use Rattle.covered_steps.proofs.Made.{made_so}
 use Rattle.covered_steps.proofs.Steps.{own_items}
 use Rattle.covered_steps.proofs.Frames.{steps_entered}
 use Rattle.covered_steps.specs.Frames.{IsOther}
-use Rattle.covered_calls.specs.Activations.{Reaches}
 use Rattle.covered_calls.specs.Entering.{ArgumentsHeld, StepsCalled}
 use Rattle.covered_calls.proofs.Activations.{none_some, some_one, activations_covered}
 
@@ -74,12 +69,12 @@ module _ (u : CoreTrees) where
   called (PointerTo (FunctionFrom r ps f)) t args h k a e = sorted ps f args h.1 k a e
   called callee t args h k a e = absurd h
 
-  in_row : (t : Ctype) (children : List ℕ) → CallRow u t children → (k a : ℕ) → slice_get (rest_of children) k ≡ Some a → sort_at u a ≡ ValueNode
+  pub in_row : (t : Ctype) (children : List ℕ) → CallRow u t children → (k a : ℕ) → slice_get (rest_of children) k ≡ Some a → sort_at u a ≡ ValueNode
   in_row t [] h k a e = absurd h
   in_row t (c ∷ args) h k a e = called (type_at u c) t args h.1 k a e
 
 module _ (world : World) (memory : List Instance) (values : List (ℕ × Value)) (each : Each (λ v. NodeIn world memory v.0 v.1) values) where
-  held_all : (nodes : List ℕ) → ((k a : ℕ) → slice_get nodes k ≡ Some a → sort_at (trees_of world) a ≡ ValueNode) → ArgumentsIn world memory nodes (map (value_in values) nodes)
+  pub held_all : (nodes : List ℕ) → ((k a : ℕ) → slice_get nodes k ≡ Some a → sort_at (trees_of world) a ≡ ValueNode) → ArgumentsIn world memory nodes (map (value_in values) nodes)
   held_all [] h = tt
   held_all (a ∷ rest) h = (value_held world memory values each a (h 0 a refl), held_all rest (λ k b e. h (suc k) b e))
 
@@ -95,7 +90,7 @@ map_length f (x ∷ xs) = (let rest = map_length f xs in omega arith)
 
 -- the pointers of new instances are covered at their places, once these are there
 module _ (world : World) (stands : Stands world) (memory fresh : List Instance) (extends : Extends (sets_of world) memory (memory ++ fresh)) where
-  fresh_stored : (i : ℕ) (xs : List Instance) → ((j : ℕ) (x : Instance) → slice_get xs j ≡ Some x → slice_get (memory ++ fresh) (i + j) ≡ Some x) → Each (InstanceIn (sets_of world) memory) xs
+  pub fresh_stored : (i : ℕ) (xs : List Instance) → ((j : ℕ) (x : Instance) → slice_get xs j ≡ Some x → slice_get (memory ++ fresh) (i + j) ≡ Some x) → Each (InstanceIn (sets_of world) memory) xs
       → StoresIn (sets_of world) (memory ++ fresh) (pointers_from i xs)
   fresh_stored i [] there h = tt
   fresh_stored i (x ∷ rest) there h =

@@ -74,7 +74,7 @@ module _ (h : ℕ → Option ObjectKey) where
       by (Some z) is (suc k) f next = more a k y (Some z) is (next k y f) (suc k) (let s : suc k ≡ 1 + k = omega arith in s)
 
 -- what is found passes the test
-found_passes : (test : ObjectKey → Bool) (xs : List ObjectKey) (x : ObjectKey) → find test xs ≡ Some x → test x ≡ true
+pub found_passes : (test : ObjectKey → Bool) (xs : List ObjectKey) (x : ObjectKey) → find test xs ≡ Some x → test x ≡ true
 found_passes test [] x e = absurd (none_some e)
 found_passes test (y ∷ rest) x e = by (test y) refl e (found_passes test rest x)
   where
@@ -82,7 +82,7 @@ found_passes test (y ∷ rest) x e = by (test y) refl e (found_passes test rest 
     by true is f next = ap test (sym (some_one f)) ∙ is
     by false is f next = next f
 
-begins_inv : (o : Option ℕ) (l : ℕ) → option_map_or (λ (first : ℕ). eqb first l) o false ≡ true → o ≡ Some l
+pub begins_inv : (o : Option ℕ) (l : ℕ) → option_map_or (λ (first : ℕ). eqb first l) o false ≡ true → o ≡ Some l
 begins_inv None l e = absurd (false≢true e)
 begins_inv (Some k) l e = elim (eqb_tells k l) [ inl same ↦ ap (λ (j : ℕ). Some j) same.1 | inr other ↦ absurd (false≢true (sym other.0 ∙ e)) ]
 

@@ -1,46 +1,39 @@
 -- Steps that enter and leave functions and blocks leave the state covered.
-use Rattle.std.proofs.Common.{◌≡◌, ◌∙◌, inl, inr, ◌⊎◌, ℕ, zero, suc, false, filter, List, [], ◌∷◌, ◌++◌, map, Option, Some, None, slice_get, refl, sym, ap, subst}
-use Rattle.core_tree.specs.declared.node.Node.{Node}
-use Rattle.core_tree.specs.declared.node.NodeKind.TheVariants.{Choose, Convert}
+use Rattle.std.proofs.Common.{◌≡◌, ◌∙◌, inl, inr, ◌⊎◌, ℕ, zero, suc, false, filter, List, [], ◌∷◌, ◌++◌, map, Option, Some, None, slice_get, refl, sym, ap}
 use Rattle.obj_space.specs.View.{first_from}
 use Rattle.ref_cells.specs.declared.cells.Value.{Value}
 use Rattle.ref_cells.specs.declared.instance.Instance.{Instance}
 use Rattle.ref_mem.specs.Writes.{changed}
 use Rattle.ref_state.specs.declared.items.Item.{Item}
-use Rattle.ref_state.specs.declared.items.Item.TheVariants.{Do, Wait, Result as Returned}
+use Rattle.ref_state.specs.declared.items.Item.TheVariants.{Wait, Result as Returned}
 use Rattle.ref_state.specs.declared.frames.Frame.{Frame}
 use Rattle.ref_state.specs.Changes.{ended_one, ended_all}
-use Rattle.ref_state.specs.Items.{settled}
 use Rattle.ref_blocks.specs.Blocks.{objects_of, unset_object, is_of, entered, left, all_entered, all_left}
 use Rattle.ref_frames.specs.Frames.{caller_given}
 use Rattle.covering_laws.specs.covered_memory.Covered.{Sets, InstanceIn, Leaves}
 use Rattle.covering_laws.proofs.covered_memory.Stays.{same_memory, then_extends}
 use Rattle.covering_laws.specs.covered_state.World.{World, trees_of, sets_of}
-use Rattle.covering_laws.specs.covered_state.Items.{Each, NodeIn}
+use Rattle.covering_laws.specs.covered_state.Items.{Each}
 use Rattle.covering_laws.specs.covered_state.Awaited.{IsBare}
 use Rattle.covering_laws.specs.covered_state.State.{FrameIn}
 use Rattle.covering_laws.proofs.covered_state.Stays.{node_stays, frames_stay, settled_in}
 use Rattle.covered_values.specs.Values.{GoesBack}
-use Rattle.covered_values.proofs.Awaited.{top_one, wait_one}
+use Rattle.covered_values.proofs.Awaited.{top_one}
 use Rattle.covered_values.proofs.Operands.{same_back, set_back}
-use Rattle.covered_values.proofs.Passed.{choices_covered}
 use Rattle.covered_steps.specs.Made.{HasPlace}
 use Rattle.covered_steps.specs.Steps.{NoneBare}
-use Rattle.covered_steps.specs.Frames.{BlocksLeft, BlocksEntered, StepsEntered, StepsLeft, StepsChosen, StepsPassed}
+use Rattle.covered_steps.specs.Frames.{BlocksLeft, BlocksEntered, StepsEntered, StepsLeft}
 use Rattle.covered_steps.proofs.Made.{made_so, instances_ended, unset_covered}
 use Rattle.covered_steps.proofs.Placed.{some_one}
-use Rattle.covered_steps.proofs.Steps.{cons_none, wait_left, each_at, own_frames, own_items, none_bare, same_so}
+use Rattle.covered_steps.proofs.Steps.{each_at, own_frames, none_bare}
 
-cons_empty : {x : Item} → {xs : List Item} → ◌≡◌ {A = List Item} (x ∷ xs) [] → ⊥
+pub cons_empty : {x : Item} → {xs : List Item} → ◌≡◌ {A = List Item} (x ∷ xs) [] → ⊥
 cons_empty h = cc
 
-returned_wait : {v : Value} → {m : ℕ} → {left : List ℕ} → {values : List (ℕ × Value)} → Returned v ≡ Wait m left values → ⊥
+pub returned_wait : {v : Value} → {m : ℕ} → {left : List ℕ} → {values : List (ℕ × Value)} → Returned v ≡ Wait m left values → ⊥
 returned_wait h = cc
 
-choose_convert : Choose ≡ Convert → ⊥
-choose_convert h = cc
-
-then_left : (g : Sets) (a b c : List Instance) → Leaves g a b → Leaves g b c → Leaves g a c
+pub then_left : (g : Sets) (a b c : List Instance) → Leaves g a b → Leaves g b c → Leaves g a c
 then_left g a b c first second = record { extends = then_extends g a b c first.extends second.extends; covered = second.covered }
 
 pub blocks_left : BlocksLeft
@@ -63,7 +56,7 @@ blocks_entered world (b ∷ rest) s places all =
     (blocks_entered world rest (entered (trees_of world) b s) places.1 one.covered)
 
 -- what stands in the longer of two memories was there before, or is one of the new ones
-get_either : (xs ys : List Instance) (i : ℕ) (a : Instance) → slice_get (xs ++ ys) i ≡ Some a → (slice_get xs i ≡ Some a) ⊎ ((j : ℕ) × (slice_get ys j ≡ Some a))
+pub get_either : (xs ys : List Instance) (i : ℕ) (a : Instance) → slice_get (xs ++ ys) i ≡ Some a → (slice_get xs i ≡ Some a) ⊎ ((j : ℕ) × (slice_get ys j ≡ Some a))
 get_either [] ys i a e = inr (i, e)
 get_either (x ∷ xs) ys zero a e = inl e
 get_either (x ∷ xs) ys (suc i) a e = get_either xs ys i a e
@@ -74,7 +67,7 @@ steps_entered world state f rest top items fresh frame notes covered frames_are 
   frames = (framed, frames_stay world state.memory (state.memory ++ fresh) more.extends (f ∷ rest) (own_frames world state f rest covered frames_are));
   kept = covered.kept;
   notes = noted;
-  awaited = record { each = λ i inst at b. absurd (bare i inst at b); apart = λ i inst at b. absurd (bare i inst at b) };
+  awaited = record { each = λ i inst at b. absurd (bare i inst at b) };
 }
   where
     more : Leaves (sets_of world) state.memory (state.memory ++ fresh)
@@ -87,7 +80,7 @@ steps_entered world state f rest top items fresh frame notes covered frames_are 
     ]
 
 -- ended instances go back to what they were
-ended_back : (list : List ℕ) (memory : List Instance) → GoesBack memory (ended_all memory list)
+pub ended_back : (list : List ℕ) (memory : List Instance) → GoesBack memory (ended_all memory list)
 ended_back [] memory = same_back memory
 ended_back (i ∷ rest) memory = λ j b at. (let later = ended_back rest (ended_one memory i) j b at in let before = one (slice_get memory i) refl j later.0 later.1 in (before.0, before.1, λ none. before.2 (later.2 none)))
   where
@@ -101,7 +94,7 @@ steps_left world state f rest n value grounds covered frames_are done h = record
   frames = given rest (frames_stay world state.memory (ended_all state.memory f.instances) ended.extends rest (own_frames world state f rest covered frames_are).1);
   kept = covered.kept;
   notes = record { target = tt; stores = tt };
-  awaited = record { each = λ i inst at b. absurd (bare i inst at b); apart = λ i inst at b. absurd (bare i inst at b) };
+  awaited = record { each = λ i inst at b. absurd (bare i inst at b) };
 }
   where
     ended : Leaves (sets_of world) state.memory (ended_all state.memory f.instances)
@@ -133,24 +126,3 @@ steps_left world state f rest n value grounds covered frames_are done h = record
         let x = ended.extends i a.0 a.1 in
         let key : a.0.key ≡ inst.key = sym (x.2.key) ∙ ap (λ (z : Instance). z.key) (some_one (sym x.1 ∙ at)) in
         none i a.0 a.1 (record { untyped = a.2 b.untyped; first = b.first; location = b.location; first_is = ap (first_from 0 world.space) key ∙ b.first_is; location_is = b.location_is; id = b.id; content_is = b.content_is })
-
-pub steps_chosen : StepsChosen
-steps_chosen world state f rest n c k a left values items covered frames_are items_are at =
-    let own = own_items world state f rest covered frames_are (Wait n (a ∷ left) values) items items_are in
-    same_so world state f rest covered frames_are (Do c ∷ Wait n [] [] ∷ items) (each_at _ (a ∷ left) k c at own.0.1, ((own.0.0, tt, tt), own.1))
-    (none_bare world state f rest covered frames_are (Wait n (a ∷ left) values) items items_are (λ m vs node same there kind. cons_none (wait_left same)))
-
-pub steps_passed : StepsPassed
-steps_passed world state f rest n c a b x node value items stands covered frames_are items_are there kind children branch =
-    let own = (own_items world state f rest covered frames_are (Wait n [] ((x, value) ∷ [])) items items_are).0 in
-    let pass = choices_covered world state.memory n node c a b value stands there kind children in
-    same_so world state f rest covered frames_are (settled n value f.items)
-    (settled_in world state.memory f.function n value f.items (passed pass own.2.0 branch) (own_frames world state f rest covered frames_are).0.items)
-    (none_bare world state f rest covered frames_are (Wait n [] ((x, value) ∷ [])) items items_are
-    (λ m vs other same at converts.
-    choose_convert (sym kind ∙ (ap (λ (y : Node). y.kind) (some_one (sym there ∙ (ap (slice_get (trees_of world).nodes) (wait_one same) ∙ at))) ∙ converts))))
-  where
-    passed : (NodeIn world state.memory a value → NodeIn world state.memory n value) × (NodeIn world state.memory b value → NodeIn world state.memory n value) → NodeIn world state.memory x value → (x ≡ a) ⊎ (x ≡ b)
-        → NodeIn world state.memory n value
-    passed pass h (inl first) = pass.0 (subst (λ (y : ℕ). NodeIn world state.memory y value) first h)
-    passed pass h (inr second) = pass.1 (subst (λ (y : ℕ). NodeIn world state.memory y value) second h)

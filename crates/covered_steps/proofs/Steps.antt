@@ -1,30 +1,27 @@
 -- Steps that go on in the top frame leave the state covered.
 use Rattle.std.proofs.Common.{◌≡◌, ◌∙◌, inl, inr, ◌⊎◌, ℕ, zero, suc, List, [], ◌∷◌, take, drop, remove, Option, Some, None, slice_get, refl, sym, ap, subst}
 use Rattle.c_types.specs.declared.key.ObjectKey.{ObjectKey}
-use Rattle.c_types.specs.declared.key.ObjectKey.TheVariants.{Entity as EntityKey}
 use Rattle.core_tree.specs.declared.node.Node.{Node}
-use Rattle.core_tree.specs.declared.node.NodeKind.TheVariants.{Convert, Return}
+use Rattle.core_tree.specs.declared.node.NodeKind.TheVariants.{Convert}
 use Rattle.ref_cells.specs.declared.cells.Value.{Value}
 use Rattle.ref_cells.specs.declared.instance.Instance.{Instance}
 use Rattle.ref_state.specs.declared.items.Item.{Item}
-use Rattle.ref_state.specs.declared.items.Item.TheVariants.{Do, Wait, Result as Returned}
+use Rattle.ref_state.specs.declared.items.Item.TheVariants.{Do, Wait}
 use Rattle.ref_state.specs.declared.frames.Frame.{Frame}
 use Rattle.ref_state.specs.declared.notes.Notes.{Notes}
 use Rattle.ref_state.specs.declared.state.State.{State}
 use Rattle.ref_state.specs.Items.{settled, taken_from, operand_taken}
 use Rattle.ref_state.specs.Values.{cell_in}
 use Rattle.covering_laws.specs.covered_memory.Covered.{Leaves}
-use Rattle.covering_laws.proofs.covered_memory.Stays.{same_memory}
 use Rattle.covering_laws.specs.covered_state.World.{World, trees_of, sets_of}
-use Rattle.covering_laws.specs.covered_state.Items.{Each, NodeIn, IsOwned, ReturnedIn, ItemIn}
+use Rattle.covering_laws.specs.covered_state.Items.{Each, NodeIn, IsOwned, ItemIn}
 use Rattle.covering_laws.specs.covered_state.State.{FrameIn, NotesIn, Covered}
 use Rattle.covering_laws.proofs.covered_state.Stays.{each_append, items_stay, frames_stay, settled_in}
 use Rattle.covered_values.specs.Values.{MayType, IsComputed}
-use Rattle.covered_values.proofs.Awaited.{top_one, wait_one, types_awaited}
+use Rattle.covered_values.proofs.Awaited.{top_one, types_awaited}
 use Rattle.covered_values.proofs.Bare.{nothing_bare}
 use Rattle.covered_values.proofs.Computed.{values_covered}
-use Rattle.covered_values.proofs.Passed.{returns_passed}
-use Rattle.covered_steps.specs.Steps.{moved, nothing, NoneBare, StepsMoved, StepsComputed, StepsTaken, StepsBegun, StepsReturned}
+use Rattle.covered_steps.specs.Steps.{moved, NoneBare, StepsMoved, StepsComputed}
 use Rattle.covered_steps.proofs.Placed.{none_some, some_one}
 
 pub wait_left : {n m : ℕ} → {left other : List ℕ} → {values more : List (ℕ × Value)} → Wait n left values ≡ Wait m other more → left ≡ other
@@ -33,19 +30,13 @@ wait_left h = cc
 pub cons_none : {c : ℕ} → {left : List ℕ} → ◌≡◌ {A = List ℕ} (c ∷ left) [] → ⊥
 cons_none h = cc
 
-do_wait : {n m : ℕ} → {left : List ℕ} → {values : List (ℕ × Value)} → Do n ≡ Wait m left values → ⊥
-do_wait h = cc
-
-return_convert : Return ≡ Convert → ⊥
-return_convert h = cc
-
 -- a fact of each element of parts of a list
-each_take : {X : Type 0} (P : X → Type 0) (k : ℕ) (xs : List X) → Each P xs → Each P (take k xs)
+pub each_take : {X : Type 0} (P : X → Type 0) (k : ℕ) (xs : List X) → Each P xs → Each P (take k xs)
 each_take P zero xs h = tt
 each_take P (suc k) [] h = tt
 each_take P (suc k) (x ∷ xs) h = (h.0, each_take P k xs h.1)
 
-each_drop : {X : Type 0} (P : X → Type 0) (k : ℕ) (xs : List X) → Each P xs → Each P (drop k xs)
+pub each_drop : {X : Type 0} (P : X → Type 0) (k : ℕ) (xs : List X) → Each P xs → Each P (drop k xs)
 each_drop P zero xs h = h
 each_drop P (suc k) [] h = tt
 each_drop P (suc k) (x ∷ xs) h = each_drop P k xs h.1
@@ -67,11 +58,8 @@ module _ (world : World) (state : State) (f : Frame) (rest : List Frame) (covere
     frames = (record { called = own_frames.0.called; back = own_frames.0.back; items = h }, frames_stay world state.memory memory left.extends rest own_frames.1);
     kept = covered.kept;
     notes = noted;
-    awaited = record { each = λ i inst at b. absurd (bare i inst at b); apart = λ i inst at b. absurd (bare i inst at b) };
+    awaited = record { each = λ i inst at b. absurd (bare i inst at b) };
   }
-
-  stay : Leaves (sets_of world) state.memory state.memory
-  stay = record { extends = same_memory (sets_of world) state.memory; covered = covered.memory }
 
   -- the items of the top frame
   pub own_items : (top : Item) (items : List Item) → f.items ≡ top ∷ items → Each (ItemIn world state.memory f.function) (top ∷ items)
@@ -83,10 +71,6 @@ module _ (world : World) (state : State) (f : Frame) (rest : List Frame) (covere
   none_bare top items is other i inst at bare =
       let w = covered.awaited.each i inst at bare in
       other w.convert ((w.call, _) ∷ []) w.node (top_one (sym is ∙ (ap (λ (g : Frame). g.items) (top_one (sym frames_are ∙ w.frames_are)) ∙ w.items_are))) w.there w.kind
-
-  -- nothing is noted, and the memory stays
-  pub same_so : (items : List Item) → Each (ItemIn world state.memory f.function) items → NoneBare world state.memory → Covered world (moved state f rest state.memory f.instances items nothing)
-  same_so items h bare = moved_so state.memory f.instances items nothing stay h (record { target = tt; stores = tt }) bare
 
 pub steps_moved : StepsMoved
 steps_moved world state f rest memory own items notes covered frames_are left h noted bare = moved_so world state f rest covered frames_are memory own items notes left h noted bare
@@ -116,36 +100,16 @@ steps_computed world state f rest n node values top items word e stands typed co
     done : IsComputed world state.memory n e
     done = values_covered world state.memory f.instances n node values word e stands covered.memory there (held how) (may how) is
 
-pub steps_taken : StepsTaken
-steps_taken world state f rest n c i left values items covered frames_are items_are =
-    same_so world state f rest covered frames_are (operand_taken i f.items)
-    (subst (λ (xs : List Item). Each (ItemIn world state.memory f.function) (operand_taken i xs)) (sym items_are) (taken (slice_get (c ∷ left) i) refl))
-    (none_bare world state f rest covered frames_are (Wait n (c ∷ left) values) items items_are (λ m vs node same at kind. cons_none (wait_left same)))
+-- the operand that is done next stands in the function, and so do those that are left
+pub taken_items : (world : World) (memory : List Instance) (f : ObjectKey) (n c i : ℕ) (left : List ℕ) (values : List (ℕ × Value)) (items : List Item) → Each (ItemIn world memory f) (Wait n (c ∷ left) values ∷ items)
+    → Each (ItemIn world memory f) (operand_taken i (Wait n (c ∷ left) values ∷ items))
+taken_items world memory f n c i left values items own = taken (slice_get (c ∷ left) i) refl
   where
-    own : Each (ItemIn world state.memory f.function) (Wait n (c ∷ left) values ∷ items)
-    own = own_items world state f rest covered frames_are (Wait n (c ∷ left) values) items items_are
-
-    fewer : Each (IsOwned world f.function) (remove (c ∷ left) i)
+    fewer : Each (IsOwned world f) (remove (c ∷ left) i)
     fewer =
-        each_append (IsOwned world f.function) (take i (c ∷ left)) (drop (suc i) (c ∷ left)) (each_take (IsOwned world f.function) i (c ∷ left) own.0.1)
-        (each_drop (IsOwned world f.function) (suc i) (c ∷ left) own.0.1)
+        each_append (IsOwned world f) (take i (c ∷ left)) (drop (suc i) (c ∷ left)) (each_take (IsOwned world f) i (c ∷ left) own.0.1)
+        (each_drop (IsOwned world f) (suc i) (c ∷ left) own.0.1)
 
-    taken : (o : Option ℕ) → slice_get (c ∷ left) i ≡ o → Each (ItemIn world state.memory f.function) (taken_from i (Wait n (c ∷ left) values) items o)
+    taken : (o : Option ℕ) → slice_get (c ∷ left) i ≡ o → Each (ItemIn world memory f) (taken_from i (Wait n (c ∷ left) values) items o)
     taken None is = own
-    taken (Some x) is = (each_at (IsOwned world f.function) (c ∷ left) i x is own.0.1, ((own.0.0, fewer, own.0.2), own.1))
-
-pub steps_begun : StepsBegun
-steps_begun world state f rest n left items covered frames_are items_are owned =
-    let own = own_items world state f rest covered frames_are (Do n) items items_are in
-    same_so world state f rest covered frames_are (Wait n left [] ∷ items) ((own.0, owned, tt), own.1)
-    (none_bare world state f rest covered frames_are (Do n) items items_are (λ m vs node same at kind. do_wait same))
-
-pub steps_returned : StepsReturned
-steps_returned world state f rest n v g node value items stands covered frames_are items_are function there kind children ty =
-    let own = (own_items world state f rest covered frames_are (Wait n [] ((v, value) ∷ [])) items items_are).0 in
-    let owned : IsOwned world (EntityKey g) n = subst (λ (k : ObjectKey). IsOwned world k n) function own.0 in
-    let returned = returns_passed world state.memory n node v g value stands there kind children owned ty own.2.0 in
-    same_so world state f rest covered frames_are (Returned value ∷ []) (subst (λ (k : ObjectKey). ReturnedIn world state.memory k value) (sym function) returned, tt)
-    (none_bare world state f rest covered frames_are (Wait n [] ((v, value) ∷ [])) items items_are
-    (λ m vs other same at converts.
-    return_convert (sym kind ∙ (ap (λ (x : Node). x.kind) (some_one (sym there ∙ (ap (slice_get (trees_of world).nodes) (wait_one same) ∙ at))) ∙ converts))))
+    taken (Some x) is = (each_at (IsOwned world f) (c ∷ left) i x is own.0.1, ((own.0.0, fewer, own.0.2), own.1))

@@ -1,16 +1,15 @@
 -- Steps that enter and leave functions and blocks leave the state covered.
 use Rattle.std.specs.Prelude.{◌≡◌, ◌⊎◌, ℕ, List, [], ◌∷◌, ◌++◌, None, Some, slice_get}
 use Rattle.core_tree.specs.declared.node.Node.{Node}
-use Rattle.core_tree.specs.declared.node.NodeKind.TheVariants.{Choose, Convert}
+use Rattle.core_tree.specs.declared.node.NodeKind.TheVariants.{Convert}
 use Rattle.ref_cells.specs.declared.cells.Value.{Value}
 use Rattle.ref_cells.specs.declared.instance.Instance.{Instance}
 use Rattle.ref_state.specs.declared.items.Item.{Item}
-use Rattle.ref_state.specs.declared.items.Item.TheVariants.{Do, Wait, Result}
+use Rattle.ref_state.specs.declared.items.Item.TheVariants.{Wait, Result}
 use Rattle.ref_state.specs.declared.frames.Frame.{Frame}
 use Rattle.ref_state.specs.declared.notes.Notes.{Notes}
 use Rattle.ref_state.specs.declared.state.State.{State}
 use Rattle.ref_state.specs.Changes.{Blocks, ended_all}
-use Rattle.ref_state.specs.Items.{settled}
 use Rattle.ref_blocks.specs.declared.block.Block.{Block}
 use Rattle.ref_blocks.specs.Blocks.{objects_of, all_entered, all_left}
 use Rattle.ref_frames.specs.Frames.{caller_given}
@@ -19,9 +18,8 @@ use Rattle.covering_laws.specs.covered_memory.Demands.{Grounds}
 use Rattle.covering_laws.specs.covered_state.World.{World, trees_of, sets_of}
 use Rattle.covering_laws.specs.covered_state.Items.{Each, NodeIn}
 use Rattle.covering_laws.specs.covered_state.State.{FrameIn, NotesIn, Covered}
-use Rattle.covered_values.specs.Values.{Stands}
 use Rattle.covered_steps.specs.Made.{HasPlace}
-use Rattle.covered_steps.specs.Steps.{moved, nothing}
+use Rattle.covered_steps.specs.Steps.{nothing}
 
 -- leaving blocks leaves the memory covered, and so does entering them, where each of their objects has its place
 abbrev pub BlocksLeft : Type 0
@@ -78,28 +76,3 @@ StepsLeft =
       frames = caller_given n value rest;
       notes = nothing;
     })
-
--- a choice takes one of its branches, and then passes on what the branch gave
-abbrev pub StepsChosen : Type 0
-StepsChosen =
-    (world : World) (state : State) (f : Frame) (rest : List Frame) (n c k a : ℕ) (left : List ℕ)
-    (values : List (ℕ × Value)) (items : List Item)
-    → Covered world state
-    → state.frames ≡ f ∷ rest
-    → f.items ≡ Wait n (a ∷ left) values ∷ items
-    → slice_get (a ∷ left) k ≡ Some c
-    → Covered world (moved state f rest state.memory f.instances (Do c ∷ Wait n [] [] ∷ items) nothing)
-
-abbrev pub StepsPassed : Type 0
-StepsPassed =
-    (world : World) (state : State) (f : Frame) (rest : List Frame) (n c a b x : ℕ) (node : Node) (value : Value)
-    (items : List Item)
-    → Stands world
-    → Covered world state
-    → state.frames ≡ f ∷ rest
-    → f.items ≡ Wait n [] ((x, value) ∷ []) ∷ items
-    → slice_get (trees_of world).nodes n ≡ Some node
-    → node.kind ≡ Choose
-    → node.children ≡ c ∷ a ∷ b ∷ []
-    → (x ≡ a) ⊎ (x ≡ b)
-    → Covered world (moved state f rest state.memory f.instances (settled n value f.items) nothing)

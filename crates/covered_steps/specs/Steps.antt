@@ -1,23 +1,19 @@
 -- Steps that go on in the top frame leave the state covered.
 use Rattle.std.specs.Prelude.{◌≡◌, ◌⊎◌, ℕ, List, [], ◌∷◌, None, Some, Ok, slice_get}
-use Rattle.c_types.specs.declared.key.ObjectKey.TheVariants.{Entity as EntityKey}
 use Rattle.core_tree.specs.declared.node.Node.{Node}
-use Rattle.core_tree.specs.declared.node.NodeKind.TheVariants.{Return}
-use Rattle.core_tree.specs.Typed.{type_at}
 use Rattle.ref_cells.specs.declared.cells.Value.{Value}
 use Rattle.ref_cells.specs.declared.instance.Instance.{Instance}
 use Rattle.ref_elements.specs.Outcomes.{Effected}
 use Rattle.ref_state.specs.declared.items.Item.{Item}
-use Rattle.ref_state.specs.declared.items.Item.TheVariants.{Do, Wait, Result}
+use Rattle.ref_state.specs.declared.items.Item.TheVariants.{Do, Wait}
 use Rattle.ref_state.specs.declared.frames.Frame.{Frame}
 use Rattle.ref_state.specs.declared.notes.Notes.{Notes}
 use Rattle.ref_state.specs.declared.state.State.{State}
-use Rattle.ref_state.specs.Items.{settled, operand_taken}
+use Rattle.ref_state.specs.Items.{settled}
 use Rattle.ref_values.specs.Values.{computed}
-use Rattle.normal_form.specs.Assignments.{given_type}
 use Rattle.covering_laws.specs.covered_memory.Covered.{Leaves}
-use Rattle.covering_laws.specs.covered_state.World.{World, trees_of, sets_of, setting_in}
-use Rattle.covering_laws.specs.covered_state.Items.{Each, IsOwned, ItemIn}
+use Rattle.covering_laws.specs.covered_state.World.{World, trees_of, sets_of}
+use Rattle.covering_laws.specs.covered_state.Items.{Each, ItemIn}
 use Rattle.covering_laws.specs.covered_state.Awaited.{IsBare}
 use Rattle.covering_laws.specs.covered_state.State.{NotesIn, Covered}
 use Rattle.covered_values.specs.Values.{Stands}
@@ -73,39 +69,3 @@ StepsComputed =
     → Covered world
     (moved state f rest e.memory f.instances (settled n e.outcome.value f.items)
     (record { target = None; stores = e.outcome.stores }))
-
--- an operand of those that are left is done next
-abbrev pub StepsTaken : Type 0
-StepsTaken =
-    (world : World) (state : State) (f : Frame) (rest : List Frame) (n c i : ℕ) (left : List ℕ)
-    (values : List (ℕ × Value)) (items : List Item)
-    → Covered world state
-    → state.frames ≡ f ∷ rest
-    → f.items ≡ Wait n (c ∷ left) values ∷ items
-    → Covered world (moved state f rest state.memory f.instances (operand_taken i f.items) nothing)
-
--- a node waits for its operands, each of which stands in the same function
-abbrev pub StepsBegun : Type 0
-StepsBegun =
-    (world : World) (state : State) (f : Frame) (rest : List Frame) (n : ℕ) (left : List ℕ) (items : List Item)
-    → Covered world state
-    → state.frames ≡ f ∷ rest
-    → f.items ≡ Do n ∷ items
-    → Each (IsOwned world f.function) left
-    → Covered world (moved state f rest state.memory f.instances (Wait n left [] ∷ items) nothing)
-
--- a return has its value: it alone is left of the frame's items
-abbrev pub StepsReturned : Type 0
-StepsReturned =
-    (world : World) (state : State) (f : Frame) (rest : List Frame) (n v g : ℕ) (node : Node) (value : Value)
-    (items : List Item)
-    → Stands world
-    → Covered world state
-    → state.frames ≡ f ∷ rest
-    → f.items ≡ Wait n [] ((v, value) ∷ []) ∷ items
-    → f.function ≡ EntityKey g
-    → slice_get (trees_of world).nodes n ≡ Some node
-    → node.kind ≡ Return
-    → node.children ≡ v ∷ []
-    → type_at (trees_of world) v ≡ given_type (setting_in world) g
-    → Covered world (moved state f rest state.memory f.instances (Result value ∷ []) nothing)

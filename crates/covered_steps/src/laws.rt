@@ -1,9 +1,9 @@
 //! What steps make, end and go on to (C11 6.2.4, 6.8, 6.9.1).
-ghost use Rattle.covered_steps.specs.Frames.{BlocksEntered, BlocksLeft, StepsChosen, StepsEntered, StepsLeft, StepsPassed};
+ghost use Rattle.covered_steps.specs.Frames.{BlocksEntered, BlocksLeft, StepsEntered, StepsLeft};
 ghost use Rattle.covered_steps.specs.Made.{InstancesEnded, InstancesMade, ParametersCovered, UnsetCovered};
 ghost use Rattle.covered_steps.specs.Owned.{OwnersPass};
 ghost use Rattle.covered_steps.specs.Placed.{EntitiesPlaced, FunctionsFound};
-ghost use Rattle.covered_steps.specs.Steps.{StepsBegun, StepsComputed, StepsMoved, StepsReturned, StepsTaken};
+ghost use Rattle.covered_steps.specs.Steps.{StepsComputed, StepsMoved};
 
 /// Each object and each function of a program has its first location, made of what its declaration says (6.2.4, 6.9.1).
 pub fn entities_placed()
@@ -50,21 +50,6 @@ pub fn steps_computed()
     ensures { StepsComputed }
 {}
 
-/// So does the one that takes an operand.
-pub fn steps_taken()
-    ensures { StepsTaken }
-{}
-
-/// So does the one that begins a node with operands.
-pub fn steps_begun()
-    ensures { StepsBegun }
-{}
-
-/// So does the one in which a return has its value (6.8.6.4).
-pub fn steps_returned()
-    ensures { StepsReturned }
-{}
-
 /// Leaving blocks leaves the memory covered (6.2.4p6).
 pub fn blocks_left()
     ensures { BlocksLeft }
@@ -83,14 +68,4 @@ pub fn steps_entered()
 /// So does the one that leaves a function that a call entered (6.8.6.4p3).
 pub fn steps_left()
     ensures { StepsLeft }
-{}
-
-/// So does the one in which a choice takes its branch (6.5.15p4).
-pub fn steps_chosen()
-    ensures { StepsChosen }
-{}
-
-/// So does the one in which a choice passes on what its branch gave.
-pub fn steps_passed()
-    ensures { StepsPassed }
 {}

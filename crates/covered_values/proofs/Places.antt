@@ -119,7 +119,7 @@ open_automatic External = refl
 open_automatic Internal = refl
 open_automatic Local = refl
 
-closed_key : (e : ℕ) (entity : Entity) → is_open entity.linkage entity.storage ≡ false → entity_key e (Some entity) ≡ EntityKey e
+pub closed_key : (e : ℕ) (entity : Entity) → is_open entity.linkage entity.storage ≡ false → entity_key e (Some entity) ≡ EntityKey e
 closed_key e entity is =
     ap (λ (b : Bool). option_map_or library_key (cond b (option_map (λ found. found.number) (summary_of entity.name)) None) (EntityKey e)) is
 

@@ -53,7 +53,7 @@ module _ (p : Program) (more : List Term) (made : IsMade p.types) (follow : MayF
   pub whole_same : (t : Ctype) → IsWhole p.types t → IsWhole new t
   whole_same t h = record { complete = complete_same t h.complete; few = subst (λ (o : Option Extent). length (tree_nodes o) ≤ 2 ^ 24) (sym (kept.extents t)) h.few }
 
-  held_same : (t : Ctype) → IsHeld p.types t → IsHeld new t
+  pub held_same : (t : Ctype) → IsHeld p.types t → IsHeld new t
   held_same t (inl void) = inl void
   held_same t (inr whole) = inr (whole_same t whole)
 

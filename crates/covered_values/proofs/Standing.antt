@@ -29,19 +29,19 @@ use Rattle.covered_values.proofs.Above.{get_before}
 use Rattle.covered_values.proofs.Rows.{whole_same, value_same, row_same}
 
 module _ (p : Program) (more : List Term) (valid : ValidProgram p) (made : IsMade p.types) (named : AreNamed p.types) (fit : HasFit p.types) (follow : MayFollow (length p.types.terms) more) where
-  kept : IsKept p.types (with_terms p.types more)
+  pub kept : IsKept p.types (with_terms p.types more)
   kept = tables_grow p.types more made named follow
 
-  nodes_known : (n : ℕ) (node : Node) → slice_get p.nodes.items n ≡ Some node → node.ty.0 < length p.types.terms
+  pub nodes_known : (n : ℕ) (node : Node) → slice_get p.nodes.items n ≡ Some node → node.ty.0 < length p.types.terms
   nodes_known n node at = valid.trees.in_range.types n node at
 
-  entities_known : (e : ℕ) (x : Entity) → slice_get p.entities.items e ≡ Some x → x.ty.0 < length p.types.terms
+  pub entities_known : (e : ℕ) (x : Entity) → slice_get p.entities.items e ≡ Some x → x.ty.0 < length p.types.terms
   entities_known e x at = valid.trees.in_range.entity_types e x at
 
   own : AreWhole p
   own = whole_types p valid made (types_few p.types made named fit)
 
-  fit_more : HasFit (with_terms p.types more)
+  pub fit_more : HasFit (with_terms p.types more)
   fit_more tag members is none =
       subst (λ (es : List Extent). length (all_nodes es) < 2 ^ 24) (sym (extents_same p.types more made follow kept tag members is))
       (fit tag members is (λ i at. none i (get_before p.types.terms more i (slice_get_within p.types.terms i (Union tag) at) ∙ at)))

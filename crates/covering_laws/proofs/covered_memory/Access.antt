@@ -392,7 +392,7 @@ module _ (g : Sets) (system : System) (grounds : Grounds g.table g.space system)
       read_at_law memory (Has g.family through) place t inv.found row v f.reaches f.target f.ty few loads inv.value_is
 
   -- numbers are converted when they are written
-  kept_in : (memory : List Instance) (row : ℕ → ℕ) (o : Option Reached) (found : Ctype) (width : Option ℕ) (list : CellList) → CellsIn g memory row o list → CellsIn g memory row o (kept found width list)
+  pub kept_in : (memory : List Instance) (row : ℕ → ℕ) (o : Option Reached) (found : Ctype) (width : Option ℕ) (list : CellList) → CellsIn g memory row o list → CellsIn g memory row o (kept found width list)
   kept_in memory row o found width list h = by found
     where
       cell : (s : Ctype) (p : List PathStep) (c : Cell) → CellIn g memory (pointer_row row (part_at g.table o p)) c → CellIn g memory (pointer_row row (part_at g.table o p)) (kept_cell s width c)

@@ -217,6 +217,36 @@ module _ (p : Program) (space : List Location) (system : System) (is : SystemOf 
       (subst (λ (z : ℕ). Contains (item_row w e q z) a) (sym (some_one y)) (subst (λ (z : List PathStep). Contains (item_row w e z v) a) (sym (some_one x)) h))
   item_has e (q ∷ paths) (b ∷ values) (suc j) path v x y a h = Contains-append_right (item_row w e q b) (initialise_row w e paths values) a (item_has e paths values j path v x y a h)
 
+  -- The place of an item has what the rows of the item's value have.
+  pub item_stores : (few : (tag : ℕ) → ((i : ℕ) → slice_get p.types.terms i ≡ Some (Union tag) → ⊥) → IsFew p.types (StructureOf tag)) (n e : ℕ) (paths : List (List PathStep)) (s : Ctype) (children : List ℕ) → IsNode u n (Initialise e paths) s children
+      → (j : ℕ) (path : List PathStep) (v : ℕ) → slice_get paths j ≡ Some path → slice_get children j ≡ Some v → (t : Ctype) → type_at u v ≡ t → (x : Entity) → slice_get p.entities.items e ≡ Some x
+      → (memory : List Instance) (inst : Instance) → inst.key ≡ entity_key e (slice_get p.entities.items e) → (inside : InstanceIn g memory inst) → inside.location.content ≡ Typed x.ty
+      → (top found : Ctype) → top ≡ type_of p.types x.ty.0 → IsSome (extent_in p.types top) → walk p.types (Some top) path ≡ Ok found → (part : Reached) → part_at p.types (Some (reached top 0 false)) path ≡ Some part
+      → StoresAt p.types system F (λ l. l ≡ object_row inside.location.content inside.first part.node) (kept_row (row_in w v) (nodes t)) t
+  item_stores few n e paths s children node j path v path_is v_is t ty x x_is memory inst key inside content top found whole complete walked part part_is = stores
+    where
+      first_is : location_of u (view_of space) e ≡ inside.first
+      first_is = ap (λ (k : ObjectKey). unwrap_or (first_from 0 space k) 0) (sym key) ∙ ap (λ (o : Option ℕ). unwrap_or o 0) inside.first_is
+
+      node_is : part.node ≡ target_node u e path
+      node_is =
+          node_of_path p.types grounds.made grounds.named few top 0 path found part (subst (IsProper p.types grounds.made grounds.named) (sym whole) (proper p.types grounds.made grounds.named x.ty.0)) complete walked part_is
+          ∙ ((let z : 0 + path_node p.types (Some top) path ≡ path_node p.types (Some top) path = omega arith in z)
+          ∙ (ap (λ (c : Ctype). path_node p.types (Some c) path) whole
+          ∙ sym (ap (λ (o : Option Entity). path_node p.types (option_map (λ (id : TypeId). type_of p.types id.0) (option_map (λ (y : Entity). y.ty) o)) path) x_is)))
+
+      spot_same : spot u (view_of space) e path ≡ object_row inside.location.content inside.first part.node
+      spot_same =
+          ap (λ (k : ℕ). k + target_node u e path) first_is
+          ∙ (ap (λ (k : ℕ). inside.first + k) (sym node_is) ∙ sym (ap (λ (c : Content). object_row c inside.first part.node) content))
+
+      stores : StoresAt p.types system F (λ l. l ≡ object_row inside.location.content inside.first part.node) (kept_row (row_in w v) (nodes t)) t
+      stores i kept_i l m is_l sub =
+          item_says (spot u (view_of space) e path) v t
+          (λ a c. by_statement p (view_of space) system is F closed n (Initialise e paths) s children node a
+          (item_has e paths children j path v path_is v_is a (subst (λ (b : Ctype). Contains (put_at (nodes b) ((view_of space).collapsed (spot u (view_of space) e path)) (spot u (view_of space) e path) (row_in w v)) a) (sym ty) c)))
+          i kept_i m (ap (λ (k : ℕ). sub_of system k (type_number t) i) (spot_same ∙ sym is_l) ∙ sub)
+
   -- Initialise: an item's value is written at its path in the entity's object, and the memory stays covered.
   pub item_in : (few : (tag : ℕ) → ((i : ℕ) → slice_get p.types.terms i ≡ Some (Union tag) → ⊥) → IsFew p.types (StructureOf tag)) (n e : ℕ) (paths : List (List PathStep)) (s : Ctype) (children : List ℕ) → IsNode u n (Initialise e paths) s children
       → (j : ℕ) (path : List PathStep) (v : ℕ) → slice_get paths j ≡ Some path → slice_get children j ≡ Some v → (t : Ctype) → type_at u v ≡ t → IsFew p.types t
@@ -224,33 +254,9 @@ module _ (p : Program) (space : List Location) (system : System) (is : SystemOf 
       → (r : Reaches p.types memory place t found) → r.path ≡ path → r.inst.key ≡ entity_key e (slice_get p.entities.items e) → (inside : InstanceIn g memory r.inst) → inside.location.content ≡ Typed x.ty
       → r.whole ≡ type_of p.types x.ty.0 → IsSome (extent_in p.types r.whole) → write_found p.types memory place value.cells (Ok found) ≡ Ok after → Leaves g memory after
   item_in few n e paths s children node j path v path_is v_is t ty few_t x x_is memory after place found value all held r same_path key inside content whole complete e_after =
-      write_at_law g system grounds memory (λ l. l ≡ at) place t found (kept_row (row_in w v) (nodes t)) value after all r target r.ty few_t stores (of_held p space system is F closed grounds v t memory value ty held) e_after
+      write_at_law g system grounds memory (λ l. l ≡ object_row inside.location.content inside.first r.part.node) place t found (kept_row (row_in w v) (nodes t)) value after all r target r.ty few_t
+      (item_stores few n e paths s children node j r.path v (path_is ∙ ap (λ (q : List PathStep). Some q) (sym same_path)) v_is t ty x x_is memory r.inst key inside content r.whole found whole complete r.walked r.part r.part_is)
+      (of_held p space system is F closed grounds v t memory value ty held) e_after
     where
-      at : ℕ
-      at = object_row inside.location.content inside.first r.part.node
-
       target : Target g system grounds memory (λ l. l ≡ object_row inside.location.content inside.first r.part.node) r.inst r.path
       target = record { inside = inside; whole = r.whole; whole_is = r.whole_is; part = r.part; part_is = r.part_is; has = refl }
-
-      first_is : location_of u (view_of space) e ≡ inside.first
-      first_is = ap (λ (k : ObjectKey). unwrap_or (first_from 0 space k) 0) (sym key) ∙ ap (λ (o : Option ℕ). unwrap_or o 0) inside.first_is
-
-      node_is : r.part.node ≡ target_node u e path
-      node_is =
-          node_of_path p.types grounds.made grounds.named few r.whole 0 r.path found r.part (subst (IsProper p.types grounds.made grounds.named) (sym whole) (proper p.types grounds.made grounds.named x.ty.0)) complete r.walked r.part_is
-          ∙ ((let z : 0 + path_node p.types (Some r.whole) r.path ≡ path_node p.types (Some r.whole) r.path = omega arith in z)
-          ∙ (ap (path_node p.types (Some r.whole)) same_path
-          ∙ (ap (λ (c : Ctype). path_node p.types (Some c) path) whole
-          ∙ sym (ap (λ (o : Option Entity). path_node p.types (option_map (λ (id : TypeId). type_of p.types id.0) (option_map (λ (y : Entity). y.ty) o)) path) x_is))))
-
-      spot_same : spot u (view_of space) e path ≡ object_row inside.location.content inside.first r.part.node
-      spot_same =
-          ap (λ (k : ℕ). k + target_node u e path) first_is
-          ∙ (ap (λ (k : ℕ). inside.first + k) (sym node_is) ∙ sym (ap (λ (c : Content). object_row c inside.first r.part.node) content))
-
-      stores : StoresAt p.types system F (λ l. l ≡ object_row inside.location.content inside.first r.part.node) (kept_row (row_in w v) (nodes t)) t
-      stores i kept_i l m is_l sub =
-          item_says (spot u (view_of space) e path) v t
-          (λ a c. by_statement p (view_of space) system is F closed n (Initialise e paths) s children node a
-          (item_has e paths children j path v path_is v_is a (subst (λ (b : Ctype). Contains (put_at (nodes b) ((view_of space).collapsed (spot u (view_of space) e path)) (spot u (view_of space) e path) (row_in w v)) a) (sym ty) c)))
-          i kept_i m (ap (λ (k : ℕ). sub_of system k (type_number t) i) (spot_same ∙ sym is_l) ∙ sub)

@@ -46,7 +46,7 @@ none_some : {X : Type 0} → {x : X} → ◌≡◌ {A = Option X} None (Some x) 
 none_some h = cc
 
 -- where an item of a list stands among those that a test keeps
-filtered_at : {X Y : Type 0} (h : X → Option Y) (xs : List X) (k : ℕ) (x : X) (y : Y) → slice_get xs k ≡ Some x → h x ≡ Some y → slice_get (filter_map h xs) (length (filter_map h (take k xs))) ≡ Some y
+pub filtered_at : {X Y : Type 0} (h : X → Option Y) (xs : List X) (k : ℕ) (x : X) (y : Y) → slice_get xs k ≡ Some x → h x ≡ Some y → slice_get (filter_map h xs) (length (filter_map h (take k xs))) ≡ Some y
 filtered_at h [] k x y e g = absurd (none_some e)
 filtered_at h (z ∷ xs) zero x y e g = ap (λ (o : Option _). slice_get (cons_option o (filter_map h xs)) 0) (ap h (some_one e) ∙ g)
 filtered_at h (z ∷ xs) (suc k) x y e g = by (h z) (filtered_at h xs k x y e g)
@@ -65,7 +65,7 @@ take_map f xs zero = refl
 take_map f [] (suc k) = refl
 take_map f (x ∷ xs) (suc k) = ap (λ (ys : List _). f x ∷ ys) (take_map f xs k)
 
-range_at : (a n k : ℕ) → k < n → slice_get (range_with_len a n) k ≡ Some (a + k)
+pub range_at : (a n k : ℕ) → k < n → slice_get (range_with_len a n) k ≡ Some (a + k)
 range_at a zero k lt = absurd (omega arith)
 range_at a (suc n) zero lt = ap (λ (m : ℕ). Some m) (let e : a ≡ a + 0 = omega arith in e)
 range_at a (suc n) (suc k) lt = range_at (a + 1) n k (omega arith) ∙ ap (λ (m : ℕ). Some m) (let e : (a + 1) + k ≡ a + suc k = omega arith in e)

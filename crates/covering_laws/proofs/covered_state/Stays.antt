@@ -60,7 +60,7 @@ module _ (world : World) (old new : List Instance) (extends : Extends (sets_of w
   pub item_stays : (f : ObjectKey) (item : Item) → ItemIn world old f item → ItemIn world new f item
   item_stays f (Do n) h = h
   item_stays f (Wait n left values) h = (h.0, h.1, each_change (λ v. NodeIn world old v.0 v.1) (λ v. NodeIn world new v.0 v.1) (λ v. node_stays v.0 v.1) values h.2)
-  item_stays f (Library n function arguments) (inl h) = inl (record { node = h.node; there = h.there; target = h.target; arguments_in = arguments_stay _ arguments h.arguments_in })
+  item_stays f (Library n function arguments) (inl h) = inl (record { node = h.node; there = h.there; target = h.target; fits = h.fits; arguments_in = arguments_stay _ arguments h.arguments_in })
   item_stays f (Library n function arguments) (inr h) = inr h
   item_stays f (Result v) h = returned_stays f v h
 

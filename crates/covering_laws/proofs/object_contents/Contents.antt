@@ -74,18 +74,18 @@ module _ (p : Program) where
   ordered done [] hd hm = hd
   ordered done (m ∷ ms) hd hm = ordered (insert_entry by_place done m.0 m.1) ms (inserted done m.0 m.1 hm.0 hd) hm.1
 
-  unless_declared : (spot : Spot) (object : Object) (s : Storage) → IsRight object → MadeRight (made_at spot (object_unless_declared s object))
-  unless_declared spot object Static h = (h, tt)
-  unless_declared spot object Automatic h = (h, tt)
-  unless_declared spot object FunctionBody h = (h, tt)
-  unless_declared spot object Parameter h = (h, tt)
+  unless_declared : (spot : Spot) (object : Object) (s : Storage) → ((s ≡ Declared → ⊥) → IsRight object) → MadeRight (made_at spot (object_unless_declared s object))
+  unless_declared spot object Static h = (h (λ is. cc), tt)
+  unless_declared spot object Automatic h = (h (λ is. cc), tt)
+  unless_declared spot object FunctionBody h = (h (λ is. cc), tt)
+  unless_declared spot object Parameter h = (h (λ is. cc), tt)
   unless_declared spot object Declared h = tt
 
   entities_right : (e : ℕ) (es : List Entity) → ((i : ℕ) (x : Entity) → slice_get es i ≡ Some x → slice_get p.entities.items (e + i) ≡ Some x) → MadeRight (entities_made p e es)
   entities_right e [] at = tt
   entities_right e (entity ∷ es) at =
       let here : slice_get p.entities.items e ≡ Some entity = ap (slice_get p.entities.items) (let z : e ≡ e + 0 = omega arith in z) ∙ at 0 entity refl in
-      made_append (entity_made p e entity) (entities_made p (e + 1) es) (unless_declared (spot_at entity.place e) _ entity.storage (entity, here, refl))
+      made_append (entity_made p e entity) (entities_made p (e + 1) es) (unless_declared (spot_at entity.place e) _ entity.storage (λ made. (entity, here, refl, made)))
       (entities_right (e + 1) es (λ i x is. ap (slice_get p.entities.items) (let z : (e + 1) + i ≡ e + suc i = omega arith in z) ∙ at (suc i) x is))
 
   if_right : (spot : Spot) (b : Bool) (o : Object) → (b ≡ true → IsRight o) → MadeRight (made_at spot (if b then Some o else None))

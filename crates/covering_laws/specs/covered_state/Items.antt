@@ -6,7 +6,7 @@ use Rattle.core_tree.specs.declared.node.Node.{Node}
 use Rattle.core_tree.specs.Typed.{Sort, PlaceNode, ValueNode, sort_at, type_at}
 use Rattle.sol_model.specs.Targets.{CallsBackIn}
 use Rattle.row_numbers.specs.Kept.{kept_row}
-use Rattle.row_numbers.specs.Functions.{number_of}
+use Rattle.row_numbers.specs.Functions.{number_of, key_type}
 use Rattle.row_numbers.specs.Setting.{result_row}
 use Rattle.ref_cells.specs.declared.cells.Value.{Value}
 use Rattle.ref_cells.specs.declared.instance.Instance.{Instance}
@@ -14,7 +14,9 @@ use Rattle.ref_state.specs.declared.items.Item.{Item}
 use Rattle.ref_state.specs.declared.items.Item.TheVariants.{Do, Wait, Library, Result}
 use Rattle.ref_state.specs.Values.{cell_of}
 use Rattle.call_sites.specs.Calls.{rest_of}
+use Rattle.call_sites.specs.Signatures.{called_type}
 use Rattle.normal_form.specs.Assignments.{given_type, type_nodes}
+use Rattle.covering_laws.specs.covered_types.Calls.{call_type}
 use Rattle.covering_laws.specs.covered_types.Whole.{IsHeld}
 use Rattle.covering_laws.specs.covered_memory.Covered.{ValueIn}
 use Rattle.covering_laws.specs.covered_rows.Nodes.{PlaceIn, HeldIn}
@@ -57,13 +59,14 @@ ArgumentsIn world memory (a ∷ nodes) (v ∷ values) =
     HeldIn (sets_of world) (setting_in world) memory a v × ArgumentsIn world memory nodes values
 ArgumentsIn world memory nodes values = ⊤
 
--- a library function that a call at a node waits for: it is a target of the call and has its arguments, or one of
--- the targets calls it back
+-- a library function that a call at a node waits for: it is a target of the call, of the call's type, and has its
+-- arguments, or one of the targets calls it back
 pub record IsPending (world : World) (memory : List Instance) (n function : ℕ)
     (arguments : List Value) : Type 0 where
   pub node : Node
   pub there : slice_get (trees_of world).nodes n ≡ Some node
   pub target : IsTargetAt world n (FunctionKey function)
+  pub fits : called_type (key_type (trees_of world) (FunctionKey function)) ≡ call_type (trees_of world) node
   pub arguments_in : ArgumentsIn world memory (rest_of node.children) arguments
 
 pub record IsCalledBackAt (world : World) (n : ℕ) (library back : ℕ) (key : ObjectKey) : Type 0 where

@@ -11,6 +11,7 @@ use Rattle.core_tree.specs.declared.node.Entity.{Entity}
 use Rattle.core_tree.specs.declared.node.Node.{Node}
 use Rattle.core_tree.specs.declared.node.NodeKind.TheVariants.{CallNode}
 use Rattle.core_tree.specs.declared.node.Program.{Program}
+use Rattle.core_tree.specs.declared.node.Storage.TheVariants.{Declared}
 use Rattle.obj_made.specs.declared.object.Content.{Content}
 use Rattle.obj_made.specs.declared.object.Content.TheVariants.{Function, Typed}
 use Rattle.obj_made.specs.Made.{entity_content, allocated_content, typed_by, conversion_above, called_entity}
@@ -32,10 +33,11 @@ pub record IsCallMade (p : Program) (n : ℕ) (content : Content) : Type 0 where
   pub allocates : IsTrue (is_allocator number)
   pub content_is : content ≡ allocated_content number (typed_by p.types (conversion_above p.nodes.items n))
 
--- what an object is made of
+-- what an object is made of; what is only declared is none
 abbrev pub IsMadeOf : Program → ObjectKey → Content → Type 0
 IsMadeOf p (EntityKey e) content =
     (x : Entity) × (slice_get p.entities.items e ≡ Some x) × (content ≡ entity_content x.storage x.ty)
+    × (x.storage ≡ Declared → ⊥)
 IsMadeOf p (TextKey n) content = (x : Node) × (slice_get p.nodes.items n ≡ Some x) × (content ≡ Typed x.ty)
 IsMadeOf p (CallKey n) content = IsCallMade p n content
 IsMadeOf p (LibraryKey k) content =

@@ -1,0 +1,29 @@
+//! The objects that live for the whole run, the values of static initialisers, and the words of the start.
+ghost use Rattle.covered_start.specs.Arguments.{TextsCovered, ListsCovered};
+ghost use Rattle.covered_start.specs.Fixed.{FixedCovered};
+ghost use Rattle.covered_start.specs.Objects.{ObjectsCovered, ObjectsTake};
+
+/// The objects that live for the whole run are covered, before any initialiser (C11 5.1.2, 6.7.9p10).
+pub fn objects_covered()
+    ensures { ObjectsCovered }
+{}
+
+/// No object at the start waits for the type of a conversion.
+pub fn objects_take()
+    ensures { ObjectsTake }
+{}
+
+/// The fixed values of the initialisers of static objects are covered at their nodes (6.6, 6.7.9p4).
+pub fn fixed_covered()
+    ensures { FixedCovered }
+{}
+
+/// The texts of main's arguments are covered (5.1.2.2.1p2).
+pub fn texts_covered()
+    ensures { TextsCovered }
+{}
+
+/// `<argv>`, which points to them, leaves the memory covered.
+pub fn lists_covered()
+    ensures { ListsCovered }
+{}

@@ -1,0 +1,14 @@
+pub mod Plain
+pub mod Ways
+pub mod Stacking
+pub mod Kept
+pub mod Moves
+pub mod Jumps
+pub mod Statements
+pub mod Initialised
+pub mod Nodes
+pub mod Leaving
+pub mod Founded
+pub mod Keys
+pub mod Calling
+pub mod Pending

@@ -1,0 +1,4 @@
+pub mod Stacked
+pub mod Runnable
+pub mod Rows
+pub mod Founded

@@ -1,0 +1,5 @@
+pub mod Deciding
+pub mod Gathered
+pub mod Numbers
+pub mod Naming
+pub mod Typed

@@ -1,0 +1,5 @@
+use Rattle.library_names.proofs.Naming.{functions_defined}
+use Rattle.library_names.proofs.laws.functions_defined.Goals as goal
+
+pub returns : goal.returns
+returns c = functions_defined

@@ -1,0 +1,5 @@
+use Rattle.library_names.proofs.Naming.{names_shaped}
+use Rattle.library_names.proofs.laws.names_shaped.Goals as goal
+
+pub returns : goal.returns
+returns c = names_shaped
