@@ -1,12 +1,15 @@
 // Texts at the limits: as in `rows`, but that a text stands by its pieces, each of them and how often it stands there, apart by bars. They are
-// blocks that nest, closed or not; alignments, which are read as deep as memory goes; and a unit and a script of one byte more than a text may
-// have (a script is looked at when the units are linked).
+// blocks that nest, closed or not, also in a unit that a thread of its own reads; alignments, which are read as deep as memory goes; and a
+// unit and a script of one byte more than a text may have (a script is looked at when the units are linked).
 use crate::calls::{Case, OpenGate, is_answered};
 use crate::tests::case_of;
 use pta_base::OutOfMemory;
 use std::alloc::Global;
 
 const LONG: &str = "a.i`a.i`0`int main(void){|1|{|255|;|1|}|255|return 0;}|1`pta 1
+end
+`~
+--workers 2 a.i b.i`a.i b.i`0`int main(void){|1|{|255|;|1|}|255|return 0;}^void f(void){}|1`pta 1
 end
 `~
 a.i`a.i`6`int main(void){|1|{|256|;|1|}|256|return 0;}|1``a.i:1:272: too deep 257

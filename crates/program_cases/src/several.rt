@@ -1,4 +1,5 @@
-// Worked calls over several units: as in `rows`, but that the names stand apart by spaces, and their texts by a caret.
+// Worked calls over several units: as in `rows`, but that the names stand apart by spaces, and their texts by a caret. All workers together
+// read the same of them as one worker.
 pub(crate) const SEVERAL: &str =
     "a.i b.i`a.i b.i`0`int *p; static int s; extern int x; int main(void){p=&s;return 0;}^int *p; int x; static int s; void f(void){p=&s;p=&x;}`pta 1
 set p: a.i:s x b.i:s
@@ -124,4 +125,16 @@ end
 a.i b.i c.i`a.i b.i c.i`0`int main(void){return 0;}^void strlen(char*);^void strlen(char*s){}`pta 1
 set strlen/s:
 end
-`";
+`~
+--workers 2 a.i b.i`a.i b.i`3`int main(void){^int $;``a.i:1:16: malformed
+~
+a.i b.i c.i d.i e.i`a.i b.i c.i d.i e.i`0`void f(void); void g(void); int main(void){f();g();return 0;}^static int s; int *p; void f(void){p=&s;}^static int s; extern int *p; int *q; void g(void){q=p;p=&s;}^extern int *q; static int *r; void h(void){r=q;}^static int s; extern int *q; void k(void){q=&s;}`pta 1
+set p: b.i:s c.i:s
+set q: b.i:s c.i:s e.i:s
+set d.i:r: b.i:s c.i:s e.i:s
+edge main f
+edge main g
+end
+`~
+a.i b.i c.i d.i e.i`a.i b.i c.i d.i e.i`4`int main(void){return 0;}^int x;^int n; void f(void){z;}^int main(void){^int $;``c.i:1:21: not accepted undeclared
+";

@@ -40,15 +40,30 @@ fn rows_of(number: u32) -> &'static str {
     }
 }
 
-/// The number of the first row, counted from 0, that a call doesn't answer as the row says.
+/// The words with so many workers, where these aren't 0 and the words don't begin with others.
+fn with_workers(alloc: Global, words: &str, workers: u32) -> Result<String, OutOfMemory> {
+    if workers == 0 || words.starts_with("--workers") {
+        return Ok(words.to_string(alloc)?);
+    }
+    Ok(format!(in alloc; "--workers {workers} {words}")?)
+}
+
+/// The number of the first row, counted from 0, that a call with so many workers doesn't answer as the row says.
 fn first_wrong<R: Threads + Sync>(
     rt: &R,
     alloc: Global,
     rows: &str,
     step: usize,
+    workers: u32,
 ) -> Result<Option<usize>, OutOfMemory> {
     for (at, row) in rows.split("~\n").enumerate() {
-        if !is_answered(rt, alloc, &case_of(row, step), &OpenGate)? {
+        let said = case_of(row, step);
+        let words = with_workers(alloc, said.words, workers)?;
+        let case = Case {
+            words: words.as_str(),
+            ..said
+        };
+        if !is_answered(rt, alloc, &case, &OpenGate)? {
             return Ok(Some(at));
         }
     }
@@ -57,18 +72,25 @@ fn first_wrong<R: Threads + Sync>(
 
 #[test]
 fn worked_rows(rt: HostRuntime) -> Result<(), OutOfMemory> {
-    for (number, step) in [
-        (0u32, 0usize),
-        (1, 0),
-        (2, 0),
-        (3, 0),
-        (4, 0),
-        (0, 1),
-        (1, 1),
-        (2, 1),
+    for (number, step, workers) in [
+        (0u32, 0usize, 0u32),
+        (1, 0, 0),
+        (2, 0, 0),
+        (3, 0, 0),
+        (4, 0, 0),
+        (0, 1, 0),
+        (1, 1, 0),
+        (2, 1, 0),
+        (1, 0, 1),
+        (1, 0, 2),
+        (1, 0, 4),
+        (1, 0, 64),
     ] {
-        let wrong = first_wrong(&rt, rt.alloc(), rows_of(number), step)?;
-        assert!(rt; wrong.is_none(), "rows {number}, step {step}: {wrong:?}");
+        let wrong = first_wrong(&rt, rt.alloc(), rows_of(number), step, workers)?;
+        assert!(rt;
+            wrong.is_none(),
+            "rows {number}, step {step}, workers {workers}: {wrong:?}"
+        );
     }
     Ok(())
 }

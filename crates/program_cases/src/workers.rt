@@ -4,23 +4,29 @@ use pta_base::{Gate, OutOfMemory};
 use std::sync::atomic::{AtomicU64, Ordering};
 use std::thread::yield_now;
 
-/// A gate that holds workers 0 and 1 at their first pieces until both have arrived, for so many tries at most, and notes the highest
-/// worker that came.
+/// A gate that holds worker number `base` and the next one at their first pieces until both have arrived, for so many tries at most, and
+/// notes the highest worker of those that solve.
 #[derive(Drop)]
 struct Both {
+    base: u32,
     first: AtomicU64,
     second: AtomicU64,
     late: AtomicU64,
     highest: AtomicU64,
 }
 
+/// The worker under whose number the job of the first unit passes the gate.
+const JOBS: u32 = 100;
+
 impl Gate for Both {
     fn pass(&self, worker: u32, turn: u32) {
-        self.highest.fetch_max(u64::from(worker), Ordering::SeqCst);
-        if turn > 0 || worker > 1 {
+        if worker < JOBS {
+            self.highest.fetch_max(u64::from(worker), Ordering::SeqCst);
+        }
+        if turn > 0 || worker < self.base || worker - self.base > 1 {
             return;
         }
-        let (mine, other) = if worker == 0 {
+        let (mine, other) = if worker == self.base {
             (&self.first, &self.second)
         } else {
             (&self.second, &self.first)
@@ -36,14 +42,23 @@ impl Gate for Both {
     }
 }
 
-/// A gate at which the second worker has been, or hasn't.
-fn gate(second: u64) -> Both {
+/// A gate for the workers from `base` on, at which the second one has been, or hasn't.
+fn gate(base: u32, second: u64) -> Both {
     Both {
+        base,
         first: AtomicU64::new(0),
         second: AtomicU64::new(second),
         late: AtomicU64::new(0),
         highest: AtomicU64::new(0),
     }
+}
+
+/// Whether both workers came, and neither waited in vain.
+fn have_met(gate: &Both) -> bool {
+    let first = gate.first.load(Ordering::SeqCst);
+    let second = gate.second.load(Ordering::SeqCst);
+    let late = gate.late.load(Ordering::SeqCst);
+    [first, second, late] == [1, 1, 0]
 }
 
 /// Two pointers with an address each, so that two workers have a piece each in the first round.
@@ -64,21 +79,29 @@ fn two_pointers(words: &'static str) -> Case<'static> {
 
 #[test]
 fn two_workers_meet_at_the_gate(rt: HostRuntime) -> Result<(), OutOfMemory> {
-    let gate = gate(0);
+    let gate = gate(0, 0);
     let answered = is_answered(&rt, rt.alloc(), &two_pointers("--workers 2 a.i"), &gate)?;
-    let first = gate.first.load(Ordering::SeqCst);
-    let second = gate.second.load(Ordering::SeqCst);
-    let late = gate.late.load(Ordering::SeqCst);
-    assert!(rt;
-        answered && [first, second, late] == [1, 1, 0],
-        "{answered} {first} {second} {late}"
-    );
+    assert!(rt; answered && have_met(&gate), "{answered}");
+    Ok(())
+}
+
+#[test]
+fn two_units_are_read_at_once(rt: HostRuntime) -> Result<(), OutOfMemory> {
+    let gate = gate(JOBS, 0);
+    let case = Case {
+        names: "a.i b.i",
+        texts: "int x; int main(void){return 0;}^extern int x; int *p=&x;",
+        out: "pta 1\nset p: x\nend\n",
+        ..two_pointers("--workers 2 a.i b.i")
+    };
+    let answered = is_answered(&rt, rt.alloc(), &case, &gate)?;
+    assert!(rt; answered && have_met(&gate), "{answered}");
     Ok(())
 }
 
 #[test]
 fn one_worker_comes_alone(rt: HostRuntime) -> Result<(), OutOfMemory> {
-    let gate = gate(1);
+    let gate = gate(0, 1);
     let answered = is_answered(&rt, rt.alloc(), &two_pointers("a.i"), &gate)?;
     let highest = gate.highest.load(Ordering::SeqCst);
     assert!(rt; answered && highest == 0, "{answered} {highest}");

@@ -2,6 +2,7 @@ pub mod Written
 pub mod Texts
 pub mod Told
 pub mod Refused
+pub mod Shares
 pub mod Lifted
 pub mod Answered
 pub mod Feeds

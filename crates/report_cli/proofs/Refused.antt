@@ -23,7 +23,7 @@ use Rattle.report_cli.specs.Answers.{NamedText, Answer}
 use Rattle.report_cli.specs.Alone.{Reading, IsRefusedAlone, lexical_refusal, syntax_refusal, name_refusal}
 use Rattle.report_cli.specs.Lowered.{IsRightText, AreRightTexts}
 use Rattle.report_cli.specs.Outcome.{IsRefusedText, FirstRefused, Refuses}
-use Rattle.report_cli.specs.Faults.{fault_of, IsFaultOf, IsFaultIn, IsFaultAlone, IsLexical, IsSyntactic, IsNominal}
+use Rattle.report_cli.specs.Faults.{fault_of, IsFaultOf, IsFaultIn, IsFirstFault, IsFaultAlone, IsLexical, IsSyntactic, IsNominal}
 
 fault_alone : (unit : NamedText) (answer : Answer) (fault : UnitsFault) → fault ≡ fault_of answer → answer.out ≡ [] → IsRefusedAlone unit answer → IsFaultAlone unit fault
 fault_alone unit answer fault is nothing refused =
@@ -86,39 +86,63 @@ no_unit_left (first ∷ words) texts zero h = absurd (omega arith)
 no_unit_left (first ∷ words) [] (suc number) h = refl
 no_unit_left (first ∷ words) (text ∷ texts) (suc number) h = no_unit_left words texts number (omega arith)
 
--- how far texts were lowered: what the rest of them says, all say
-pub record IsLoweredTo (texts rest : List NamedText) (number : ℕ) (units : List Unit) : Type 0 where
-  pub refused : (answer : Answer) → FirstRefused IsRefusedText number rest answer → FirstRefused IsRefusedText 0 texts answer
-  pub right : (us : List Unit) → AreRightTexts number rest us → AreRightTexts 0 texts (units ++ us)
+-- how far texts were lowered, the first of them as unit of that number: what the rest of them says, all say
+pub record IsLoweredTo (first : ℕ) (texts rest : List NamedText) (number : ℕ) (units : List Unit) : Type 0 where
+  pub refused : (answer : Answer) → FirstRefused IsRefusedText number rest answer → FirstRefused IsRefusedText first texts answer
+  pub right : (us : List Unit) → AreRightTexts number rest us → AreRightTexts first texts (units ++ us)
 
-pub lowered_first : (texts : List NamedText) → IsLoweredTo texts texts 0 []
-lowered_first texts = record { refused = λ answer h. h; right = λ us h. h }
+pub lowered_first : (first number : ℕ) (texts : List NamedText) → number ≡ first → IsLoweredTo first texts texts number []
+lowered_first first number texts is =
+    let P : ℕ → Type 0 = λ n. IsLoweredTo first texts texts n [] in subst P (sym is) (record { refused = λ answer h. h; right = λ us h. h })
 
-pub lowered_further : (texts rest others : List NamedText) (text : NamedText) (number : ℕ) (units : List Unit) (u : Unit) → IsLoweredTo texts rest number units → rest ≡ text ∷ others → IsRightText number text u
-    → IsLoweredTo texts others (number + 1) (units ++ u ∷ [])
-lowered_further texts rest others text number units u so_far is right = record {
+lowered_further : (first : ℕ) (texts rest others : List NamedText) (text : NamedText) (number : ℕ) (units : List Unit) (u : Unit) → IsLoweredTo first texts rest number units → rest ≡ text ∷ others
+    → IsRightText number text u → IsLoweredTo first texts others (number + 1) (units ++ u ∷ [])
+lowered_further first texts rest others text number units u so_far is right = record {
   refused = λ answer h. so_far.refused answer (let P : List NamedText → Type 0 = λ r. FirstRefused IsRefusedText number r answer in subst P (sym is) (inr (u, right, h)));
   right = λ us h.
       let P : List NamedText → Type 0 = λ r. AreRightTexts number r (u ∷ us) in
-      let Q : List Unit → Type 0 = λ l. AreRightTexts 0 texts l in
+      let Q : List Unit → Type 0 = λ l. AreRightTexts first texts l in
       subst Q (sym (append_assoc units (u ∷ []) us)) (so_far.right (u ∷ us) (subst P (sym is) (right, h)));
 }
 
-pub refused_here : (texts rest others : List NamedText) (text : NamedText) (number : ℕ) (units : List Unit) (fault : UnitsFault) → IsLoweredTo texts rest number units → rest ≡ text ∷ others
-    → IsFaultIn number text fault → IsFaultOf texts fault
-unfolding Refuses
-refused_here texts rest others text number units (Refused status line) so_far is h =
-    let answer : Answer = record { status = status; out = []; err = line } in
-    let P : List NamedText → Type 0 = λ r. FirstRefused IsRefusedText number r answer in
-    inl (so_far.refused answer (subst P (sym is) (inl h)))
-refused_here texts rest others text number units Memory so_far is h = tt
+-- the same by the number of the text that was lowered next
+pub lowered_next : (first at : ℕ) (texts : List NamedText) (text : NamedText) (units more : List Unit) (u : Unit) → IsLoweredTo first texts (drop at texts) (first + at) units → drop at texts ≡ text ∷ drop (suc at) texts
+    → IsRightText (first + at) text u → more ≡ units ++ u ∷ [] → IsLoweredTo first texts (drop (at + 1) texts) (first + (at + 1)) more
+lowered_next first at texts text units more u so_far is right more_is =
+    let step : suc at ≡ at + 1 = omega arith in
+    let next : first + at + 1 ≡ first + (at + 1) = omega arith in
+    let S : ℕ → Type 0 = λ n. IsLoweredTo first texts (drop n texts) (first + at + 1) (units ++ u ∷ []) in
+    let N : ℕ → Type 0 = λ n. IsLoweredTo first texts (drop (at + 1) texts) n (units ++ u ∷ []) in
+    let Q : List Unit → Type 0 = λ us. IsLoweredTo first texts (drop (at + 1) texts) (first + (at + 1)) us in
+    subst Q (sym more_is) (subst N next (subst S step (lowered_further first texts (drop at texts) (drop (suc at) texts) text (first + at) units u so_far is right)))
+
+-- the first fault of the rest is that of all
+pub fault_behind : (first : ℕ) (texts rest : List NamedText) (number : ℕ) (units : List Unit) (fault : UnitsFault) → IsLoweredTo first texts rest number units → IsFirstFault number rest fault → IsFirstFault first texts fault
+fault_behind first texts rest number units (Refused status line) so_far h = so_far.refused _ h
+fault_behind first texts rest number units Memory so_far h = tt
+
+fault_at : (number : ℕ) (text : NamedText) (others : List NamedText) (fault : UnitsFault) → IsFaultIn number text fault → IsFirstFault number (text ∷ others) fault
+fault_at number text others (Refused status line) h = inl h
+fault_at number text others Memory h = tt
+
+pub refused_here : (first at : ℕ) (texts : List NamedText) (text : NamedText) (units : List Unit) (fault : UnitsFault) → IsLoweredTo first texts (drop at texts) (first + at) units → drop at texts ≡ text ∷ drop (suc at) texts
+    → IsFaultIn (first + at) text fault → IsFirstFault first texts fault
+refused_here first at texts text units fault so_far is h =
+    let P : List NamedText → Type 0 = λ r. IsFirstFault (first + at) r fault in
+    fault_behind first texts (drop at texts) (first + at) units fault so_far (subst P (sym is) (fault_at (first + at) text (drop (suc at) texts) fault h))
 
 -- the texts are all lowered
-pub lowered_all : (texts rest : List NamedText) (number : ℕ) (units : List Unit) → IsLoweredTo texts rest number units → rest ≡ [] → AreRightTexts 0 texts units
-lowered_all texts rest number units so_far is =
+pub lowered_all : (first : ℕ) (texts rest : List NamedText) (number : ℕ) (units : List Unit) → IsLoweredTo first texts rest number units → rest ≡ [] → AreRightTexts first texts units
+lowered_all first texts rest number units so_far is =
     let P : List NamedText → Type 0 = λ r. AreRightTexts number r [] in
-    let Q : List Unit → Type 0 = λ l. AreRightTexts 0 texts l in
+    let Q : List Unit → Type 0 = λ l. AreRightTexts first texts l in
     subst Q (append-nil units) (so_far.right [] (subst P (sym is) tt))
+
+-- the first fault of all texts is theirs
+pub fault_of_texts : (texts : List NamedText) (fault : UnitsFault) → IsFirstFault 0 texts fault → IsFaultOf texts fault
+unfolding Refuses
+fault_of_texts texts (Refused status line) h = inl h
+fault_of_texts texts Memory h = tt
 
 -- the names of words are those of their texts
 pub zip_names : (words : List (Bor (List ℕ))) (texts : List (List ℕ)) → length texts ≡ length words → names_of words ≡ map (λ (text : NamedText). text.0) (zip (names_of words) texts)

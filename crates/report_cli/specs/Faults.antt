@@ -30,7 +30,7 @@ use Rattle.unit_report.specs.declared.unit_answers.fault.AnswersFault.{AnswersFa
 use Rattle.unit_report.specs.declared.unit_answers.fault.AnswersFault.TheVariants as answers
 use Rattle.report_cli.specs.Told.{Told}
 use Rattle.report_cli.specs.Printed.{IsRefusedScript}
-use Rattle.report_cli.specs.Outcome.{IsRefusedText, IsRefusedBy, Refuses}
+use Rattle.report_cli.specs.Outcome.{IsRefusedText, FirstRefused, IsRefusedBy, Refuses}
 
 -- a fault is a refusal
 abbrev pub fault_of : Answer → UnitsFault
@@ -62,6 +62,12 @@ abbrev pub IsFaultIn : ℕ → NamedText → UnitsFault → Type 0
 IsFaultIn number text (Refused status line) =
     IsRefusedText number text (record { status = status; out = []; err = line })
 IsFaultIn number text Memory = Unit {0}
+
+-- a refusal is that of the first text that isn't right, where the first text is the unit of that number
+abbrev pub IsFirstFault : ℕ → List NamedText → UnitsFault → Type 0
+IsFirstFault number texts (Refused status line) =
+    FirstRefused IsRefusedText number texts (record { status = status; out = []; err = line })
+IsFirstFault number texts Memory = Unit {0}
 
 -- the refusal for a lexical fault
 abbrev pub IsLexical : NamedText → LexFault → UnitsFault → Type 0

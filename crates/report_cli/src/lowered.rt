@@ -1,7 +1,8 @@
-// The core units of texts.
-ghost use Rattle.std.specs.Prelude.{◌≡◌, ◌≤◌, ◌^◌, length, zip, IfErr, IfOk};
+// The core units of texts, which are read at once.
+ghost use Rattle.std.specs.Prelude.{◌≡◌, ◌+◌, ◌<◌, ◌≤◌, ◌^◌, length, zip, IfErr, IfOk};
+ghost use Rattle.std.specs.Thread.{IsSync};
 ghost use Rattle.report_cli.specs.Words.{names_of};
-ghost use Rattle.report_cli.specs.Faults.{IsFaultIn, IsFaultOf};
+ghost use Rattle.report_cli.specs.Faults.{IsFaultIn, IsFaultOf, IsFirstFault};
 ghost use Rattle.report_cli.specs.Lowered.{IsRightText, AreRightTexts};
 
 use crate::alone::read_alone;
@@ -10,15 +11,28 @@ use crate::reading::name_at;
 use crate::refusals::row_refusal;
 use c_lower::lower_unit;
 use core_tree::Unit;
-use pta_base::{Listing, Text};
+use pta_base::{Gate, Listing, Text};
 use sense_laws::parsed_laws::laws::children_first;
 use std::alloc::Global;
+use std::thread::{Threads, join};
 
-/// The core unit that a text is, as the unit of that number, or the fault that refuses it. Its tokens and its tree are let go.
-fn lowered(alloc: Global, number: u32, name: &str, text: &[u8]) -> Result<Unit, UnitsFault>
+/// The worker under whose number the job of unit 0 passes the gate; those of the others follow.
+const JOBS: u32 = 100;
+
+/// The job of a text: the core unit that it is, as the unit of that number, or the fault that refuses it. It passes the gate first, and
+/// at its end it lets go of its tokens and its tree.
+fn lowered<G: Gate>(
+    alloc: Global,
+    number: u32,
+    name: &str,
+    text: &[u8],
+    gate: &G,
+) -> Result<Unit, UnitsFault>
+    requires few { number < 2 ^ 8 }
     ensures right { IfOk result (IsRightText number (name.now, text.now)) }
     ensures refused { IfErr result (IsFaultIn number (name.now, text.now)) }
 {
+    gate.pass(JOBS + number, 0);
     let read = match read_alone(alloc, number, name, text) {
         Ok(read) => read,
         Err(fault) => return Err(fault),
@@ -31,29 +45,102 @@ fn lowered(alloc: Global, number: u32, name: &str, text: &[u8]) -> Result<Unit, 
     }
 }
 
-/// The core units that texts are, in order; at `Err` the fault of the first text that isn't right.
-pub(crate) fn lower_each(
+/// The core units that texts are, the first of them as the unit of that number, one job after another; at `Err` the fault of the first
+/// text that isn't right.
+fn in_turn<G: Gate>(
     alloc: Global,
     names: &[&str],
     texts: &[Listing<u8>],
+    first: u32,
+    gate: &G,
 ) -> Result<Vec<Unit>, UnitsFault>
     requires count { length texts.now ≡ length names.now }
-    requires few { length names.now ≤ 2 ^ 8 }
-    ensures right { IfOk result (λ units. AreRightTexts 0 (zip (names_of names.now) texts.now) units.items) }
-    ensures count { IfOk result (λ units. length units.items ≡ length names.now) }
-    ensures refused { IfErr result (IsFaultOf (zip (names_of names.now) texts.now)) }
+    requires few { first + length names.now ≤ 2 ^ 8 }
+    ensures right { IfOk result (λ units. AreRightTexts first (zip (names_of names.now) texts.now) units.items) }
+    ensures refused { IfErr result (IsFirstFault first (zip (names_of names.now) texts.now)) }
 {
     let mut units = Vec::new(alloc);
-    for number in 0..names.len() {
+    for at in 0..names.len() {
         match lowered(
             alloc,
-            number as u32,
-            name_at(names, number),
-            texts[number].as_slice(),
+            first + at as u32,
+            name_at(names, at),
+            texts[at].as_slice(),
+            gate,
         ) {
             Ok(unit) => units.push(unit)?,
             Err(fault) => return Err(fault),
         }
     }
     Ok(units)
+}
+
+/// The same by so many threads at once, which have a share of the texts each and do its jobs in turn. Whichever job ends first, the first
+/// text that isn't right decides.
+fn at_once<R: Threads + Sync, G: Gate + Sync>(
+    rt: &R,
+    alloc: Global,
+    names: &[&str],
+    texts: &[Listing<u8>],
+    first: u32,
+    threads: usize,
+    gate: &G,
+) -> Result<Vec<Unit>, UnitsFault>
+    requires count { length texts.now ≡ length names.now }
+    requires few { first + length names.now ≤ 2 ^ 8 }
+    ensures right { IfOk result (λ units. AreRightTexts first (zip (names_of names.now) texts.now) units.items) }
+    ensures refused { IfErr result (IsFirstFault first (zip (names_of names.now) texts.now)) }
+{
+    if threads <= 1 {
+        return in_turn(alloc, names, texts, first, gate);
+    }
+    let share = names.len() / threads;
+    let others = threads - 1;
+    let next = first + share as u32;
+    let (names, more_names) = names.split_at(share);
+    let (texts, more_texts) = texts.split_at(share);
+    let (units, more) = join(
+        rt,
+        move || -> Result<Vec<Unit>, UnitsFault>
+            requires count { length texts.now ≡ length names.now }
+            requires few { first + length names.now ≤ 2 ^ 8 }
+            ensures right { IfOk result (λ units. AreRightTexts first (zip (names_of names.entry.now) texts.entry.now) units.items) }
+            ensures refused { IfErr result (IsFirstFault first (zip (names_of names.entry.now) texts.entry.now)) }
+        { in_turn(alloc, names, texts, first, gate) },
+        move || -> Result<Vec<Unit>, UnitsFault>
+            requires sync { IsSync R.row × IsSync G.row }
+            requires count { length more_texts.now ≡ length more_names.now }
+            requires few { next + length more_names.now ≤ 2 ^ 8 }
+            ensures right { IfOk result (λ units. AreRightTexts next (zip (names_of more_names.entry.now) more_texts.entry.now) units.items) }
+            ensures refused { IfErr result (IsFirstFault next (zip (names_of more_names.entry.now) more_texts.entry.now)) }
+        { at_once(rt, alloc, more_names, more_texts, next, others, gate) },
+    );
+    let mut units = match units {
+        Ok(units) => units,
+        Err(fault) => return Err(fault),
+    };
+    let mut more = match more {
+        Ok(more) => more,
+        Err(fault) => return Err(fault),
+    };
+    units.append(&mut more)?;
+    Ok(units)
+}
+
+/// The core units that texts are, in order, by so many workers at the most; at `Err` the fault of the first text that isn't right.
+pub(crate) fn lower_each<R: Threads + Sync, G: Gate + Sync>(
+    rt: &R,
+    alloc: Global,
+    names: &[&str],
+    texts: &[Listing<u8>],
+    workers: u32,
+    gate: &G,
+) -> Result<Vec<Unit>, UnitsFault>
+    requires count { length texts.now ≡ length names.now }
+    requires few { length names.now ≤ 2 ^ 8 }
+    ensures right { IfOk result (λ units. AreRightTexts 0 (zip (names_of names.now) texts.now) units.items) }
+    ensures refused { IfErr result (IsFaultOf (zip (names_of names.now) texts.now)) }
+{
+    let threads = names.len().min(workers as usize);
+    at_once(rt, alloc, names, texts, 0, threads, gate)
 }

@@ -125,7 +125,7 @@ pub(crate) fn text_of_units<R: Threads + Sync, G: Gate + Sync>(
         × IsPrinted form (named_script script.entry) program system made.0.items × IsSolvedShared system made.1) }
     ensures refused { IfErr result (IsFaultOfTold (told_with (zip (names_of names.now) texts.now) (named_script script.entry) form)) }
 {
-    let units = lower_each(alloc, names, texts)?;
+    let units = lower_each(rt, alloc, names, texts, workers, gate)?;
     let made = match linked(alloc, names, units) {
         Ok(made) => made,
         Err(fault) => return Err(fault),

@@ -230,20 +230,22 @@ fn answer_units<R: Threads + Sync, O: Sink, E: Sink, G: Gate + Sync>(
 /// Does all that the program does: reads the units that the words name, writes the report of their program to `out` or the line of a
 /// refusal to `err`, and answers the status. The words are `--workers N`, `--ask UNIT`, `--json`, `--gen N` and units, in any order
 /// (`command_line`). With `--ask` the UNIT is a script of questions, and the answers to them are written in place of the report; with
-/// `--json`, which doesn't stand beside it, the report is one object of JSON; with `--gen`, which stands beside neither of them nor a unit,
-/// the generated program of the number (`gen_units`) is read as the unit `gen`, and a summary (`gen_summary`) is written in place of the
-/// report. The statuses are 0 for a text
-/// that was written whole, 2 for words that aren't right, 3 for a text that has no tokens (C11 6.4) or whose tokens are no unit (C11
-/// 6.9), 4 for a construct that isn't accepted, 5 for units that don't link, 6 for a text or a script of more than 2^24 bytes, more than
-/// 256 constructs that nest, or a program of more than 2^24 nodes or words of rows, 7 for a unit or a script that could not be read, 8 for
-/// a text that could not be written, 9 for want of memory and 10 for a script's first line that isn't in the grammar or names nothing of
-/// the right sort (`alias_query`). The units are read in order and then the script; its length
-/// is looked at when the units are linked and within the limits, and then its lines. All memory is taken before the first byte is
-/// written. The system is solved on shared rows by as many workers as the words say, 1 where they don't; each passes the gate before each
-/// of its pieces. With `--ask` an asker beside the workers tries each question up to 16 times, and passes the gate before each try t from
-/// 0 on, as worker number N with the turn t, where N is the number of workers; what is open then is asked when the rows are closed.
-/// `kept` has to be None; with status 0 it holds the system that was solved, which has one row for all rows of a class of the program's
-/// (`row_share`), its table and the seat that solved it, and with any other status it stays None.
+/// `--json`, which doesn't stand beside it, the report is one object of JSON; with `--gen`, which stands beside neither of them nor a
+/// unit, the generated program of the number (`gen_units`) is read as the unit `gen`, and a summary (`gen_summary`) is written in place
+/// of the report. The statuses are 0 for a text that was written whole, 2 for words that aren't right, 3 for a text that has no tokens
+/// (C11 6.4) or whose tokens are no unit (C11 6.9), 4 for a construct that isn't accepted, 5 for units that don't link, 6 for a text or a
+/// script of more than 2^24 bytes, more than 256 constructs that nest, or a program of more than 2^24 nodes or words of rows, 7 for a
+/// unit or a script that could not be read, 8 for a text that could not be written, 9 for want of memory and 10 for a script's first line
+/// that isn't in the grammar or names nothing of the right sort (`alias_query`). The units are read in order and then the script; its
+/// length is looked at when the units are linked and within the limits, and then its lines. All memory is taken before the first byte is
+/// written. When all texts are read, the tokens, the syntax, the names and the types of each unit are one job. As many workers as the
+/// words say, 1 where they don't, have a share of the jobs each, at once, and the job of unit i, from 0, passes the gate first, as worker
+/// 100 + i with the turn 0. Whichever job ends first, the first unit in order whose job fails decides, for want of memory too. The system
+/// is solved on shared rows by as many workers; each passes the gate before each of its pieces. With `--ask` an asker beside the workers
+/// tries each question up to 16 times, and passes the gate before each try t from 0 on, as worker number N with the turn t, where N is
+/// the number of workers; what is open then is asked when the rows are closed. `kept` has to be None; with status 0 it holds the system
+/// that was solved, which has one row for all rows of a class of the program's (`row_share`), its table and the seat that solved it, and
+/// with any other status it stays None.
 pub fn analyse<R: Threads + Sync, U: Units, O: Sink, E: Sink, G: Gate + Sync>(
     rt: &R,
     alloc: Global,
