@@ -8,21 +8,12 @@ none is named) is tried as `rt must-fail` tries its own: the prover must refuse 
 libraries that are built. --fits proves nothing: it only says which edits no longer apply (an old text has to stand exactly once).
 """
 import argparse
-import importlib.machinery
-import importlib.util
 import os
-import shutil
 import sys
 
 sys.dont_write_bytecode = True
 
-
-def load_kit():
-    """Returns the kit's command rt as a module."""
-    loader = importlib.machinery.SourceFileLoader("rt_main", os.path.realpath(shutil.which("rt")))
-    made = importlib.util.module_from_spec(importlib.util.spec_from_loader("rt_main", loader))
-    loader.exec_module(made)
-    return made
+from kit import load_kit
 
 
 def parked_in(folder):

@@ -13,6 +13,9 @@ wchar_t *wcsncat(wchar_t *a, const wchar_t *b, size_t n) { return a; }
 int wcscmp(const wchar_t *a, const wchar_t *b) { return 0; }
 int wcsncmp(const wchar_t *a, const wchar_t *b, size_t n) { return 0; }
 int wcscoll(const wchar_t *a, const wchar_t *b) { return 0; }
+int wcscasecmp(const wchar_t *a, const wchar_t *b) { return 0; }
+int wcsncasecmp(const wchar_t *a, const wchar_t *b, size_t n) { return 0; }
+size_t wcsftime(wchar_t *s, size_t n, const wchar_t *f, const struct tm *t) { return 0; }
 wchar_t *wcschr(const wchar_t *s, wchar_t c) { return (wchar_t *)s; }
 wchar_t *wcsrchr(const wchar_t *s, wchar_t c) { return (wchar_t *)s; }
 wchar_t *wcsstr(const wchar_t *s, const wchar_t *t) { return (wchar_t *)s; }

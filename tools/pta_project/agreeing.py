@@ -116,3 +116,57 @@ def with_tag(text, tag, other):
     at = [index for index in range(1, len(text.tokens))
           if text.tokens[index] == tag and text.tokens[index - 1] in ("struct", "union")]
     return Rewrite(EXACT, f"structure {tag} is {other}", at[0], tuple(one(index, other) for index in at)) if at else None
+
+
+def hidden_structures(text, name, other):
+    """The rewrites that put a structure in the place of a `void`, or a typedef of it, behind which a declaration hides it.
+
+    The other text has the definition, which tells the structure's tag in the same place.
+    """
+    typedefs, defined = (typedef_names(one, externals(one)) for one in (text, other))
+    for span, is_definition in _spans(text, name):
+        head = next((one for one, is_one in _spans(other, name) if is_one), None)
+        if is_definition or head is None:
+            continue
+        edits = []
+        for part, whole in zip(_parts(text, span, name), _parts(other, head, name)):
+            tag = _tag(other, other.tokens[whole.start:whole.stop], defined)
+            named = [text.tokens[at] for at in part if text.tokens[at] in typedefs]
+            hidden = [word for word in named if tag and _is_void(text, word, typedefs[word])]
+            if hidden:
+                at = next(index for index in typedefs[hidden[0]] if text.tokens[index] == hidden[0])
+                yield Rewrite(EXACT, f"{hidden[0]}, a typedef of void, is structure {tag}", at,
+                              (one(text.find_back(at, "void", ";"), f"struct {tag}"),))
+                return
+            edits += [edit for at in part if tag and text.tokens[at] == "void" and text.at(at + 1) == "*"
+                      for edit in (inserted(span[0], f"struct {tag};"), one(at, f"struct {tag}"))]
+        if edits:
+            yield Rewrite(EXACT, f"{name} declared with the structures of its definition", span[0], tuple(edits))
+            return
+
+
+def _parts(text, span, name):
+    """What a function's declaration has before its name, and each of its parameters, as ranges."""
+    at = next(index for index in span if text.tokens[index] == name)
+    if text.at(at + 1) == "(":
+        yield range(span[0], at)
+        yield from text.arguments(at + 1)
+
+
+def _is_void(text, word, span):
+    """Whether a typedef's name stands for `void`."""
+    return text.tokens[span.start:span.stop][-2:] == ["void", word] or text.at(span.start - 1) == "void" \
+        and text.tokens[span.start:span.stop] == [word]
+
+
+def _tag(text, words, typedefs):
+    """The tag of the structure of which some words tell, by itself or by a typedef; None without one."""
+    for index, word in enumerate(words):
+        if word in ("struct", "union"):
+            return words[index + 1]
+        if word in typedefs:
+            inner = text.tokens[typedefs[word].start:typedefs[word].stop]
+            at = next((place for place, one_word in enumerate(inner) if one_word == "struct"), None)
+            if at is not None and is_word(inner[at + 1]) and inner[at + 1] != "__attribute__":
+                return inner[at + 1]
+    return None

@@ -61,6 +61,7 @@ def _output(entry):
 def _of_program(entries, links, program):
     """The entries whose objects go into a program, by archives too."""
     parts = {link["output"]: link["inputs"] for link in links}
+    shared = {link["output"] for link in links if link.get("shared")}
     programs = [link["output"] for link in links if link["program"] and os.path.isdir(os.path.dirname(link["output"]))]
     chosen = [name for name in programs if program in (None, name, os.path.basename(name))]
     if program is None and len(programs) > 1:
@@ -68,19 +69,22 @@ def _of_program(entries, links, program):
         raise Fault(f"{len(programs)} programs are linked; choose by --program NAME: {names}")
     if not chosen:
         raise Fault(f"no program {program} is linked" if program else "no program is linked")
-    needed = _linked(chosen[-1], parts)
+    needed = _linked(chosen[-1], parts, shared)
     return [entry for entry in entries
             if {_output(entry), os.path.normpath(os.path.join(entry["directory"], entry["file"]))} & needed]
 
 
-def _linked(program, parts):
+def _linked(program, parts, shared):
     """The objects of which a program is linked: of an archive those alone that define what is wanted."""
-    needed = {name for name in parts[program] if name not in parts}
-    archives = [name for name in parts[program] if name in parts]
+    inputs = _with_shared(program, parts, shared)
+    needed = {name for name in inputs if name not in parts}
+    archives = [name for name in inputs if name in parts]
     members = [member for name in archives for member in parts[name]]
     symbols = {name: _symbols(name) for name in (*needed, *members)}
     defined = {name for one in needed for name in symbols[one][0]}
     wanted = {name for one in needed for name in symbols[one][1]} | {"main"}
+    if any(name.endswith(".c") for name in needed):
+        wanted |= _symbols(program)[0] or {name for one in members for name in symbols[one][0]}
     grew = True
     while grew:
         grew = False
@@ -91,6 +95,16 @@ def _linked(program, parts):
                 wanted |= symbols[member][1]
                 grew = True
     return needed
+
+
+def _with_shared(program, parts, shared):
+    """What a program is linked from, with all that the shared libraries among it are linked from."""
+    inputs, seen = list(parts[program]), set()
+    for name in inputs:
+        if name in shared and name not in seen:
+            seen.add(name)
+            inputs += parts[name]
+    return [name for name in dict.fromkeys(inputs) if name not in shared]
 
 
 def _symbols(file):
@@ -139,6 +153,7 @@ def _write_notes(notes, file):
             _note_archive(directory, words, links)
         else:
             _note_compiler(directory, tool, words, entries, links)
+    _note_unseen_archives(entries, links)
     for name, noted in ((file, entries), (os.path.join(os.path.dirname(os.path.abspath(file)), LINKS),
                                           list(links.values()))):
         with open(name, "w", encoding="utf-8") as stream:
@@ -149,6 +164,8 @@ def _write_notes(notes, file):
 def _note_compiler(directory, tool, words, entries, links):
     """Note what a run of the compiler compiles and links."""
     inputs, output, take = [], None, None
+    is_link = not {"-c", "-S", "-fsyntax-only"} & set(words)
+    known = links.keys() | set(map(_output, entries)) if is_link else set()
     for word in words:
         if take:
             output, take = (word if take == "-o" else output), None
@@ -156,13 +173,13 @@ def _note_compiler(directory, tool, words, entries, links):
             take = word
         elif word.startswith("-o") and len(word) > 2:
             output = word[2:]
-        elif not word.startswith("-") and word.endswith((".c", ".o", ".a", ".lo")):
-            inputs.append(word)
-    inputs += _libraries(words, directory)
+        elif not word.startswith("-") and (word.endswith((".c", ".o", ".a", ".lo"))
+                                           or _whole(directory, word) in known):
+            inputs.append(word if word.endswith(".c") else _whole(directory, word))
+    inputs += _libraries(words, directory, links)
     sources = [name for name in inputs if name.endswith(".c") and os.path.exists(os.path.join(directory, name))]
     if "-E" in words or "-M" in words or "-MM" in words or not inputs:
         return
-    is_link = not {"-c", "-S", "-fsyntax-only"} & set(words)
     for source in sources:
         stem = os.path.splitext(os.path.basename(source))[0]
         made = source if is_link else output or stem + ".o"
@@ -170,19 +187,25 @@ def _note_compiler(directory, tool, words, entries, links):
                         "output": os.path.normpath(os.path.join(directory, made))})
     if is_link:
         made = os.path.normpath(os.path.join(directory, output or "a.out"))
-        links[made] = {"output": made, "program": "-shared" not in words,
+        links[made] = {"output": made, "program": "-shared" not in words, "shared": "-shared" in words,
                        "inputs": [os.path.normpath(os.path.join(directory, name)) for name in inputs]}
 
 
-def _libraries(words, directory):
-    """The archives that -L and -l name, where they stand in a folder of the build."""
+def _whole(directory, name):
+    """The whole name of a file; of a link to a shared library that of the library."""
+    whole = os.path.normpath(os.path.join(directory, name))
+    return os.path.realpath(whole) if ".so" in os.path.basename(name) else whole
+
+
+def _libraries(words, directory, links):
+    """The libraries that -L and -l name: shared ones that the build linked, and archives where they stand."""
     folders = [word[2:] for word in words if word.startswith("-L") and len(word) > 2]
     for word in words:
         if word.startswith("-l"):
             for folder in folders:
-                name = os.path.join(folder, f"lib{word[2:]}.a")
-                if os.path.exists(os.path.join(directory, name)):
-                    yield name
+                shared, archive = (_whole(directory, os.path.join(folder, f"lib{word[2:]}{end}")) for end in (".so", ".a"))
+                if shared in links and "-static" not in words or os.path.exists(archive):
+                    yield shared if shared in links and "-static" not in words else archive
                     break
 
 
@@ -196,3 +219,20 @@ def _note_archive(directory, words, links):
         before = links.get(made, {"inputs": []})["inputs"]
         links[made] = {"output": made, "program": False, "inputs": list(dict.fromkeys(
             before + [os.path.normpath(os.path.join(directory, name)) for name in inputs]))}
+
+
+def _note_unseen_archives(entries, links):
+    """Note the members of archives that programs are linked from and that no noted call made, by their names."""
+    made = {}
+    for entry in entries:
+        made.setdefault(os.path.basename(_output(entry)), []).append(_output(entry))
+    named = {name for link in links.values() for name in link["inputs"]}
+    for archive in sorted(name for name in named - links.keys() if name.endswith(".a") and os.path.exists(name)):
+        done = subprocess.run(["ar", "t", archive], capture_output=True, text=True, check=False)
+        members = []
+        for member in done.stdout.split():
+            found = made.get(member, [])
+            beside = [name for name in found if os.path.dirname(name) == os.path.dirname(archive)]
+            members += (beside or found)[-1:]
+        if members:
+            links[archive] = {"output": archive, "program": False, "inputs": members}

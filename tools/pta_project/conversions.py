@@ -36,6 +36,9 @@ class Kind(NamedTuple):
     name: str
 
 
+NUMBER = Kind("other", "number")
+
+
 class Conversion(NamedTuple):
     """A conversion between pointers: its origin, what is converted (the last origin of it), and the kinds.
 
@@ -213,7 +216,7 @@ def _implicit(one, message, argument, text, probe, shift):
         found = _RETURNED.search(message)
         source, target = kind(found[1], found[2]), kind(found[3], found[4])
     elif _NUMBER.search(message):
-        source, target = Kind("other", "number"), Kind("void", "void")
+        source, target = NUMBER, Kind("void", "void")
     else:
         return
     yield Conversion(origin, last, False, source, target)

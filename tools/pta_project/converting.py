@@ -1,10 +1,12 @@
 """Rewrites of conversions, by what the compiler told of them."""
+import re
 from bisect import bisect_right
 
-from .declarations import externals, function_names
-from .conversions import kind
+from .declarations import externals, function_names, typedef_names
+from .conversions import NUMBER, kind
 from .facts import needs_blobs, record_of
-from .rewriting import EXACT, HOLE, MERGED, Rewrite, exact, inserted, merged, replaced
+from .rewriting import EXACT, HOLE, MERGED, Rewrite, exact, inserted, is_cast, is_type, merged, operand, replaced
+from .tokens import Text, is_number
 from .wrappers import PREFIX, agrees, is_generic, is_untold, wrapper
 
 ALLOCATORS = frozenset(("malloc", "calloc", "realloc", "strdup"))
@@ -16,7 +18,8 @@ class Converter:
 
     def __init__(self, text, facts, wishes):
         self._text, self._facts, self._wishes = text, facts, wishes
-        spans = externals(text)
+        self._spans = spans = externals(text)
+        self._named = None
         self._starts = [span[0] for span in spans]
         self._functions = function_names(text) \
             if any(one.source.sort == "function" for one in facts.asked.conversions) else set()
@@ -35,13 +38,38 @@ class Converter:
             index = self._text.index_of(origin)
             if index is not None and self._text.tokens[index] in ("==", "!=", "<", ">", "<=", ">="):
                 yield exact("compared pointers of two types", index, inserted(index + 1, "(void *)"))
+        yield from self._constants()
         if self._wishes.blobs:
             yield from self._allocations()
+
+    def _constants(self):
+        """Casts of numbers to pointers: the addresses of objects and functions of their own."""
+        text, typedefs, known = self._text, self._facts.typedefs, set()
+        for index, token in enumerate(text.tokens):
+            if token == "(" and is_type(text, index + 1, typedefs) and is_cast(text, index, typedefs):
+                span = operand(text, text.closing(index) + 1, typedefs)
+                found = CONSTANT.fullmatch(text.source(span)) if len(span) < 6 else None
+                kind = self._sort(text.tokens[index + 1:text.closing(index)]) if found and not _is_null(found[1]) else None
+                make = {"object": constant_to_object, "function": constant_to_function}.get(kind)
+                if make:
+                    yield make(text, index, span, known)
+
+    def _sort(self, words):
+        """What a cast's type points to, an object or a function; None where it is no pointer or isn't told."""
+        if len(words) == 1 and words[0] in self._facts.pointers:
+            if self._named is None:
+                self._named = typedef_names(self._text, self._spans)
+            span = self._named.get(words[0])
+            inner = self._text.tokens[span.start:span.stop] if span else ["("]
+            return "function" if _is_function(inner) else None if "(" in inner or "*" not in inner else "object"
+        return "function" if _is_function(words) else "object" if words[-1] == "*" and "(" not in words else None
 
     def _rewrite(self, conversion, index, last):
         """The rewrite of one conversion; None where pta takes it as it is."""
         source, target = conversion.source, conversion.target
         grade = self._grade(conversion)
+        if source == NUMBER and not conversion.is_cast:
+            return self._of_number(index, last)
         if {source.sort, target.sort} == {"function"}:
             return self._of_functions(conversion, index, last)
         if grade is None:
@@ -99,6 +127,13 @@ class Converter:
         return [inserted(0, f"static void *{name};"), inserted(start, f"({name} = (void *) ("),
                 inserted(last + 1, "))")]
 
+    def _of_number(self, index, last):
+        """A number that becomes a pointer without a cast: a hole, but what it does is done; constants are mended later."""
+        words = [word for word in self._text.tokens[index:last + 1] if word not in ("(", ")", "-", "~")]
+        if not self._in_body(index) or len(words) == 1 and is_number(words[0]):
+            return None
+        return Rewrite(HOLE, "number to a pointer", index, (inserted(index, "((void) ("), inserted(last + 1, "), (void *) 0)")))
+
     def _of_functions(self, conversion, index, last):
         """A function under another type is called by a wrapper; a pointer to one is a hole."""
         source, target = conversion.source.name, conversion.target.name
@@ -140,3 +175,45 @@ class Converter:
                 yield merged("characters that are allocated, as one piece", index, inserted(index, "(0,"),
                              inserted(self._text.closing(index + 1) + 1, ")"))
 
+
+CONSTANT = re.compile(r"[-~( ]*(\d\w*)[ )]*")
+
+
+def _is_function(words):
+    """Whether the words of a type or a typedef are those of one pointer to a function."""
+    return re.search(r"\( \* (\w+ )?\) \(", " ".join(words)) is not None
+
+
+def _is_null(word):
+    """Whether a number is 0, which is the null pointer."""
+    return not word.rstrip("uUlL").strip("0xX")
+
+
+def constant_to_object(text, index, span, known=None):
+    """The rewrite of a number that becomes a pointer to the address of an object of its own."""
+    name = _mark(text, span)
+    return exact("number to an object of its own", index, replaced(span, f"(void *) &{name}"),
+                 *declared_once(text, f"static char {name};", known))
+
+
+def constant_to_function(text, index, span, known=None):
+    """The rewrite of a number that becomes a pointer to that of a function of its own."""
+    name = _mark(text, span)
+    return exact("number to a function of its own", index, replaced(span, name + "f"),
+                 *declared_once(text, f"static void {name}f(void) {{ }}", known))
+
+
+def _mark(text, span):
+    source = text.source(span)
+    return f"{MARK}{re.sub(r'[^0-9A-Za-z]', '', CONSTANT.fullmatch(source)[1])}" + ("m" if "-" in source else "")
+
+
+def declared_once(text, declaration, known=None):
+    """The edit that puts a declaration first, where it doesn't stand yet and isn't known to be put there."""
+    words = Text.read(declaration).tokens
+    if declaration in (known or ()) or \
+            any(text.tokens[i:i + len(words)] == words for i in range(min(400, len(text.tokens)))):
+        return []
+    if known is not None:
+        known.add(declaration)
+    return [inserted(0, declaration)]

@@ -4,7 +4,7 @@ from typing import NamedTuple
 from .conversions import ask
 from .declarations import externals, pointer_typedefs, typedef_names
 from .records import Layout
-from .syntax import has_floats
+from .syntax import has_floats, with_prototypes
 from .tokens import is_word
 
 KNOWN = frozenset("""
@@ -60,7 +60,7 @@ def examine(compiler, unit):
     pointers = pointer_typedefs(text, named)
     layout = Layout(text, named)
     variadic, defines, points = variadic_names(text, spans, typedefs)
-    asked = ask(compiler, text, typedefs, pointers, variadic)
+    asked = ask(compiler, with_prototypes(text), typedefs, pointers, variadic)
     wanted = [wish for conversion in asked.conversions for wish in merges(conversion, layout, pointers)]
     blobs = any(needs_blobs(conversion, layout, pointers) for conversion in asked.conversions)
     return Facts(typedefs, pointers, asked, layout, has_floats(text), variadic, defines, points,

@@ -175,7 +175,7 @@ def _plain_rewrites(text, facts, wishes):
     yield from builtin_rewrites(text, declared)
     yield from list_rewrites(text, facts, wishes)
     yield from Converter(text, facts, wishes).rewrites()
-    for index, edits in union_edits(text, wishes.merged):
+    for index, edits in union_edits(text, wishes.merged, facts.layout):
         yield Rewrite(MERGED, "structure as one piece", index, tuple(edits))
 
 

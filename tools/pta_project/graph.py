@@ -85,14 +85,12 @@ def chosen_edges(report, source, target, depth):
     return [edge for edge in report.edges if kept is None or set(edge) <= kept]
 
 
-def kinds(report, edges):
-    """For each function of the edges its unit (None where the report doesn't tell it), and whether it's the library's."""
-    callers = {caller for caller, _ in report.edges}
-    inside = {name.split("/")[0] for name in report.sets if "/" in name}
+def kinds(edges):
+    """For each function of the edges its unit (None where the report doesn't tell it), and whether it's known as the library's."""
     found = {}
     for name in dict.fromkeys(name for edge in edges for name in edge):
         own = _OWN.match(name)
-        is_library = own is None and (name in KNOWN or name in catalogue() or name not in callers and name not in inside)
+        is_library = own is None and (name in KNOWN or name in catalogue())
         found[name] = (own[1] if own else None, is_library)
     return found
 
@@ -110,7 +108,7 @@ def is_dashed(report, edge, targets):
 def dot(report, edges):
     """The DOT text of the edges: units are clusters, library functions grey, targets of pointers dashed."""
     lines = ["digraph calls {", "  rankdir=LR;", "  node [shape=box, fontname=\"sans-serif\", fontsize=10];"]
-    known, units = kinds(report, edges), {}
+    known, units = kinds(edges), {}
     for name, (unit, is_library) in known.items():
         units.setdefault(unit, []).append((name, is_library))
     for number, unit in enumerate(sorted(units, key=lambda unit: unit or "")):
@@ -136,7 +134,7 @@ def _quoted(text):
 
 def page(report, edges, base):
     """One page that shows the edges and searches the sets; names link to the source below the base."""
-    known, targets = kinds(report, edges), pointer_targets(report)
+    known, targets = kinds(edges), pointer_targets(report)
     told = {
         "base": base,
         "functions": [[name, unit or "", int(is_library)] for name, (unit, is_library) in known.items()],

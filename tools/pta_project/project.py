@@ -7,7 +7,7 @@ from .asking import translated
 from .declarations import function_names
 from .facts import examine
 from .fitting import Fitter, holes
-from .agreeing import agreeing, definition_of, differing_tags, with_tag
+from .agreeing import agreeing, definition_of, differing_tags, hidden_structures, with_tag
 from .catalogue import catalogue
 from .library import Names, empty_definition, library_unit, variadic_parameters, wanted
 from .report import Places, characters_that_hold
@@ -111,7 +111,7 @@ class Program:
         self._options, self._tell = options, tell
         self.units = loaded(_named(commands), options.compiler, options.workers, tell)
         self._own, self._names = list(self.units), set()
-        self._reconciled = set()
+        self._reconciled, self._emptied = set(), set()
         self.pta = Pta(options.pta, options.folder)
         self.fitter = Fitter(self.pta, options.compiler, options.allocators)
 
@@ -155,8 +155,14 @@ class Program:
             return False
         name, changed = found[1], False
         self._reconciled.add(name)
-        source = next((one for unit in self.units for one in [definition_of(unit.text, name)] if one), None)
+        owner, source = next(((unit, one) for unit in self.units for one in [definition_of(unit.text, name)] if one),
+                             (None, None))
         for unit in self.units if source else ():
+            for rewrite in hidden_structures(unit.text, name, owner.text):
+                self._apply(unit, rewrite)
+                self.pta.write(unit.name, unit.text)
+                changed = True
+        for unit in self.units if source and not changed else ():
             for rewrite in agreeing(unit.text, name, source, self.fitter.typedefs(unit)):
                 self._apply(unit, rewrite)
                 changed = True
@@ -194,7 +200,7 @@ class Program:
             names = sorted({*names, *found})
             known = {name for name in found if name in catalogue()} - self._names
         self.fitter.fit(self.units)
-        missing = [name for name in names if name not in self._names]
+        missing = [name for name in names if name not in self._names | self._emptied]
         return all([self._add_empty(name) for name in missing])
 
     def _add_empty(self, name):
@@ -202,6 +208,7 @@ class Program:
         for unit in self.units:
             span = Names(unit.text).declares.get(name) if name in unit.text.tokens else None
             if span:
+                self._emptied.add(name)
                 made = empty_definition(unit.text, span, name, self.fitter.typedefs(unit),
                                         name in self._options.plain)
                 self.fitter.define(self.units, unit, made, variadic_parameters(unit.text, span))

@@ -100,7 +100,7 @@ class Layout:
         return False
 
 
-def union_edits(text, names):
+def union_edits(text, names, layout):
     """The edits that make the named structures unions of one unnamed structure each, as (index, edits)."""
     for record in records(text, ("struct",)) if names else ():
         if not names.isdisjoint(record.names):
@@ -108,3 +108,38 @@ def union_edits(text, names):
             if record.opening is not None:
                 edits += [inserted(record.opening + 1, "struct {"), inserted(text.closing(record.opening), "} ;")]
             yield record.index, edits
+    for index, opening, name in _values(text, names, layout) if names else ():
+        edits = list(_brace_edits(text, opening, name, names, layout))
+        if edits:
+            yield index, edits
+
+
+def _values(text, names, layout):
+    """The brace lists that give objects of structures their values: index of the name, that of the {, the structure."""
+    tokens = text.tokens
+    for equals in [index for index, token in enumerate(tokens) if token == "=" and text.at(index + 1) == "{"]:
+        at, dimensions = equals - 1, 0
+        while text.at(at) == "]":
+            at, dimensions = text.opening(at) - 1, dimensions + 1
+        start = text.find_back(at, ";", "{", "}") + 1
+        if text.at(start - 1) == "}" and text.at(text.opening(start - 1) - 1) in ("struct", "union") or dimensions > 1:
+            continue
+        words = tokens[start:at]
+        if "*" in words or not words:
+            continue
+        name = next((layout.tag(word) for word in words if layout.tag(word) in layout.first), None)
+        if name is None:
+            continue
+        lists = [equals + 1] if not dimensions else \
+            [element[0] for element in text.arguments(equals + 1) if element and tokens[element[0]] == "{"]
+        yield from ((at, opening, name) for opening in lists)
+
+
+def _brace_edits(text, opening, name, names, layout):
+    """The edits that put a list which begins with a list into braces of the unnamed structure's own."""
+    if name is not None and text.at(opening + 1) == "{":
+        if name in names:
+            yield inserted(opening + 1, "{")
+        yield from _brace_edits(text, opening + 1, layout.first.get(name), names, layout)
+        if name in names:
+            yield inserted(text.closing(opening), "}")

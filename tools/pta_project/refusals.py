@@ -2,7 +2,8 @@
 import re
 from typing import NamedTuple
 
-from .converting import MARK
+from .conversions import NUMBER
+from .converting import CONSTANT, constant_to_function, constant_to_object
 from .declarations import declared, externals
 from .hoisting import hoisted
 from .rewriting import (NOISY, converted, exact, hole, inserted, is_cast, is_quiet, is_type, merged, one, operand,
@@ -117,7 +118,8 @@ def assembly(case):
     end = text.closing(start)
     operands = [at for at in range(start, end) if text.tokens[at] == "("
                 and text.tokens[at - 1][-1:] == '"' and at > start]
-    plain = not operands or all(_is_plain_number(text, at) for at in operands)
+    strings = text.tokens[start + 1:text.find(start + 1, ":", ")")]
+    plain = all(word == '""' for word in strings) or all(_is_plain_number(text, at) for at in operands)
     new = "" if text.at(end + 1) == ";" and text.at(case.index - 1) in (";", "{", "}") and \
         external_at(text, case.index)[0] != case.index else None
     span = range(case.index, end + 1) if new is not None else range(case.index, end + 1 + (text.at(end + 1) == ";"))
@@ -254,7 +256,36 @@ def misfit(case):
     else:
         found += [hole("conversion over void *", case.index, inserted(value[0], "(void *) ("),
                        inserted(value[-1] + 1, ")")) for value in converted(case.text, case.index)]
-    return [*_lengths(case), *_over_union(case), *found, *_values_left_out(case)]
+    return [*_lengths(case), *_braces(case), *_void_arithmetic(case), *_over_union(case), *found, *_values_left_out(case)]
+
+
+def _void_arithmetic(case):
+    """Arithmetic of a `void *`, which GNU C counts in characters."""
+    text, index, typedefs = case.text, case.index, case.facts.typedefs
+    if case.word not in ("+", "-"):
+        return
+    start = text.find_back(index, *_BEFORE_TERMS) + 1
+    right = operand(text, index + 1, typedefs)
+    while text.at(right.stop) in ("*", "/", "%"):
+        right = range(right.start, operand(text, right.stop + 1, typedefs).stop)
+    what = "arithmetic of void * by characters"
+    yield exact(what, index, inserted(start, "(void *) ((char *) ("), inserted(index, ")"), inserted(right.stop, ")"))
+    if case.word == "+":
+        yield exact(what, index, inserted(start, "(void *) ("), inserted(index + 1, "(char *) ("),
+                    inserted(right.stop, "))"))
+
+
+_BEFORE_TERMS = ("(", "[", "{", "}", ",", ";", "=", "?", ":", "return", "case", "+", "-", "+=", "-=", "==", "!=", "<", ">",
+                 "<=", ">=", "&&", "||")
+
+
+def _braces(case):
+    """A list that begins with a list, of a structure that became a union of one: braces of the unnamed one's own."""
+    text = case.text
+    start = text.find_back(case.index, "{")
+    if start > 0 and text.at(start + 1) == "{" and text.at(start - 1) in ("=", ",", "{", ")"):
+        yield exact("braces of a structure as one piece", case.index, inserted(start + 1, "{"),
+                    inserted(text.closing(start), "}"))
 
 
 def _over_union(case):
@@ -299,23 +330,20 @@ def number_to_pointer(case):
     text, index = case.text, case.index
     is_a_cast = is_cast(text, index, case.facts.typedefs)
     spans = [operand(text, text.closing(index) + 1, case.facts.typedefs)] if is_a_cast else converted(text, index)
-    for span in spans:
-        found = re.fullmatch(r"[-~( ]*(\w+)[ )]*", text.source(span))
-        if found and found[1][0].isdigit():
-            name = f"{MARK}{re.sub(r'[^0-9A-Za-z]', '', found[1])}" + ("m" if "-" in text.source(span) else "")
-            yield exact("number to an object of its own", index, replaced(span, f"(void *) &{name}"),
-                        *_declared_once(text, f"static char {name};"))
-            yield exact("number to a function of its own", index, replaced(span, name + "f"),
-                        *_declared_once(text, f"static void {name}f(void) {{ }}"))
+    numbers = {one.origin for one in case.facts.asked.conversions if one.source == NUMBER}
+    told = [span for span in spans if text.origin(span[0]) in numbers]
+    if len(told) > 1:
+        yield hole("numbers to pointers", index, *[replaced(span, "((void) (", span, "), (void *) 0)") for span in told])
+    for span in told or spans:
+        cast = next((at for at in span if text.tokens[at] == "(" and is_cast(text, at, case.facts.typedefs)), None)
+        inner = () if cast is None else operand(text, text.closing(cast) + 1, case.facts.typedefs)
+        if inner and set(text.tokens[span[0]:cast]) <= {"("} and set(text.tokens[inner[-1] + 1:span[-1] + 1]) <= {")"}:
+            yield exact("pointer over a number", index, replaced(range(cast, text.closing(cast) + 1), "(void *)"))
+        if CONSTANT.fullmatch(text.source(span)):
+            yield constant_to_object(text, index, span)
+            yield constant_to_function(text, index, span)
         yield hole("number to a pointer", index, replaced(span, "((void) (", span, "), (void *) 0)"))
         yield hole("number to a pointer", index, replaced(span, "0"))
-
-
-def _declared_once(text, declaration):
-    """The edit that puts a declaration first, where it doesn't stand yet."""
-    words = Text.read(declaration).tokens
-    start = next((i for i in range(min(400, len(text.tokens))) if text.tokens[i:i + len(words)] == words), None)
-    return [] if start is not None else [inserted(0, declaration)]
 
 
 @kinds("malformed")

@@ -2,7 +2,7 @@
 import re
 
 from .declarations import KEYWORDS, TYPE_WORDS, externals
-from .rewriting import NOISY, exact, inserted, is_quiet, merged, one, operand, replaced
+from .rewriting import NOISY, exact, hole, inserted, is_quiet, merged, one, operand, replaced
 from .tokens import is_number, is_word
 
 FLOATS = {"float": "int", "double": "long", "_Float32": "int", "_Float64": "long", "_Float128": "long",
@@ -72,6 +72,12 @@ def atomic(text, index, _):
     """_Atomic and _Atomic(T) become T."""
     brackets = (index + 1, text.closing(index + 1)) if text.at(index + 1) == "(" else ()
     return exact("_Atomic dropped", index, *[one(at) for at in (index, *brackets)])
+
+
+@triggers("__attribute")
+def attribute(text, index, _):
+    """The same word as __attribute__ with its underscores."""
+    return exact("__attribute to __attribute__", index, one(index, "__attribute__"))
 
 
 @triggers("_Thread_local", "__thread")
@@ -254,13 +260,15 @@ def _string(text, index, _):
 def definition_rewrites(text):
     """Old parameters become a prototype; an inline function becomes each unit's own, or an external one."""
     spans = externals(text)
-    inlines = {}
+    inlines, olds = {}, {}
     for span in spans:
         if text.tokens[span[-1]] == "}":
-            yield from old_parameters(text, span)
+            yield from old_parameters(text, span, olds)
             name = _inline_name(text, span)
             if name:
                 inlines[name] = span[0]
+    yield from old_calls(text, spans, olds)
+    yield from implicit_ints(text, spans)
     declarations = [(name, span) for span in spans if inlines for name in [_declared_of(text, span, inlines)] if name]
     external = {name for name, span in declarations if _is_external(text, span)}
     for name, span in declarations:
@@ -303,8 +311,8 @@ def _is_external(text, span):
     return "extern" in words or _INLINES.isdisjoint(words) and "static" not in words
 
 
-def old_parameters(text, span):
-    """f(a) int a; {..} becomes f(int a) {..}."""
+def old_parameters(text, span, olds):
+    """f(a) int a; {..} becomes f(int a) {..}; what each parameter is goes to `olds`, under the function's name."""
     body = text.opening(span[-1])
     at = text.find_back(body, ")")
     while at >= 0 and at > span[0]:
@@ -322,8 +330,82 @@ def old_parameters(text, span):
     parts = []
     for name in names[::2]:
         parts += [",", *types.get(name, ("int " + name,))] if parts else types.get(name, ("int " + name,))
+    olds[text.tokens[start - 1]] = [types.get(name, ("int " + name,)) for name in names[::2]]
     yield exact("old parameters to a prototype", start - 1, replaced(range(start + 1, at), *parts),
                 replaced(range(at + 1, body)))
+
+
+def with_prototypes(text):
+    """The text with prototypes in place of old parameters; the text itself where there are none."""
+    spans, olds = externals(text), {}
+    found = [rewrite for span in spans if text.tokens[span[-1]] == "}" for rewrite in old_parameters(text, span, olds)]
+    found += [*old_calls(text, spans, olds), *implicit_ints(text, spans)]
+    return text.edited([edit for rewrite in found for edit in rewrite.edits]) if found else text
+
+
+def implicit_ints(text, spans):
+    """A definition without a type is one of int (C90 6.5.2)."""
+    for span in spans:
+        at = span[0] + (text.tokens[span[0]] in ("static", "extern"))
+        if text.tokens[span[-1]] == "}" and is_word(text.tokens[at]) and text.tokens[at] not in KEYWORDS \
+                and text.at(at + 1) == "(" and text.at(text.closing(at + 1) + 1) != "(":
+            yield exact("int where no type is told", at, inserted(at, "int"))
+
+
+def old_calls(text, spans, olds):
+    """Calls of functions with old parameters, which may hand on too few values or too many (C11 6.5.2.2p6).
+
+    What hands on too few leaves parameters without a value: 0, but a hole where one is no number.
+    """
+    few = {}
+    for span in spans if olds else ():
+        if text.tokens[span[-1]] == "}":
+            for index in range(text.opening(span[-1]), span[-1]):
+                if text.tokens[index] in olds and text.tokens[index + 1] == "(" and not _is_declared_at(text, index):
+                    yield from _old_call(text, index, olds[text.tokens[index]], few)
+    for name, edits in few.items():
+        yield hole(f"{name} called with too few values, {len(edits)} times", edits[0].start, *edits)
+
+
+def _is_declared_at(text, index):
+    """Whether a name before parentheses in a body is that of a declaration, or a member's."""
+    words = text.tokens[text.find_back(index, ";", "{", "}") + 1:index]
+    if text.tokens[index - 1] in (".", "->"):
+        return True
+    if not words or words[0] in _NO_TYPES or "=" in words:
+        return False
+    return words[0] in TYPE_WORDS or words[0] in ("static", "extern", "register") \
+        or all(word == "*" or is_word(word) for word in words)
+
+
+_NO_TYPES = frozenset(("return", "else", "do", "goto", "case", "sizeof", "*"))
+
+
+def _old_call(text, index, parameters, few):
+    """The rewrite of a call that hands on another number of values than there are parameters."""
+    arguments, end, name = text.arguments(index + 1), text.closing(index + 1), text.tokens[index]
+    count = len(parameters)
+    if len(arguments) < count:
+        missing = parameters[len(arguments):]
+        edit = inserted(end, ", " * bool(arguments) + ", ".join("0" for _ in missing))
+        if all(_is_number_parameter(text, parts) for parts in missing):
+            yield exact(f"{name} called with too few values", index, edit)
+        else:
+            few.setdefault(name, []).append(edit)
+    elif len(arguments) > count:
+        last, more = arguments[count - 1], arguments[count:]
+        yield exact(f"{name} called with too many values", index,
+                    replaced(range(last.start, end), *_all_done(more), last, ")"))
+
+
+def _is_number_parameter(text, parts):
+    """Whether the parts of a parameter's declaration declare a number."""
+    words = [word for part in parts for word in (part.split() if isinstance(part, str) else
+                                                 text.tokens[part.start:part.stop])]
+    return set(words[:-1]) <= _NUMBER_WORDS and is_word(words[-1])
+
+
+_NUMBER_WORDS = frozenset("char short int long unsigned signed float double const volatile".split())
 
 
 def _old_declarations(text, start, end, names):
@@ -398,7 +480,7 @@ def builtin(text, index, declared):
         return exact(what, index, replaced(call, *_all_done(arguments[1:]), arguments[0], ")"))
     if name.startswith(NUMBERS):
         return exact(what, index, replaced(call, "8" if name.endswith("offsetof") else "1"))
-    if OVERFLOW_ALONE.match(name):
+    if OVERFLOW_ALONE.match(name) or name.startswith("__builtin_ia32_"):
         return exact(what, index, replaced(call, *_all_done(arguments), "0)"))
     if OVERFLOW.match(name) and len(arguments) == 3:
         first, second, result = arguments

@@ -105,6 +105,29 @@ class Command(unittest.TestCase):
         done = self.run_command("--commands", "compile_commands.json", "--program", "prog")
         self.assertEqual((done.returncode, done.stdout), (0, "pta 1\nedge main f\nend\n"))
 
+    def test_record_with_an_archive_that_another_ar_made(self):
+        self.write("a.c", "int f(void); int main(void) { return f(); }\n")
+        self.write("b.c", "int f(void) { return 1; }\n")
+        self.write("c.c", "int f(void) { return 2; } int g(void) { return 2; }\n")
+        self.write("build", f"cc -c b.c c.c; {shutil.which('ar')} rc libb.a b.o c.o; cc a.c -L. -lb -o prog\n")
+        noted = subprocess.run([sys.executable, os.path.join(ROOT, "pta-project"), "record", "--", "sh", "build"],
+                               cwd=self.folder, capture_output=True, text=True, check=False)
+        self.assertEqual((noted.returncode, noted.stderr), (0, ""))
+        done = self.run_command("--no-holes", "--commands", "compile_commands.json")
+        self.assertEqual((done.returncode, done.stdout), (0, "pta 1\nedge main f\nend\n"))
+
+    def test_record_with_a_shared_library(self):
+        self.write("a.c", "int f(void); int main(void) { return f(); }\n")
+        self.write("b.c", "int f(void) { return 1; }\n")
+        self.write("build", "cc -fPIC -c b.c -o b.sho; cc -shared -o libb.so.1 b.sho; ln -s libb.so.1 libb.so\n"
+                            "cc -c a.c -o a.obj; cc -o prog a.obj -L. -lb; cc -o other a.obj libb.so.1\n")
+        noted = subprocess.run([sys.executable, os.path.join(ROOT, "pta-project"), "record", "--", "sh", "build"],
+                               cwd=self.folder, capture_output=True, text=True, check=False)
+        self.assertEqual((noted.returncode, noted.stderr), (0, ""))
+        for program in ("prog", "other"):
+            done = self.run_command("--no-holes", "--commands", "compile_commands.json", "--program", program)
+            self.assertEqual((done.returncode, done.stdout), (0, "pta 1\nedge main f\nend\n"))
+
     def test_record_gives_the_builds_status(self):
         noted = subprocess.run([sys.executable, os.path.join(ROOT, "pta-project"), "record", "--", "sh", "-c", "exit 3"],
                                cwd=self.folder, capture_output=True, text=True, check=False)

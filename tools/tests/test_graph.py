@@ -37,6 +37,12 @@ class Graph(unittest.TestCase):
         with self.assertRaises(ValueError):
             chosen_edges(report, "nowhere", None, -1)
 
+    def test_own_function_that_calls_nothing(self):
+        report = read_report("pta 1\nedge main leaf\nedge main puts\nend\n")
+        lines = dot(report, report.edges).split("\n")
+        self.assertIn('  "leaf" [label="leaf"];', lines)
+        self.assertIn('  "puts" [label="puts", color=grey, fontcolor=grey];', lines)
+
     def test_dot(self):
         report = read_report(REPORT)
         lines = dot(report, report.edges).split("\n")

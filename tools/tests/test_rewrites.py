@@ -65,6 +65,31 @@ class Rewrites(Analysed):
                            "int main(void) { return *f(0, &x, 1); }\n", "exact", "set f/p: x")
         self.assertIn("( int * * a , int * p , int n )", text)
 
+    def test_call_with_too_few_values(self):
+        text = self.fitted("int f(n, m) int n, m; { return n; } int main(void) { return f(1); }\n", "exact")
+        self.assertIn("f ( 1 , 0 )", text)
+        outcome = self.analysed("int x; int f(n, p) int n, *p; { return n; }\n"
+                                "int main(void) { int g(), f(); f(2, &x); return f() + f(1); }\n")
+        self.assertEqual((outcome.status, self.wholes(outcome, "hole")), (0, ["f called with too few values, 2 times"]))
+        self.assertIn("set f/p: x", outcome.report.split("\n"))
+
+    def test_call_with_too_many_values(self):
+        text = self.fitted("int x; int g(void) { return 1; } int f(p) int *p; { return *p; }\n"
+                           "int main(void) { return f(&x, g()); }\n", "exact", "set f/p: x", "edge main g")
+        self.assertIn("f ( ( ( void ) ( g ( ) ) , & x ) )", text)
+
+    def test_numbers_in_a_call_with_old_parameters(self):
+        outcome = self.analysed("int x; int n = 3; int f(p, q, r) int *p, *q, *r; { return *p; }\n"
+                                "int main(void) { return f(n, n, &x); }\n")
+        self.assertEqual((outcome.status, self.wholes(outcome, "hole")), (0, ["number to a pointer"] * 2))
+        self.assertIn("set f/r: x", outcome.report.split("\n"))
+
+    def test_no_type(self):
+        text = self.fitted("int x; static f(p) int *p; { return *p; } main(n, v) char **v; { return f(&x); }\n", "exact",
+                           "set u0.c:f/p: x")
+        self.assertIn("static int f ( int * p )", text)
+        self.assertIn("int main ( int n , char * * v )", text)
+
     def test_inline(self):
         self.assertIn("static inline int f", self.fitted("inline int f(void) { return 1; }\n" + self.MAIN, "exact"))
 
@@ -76,6 +101,11 @@ class Rewrites(Analysed):
 
     def test_atomic(self):
         self.fitted("_Atomic int n; _Atomic(int) m;\n" + self.MAIN, "exact")
+
+    def test_attribute(self):
+        text = self.fitted("static int f(int *p) __attribute(( nonnull(1) )); static int f(int *p) { return *p; } int x;\n"
+                           "int main(void) { return f(&x); }\n", "exact", "set u0.c:f/p: x")
+        self.assertIn("__attribute__ ( (", text)
 
     def test_thread_local(self):
         self.fitted("static _Thread_local int n; __thread int m;\n" + self.MAIN, "exact")
@@ -99,6 +129,11 @@ class Rewrites(Analysed):
                            "int main(void) { return __builtin_bswap32(*f(&x)) + __builtin_clz(7); }\n",
                            "exact", "set f/p: x")
         self.assertIn("( ! ! p ) ? p : 0", text)
+
+    def test_builtin_of_vectors(self):
+        text = self.fitted("int g(void) { return 1; } int f(int n) { return __builtin_ia32_crc32si(n, g()); }\n" + self.MAIN,
+                           "exact", "edge f g")
+        self.assertIn("( ( void ) ( n ) , ( void ) ( g ( ) ) , 0 )", text)
 
     def test_builtin_within_itself(self):
         self.fitted("int f(int n) { return __builtin_expect(__builtin_expect(n, 1), 0); }\n" + self.MAIN, "exact")
@@ -139,10 +174,30 @@ class Rewrites(Analysed):
                                 "struct s " + header % "int b;" + "struct s o; struct s *f(int n) { return &o; }\n")
         self.assertEqual((outcome.status, outcome.fault, outcome.log), (0, "", []))
 
+    def test_structure_behind_a_typedef_of_void(self):
+        outcome = self.analysed("typedef struct d { int *p; } D; extern int x; D d;\n"
+                                "D *make(int n) { d.p = &x; return &d; } int *get(D *d) { return d->p; }\n",
+                                "typedef void H; H *make(int); int *get(H *); int x; int *q;\n"
+                                "int main(void) { H *h = make(1); q = get(h); return 0; }\n")
+        self.assertEqual((outcome.status, [entry.what for entry in outcome.log]),
+                         (0, ["H, a typedef of void, is structure d"]))
+        for line in ("set q: x", "set main/h: d", "set get/d: d"):
+            self.assertIn(line, outcome.report.split("\n"))
+
     def test_link_conflict_of_numbers(self):
         outcome = self.analysed("extern const int t[]; int main(void) { return t[0]; }\n",
                                 "typedef unsigned u; const u t[] = { 1 };\n")
         self.assertEqual((outcome.status, self.wholes(outcome, "exact")), (0, ["t declared as it's defined"]))
+
+    def test_structure_behind_void(self):
+        outcome = self.analysed("typedef struct d { int *p; } D; extern int x; D d;\n"
+                                "void set(D *d, int *p) { d->p = p; } int *get(D *d) { return d->p; }\n",
+                                "void set(void *, int *); int *get(void *); int x; int *q; extern struct d d;\n"
+                                "int main(void) { void *h = &d; set(h, &x); q = get(h); return 0; }\n")
+        self.assertEqual((outcome.status, [entry.what for entry in outcome.log]),
+                         (0, [f"{name} declared with the structures of its definition" for name in ("set", "get")]))
+        for line in ("set q: x", "set main/h: d", "set get/d: d"):
+            self.assertIn(line, outcome.report.split("\n"))
 
     def test_structure_with_two_tags(self):
         for result in ("num", "struct %s *"):
@@ -222,9 +277,29 @@ class Rewrites(Analysed):
         self.assertIn("case 1 : case 2 : case 3 :", text)
         self.fitted("int x; int *t[4] = { [1 ... 2] = &x };\n" + self.MAIN, "exact", "set t: x")
 
+    def test_arithmetic_of_void(self):
+        text = self.fitted("char t[9]; void *p; char *q; int n; int main(void) { p = t; q = p + n * 2; q = n + p; p = p - 1;\n"
+                           "return q == (void *)t + 1; }\n", "exact", "set p: t", "set q: t")
+        self.assertIn("q = ( void * ) ( ( char * ) ( p ) + n * 2 )", text)
+
+    def test_constants_to_pointers(self):
+        text = self.fitted("void (*f)(int); void (*g)(int); char *p; typedef void (*F)(int);\n"
+                           "int main(void) { f = (F)1; g = (F)1; f = (void (*)(int))-1; p = (char *)-1; p = (char *)0;\n"
+                           "return p == (void *)(-1); }\n", "exact", "set f: u0.c:pta_mark_1f u0.c:pta_mark_1mf",
+                           "set p: u0.c:pta_mark_1m")
+        self.assertEqual(text.count("static void pta_mark_1f"), 1)
+
+    def test_pointer_over_a_number(self):
+        self.fitted("int x; char *p; int *q; int main(void) { q = &x; p = (char *)(unsigned long)q;\n"
+                    "return *(int *)((unsigned long)&x); }\n", "exact", "set p: x")
+        self.fitted("char *p; int main(int n, char **v) { p = (char *)(unsigned long)n; return 0; }\n", "hole", "set p:")
+        self.fitted("int x; char *p; int main(int n, char **v) { p = (char *)((unsigned long)&x & ~7UL); return 0; }\n",
+                    "hole", "set p:")
+
     def test_assembly(self):
         self.fitted("void f(void) { __asm__(\"nop\"); }\n" + self.MAIN, "exact")
         self.fitted("void f(int *p) { __asm__(\"nop\" : : \"r\"(p)); }\n" + self.MAIN, "hole")
+        self.fitted("void f(int *p) { __asm__(\"\" : \"+r\"(p)); }\n" + self.MAIN, "exact")
 
     def test_statement_expression(self):
         self.fitted("int x; int *p; int main(void) { p = ({ &x; }); return 0; }\n", "exact", "set p: x")
@@ -348,8 +423,17 @@ class Merging(Analysed):
         outcome = self.analysed(header + "struct s s = { { 1 }, 0 }; int g; void down(struct x *);\n"
                                 "int main(void) { down(&s.x); return *s.p; }\n",
                                 header + "void down(struct x *x) { ((struct s *)x)->p = &g; }\n")
-        self.assertEqual((outcome.status, outcome.merged), (0, ("s",)))
+        self.assertEqual((outcome.status, outcome.merged, self.wholes(outcome, "hole")), (0, ("s",), []))
         self.assertIn("set s: g", outcome.report)
+
+    def test_values_of_one_piece(self):
+        outcome = self.analysed("int g; struct x { int *n; }; struct s { struct x x; int *p; }; struct t { int *p; struct s s; };\n"
+                                "typedef struct s S; struct s one = { { &g }, 0 }, two = { 0, 0 };\n"
+                                "S many[] = { { { &g }, 0 }, { 0, &g } }; struct t t = { 0, { { &g }, 0 } };\n"
+                                "int main(void) { struct x *x = (struct x *)&one; return *((struct s *)x)->p; }\n")
+        self.assertEqual((outcome.status, outcome.merged, self.wholes(outcome, "hole")), (0, ("s", "x"), []))
+        for line in ("set one: g", "set many: g", "set t.s: g", "set two:"):
+            self.assertIn(line, outcome.report.split("\n"))
 
 
 class Whole(Analysed):

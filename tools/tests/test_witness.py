@@ -12,8 +12,8 @@ from .test_rewrites import PTA
 
 HERE = os.path.dirname(os.path.abspath(__file__))
 PROGRAMS = os.path.join(HERE, "programs")
-_OWN = re.compile(r"\b[\w.]+\.c:(?=[A-Za-z_])")
-_PLACE = re.compile(r"(?:malloc|calloc|realloc|strdup)(@[\w./]+?:\d+):\d+")
+_OWN = re.compile(r"(?<!\S)[\w./-]+\.c:(?=[A-Za-z_])")
+_PLACE = re.compile(r"(?:malloc|calloc|realloc|strdup)@(?:[\w./-]*/)?([\w.-]+:\d+):\d+")
 
 
 def sets_of(report):
@@ -21,7 +21,7 @@ def sets_of(report):
     sets = {}
     for line in report.split("\n"):
         if line.startswith("set "):
-            line = re.sub(r"(/\w+)@\d+:\d+", r"\1", _OWN.sub("", _PLACE.sub(r"\1", line[4:])))
+            line = re.sub(r"(/\w+)@\d+:\d+", r"\1", _OWN.sub("", _PLACE.sub(r"@\1", line[4:])))
             name, members = re.match(r"(\S+):(?: (.*))?$", line).groups()
             sets.setdefault(name, set()).update((members or "").split())
     return sets
@@ -94,7 +94,7 @@ for _name, _count, _merged in (("arena", 6, 1), ("csv", 17, 0), ("events", 7, 0)
 class Lacking(unittest.TestCase):
     """The comparison finds what is lacking."""
 
-    REPORT = "pta 1\nset a.c:p: x s.n\nset s.m: malloc@a.c:3:4\nset malloc@a.c:3:4: a.c:y\nset f/q@1:2: u\nend\n"
+    REPORT = "pta 1\nset lib/a.c:p: x s.n\nset s.m: malloc@lib/a.c:3:4\nset malloc@lib/a.c:3:4: a.c:y\nset f/q@1:2: u\nend\n"
 
     def test_what_stands(self):
         facts = [["p", "x"], ["p", "s"], ["s.m", "@a.c:3"], ["@a.c:3", "y"], ["f/q", "u"]]
