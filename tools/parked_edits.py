@@ -1,11 +1,12 @@
 #!/usr/bin/env python3
 """Tries must-fail edits that the gate leaves out, since an edit costs a proof of its whole crate.
 
-usage: parked_edits.py [--fits] [CRATE..]
+usage: parked_edits.py [--fits] [CRATE | CRATE/WHAT ..]
 
-A parked edit is a file crates/NAME/must-fail/WHAT.edit.md: it has the form of an edit, and `rt ci` leaves it be. Each one of the CRATEs (all, if
-none is named) is tried as `rt must-fail` tries its own: the prover must refuse the crate with it. Run it after a change of such a crate, over
-libraries that are built. --fits proves nothing: it only says which edits no longer apply (an old text has to stand exactly once).
+A parked edit is a file crates/CRATE/must-fail/WHAT.edit.md: it has the form of an edit, and `rt ci` leaves it be. Each one that is named (all,
+if none is) is tried as `rt must-fail` tries its own, from nothing: the prover must refuse the crate with it. Run it after a change of such a
+crate, over libraries that are there (`lay.py`). --fits proves nothing: it only says which edits no longer apply (an old text has to stand
+exactly once).
 """
 import argparse
 import os
@@ -63,26 +64,31 @@ def misfits(root):
 
 
 def tried(root, names):
-    """Tries the parked edits of crates with these names, and returns how many were not refused."""
+    """Tries the parked edits with these names, CRATE or CRATE/WHAT (all, if there are none), and returns how many were not refused."""
     rt = load_kit()
     rt.rtlib.guarded()
-    crates = [it for it in rt.rtlib.crates_below(root) if not names or it.name in names]
-    lost = {*names} - {it.name for it in crates}
+    rt.rtlib.Crate = rt.Crate
+    rt.Crate.cuts_libraries = True
+    crates = rt.rtlib.crates_below(root)
+    edits = [(it, edit) for it in crates for edit in parked_in(it.folder)]
+    titles = [{it.name, f"{it.name}/{os.path.basename(edit).removesuffix('.edit.md')}"} for it, edit in edits]
+    lost = {*names} - set().union(*titles)
     if lost:
-        sys.exit(f"no such crate: {' '.join(sorted(lost))}")
+        sys.exit(f"no parked edit: {' '.join(sorted(lost))}")
     failed = 0
-    for crate in crates:
-        edits = parked_in(crate.folder)
-        for refused, text in rt.must_fail_all(crate, edits, ["--jobs", "1"]) if edits else []:
-            print(text, flush=True)
-            failed += not refused
+    for (crate, edit), title in zip(edits, titles):
+        if names and not title & {*names}:
+            continue
+        kind, text = rt.must_fail(crate, edit, ["--jobs", "1"])
+        print(text, flush=True)
+        failed += kind not in (rt.REFUSED, rt.AT_LIMIT)
     return failed
 
 
 def main():
     found = argparse.ArgumentParser(description=__doc__, formatter_class=argparse.RawDescriptionHelpFormatter)
     found.add_argument("--fits", action="store_true")
-    found.add_argument("crates", nargs="*")
+    found.add_argument("names", nargs="*")
     given = found.parse_args()
     root = os.path.dirname(os.path.dirname(os.path.realpath(__file__)))
     lines = misfits(root)
@@ -90,7 +96,7 @@ def main():
         print(line)
     if given.fits or lines:
         return 1 if lines else 0
-    return 1 if tried(root, given.crates) else 0
+    return 1 if tried(root, given.names) else 0
 
 
 if __name__ == "__main__":
