@@ -23,6 +23,14 @@ def text_of(path):
         return ""
 
 
+def is_edit(number):
+    """Returns whether a process checks an edited copy, which `rt` makes in a folder of its own."""
+    try:
+        return "/rt-edit-" in os.readlink(f"/proc/{number}/cwd")
+    except OSError:
+        return False
+
+
 def tasks():
     """Yields each check that runs: its crate, its kind, a name of the process, its processor seconds and its memory in bytes."""
     for number in filter(str.isdigit, os.listdir("/proc")):
@@ -33,7 +41,7 @@ def tasks():
         if len(fields) < 22:
             continue
         crate = words[words.index("--crate-name") + 1]
-        kind = "tests" if "--test" in words else "proof" if words[1] == "build" else "edit"
+        kind = "edit" if is_edit(number) else "tests" if "--test" in words else "proof"
         spent = sum(map(int, fields[11:15])) / TICKS
         yield crate, kind, f"{number}.{fields[19]}", spent, int(fields[21]) * os.sysconf("SC_PAGE_SIZE")
 
