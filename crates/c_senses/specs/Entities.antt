@@ -19,7 +19,7 @@ use Rattle.c_inits.specs.passed.c_grammar.Productions.{p_designator, p_block, p_
 use Rattle.c_inits.specs.passed.c_grammar.Productions.{p_struct, p_members}
 use Rattle.c_inits.specs.passed.c_grammar.Words.{word_extern, word_static, word_inline, word_sizeof, word_alignof}
 use Rattle.c_inits.specs.passed.c_grammar.Words.{sign_assign}
-use Rattle.c_senses.specs.Tree.{Source, is_a, has_sign, has_word, children_at, paired, last_where, any_where}
+use Rattle.c_senses.specs.Tree.{Source, is_a, has_sign, has_word, children_at, paired, last_where, any_where, first_is}
 use Rattle.c_senses.specs.Tree.{child_of, parent_of, nearest_above, all_nodes}
 use Rattle.c_scope.specs.declared.kinds.Declared.{Declared as Declaration}
 use Rattle.c_senses.specs.Names.{has_linkage, names_type, made_before, linked_before, before_in_scope}
@@ -285,7 +285,7 @@ module _ (s : Source) (sense : ℕ → Sense) where
   -- evaluated
   abbrev pub is_operand_word : ℕ → Bool
   is_operand_word i =
-      is_a s p_unary i && any_where (λ c. has_word s word_sizeof c || has_word s word_alignof c) (children_at s i)
+      is_a s p_unary i && first_is (λ c. has_word s word_sizeof c || has_word s word_alignof c) (children_at s i)
 
   abbrev pub is_object_initialiser : ℕ → Bool
   is_object_initialiser i = is_a s p_init i && elim (parent_of s i) [ None ↦ false | Some p ↦ is_a s p_rest p ]

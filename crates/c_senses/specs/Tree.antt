@@ -133,6 +133,11 @@ abbrev pub any_where : (ℕ → Bool) → List ℕ → Bool
 any_where test [] = false
 any_where test (x ∷ xs) = test x || any_where test xs
 
+-- there is a first one, and it passes
+abbrev pub first_is : (ℕ → Bool) → List ℕ → Bool
+first_is test [] = false
+first_is test (x ∷ xs) = test x
+
 -- the first child of that production
 abbrev pub child_of : Source → ℕ → ℕ → Option ℕ
 child_of s production i = first_where (is_a s production) (children_at s i)

@@ -1,6 +1,6 @@
 // The nodes above a node.
 ghost use Rattle.std.specs.Prelude.{◌≡◌, ◌<◌, length, IfSome};
-ghost use Rattle.c_senses.specs.Tree.{any_where, nearest_above};
+ghost use Rattle.c_senses.specs.Tree.{first_is, nearest_above};
 ghost use Rattle.c_senses.specs.Entities as spec;
 ghost use Rattle.tree_reads.specs.Sources.{source_read};
 ghost use Rattle.name_places.specs.Levels.{asks, is_definition, is_in_rest, level_seen, no_senses};
@@ -57,16 +57,14 @@ fn asks(syntax: &Syntax, node: u32) -> bool
     has_word(syntax, WORD_SIZEOF, node) || has_word(syntax, WORD_ALIGNOF, node)
 }
 
-// Whether one of those keywords is among some nodes.
-fn any_asks(syntax: &Syntax, list: &[u32]) -> bool
-    ensures { result ≡ any_where (asks (source_read syntax.now)) list.now }
+// Whether the first of some nodes is one of those keywords.
+fn first_asks(syntax: &Syntax, list: &[u32]) -> bool
+    ensures { result ≡ first_is (asks (source_read syntax.now)) list.now }
 {
-    for node in list {
-        if asks(syntax, *node) {
-            return true;
-        }
+    match list.first() {
+        Some(first) => asks(syntax, *first),
+        None => false,
     }
-    false
 }
 
 // Whether a node stands in what follows a declared name.
@@ -94,7 +92,7 @@ fn is_boundary(syntax: &Syntax, node: u32) -> bool
     ensures { result ≡ spec.is_boundary (source_read syntax.now) no_senses node }
 {
     let production = production_of(syntax, node);
-    (production == P_UNARY && any_asks(syntax, children_of(syntax, node)))
+    (production == P_UNARY && first_asks(syntax, children_of(syntax, node)))
         || production == P_SUFFIX
         || production == P_ALIGN
         || production == P_ENUMERATOR
