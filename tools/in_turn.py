@@ -1,0 +1,98 @@
+#!/usr/bin/env python3
+"""Lets few checks of the prover run at a time: in_turn.py ROOT [--gate N] [--others N]
+
+On four processors that share ten checks a crate takes up to twice the processor time: a check works on a gigabyte. So while
+several runs of `rt ci` and several clones' checks are under way, this script lets only --gate checks of runs (5 without it) and --others
+of clones (1 without it) run, and stops the rest (SIGSTOP) until their turn (SIGCONT). Of runs those go first that have the longest chain of
+other crates behind them, by the sizes of ROOT's crates; must-fail edits go last; of clones the one that has had the least processor time.
+It prints who runs each time that changes, and lets all go on when it is ended (Ctrl-C, SIGTERM).
+"""
+import argparse
+import functools
+import os
+import signal
+import sys
+import time
+
+sys.path.insert(0, os.path.dirname(os.path.realpath(__file__)))
+import house
+
+RUNS = ("/tmp/rt-copy-", "/tmp/rt-proved-", "/tmp/rt-edit-")
+
+
+def chains(root):
+    """Returns, for each crate, the work in seconds of the longest chain of crates above it."""
+    rows = house.table(root)
+    sizes = {name: house.Size.of(f"{root}/crates/{name}") for name in rows}
+    users = {name: [user for user, uses in rows.items() if name in uses] for name in rows}
+
+    @functools.lru_cache(None)
+    def behind(name):
+        return max((3.0 * sizes[user].functions + 0.008 * sizes[user].text + behind(user) for user in users[name]), default=0.0)
+
+    return {name: behind(name) for name in rows}
+
+
+def checks(root):
+    """Yields each check that is under way: its process, whether a run of `rt ci` made it, its folder, its processor time, its beginning."""
+    for number in filter(str.isdigit, os.listdir("/proc")):
+        try:
+            with open(f"/proc/{number}/cmdline", encoding="utf-8", errors="replace") as file:
+                if not file.read().split("\0")[0].endswith("bin/rattle"):
+                    continue
+            folder = os.readlink(f"/proc/{number}/cwd")
+            with open(f"/proc/{number}/stat", encoding="utf-8", errors="replace") as file:
+                fields = file.read().rpartition(")")[2].split()
+            is_run = folder.startswith(RUNS) or folder.startswith(f"{root}/")
+            yield int(number), is_run, folder, int(fields[11]) + int(fields[12]), int(fields[19])
+        except (OSError, IndexError, ValueError):
+            continue
+
+
+def chosen(found, behind, gate, others):
+    """Returns the processes that may run."""
+
+    def order(it):
+        _, _, folder, _, begun = it
+        return folder.startswith("/tmp/rt-edit-"), -behind.get(os.path.basename(folder), 0.0), begun
+
+    runs = sorted((it for it in found if it[1]), key=order)
+    rest = sorted((it for it in found if not it[1]), key=lambda it: it[3])
+    return [it[0] for it in runs[:gate] + rest[:others]]
+
+
+def tell(number, what):
+    try:
+        os.kill(number, what)
+    except ProcessLookupError:
+        pass
+
+
+def main():
+    parser = argparse.ArgumentParser(description=__doc__, formatter_class=argparse.RawDescriptionHelpFormatter)
+    parser.add_argument("root")
+    parser.add_argument("--gate", type=int, default=5)
+    parser.add_argument("--others", type=int, default=1)
+    words = parser.parse_args()
+    root = os.path.realpath(words.root)
+    behind, before = chains(root), None
+    signal.signal(signal.SIGTERM, lambda *_: sys.exit(0))
+    try:
+        while True:
+            found = list(checks(root))
+            run = chosen(found, behind, words.gate, words.others)
+            for it in found:
+                tell(it[0], signal.SIGCONT if it[0] in run else signal.SIGSTOP)
+            if run != before:
+                before = run
+                print(time.strftime("%H:%M:%S"), *(os.path.basename(it[2]) for it in found if it[0] in run), flush=True)
+            time.sleep(3)
+    except KeyboardInterrupt:
+        return 0
+    finally:
+        for it in checks(root):
+            tell(it[0], signal.SIGCONT)
+
+
+if __name__ == "__main__":
+    sys.exit(main())
