@@ -3,7 +3,7 @@ mod Around
 mod Ended
 mod Entered
 mod Kept
+mod Marked
 mod Objects
 mod Ordered
-mod Searches
 mod Waits

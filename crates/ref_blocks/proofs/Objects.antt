@@ -68,10 +68,10 @@ own_literal u n b node o h f = ap (λ (t : Bool). if t then literal_of u node.ki
 
 -- All lists.
 
-same_lists_of : (f g : ℕ → List ℕ) (n : ℕ) → ((b : ℕ) → g b ≡ f b) → map f (range_with_len 0 n) ≡ map g (range_with_len 0 n)
+pub same_lists_of : (f g : ℕ → List ℕ) (n : ℕ) → ((b : ℕ) → g b ≡ f b) → map f (range_with_len 0 n) ≡ map g (range_with_len 0 n)
 same_lists_of f g n h = ap (λ (k : ℕ → List ℕ). map k (range_with_len 0 n)) (fun_ext (λ (b : ℕ). sym (h b)))
 
-set_list : (f g : ℕ → List ℕ) (n c : ℕ) (xs : List (List ℕ)) (change : List ℕ → List ℕ) → xs ≡ map f (range_with_len 0 n) → ((b : ℕ) → (b ≡ c → ⊥) → g b ≡ f b) → g c ≡ change (f c) → set xs c (change (get_or xs c [])) ≡ map g (range_with_len 0 n)
+pub set_list : (f g : ℕ → List ℕ) (n c : ℕ) (xs : List (List ℕ)) (change : List ℕ → List ℕ) → xs ≡ map f (range_with_len 0 n) → ((b : ℕ) → (b ≡ c → ⊥) → g b ≡ f b) → g c ≡ change (f c) → set xs c (change (get_or xs c [])) ≡ map g (range_with_len 0 n)
 set_list f g n c xs change e other here =
     fill_by_all g (set xs c (change (get_or xs c []))) n []
     (length-set xs c (change (get_or xs c [])) ∙ ap length e ∙ length-map-range_with_len f 0 n)
@@ -196,10 +196,10 @@ no_objects u b l = sym (ap (λ (w : List ℕ). put_all u.entities [] (w ++ liter
 
 -- The lists are read.
 
-read_there : (f : ℕ → List ℕ) (n k : ℕ) (xs : List (List ℕ)) → xs ≡ map f (range_with_len 0 n) → k < n → get_or xs k [] ≡ f k
+pub read_there : (f : ℕ → List ℕ) (n k : ℕ) (xs : List (List ℕ)) → xs ≡ map f (range_with_len 0 n) → k < n → get_or xs k [] ≡ f k
 read_there f n k xs e l = ap (λ (w : List (List ℕ)). get_or w k []) e ∙ get_or-map-range_with_len f 0 n k k [] l (omega arith)
 
-read_past : (f : ℕ → List ℕ) (n k : ℕ) (xs : List (List ℕ)) → xs ≡ map f (range_with_len 0 n) → n ≤ k → get_or xs k [] ≡ []
+pub read_past : (f : ℕ → List ℕ) (n k : ℕ) (xs : List (List ℕ)) → xs ≡ map f (range_with_len 0 n) → n ≤ k → get_or xs k [] ≡ []
 read_past f n k xs e l =
     let long : length xs ≡ n = ap length e ∙ length-map-range_with_len f 0 n in
     get_or_past xs k [] (omega arith)

@@ -5,4 +5,5 @@ pub mod Order
 pub mod Around
 pub mod Blocks
 pub mod Jumps
+pub mod Marks
 pub mod Plans

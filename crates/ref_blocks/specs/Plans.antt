@@ -11,12 +11,14 @@ use Rattle.ref_blocks.specs.declared.plan.Plan.{Plan}
 use Rattle.ref_blocks.specs.Parents.{AreParents}
 use Rattle.ref_blocks.specs.Around.{objects_of, listed_of, literal_within}
 use Rattle.ref_blocks.specs.Order.{put_all}
+use Rattle.ref_blocks.specs.Marks.{marks_of}
 
--- the node above each node, and the objects of each block
+-- the node above each node, the objects of each block, and where jumps go that are found from each node
 pub record IsPlan (u : CoreTrees) (plan : Plan) : Type 0 where
   pub parents : AreParents u.nodes plan.parents.items
   pub own : plan.own.items ≡ map (λ n. objects_of u (Own n)) (range_with_len 0 (length u.nodes))
   pub parts : plan.parts.items ≡ map (λ n. objects_of u (Part n)) (range_with_len 0 (length u.nodes))
+  pub marks : plan.marks.items ≡ map (marks_of u.nodes) (range_with_len 0 (length u.nodes))
 
 -- the memory and a frame's instances after doors
 abbrev pub blocks_by : List Instance → Doors → Blocks

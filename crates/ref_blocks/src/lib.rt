@@ -6,6 +6,7 @@ pub mod blocks;
 pub mod jumps;
 pub mod lists;
 pub mod loops;
+pub mod marks;
 pub mod order;
 pub mod parents;
 pub mod plan;

@@ -1,10 +1,11 @@
-// What is found once of a program: the node above each node, and the objects of each block.
+// What is found once of a program: the node above each node, the objects of each block, and where jumps go.
 
 ghost use Rattle.std.specs.Prelude.{◌≡◌, ◌<◌, [], All, IfOk, IfSome, length, slice_index_or};
 ghost use Rattle.core_tree.specs.Seen.{core_of};
 
 use crate::block::Block;
 use crate::lists::{empty_lists, listed_lists, put_literal};
+use crate::marks::put_mark;
 use crate::parents::{above, nearest_at, parent_at, parents_of, root_at};
 use crate::ways::{Link, Sought};
 use c_types::term::OutOfMemory;
@@ -13,12 +14,13 @@ use pta_base::Listing;
 use std::alloc::Global;
 
 /// The node above each node, and the objects of each block, in order of place: those of a statement by its node, and those
-/// of a branch or body by its node.
+/// of a branch or body by its node. `marks` are the nodes to which jumps go, by the node from which they are found, in order.
 #[derive(Drop)]
 pub struct Plan {
     parents: Vec<Option<u32>>,
     own: Vec<Listing<u32>>,
     parts: Vec<Listing<u32>>,
+    marks: Vec<Listing<u32>>,
 }
 
 // The list of that number, or none.
@@ -37,6 +39,7 @@ impl Plan {
     ghost use Rattle.ref_blocks.specs.Ways.{parent_of, above, root_of};
     ghost use Rattle.ref_blocks.specs.Around.{objects_of};
     ghost use Rattle.ref_blocks.specs.Ways.{is_sought, nearest};
+    ghost use Rattle.ref_blocks.specs.Marks.{marks_of};
     ghost use Rattle.ref_blocks.specs.Plans.{IsPlan};
 
     /// The plan of a program. It answers want of memory where there are 2 to the 32 nodes or more, which no numbers name.
@@ -49,6 +52,7 @@ impl Plan {
         let parents = parents_of(alloc, trees.nodes)?;
         let mut own = listed_lists(alloc, trees)?;
         let mut parts = empty_lists(alloc, trees)?;
+        let mut marks = empty_lists(alloc, trees)?;
         for n in 0..trees.nodes.len() {
             put_literal(
                 alloc,
@@ -58,11 +62,13 @@ impl Plan {
                 &mut parts,
                 n as u32,
             )?;
+            put_mark(parents.as_slice(), trees.nodes, &mut marks, n as u32)?;
         }
         Ok(Plan {
             parents,
             own,
             parts,
+            marks,
         })
     }
 
@@ -112,5 +118,15 @@ impl Plan {
             Block::Own(n) => list_at(self.own.as_slice(), n),
             Block::Part(n) => list_at(self.parts.as_slice(), n),
         }
+    }
+
+    /// The nodes to which jumps go that are found from a node: from a switch its cases and its `default`, from the topmost node
+    /// of a body its labels, each list in order.
+    pub fn marks_of<'a>(&'a self, trees: &Trees<'_>, m: u32) -> &'a [u32]
+        requires { IsPlan (core_of trees.now) self.now }
+        ensures { result.now ≡ marks_of trees.now.nodes.now m }
+    {
+        let _ = trees;
+        list_at(self.marks.as_slice(), m)
     }
 }

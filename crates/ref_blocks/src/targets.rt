@@ -1,10 +1,10 @@
 // Which nodes are the targets of jumps.
 
-ghost use Rattle.std.specs.Prelude.{◌≡◌, ◌==◌, ◌&&◌};
+ghost use Rattle.std.specs.Prelude.{◌≡◌};
 ghost use Rattle.core_tree.specs.Seen.{core_of};
 ghost use Rattle.ref_blocks.specs.Plans.{IsPlan};
-ghost use Rattle.ref_blocks.specs.Ways.{root_of};
-ghost use Rattle.ref_blocks.specs.Jumps.{switch_of, is_some_number, is_case, case_of, switch_target, is_label_named, label_target};
+ghost use Rattle.ref_blocks.specs.Jumps.{is_some_number, is_case, case_of, switch_target, is_label_named, label_target};
+ghost use Rattle.ref_blocks.specs.Marks.{is_case_at, is_label_at};
 
 use crate::plan::Plan;
 use crate::ways::Sought;
@@ -36,18 +36,16 @@ fn is_case(kind: &NodeKind, x: Option<i128>) -> bool
 }
 
 // Whether a node is a case of that number, or the `default`, of a switch.
-fn is_case_of(
-    trees: &Trees<'_>,
-    plan: &Plan,
-    s: u32,
-    x: Option<i128>,
-    n: u32,
-    kind: &NodeKind,
-) -> bool
+fn is_case_of(trees: &Trees<'_>, plan: &Plan, s: u32, x: Option<i128>, n: u32) -> bool
     requires { IsPlan (core_of trees.now) plan.now }
-    ensures { result ≡ (is_case x kind.now && is_some_number s (switch_of trees.now.nodes.now n)) }
+    ensures { result ≡ is_case_at trees.now.nodes.now s x n }
 {
-    is_case(kind, x) && is_some_number(s, plan.nearest(trees, n, Sought::SwitchAlone))
+    match trees.nodes.get(n as usize) {
+        Some(node) => {
+            is_case(&node.kind, x) && is_some_number(s, plan.nearest(trees, n, Sought::SwitchAlone))
+        }
+        None => false,
+    }
 }
 
 // The case of a switch with that number, or its `default`.
@@ -55,9 +53,10 @@ fn case_of(trees: &Trees<'_>, plan: &Plan, s: u32, x: Option<i128>) -> Option<u3
     requires { IsPlan (core_of trees.now) plan.now }
     ensures { result ≡ case_of trees.now.nodes.now s x }
 {
-    for (n, node) in trees.nodes.iter().enumerate() {
-        if is_case_of(trees, plan, s, x, n as u32, &node.kind) {
-            return Some(n as u32);
+    let marks = plan.marks_of(trees, s);
+    for n in marks {
+        if is_case_of(trees, plan, s, x, *n) {
+            return Some(*n);
         }
     }
     None
@@ -85,18 +84,14 @@ fn is_label_named(kind: &NodeKind, name: &str) -> bool
 }
 
 // Whether a node is the label of that name under a topmost node.
-fn is_label_under(
-    trees: &Trees<'_>,
-    plan: &Plan,
-    root: u32,
-    name: &str,
-    t: u32,
-    kind: &NodeKind,
-) -> bool
+fn is_label_under(trees: &Trees<'_>, plan: &Plan, root: u32, name: &str, t: u32) -> bool
     requires { IsPlan (core_of trees.now) plan.now }
-    ensures { result ≡ (is_label_named name.now kind.now && (root_of trees.now.nodes.now t == root)) }
+    ensures { result ≡ is_label_at trees.now.nodes.now root name.now t }
 {
-    is_label_named(kind, name) && plan.root_of(trees, t) == root
+    match trees.nodes.get(t as usize) {
+        Some(node) => is_label_named(&node.kind, name) && plan.root_of(trees, t) == root,
+        None => false,
+    }
 }
 
 /// The label of that name in the body in which a node stands (C11 6.8.6.1p1).
@@ -105,9 +100,10 @@ pub fn label_target(trees: &Trees<'_>, plan: &Plan, n: u32, name: &str) -> Optio
     ensures { result ≡ label_target trees.now.nodes.now n name.now }
 {
     let root = plan.root_of(trees, n);
-    for (t, node) in trees.nodes.iter().enumerate() {
-        if is_label_under(trees, plan, root, name, t as u32, &node.kind) {
-            return Some(t as u32);
+    let marks = plan.marks_of(trees, root);
+    for t in marks {
+        if is_label_under(trees, plan, root, name, *t) {
+            return Some(*t);
         }
     }
     None

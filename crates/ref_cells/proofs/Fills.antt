@@ -7,7 +7,7 @@ use Rattle.c_types.specs.declared.term.MemberTerm.{MemberTerm}
 use Rattle.c_types.specs.declared.term.PathStep.TheVariants.{Index, Member}
 use Rattle.c_types.specs.Trees.{Ctype}
 use Rattle.ref_cells.specs.Cells.{Entry, CellList, prefixed, joined, under}
-use Rattle.ref_cells.specs.Values.{Fill, elements, members_from, one_member}
+use Rattle.ref_cells.specs.Values.{Fill, listed, elements, members_from, one_member}
 
 pub joined_step : (front : List PathStep) (s : PathStep) (xs : CellList) → joined (front ++ s ∷ []) xs ≡ joined front (prefixed s xs)
 joined_step front s [] = refl
@@ -54,9 +54,9 @@ pub member_step_on : (fill : Fill) (k : ℕ) (t : Ctype) (types rest : List Ctyp
 member_step_on fill k t types rest cells part out1 out2 whole front there before th b p ts a e =
     member_more fill k t types rest cells out1 out2 whole front ts a (one_more out1 out2 before front (Member k) (fill t (under (Member k) cells)) (b ∙ ap (λ (q : List PathStep). q ++ Member k ∷ []) th) (e ∙ ap (λ (xs : CellList). out1 ++ joined before (fill t xs)) p))
 
-pub active_some : (fill : Fill) (k : ℕ) (t : Ctype) (found : Option Ctype) (cells part out1 out2 : CellList) (front before : List PathStep) → before ≡ front ++ Member k ∷ [] → part ≡ under (Member k) cells → found ≡ Some t → out2 ≡ out1 ++ joined before (fill t part) → out2 ≡ out1 ++ joined front (one_member fill k found cells)
+pub active_some : (fill : Fill) (k : ℕ) (t : Ctype) (found : Option Ctype) (cells part out1 out2 : CellList) (front before : List PathStep) → before ≡ front ++ Member k ∷ [] → part ≡ under (Member k) cells → found ≡ Some t → out2 ≡ out1 ++ joined before (listed (fill t part)) → out2 ≡ out1 ++ joined front (one_member fill k found cells)
 active_some fill k t found cells part out1 out2 front before b p f e =
-    one_more out1 out2 before front (Member k) (fill t (under (Member k) cells)) b (e ∙ ap (λ (xs : CellList). out1 ++ joined before (fill t xs)) p) ∙ ap (λ (o : Option Ctype). out1 ++ joined front (one_member fill k o cells)) (sym f)
+    one_more out1 out2 before front (Member k) (listed (fill t (under (Member k) cells))) b (e ∙ ap (λ (xs : CellList). out1 ++ joined before (listed (fill t xs))) p) ∙ ap (λ (o : Option Ctype). out1 ++ joined front (one_member fill k o cells)) (sym f)
 
 pub active_none : (fill : Fill) (k : ℕ) (found : Option Ctype) (cells out : CellList) (front : List PathStep) → found ≡ None → out ≡ out ++ joined front (one_member fill k found cells)
 active_none fill k found cells out front f = sym (ap (λ (o : Option Ctype). out ++ joined front (one_member fill k o cells)) f ∙ append-nil out)

@@ -8,7 +8,7 @@ use Rattle.c_types.specs.Paths.{part_below}
 use Rattle.ref_cells.specs.declared.cells.Cell.{Cell}
 use Rattle.ref_cells.specs.Cells.{Entry, CellList, step_key, head_key, prefixed, under, below, above, is_below, is_above}
 use Rattle.ref_cells.specs.Order.{IsBefore, IsBeforeAll, IsOrdered}
-use Rattle.ref_cells.specs.Values.{Fill, active, elements, members_from, one_member, member_types, filled_by, filled_to, filled, goes_on}
+use Rattle.ref_cells.specs.Values.{Fill, listed, active, elements, members_from, one_member, member_types, filled_by, filled_to, filled, goes_on}
 use Rattle.ref_cells.specs.Puts.{lost, put}
 use Rattle.ref_cells.proofs.Unders.{ordered_under}
 
@@ -98,9 +98,15 @@ ordered_members fill o k (t ∷ rest) cells =
     (ordered_prefixed (Member k) (fill t (under (Member k) cells)) (o t (under (Member k) cells)))
     (ordered_members fill o (k + 1) rest cells)
 
+-- what is listed of a part
+pub listed_ordered : (xs : CellList) → IsOrdered xs → IsOrdered (listed xs)
+listed_ordered [] h = (tt, tt)
+listed_ordered (e ∷ xs) h = h
+
 ordered_member : (fill : Fill) → ((t : Ctype) (cells : CellList) → IsOrdered (fill t cells)) → (k : ℕ) (t : Option Ctype) (cells : CellList) → IsOrdered (one_member fill k t cells)
 ordered_member fill o k None cells = tt
-ordered_member fill o k (Some t) cells = ordered_prefixed (Member k) (fill t (under (Member k) cells)) (o t (under (Member k) cells))
+ordered_member fill o k (Some t) cells =
+    ordered_prefixed (Member k) (listed (fill t (under (Member k) cells))) (listed_ordered (fill t (under (Member k) cells)) (o t (under (Member k) cells)))
 
 ordered_by : (table : Table) (marked : Bool) (fill : Fill) → ((t : Ctype) (cells : CellList) → IsOrdered (fill t cells)) → (t : Ctype) (cells : CellList) → IsOrdered (filled_by table marked fill t cells)
 ordered_by table marked fill o VoidType cells = tt
@@ -165,7 +171,7 @@ ordered_cases true xs ys h k = h
 ordered_cases false xs ys h k = k
 
 pub put_ordered : (table : Table) (marked : Bool) (t : Option Ctype) (path : List PathStep) (value cells : CellList) → IsOrdered value → IsOrdered cells → IsOrdered (put table marked t path value cells)
-put_ordered table marked t [] value cells v h = v
+put_ordered table marked t [] value cells v h = listed_ordered value v
 put_ordered table marked t (step ∷ rest) value cells v h =
     let part = part_below table t step in
     ordered_cases (goes_on t step cells) (below step cells ++ prefixed step (put table marked part rest value (under step cells)) ++ above step cells) (prefixed step (put table marked part rest value (lost table marked part)))

@@ -29,6 +29,13 @@ abbrev pub member_step : List PathStep → ℕ
 member_step (Member k ∷ rest) = k
 member_step path = 0
 
+-- What is listed of a part so that it isn't forgotten: its cells, or its own place, unset, where it has none.
+-- An empty structure is no scalar, so nothing reads what stands at its place; but a union tells by it which member is
+-- active.
+abbrev pub listed : CellList → CellList
+listed [] = ([], Unset) ∷ []
+listed (e ∷ rest) = e ∷ rest
+
 -- the active member of a union: the one under which a cell is listed, else the first
 abbrev pub active : CellList → ℕ
 active [] = 0
@@ -55,7 +62,7 @@ members_from fill k (t ∷ rest) cells =
 
 abbrev pub one_member : Fill → ℕ → Option Ctype → CellList → CellList
 one_member fill k None cells = []
-one_member fill k (Some t) cells = prefixed (Member k) (fill t (under (Member k) cells))
+one_member fill k (Some t) cells = prefixed (Member k) (listed (fill t (under (Member k) cells)))
 
 -- the cells of a value, where the members of structures and unions are filled like this
 abbrev pub filled_by : Table → Bool → Fill → Ctype → CellList → CellList
@@ -74,8 +81,8 @@ filled_to table marked zero = λ t cells. []
 filled_to table marked (suc depth) = filled_by table marked (filled_to table marked depth)
 
 -- All cells of a value, unset ones too: a structure's are those of its members, an array's those of its elements, a
--- union's those of its active member. No structure or union holds one of its own tag, so there are no more levels
--- than tags.
+-- union's those of its active member, or that member's place where it has none. No structure or union holds one of its
+-- own tag, so there are no more levels than tags.
 unfoldable pub filled : Table → Bool → Fill
 filled table marked = filled_by table marked (filled_to table marked table.tags)
 

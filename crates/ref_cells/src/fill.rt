@@ -4,9 +4,9 @@ ghost use Rattle.std.specs.Prelude.{◌≡◌, ◌+◌, ◌<◌, ◌∷◌, [], 
 ghost use Rattle.std.specs.Option.{option_map};
 ghost use Rattle.c_types.specs.Table.{type_of};
 ghost use Rattle.c_types.specs.Trees.{Ctype, grow};
-ghost use Rattle.ref_cells.specs.Cells.{seen, joined, under};
+ghost use Rattle.ref_cells.specs.Cells.{CellList, seen, joined, under};
 ghost use Rattle.ref_cells.specs.Order.{IsOrdered};
-ghost use Rattle.ref_cells.specs.Values.{zero_cell, member_step, blank, cell_in, active, elements, members_from, one_member, filled_by, filled_to, filled};
+ghost use Rattle.ref_cells.specs.Values.{zero_cell, listed, member_step, blank, cell_in, active, elements, members_from, one_member, filled_by, filled_to, filled};
 
 use crate::cells::{Cell, Path, copy_path, push_entry};
 use crate::order::under;
@@ -216,6 +216,25 @@ fn fill_members(
     Ok(())
 }
 
+// The place of a part of which no cells were put out.
+fn list_place(
+    alloc: Global,
+    start: usize,
+    front: &[PathStep],
+    out: &mut Vec<(Path, Cell)>,
+) -> Result<(), OutOfMemory>
+    ensures { (before cells : CellList) →
+        length before ≡ start
+        → out.old.items ≡ before ++ joined front.now cells
+        → OnOk result (out.new.items ≡ before ++ joined front.now (listed cells)) }
+{
+    if out.len() > start {
+        return Ok(());
+    }
+    let path = copy_path(alloc, front)?;
+    push_entry(out, path, Cell::Unset)
+}
+
 // The cells of the active member of a union.
 #[cycle(fill)]
 fn fill_active(
@@ -243,7 +262,9 @@ fn fill_active(
         Some(ty) => {
             let steps = front.len();
             let (part, deeper) = enter(cells, depth, PathStep::Member(k), front)?;
+            let start = out.len();
             fill_below(filling, levels, ty, part, deeper, front, out)?;
+            list_place(filling.alloc, start, front.as_slice(), out)?;
             front.truncate(steps);
             Ok(())
         }

@@ -6,7 +6,7 @@ ghost use Rattle.c_types.specs.Table.{type_of};
 ghost use Rattle.ref_cells.specs.Cells.{CellList, seen, joined};
 ghost use Rattle.ref_cells.specs.Order.{IsOrdered};
 ghost use Rattle.ref_cells.specs.Wholes.{shape_in, IsOver};
-ghost use Rattle.ref_cells.specs.Values.{goes_on};
+ghost use Rattle.ref_cells.specs.Values.{goes_on, listed};
 ghost use Rattle.ref_cells.specs.Puts.{lost, put, replaced};
 
 use crate::cells::{Cell, Cells, Path, copy_entries, push_entry};
@@ -182,6 +182,20 @@ pub fn put(
     replace(list, at.from, at.to, inside)
 }
 
+// What is listed of a value: its cells, or its own place where it has none.
+fn listed(alloc: Global, value: &[(Path, Cell)]) -> Result<Vec<(Path, Cell)>, OutOfMemory>
+    ensures { IfOk result (λ list. list.items ≡ listed value.now) }
+{
+    match value {
+        [] => {
+            let mut list = Vec::new(alloc);
+            push_entry(&mut list, Listing::new(alloc), Cell::Unset)?;
+            Ok(list)
+        }
+        [_, ..] => copy_entries(alloc, value),
+    }
+}
+
 // What stands there after a write.
 #[cycle(put)]
 fn put_below(
@@ -196,7 +210,7 @@ fn put_below(
         list.items ≡ replaced table filling.now.marked (shape_in table whole) path.now value.now) }
 {
     match path {
-        [] => copy_entries(filling.alloc, value),
+        [] => listed(filling.alloc, value),
         [step, rest @ ..] => {
             let part = part_in(filling.types, whole, *step);
             let mut list = lost(filling, part)?;

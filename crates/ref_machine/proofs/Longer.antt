@@ -18,7 +18,7 @@ use Rattle.ref_frames.specs.Running.{element_in}
 use Rattle.ref_frames.specs.Made.{AreElementsKnown}
 use Rattle.ref_machine.specs.Types.{trees_with}
 
-pub longer : (table : Table) → length (types_with table).terms ≡ length table.terms + 9
+pub longer : (table : Table) → length (types_with table).terms ≡ length table.terms + 8
 unfolding types_with
 longer table = omega (arith, length-append table.terms (library_terms (length table.terms)))
 

@@ -95,7 +95,7 @@ module _ (p : Program) (prepared : Prepared) (h : IsPreparedOf p prepared) where
   -- the types of the library's objects are of the table
   pub library_types_known : (w : Running) → w ≡ running p → All (IsKnown (length w.trees.types.terms)) (object_types prepared.library)
   library_types_known w e =
-      let lt : length p.types.terms + 8 < length (types_with p.types).terms = omega (arith, longer p.types) in
+      let lt : length p.types.terms + 7 < length (types_with p.types).terms = omega (arith, longer p.types) in
       subst (λ (v : Running). All (IsKnown (length v.trees.types.terms)) (object_types prepared.library)) (sym e)
       (subst (λ (ids : LibraryTypes). All (IsKnown (length (types_with p.types).terms)) (object_types ids)) (sym h.library)
       (library_known (length p.types.terms) (length (types_with p.types).terms) lt))

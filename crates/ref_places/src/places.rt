@@ -19,8 +19,8 @@ use ref_cells::wholes::Whole;
 use ref_elements::parts::same_type;
 use std::alloc::Global;
 
-// The kind and number of an object.
-fn pair_of(key: ObjectKey) -> (u32, u32)
+/// The kind and number of an object.
+pub fn pair_of(key: ObjectKey) -> (u32, u32)
     ensures kind { result.0 ≡ kind_of key }
     ensures number { result.1 ≡ number_of key }
 {

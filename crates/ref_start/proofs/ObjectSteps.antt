@@ -29,11 +29,11 @@ use Rattle.std.specs.Prelude.{if◌then◌else◌}
 use Rattle.ref_start.specs.Objects.{object_types, object_with, is_static, entity_object, literal_by, literal_object, object_of, is_new, object_at, objects_after, points_to, pointed, static_objects}
 
 -- the types of the library's objects are among the terms that stand behind those of a program
-pub library_known : (n terms : ℕ) → n + 8 < terms → All (IsKnown terms) (object_types (library_ids n))
+pub library_known : (n terms : ℕ) → n + 7 < terms → All (IsKnown terms) (object_types (library_ids n))
 library_known n terms lt =
-    let at : (k : ℕ) → k ≤ 8 → n + k < terms = λ k le. omega (arith, lt, le) in
+    let at : (k : ℕ) → k ≤ 7 → n + k < terms = λ k le. omega (arith, lt, le) in
     All-from_recursion (IsKnown terms) (object_types (library_ids n))
-    (at 2 (lit≤ tt), (at 2 (lit≤ tt), (tt, (at 6 (lit≤ tt), (at 6 (lit≤ tt), (at 6 (lit≤ tt), (at 8 (lit≤ tt), (at 6 (lit≤ tt), (at 4 (lit≤ tt), (at 7 (lit≤ tt), (at 1 (lit≤ tt), tt)))))))))))
+    (at 2 (lit≤ tt), (at 2 (lit≤ tt), (tt, (at 5 (lit≤ tt), (at 5 (lit≤ tt), (at 5 (lit≤ tt), (at 7 (lit≤ tt), (at 5 (lit≤ tt), (at 4 (lit≤ tt), (at 6 (lit≤ tt), (at 1 (lit≤ tt), tt)))))))))))
 
 one_before : (o : Option Instance) (rest : List Instance) → cons_option o [] ++ rest ≡ cons_option o rest
 one_before None rest = refl

@@ -7,7 +7,6 @@ ghost use Rattle.ref_mem.specs.Reads.{one_cell};
 ghost use Rattle.ref_mem.specs.Writes.{changed};
 ghost use Rattle.ref_elements.specs.Outcomes.{start_of};
 ghost use Rattle.ref_elements.specs.Objects.{object_from};
-ghost use Rattle.ref_texts.specs.Writing.{text_of};
 ghost use Rattle.ref_state.specs.ref_types.Types.{library_ids};
 ghost use Rattle.ref_frames.specs.Made.{IsRunning, seen};
 ghost use Rattle.ref_start.specs.Objects.{cells_from};
@@ -27,6 +26,7 @@ use ref_frames::running::Running;
 use ref_state::lists::push;
 use ref_state::ref_types::LibraryTypes;
 use ref_state::state::State;
+use ref_texts::text_of;
 use row_numbers::functions::{Role, plays};
 use std::alloc::Global;
 
@@ -42,23 +42,6 @@ pub fn main_of(entities: &[Entity]) -> Option<u32>
         }
     }
     None
-}
-
-// The text that a word gives: its bytes from the lowest up to the first zero, at most seven.
-fn text_of(alloc: Global, word: u64) -> Result<Vec<i128>, OutOfMemory>
-    ensures { IfOk result (λ text. text.items ≡ text_of word) }
-{
-    let mut text = Vec::new(alloc);
-    let mut rest = word;
-    for i in 0..7u64 {
-        let low = rest % 256;
-        if low == 0 {
-            return Ok(text);
-        }
-        push(&mut text, as_character(i128::from(low)))?;
-        rest = rest / 256;
-    }
-    Ok(text)
 }
 
 // The texts of main's arguments.

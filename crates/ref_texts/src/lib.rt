@@ -4,3 +4,5 @@
 mod reading;
 pub mod texts;
 mod writing;
+
+pub use writing::text_of;

@@ -245,7 +245,7 @@ fn byte_of(word: u64) -> Option<i128>
 }
 
 /// The text that a word gives: its bytes from the lowest up to the first zero, at most seven.
-pub(crate) fn text_of(alloc: Global, word: u64) -> Result<Vec<i128>, OutOfMemory>
+pub fn text_of(alloc: Global, word: u64) -> Result<Vec<i128>, OutOfMemory>
     ensures { IfOk result (λ text. text.items ≡ text_of word) }
 {
     let mut text = Vec::new(alloc);

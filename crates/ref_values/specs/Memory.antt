@@ -6,7 +6,7 @@ use Rattle.c_types.specs.declared.term.TypeId.{TypeId}
 use Rattle.c_types.specs.declared.term.Term.{Term}
 use Rattle.c_types.specs.declared.term.Term.TheVariants.{Pointer as PointerTerm}
 use Rattle.c_types.specs.Trees.{Ctype, VoidType, BoolType, IntegerType, PointerTo, UnionOf}
-use Rattle.c_types.specs.Table.{Table, type_of, extent_in}
+use Rattle.c_types.specs.Table.{Table, type_of, extent_in, size_below}
 use Rattle.core_tree.specs.declared.node.Op.{Op}
 use Rattle.core_tree.specs.declared.node.Op.TheVariants.{Minus}
 use Rattle.ref_cells.specs.declared.cells.Reason.{Reason}
@@ -17,7 +17,7 @@ use Rattle.ref_cells.specs.declared.cells.Value.{Value}
 use Rattle.ref_cells.specs.declared.instance.Instance.{Instance}
 use Rattle.ref_cells.specs.Cells.{CellList, under}
 use Rattle.ref_cells.specs.Numbers.{converted}
-use Rattle.ref_cells.specs.Values.{active, filled}
+use Rattle.ref_cells.specs.Values.{active}
 use Rattle.ref_mem.specs.Reads.{read, one_cell}
 use Rattle.ref_mem.specs.Writes.{write, changed}
 use Rattle.ref_elements.specs.Runs.{◌>>=◌}
@@ -158,6 +158,11 @@ member_of_value_row memory s k cells =
     if is_union s && (not (is_empty cells) && not (active cells == k)) then Err Mismatch
     else gives memory (value_within (under (Member k) cells))
 
+-- whether a value of that size has scalars: one without any takes no bytes
+abbrev pub has_scalars : Option ℕ → Bool
+has_scalars None = false
+has_scalars (Some size) = not (size == 0)
+
 -- a value that wasn't returned, of a type that has scalars
 abbrev pub is_missing : Table → Ctype → Value → Bool
-is_missing table t value = is_empty value.cells && not (is_empty (filled table false t []))
+is_missing table t value = is_empty value.cells && has_scalars (size_below (extent_in table t))

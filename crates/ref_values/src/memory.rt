@@ -11,7 +11,7 @@ ghost use Rattle.ref_cells.specs.Answers.{Gives, Agrees};
 ghost use Rattle.ref_cells.specs.declared.cells.Cell.TheVariants.{Number};
 ghost use Rattle.ref_cells.specs.Places.{AreKnown};
 ghost use Rattle.ref_values.specs.Numbers.{type_of_numbers};
-ghost use Rattle.ref_values.specs.Memory.{fetch_row, stores_at, assign_row, pointee, complete_only, typed_by, pointer_converted, number_converted, convert_row, pointer_moved, is_minus, number_updated, scalar_updated, cell_updated, update_written, update_row, is_union, is_empty, value_within, member_of_value_row, is_missing};
+ghost use Rattle.ref_values.specs.Memory.{fetch_row, stores_at, assign_row, pointee, complete_only, typed_by, pointer_converted, number_converted, convert_row, pointer_moved, is_minus, number_updated, scalar_updated, cell_updated, update_written, update_row, is_union, is_empty, value_within, member_of_value_row, has_scalars, is_missing};
 
 use crate::numbers::{Numbers, converted_to, over_two, promoted, update_type};
 use c_types::table::TypeTable;
@@ -22,7 +22,7 @@ use ref_cells::cells::{Cell, Cells, MemFault, Path, Reason, Value, copy_path, pu
 use ref_cells::order::under;
 use ref_elements::outcome::{LibOutcome, gives, number_value, stores_and_gives};
 use ref_elements::parts::{pointers_of, single};
-use ref_mem::memory::{Memory, blank_cells};
+use ref_mem::memory::Memory;
 use ref_places::pointers::moved;
 use ref_state::values::scalar_of;
 use std::alloc::Global;
@@ -515,19 +515,20 @@ pub fn member_of_value_row(
     Ok(gives(alloc, value_within(alloc, part)))
 }
 
-/// Whether a value of a type wasn't returned, where the type has scalars.
-pub fn is_missing(
-    alloc: Global,
-    types: &TypeTable,
-    ty: TypeId,
-    value: &Value,
-) -> Result<bool, OutOfMemory>
-    requires { ty.0 < length types.now.terms }
-    ensures { IfOk result (λ b. b ≡ is_missing types.now (type_of types.now ty.0) value.now) }
+// Whether a value of that size has scalars.
+fn has_scalars(size: Option<u64>) -> bool
+    ensures { result ≡ has_scalars size }
 {
-    if !is_empty(value.cells.as_slice()) {
-        return Ok(false);
+    match size {
+        Some(size) => size != 0,
+        None => false,
     }
-    let blank = blank_cells(alloc, types, ty, false)?;
-    Ok(!is_empty(blank.as_slice()))
+}
+
+/// Whether a value of a type wasn't returned, where the type has scalars.
+pub fn is_missing(types: &TypeTable, ty: TypeId, value: &Value) -> bool
+    requires { ty.0 < length types.now.terms }
+    ensures { result ≡ is_missing types.now (type_of types.now ty.0) value.now }
+{
+    is_empty(value.cells.as_slice()) && has_scalars(types.size_of(ty))
 }

@@ -127,7 +127,7 @@ fn lacks_one(
 {
     let ty = trees.nodes[n as usize].ty;
     let value = value_in(alloc, values, n)?;
-    is_missing(alloc, trees.types, ty, &value)
+    Ok(is_missing(trees.types, ty, &value))
 }
 
 /// Whether the value of one of a node's children wasn't returned.

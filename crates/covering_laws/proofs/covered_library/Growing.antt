@@ -33,7 +33,7 @@ use Rattle.ref_cells.specs.declared.cells.Cell.{Cell}
 use Rattle.ref_cells.specs.declared.cells.Cell.TheVariants.{Unset, Number, Null, Pointer, Function as FunctionCell}
 use Rattle.ref_cells.specs.declared.instance.Instance.{Instance}
 use Rattle.ref_cells.specs.Cells.{CellList}
-use Rattle.ref_cells.specs.Values.{filled}
+use Rattle.ref_cells.specs.Values.{filled, listed as all_listed}
 use Rattle.ref_cells.specs.Wholes.{is_allocated, is_heap, elements_in, typed_whole, whole_of}
 use Rattle.ref_mem.specs.Reads.{one_cell}
 use Rattle.ref_elements.specs.declared.outcome.Next.TheVariants.{Done}
@@ -147,6 +147,10 @@ numbers_quiet k (e ∷ rest) = (tt, numbers_quiet k rest)
 all_quiet : (table : Table) (k : ℕ) (ty : Option TypeId) → AreQuiet (all_number table k ty)
 all_quiet table k None = tt
 all_quiet table k (Some id) = numbers_quiet k (filled table false (type_of table id.0) [])
+
+listed_quiet : (cells : CellList) → AreQuiet cells → AreQuiet (all_listed cells)
+listed_quiet [] h = (tt, tt)
+listed_quiet (e ∷ rest) h = h
 
 module _ (p : Program) (space : List Location) (system : System) (is : SystemOf p (view_of space) system) (F : Family) (closed : IsClosed system F) (grounds : Grounds p.types space system)
     (number n : ℕ) (node : Node) (site : CallSite) (at : slice_get system.calls number ≡ Some site) (of_call : IsCallSite (w' p space system is F closed grounds) n node site)
@@ -270,13 +274,13 @@ module _ (p : Program) (space : List Location) (system : System) (is : SystemOf 
       set_in i place place_is None o_is k = absurd (err_ok k)
       set_in i place place_is (Some inst) o_is k =
           let inside = all i inst o_is in
-          let cells : CellList = all_number p.types (word % 65536) inst.ty in
-          let l = replaced g memory i inst (record inst { cells = all_number p.types (word % 65536) inst.ty }) o_is (record { key = refl; in_tree = λ q x. x; whole = λ t x. x }) all
-          (with_cells g system grounds memory inst inside (all_number p.types (word % 65536) inst.ty)
-          (quiet_cells g memory (object_row inside.location.content inside.first) (whole_part (whole_of p.types inst)) (all_number p.types (word % 65536) inst.ty) (all_quiet p.types (word % 65536) inst.ty))) in
-          answered p space system is F closed grounds number n node site at of_call target function is_target library is_library memory (set memory i (record inst { cells = all_number p.types (word % 65536) inst.ty }))
+          let cells : CellList = all_listed (all_number p.types (word % 65536) inst.ty) in
+          let l = replaced g memory i inst (record inst { cells = all_listed (all_number p.types (word % 65536) inst.ty) }) o_is (record { key = refl; in_tree = λ q x. x; whole = λ t x. x }) all
+          (with_cells g system grounds memory inst inside (all_listed (all_number p.types (word % 65536) inst.ty))
+          (quiet_cells g memory (object_row inside.location.content inside.first) (whole_part (whole_of p.types inst)) (all_listed (all_number p.types (word % 65536) inst.ty)) (listed_quiet (all_number p.types (word % 65536) inst.ty) (all_quiet p.types (word % 65536) inst.ty)))) in
+          answered p space system is F closed grounds number n node site at of_call target function is_target library is_library memory (set memory i (record inst { cells = all_listed (all_number p.types (word % 65536) inst.ty) }))
           (record { value = one_cell (Pointer place [] false); stores = []; next = Done }) e l
-          (value_stays g memory (set memory i (record inst { cells = all_number p.types (word % 65536) inst.ty })) l.extends (node_row w n) (type_at (trees_in p) n) (one_cell (Pointer place [] false))
+          (value_stays g memory (set memory i (record inst { cells = all_listed (all_number p.types (word % 65536) inst.ty) })) l.extends (node_row w n) (type_at (trees_in p) n) (one_cell (Pointer place [] false))
           (named_held p space system is F closed grounds number n node site at of_call target function is_target library is_library to 7 listed tn memory [] place (is_named.known place place_is))) tt k
 
       by : (a b : Option ℕ) → object_from 7 0 memory ≡ b → ctype_in p.types memory (word % 65536) a b ≡ Ok e → IsCovered p space system is F closed grounds number n node site at of_call target function is_target library is_library memory e

@@ -106,7 +106,7 @@ blank_quiet true (StructureOf tag) = tt
 blank_quiet true (UnionOf tag) = tt
 
 pub filled_quiet : (table : Table) (marked : Bool) (t : Ctype) → AreQuiet (filled table marked t [])
-filled_quiet table marked t = fills_all table (λ o c. IsQuiet c) (λ o c h. h) marked (λ o s. blank_quiet marked s) t None [] tt tt
+filled_quiet table marked t = fills_all table (λ o c. IsQuiet c) (λ o c h. h) (λ o. tt) marked (λ o s. blank_quiet marked s) t None [] tt tt
 
 byte_quiet : (t : Option Ctype) (width : Option ℕ) (byte : ℕ) → IsQuiet (byte_in t width byte)
 byte_quiet None width byte = tt

@@ -295,13 +295,13 @@ module _ (g : Sets) (system : System) (grounds : Grounds g.table g.space system)
   -- all cells of a part of which the listed ones are covered
   pub filled_in : (memory : List Instance) (row : ℕ → ℕ) (marked : Bool) (t : Ctype) (o : Option Reached) (list : CellList) → IsOf t o → CellsIn g memory row o list → CellsIn g memory row o (filled g.table marked t list)
   filled_in memory row marked t o list is h =
-      fills_all g.table (λ o c. CellIn g memory (pointer_row row o) c) (λ o c. cell_from_none g memory (pointer_row row o) c) marked
+      fills_all g.table (λ o c. CellIn g memory (pointer_row row o) c) (λ o c. cell_from_none g memory (pointer_row row o) c) (λ o. tt) marked
       (λ o t. blank_in memory (pointer_row row o) marked t) t o list is h
 
   one_in : (memory : List Instance) (row : ℕ → ℕ) (marked : Bool) (t : Ctype) (list : CellList) → ((step : PathStep) → step_from g.table (Some (reached t 0 false)) step ≡ None)
       → CellsIn g memory row (Some (reached t 0 false)) list → CellIn g memory (pointer_row row (Some (reached t 0 false))) (cell_in marked t list)
   one_in memory row marked t list none h =
-      scalar_part g.table (λ o c. CellIn g memory (pointer_row row o) c) (λ o c. cell_from_none g memory (pointer_row row o) c) marked
+      scalar_part g.table (λ o c. CellIn g memory (pointer_row row o) c) (λ o c. cell_from_none g memory (pointer_row row o) c) (λ o. tt) marked
       (λ o t. blank_in memory (pointer_row row o) marked t) t (Some (reached t 0 false)) none list h
 
   converted_in : (memory : List Instance) (row : Option ℕ) (t : Ctype) (c : Cell) → CellIn g memory row c → CellIn g memory row (converted_cell t c)

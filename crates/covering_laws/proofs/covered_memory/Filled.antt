@@ -11,8 +11,9 @@ use Rattle.c_types.specs.Parts.{field_in}
 use Rattle.c_types.specs.Paths.{with_length, member_type}
 use Rattle.obj_space.specs.Spots.{Reached, member_reached, step_by, step_from, part_at}
 use Rattle.ref_cells.specs.declared.cells.Cell.{Cell}
+use Rattle.ref_cells.specs.declared.cells.Cell.TheVariants.{Unset}
 use Rattle.ref_cells.specs.Cells.{CellList, under, prefixed}
-use Rattle.ref_cells.specs.Values.{blank, cell_in, active, member_types, Fill, elements, members_from, one_member, filled_by, filled_to, filled}
+use Rattle.ref_cells.specs.Values.{blank, listed, cell_in, active, member_types, Fill, elements, members_from, one_member, filled_by, filled_to, filled}
 use Rattle.covering_laws.specs.covered_memory.Cells.{EachCell}
 use Rattle.covering_laws.proofs.covered_memory.Cells.{each_append, each_prefixed, each_under}
 
@@ -26,13 +27,18 @@ pub nowhere : (table : Table) (path : List PathStep) → part_at table None path
 nowhere table [] = refl
 nowhere table (step ∷ rest) = nowhere table rest
 
+-- what is listed of a part
+pub each_listed : (P : List PathStep → Cell → Type 0) (cells : CellList) → P [] Unset → EachCell P cells → EachCell P (listed cells)
+each_listed P [] unset h = (unset, tt)
+each_listed P (e ∷ rest) unset h = h
+
 -- a part of that type, or none
 abbrev pub IsOf : Ctype → Option Reached → Type 0
 IsOf t None = Unit {0}
 IsOf t (Some r) = r.ty ≡ t
 
 -- a cell of a part, whose facts hold of it wherever they hold where there is no part, and of cells that aren't listed
-module _ (table : Table) (P : Option Reached → Cell → Type 0) (from_none : (o : Option Reached) (c : Cell) → P None c → P o c)
+module _ (table : Table) (P : Option Reached → Cell → Type 0) (from_none : (o : Option Reached) (c : Cell) → P None c → P o c) (unset : (o : Option Reached) → P o Unset)
     (marked : Bool) (blanks : (o : Option Reached) (t : Ctype) → P o (blank marked t)) where
   abbrev pub At : Option Reached → CellList → Type 0
   At o cells = EachCell (λ path c. P (part_at table o path) c) cells
@@ -129,7 +135,10 @@ module _ (table : Table) (P : Option Reached → Cell → Type 0) (from_none : (
   one_member_filled : (fill : Fill) → Fills fill → (k : ℕ) (w : Option Ctype) (o : Option Reached) (cells : CellList)
       → ((t : Ctype) → w ≡ Some t → IsOf t (step_from table o (Member k))) → At o cells → At o (one_member fill k w cells)
   one_member_filled fill each k None o cells is h = tt
-  one_member_filled fill each k (Some t) o cells is h = one_filled fill each k t o cells (is t refl) h
+  one_member_filled fill each k (Some t) o cells is h =
+      each_prefixed (λ path c. P (part_at table o path) c) (Member k) (listed (fill t (under (Member k) cells)))
+      (each_listed (λ path c. P (part_at table (step_from table o (Member k)) path) c) (fill t (under (Member k) cells)) (unset (step_from table o (Member k)))
+      (each t (step_from table o (Member k)) (under (Member k) cells) (is t refl) (at_step o (Member k) cells h)))
 
   no_step : (t : Ctype) → ((node : ℕ) (inside : Bool) (step : PathStep) → step_by table t node inside step ≡ None) → (o : Option Reached) → IsOf t o → (step : PathStep) → step_from table o step ≡ None
   no_step t none None is step = refl

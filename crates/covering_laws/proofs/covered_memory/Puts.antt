@@ -13,7 +13,7 @@ use Rattle.ref_cells.specs.Puts.{put, lost}
 use Rattle.ref_mem.specs.Reads.{opened}
 use Rattle.covering_laws.specs.covered_memory.Cells.{EachCell}
 use Rattle.covering_laws.proofs.covered_memory.Cells.{each_append, each_filter, each_prefixed, each_under, each_change}
-use Rattle.covering_laws.proofs.covered_memory.Filled.{fills_all}
+use Rattle.covering_laws.proofs.covered_memory.Filled.{each_listed, fills_all}
 
 -- the part at a path that goes on
 pub part_along : (table : Table) (o : Option Reached) (path rest : List PathStep) → part_at table o (path ++ rest) ≡ part_at table (part_at table o path) rest
@@ -24,7 +24,7 @@ part_along table o (step ∷ path) rest = part_along table (step_from table o st
 only_unset : (P : List PathStep → Cell → Type 0) → ((p : List PathStep) → P p Unset) → (table : Table) (t : Ctype) → EachCell P (filled table false t [])
 only_unset P unset table t =
     each_change (λ p c. c ≡ Unset) P (filled table false t []) (λ p c e. subst (P p) (sym e) (unset p))
-    (fills_all table (λ o c. c ≡ Unset) (λ o c h. h) false (λ o s. refl) t None [] tt tt)
+    (fills_all table (λ o c. c ≡ Unset) (λ o c h. h) (λ o. refl) false (λ o s. refl) t None [] tt tt)
 
 lost_each : (P : List PathStep → Cell → Type 0) → ((p : List PathStep) → P p Unset) → (table : Table) (marked : Bool) (t : Option Ctype) → EachCell P (lost table marked t)
 lost_each P unset table false t = tt
@@ -34,7 +34,7 @@ lost_each P unset table true (Some t) = only_unset P unset table t
 -- a value put under a path: each cell that is left is one of the value, or was there before, or points to nothing
 pub put_each : (table : Table) (P : List PathStep → Cell → Type 0) (marked : Bool) (t : Option Ctype) (path : List PathStep) (value cells : CellList)
     → ((p : List PathStep) → P p Unset) → EachCell (λ p c. P (path ++ p) c) value → EachCell P cells → EachCell P (put table marked t path value cells)
-put_each table P marked t [] value cells unset v h = v
+put_each table P marked t [] value cells unset v h = each_listed P value (unset []) v
 put_each table P marked t (step ∷ rest) value cells unset v h =
     by (goes_on t step cells) (λ list g. put_each table (λ p c. P (step ∷ p) c) marked (part_below table t step) rest value list (λ p. unset (step ∷ p)) v g)
   where

@@ -13,6 +13,7 @@ use Rattle.ref_cells.specs.Places.{AreKnown}
 use Rattle.ref_elements.specs.Arguments.{count_of}
 use Rattle.ref_elements.specs.Outcomes.{Effect, gives, null_value}
 use Rattle.ref_elements.specs.Objects.{is_odd, with_new, object_from, element_of_object, place_of_object}
+use Rattle.ref_cells.specs.Values.{listed}
 use Rattle.ref_lib.specs.ref_alloc.Allocation.{allocated, malloc_row, calloc_row, heap_at, ended, freed, free_row, kept_elements, takes, regrown_in, regrown, regrown_at, realloc_of, realloc_row, object_row, perhaps_row, place_row, all_number, ctype_set, ctype_in, ctype_row}
 use Rattle.ref_lib.specs.memory_laws.Kept.{Follows}
 use Rattle.ref_lib.proofs.memory_laws.Follow.{later_same, same, known_at, with_more, with_set, with_end, then_follows}
@@ -104,7 +105,7 @@ module _ (table : Table) (memory : List Instance) (known : AreKnown (length tabl
   classes_leaves : (n i place : ℕ) (o : Option Instance) → slice_get memory i ≡ o → Leaves table memory (ctype_set table memory n i place o)
   classes_leaves n i place None e = tt
   classes_leaves n i place (Some inst) e =
-      with_set (length table.terms) None memory i inst (record inst { cells = all_number table n inst.ty }) known e (λ j ne. refl)
+      with_set (length table.terms) None memory i inst (record inst { cells = listed (all_number table n inst.ty) }) known e (λ j ne. refl)
       (record { key = refl; bytes = refl; typed = λ t q. q; live = (later_same false inst refl).live })
       (known_at (length table.terms) memory i inst known e)
 

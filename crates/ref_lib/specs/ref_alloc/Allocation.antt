@@ -11,7 +11,7 @@ use Rattle.ref_cells.specs.declared.instance.Instance.{Instance}
 use Rattle.ref_cells.specs.Cells.{CellList}
 use Rattle.ref_mem.specs.Reads.{one_cell}
 use Rattle.ref_cells.specs.Wholes.{is_heap, elements_in}
-use Rattle.ref_cells.specs.Values.{elements, filled}
+use Rattle.ref_cells.specs.Values.{elements, filled, listed}
 use Rattle.ref_mem.specs.Writes.{changed}
 use Rattle.ref_elements.specs.Arguments.{count_of}
 use Rattle.ref_elements.specs.Outcomes.{Effect, gives, stores_and_gives, pointers_in, no_value, null_value}
@@ -117,7 +117,7 @@ all_number table n (Some id) = map (λ e. (e.0, Number (pos n))) (filled table f
 abbrev pub ctype_set : Table → List Instance → ℕ → ℕ → ℕ → Option Instance → Effect
 ctype_set table memory n i place None = Err Mismatch
 ctype_set table memory n i place (Some inst) =
-    gives (set memory i (record inst { cells = all_number table n inst.ty })) (one_cell (Pointer place [] false))
+    gives (set memory i (record inst { cells = listed (all_number table n inst.ty) })) (one_cell (Pointer place [] false))
 
 abbrev pub ctype_in : Table → List Instance → ℕ → Option ℕ → Option ℕ → Effect
 ctype_in table memory n (Some i) (Some place) = ctype_set table memory n i place (slice_get memory i)

@@ -12,7 +12,8 @@ use c_types::table::TypeTable;
 use c_types::term::{OutOfMemory, Term, TypeId};
 use std::alloc::Global;
 
-/// The types of the library's objects: `char`, 8 of them, 64 of them, 384 `unsigned short`, `void *`, 9 of them, and `int`.
+/// The types of the library's objects: `char`, 8 of them, 64 of them, 384 `unsigned short`, `char *`, 9 of them (as `argv` points
+/// to: C11 5.1.2.2.1), and `int`.
 #[derive(Clone, Copy)]
 pub struct LibraryTypes {
     pub character: TypeId,
@@ -63,13 +64,13 @@ fn add_classes(table: &mut TypeTable) -> Result<TypeId, OutOfMemory>
     Ok(classes)
 }
 
-// `void *`, and 9 of them.
-fn add_pointers(table: &mut TypeTable) -> Result<(TypeId, TypeId), OutOfMemory>
-    ensures longer { OnOk result (IsLonger table.old (pointer_terms (length table.old.terms)) table.new) }
-    ensures ids { IfOk result (λ ids. let n = length table.old.terms in ids ≡ (id (n + 1), id (n + 2))) }
+// `char *`, and 9 of them.
+fn add_pointers(table: &mut TypeTable, character: TypeId) -> Result<(TypeId, TypeId), OutOfMemory>
+    requires { character.0 < length table.old.terms }
+    ensures longer { OnOk result (IsLonger table.old (pointer_terms character.0 (length table.old.terms)) table.new) }
+    ensures ids { IfOk result (λ ids. let n = length table.old.terms in ids ≡ (id n, id (n + 1))) }
 {
-    let void = table.add(Term::Void)?;
-    let pointer = table.add(Term::Pointer(void))?;
+    let pointer = table.add(Term::Pointer(character))?;
     let arguments = table.add(array_of(pointer, 9))?;
     Ok((pointer, arguments))
 }
@@ -94,7 +95,7 @@ fn add_library_types(table: &mut TypeTable) -> Result<LibraryTypes, OutOfMemory>
 {
     let (character, argument, text) = add_characters(table)?;
     let classes = add_classes(table)?;
-    let (pointer, arguments) = add_pointers(table)?;
+    let (pointer, arguments) = add_pointers(table, character)?;
     let number = add_number(table)?;
     Ok(LibraryTypes {
         character,

@@ -1,22 +1,27 @@
-use Rattle.std.proofs.Common.{ℕ, ◌+◌, ◌<◌, [], ◌∷◌, ◌++◌, length, drop, map, slice_get, get_or, sym, ap, ◌∙◌, arith}
+use Rattle.std.proofs.Common.{ℕ, ◌+◌, ◌<◌, [], ◌∷◌, ◌++◌, length, drop, map, slice_get, get_or, sym, ap, ◌∙◌, arith, rules, List}
 use Rattle.c_types.specs.declared.term.MemberTerm.{MemberTerm}
+use Rattle.c_types.specs.declared.term.PathStep.{PathStep}
 use Rattle.c_types.specs.declared.term.PathStep.TheVariants.{Member}
 use Rattle.c_types.specs.Table.{type_of}
-use Rattle.ref_cells.specs.Cells.{seen, under}
+use Rattle.ref_cells.specs.Cells.{seen, joined, under}
 use Rattle.ref_cells.specs.Values.{active, filled_by, filled_to}
 use Rattle.ref_cells.proofs.Fills.{cut_back, element_step, types_from, member_step_on, active_some, active_none}
 use Rattle.ref_cells.proofs.fill.+fill.Goals as goal
 
-pub fill_active-returns-in_ok-fill_below-in-Some-clause-cells :
-    goal.fill_active-returns-in_ok-fill_below-in-Some-clause-cells
-fill_active-returns-in_ok-fill_below-in-Some-clause-cells t c =
+pub fill_active-returns-in_ok-list_place-in-Some-clause-cells :
+    goal.fill_active-returns-in_ok-list_place-in-Some-clause-cells
+fill_active-returns-in_ok-list_place-in-Some-clause-cells t c =
     let table = c.args.filling.now.types.now in
     let types = map (λ (m : MemberTerm). type_of table m.ty.0) c.args.members.now in
-    active_some (filled_to table c.args.filling.now.marked c.args.levels) (active (seen c.args.depth c.args.cells.now)) (type_of table c.in-Some.ty.0) (slice_get types (active (seen c.args.depth c.args.cells.now))) (seen c.args.depth c.args.cells.now) (seen c.in_ok-part-in-Some.deeper c.in_ok-part-in-Some.part.now) c.args.out.now.items c.fill_below.new.out.items c.args.front.now.items c.enter.new.front.items
-    (c.in_ok-part-in-Some.ensures.front ∙ ap (λ (k : ℕ). c.args.front.now.items ++ Member k ∷ []) c.active-k.ensures)
+    let fill = filled_to table c.args.filling.now.marked c.args.levels in
+    let member = fill (type_of table c.in-Some.ty.0) (seen c.in_ok-part-in-Some.deeper c.in_ok-part-in-Some.part.now) in
+    let front = c.as_slice.ensures.value ∙ c.in_ok-fill_below-in-Some.ensures.front in
+    active_some fill (active (seen c.args.depth c.args.cells.now)) (type_of table c.in-Some.ty.0) (slice_get types (active (seen c.args.depth c.args.cells.now))) (seen c.args.depth c.args.cells.now) (seen c.in_ok-part-in-Some.deeper c.in_ok-part-in-Some.part.now) c.args.out.now.items c.list_place.new.out.items c.args.front.now.items c.as_slice.result.now
+    (front ∙ c.in_ok-part-in-Some.ensures.front ∙ ap (λ (k : ℕ). c.args.front.now.items ++ Member k ∷ []) c.active-k.ensures)
     (c.in_ok-part-in-Some.ensures.cells ∙ ap (λ (k : ℕ). under (Member k) (seen c.args.depth c.args.cells.now)) c.active-k.ensures)
     (ap (slice_get types) (sym c.active-k.ensures) ∙ sym c.in-Some.ensures.value)
-    c.in_ok-fill_below-in-Some.ensures.cells
+    (c.in_ok-list_place-in-Some.ensures c.args.out.now.items member (search rules)
+    (c.in_ok-fill_below-in-Some.ensures.cells ∙ ap (λ (p : List PathStep). c.args.out.now.items ++ joined p member) (sym front)))
 
 pub fill_active-returns-in-None-clause-cells : goal.fill_active-returns-in-None-clause-cells
 fill_active-returns-in-None-clause-cells t c =
