@@ -40,6 +40,7 @@ use Rattle.ref_frames.specs.Frames.{all_ended, finished}
 use Rattle.ref_frames.specs.OnTop.{only}
 use Rattle.ref_calls.specs.Library.{object_of, result_in, term_in, performed_as, performed, goes_by, with_top, library_row}
 use Rattle.covering_laws.specs.covered_memory.Covered.{Leaves}
+use Rattle.covering_laws.proofs.covered_memory.Stays.{same_memory}
 use Rattle.covering_laws.proofs.covered_rows.Targets.{function_there}
 use Rattle.covering_laws.specs.covered_state.World.{World, trees_of, view_in, sets_of}
 use Rattle.covering_laws.specs.covered_state.Items.{Each, ItemIn, IsPendingBack}
@@ -52,7 +53,7 @@ use Rattle.covered_calls.proofs.Activations.{none_some, some_one}
 use Rattle.covered_effects.specs.Served.{running_in, IsOfShape, IsServed}
 use Rattle.covered_effects.specs.Steps.{IsKeptFound, StaysCovered, IsNoWait, StepsBacked}
 use Rattle.covered_effects.proofs.Needs.{rows_below, called_listed, function_first}
-use Rattle.covered_effects.proofs.Effects.{none_after, kept_still, all_left, all_long}
+use Rattle.covered_effects.proofs.Effects.{none_after, kept_still, all_left, all_long, EffectGoes}
 
 -- the rows that look at texts alone, or at nothing
 abbrev quiet : Row → Bool
@@ -204,6 +205,17 @@ module _ (world : World) (stands : Stands world) (characters : TypeId) (served :
         by (Some row) at h = still world.program.types state.memory row (object_of (trees_of world) n k) (element_type (running_in world characters) (object_of (trees_of world) n k)) (type_of world.program.types result.0) arguments word e (row_quiet row at) h
         by None at h = absurd (err_ok h)
 
+    -- the memory stays, and nothing is called back
+    goes : EffectGoes world state.memory n e
+    goes = record {
+      leaves = subst (Leaves (sets_of world) state.memory) (sym kept_still_so.same) (record { extends = same_memory (sets_of world) state.memory; covered = covered.memory });
+      back = λ callee given other next is_comparison. absurd (never callee given next kept_still_so.next);
+    }
+      where
+        never : (callee : Cell) (given : List Value) → e.outcome.next ≡ Calls callee given → (e.outcome.next ≡ Done) ⊎ ((status : ℤ) × (at_once : Bool) × (e.outcome.next ≡ Ends status at_once)) → ⊥
+        never callee given at (inl done) = (let bad : Calls callee given ≡ Done = sym at ∙ done in let no : ⊥ = cc in no)
+        never callee given at (inr last) = (let bad : Calls callee given ≡ Ends last.0 last.1 = sym at ∙ last.2 in let no : ⊥ = cc in no)
+
     settled_is : settled n e.outcome.value f.items ≡ items
     settled_is = ap (settled n e.outcome.value) items_are ∙ let_go n e.outcome.value items below
 
@@ -272,6 +284,10 @@ module _ (world : World) (stands : Stands world) (characters : TypeId) (served :
           → (result : TypeId) × (effect world.program.types state.memory k (object_of (trees_of world) n k) (element_type (running_in world characters) (object_of (trees_of world) n k)) result arguments word ≡ Ok e)
       by (Some result) g = (result, g)
       by None g = absurd (err_ok g)
+
+  -- what the effect leaves
+  pub backed_goes : (e : Effected) → performed (running_in world characters) state.memory n k arguments word ≡ Ok e → EffectGoes world state.memory n e
+  backed_goes e is = (let p = performed_so e is in goes e p.0 p.1)
 
   backed_so : (next : State) → library_row (running_in world characters) state f rest n k arguments word ≡ Ok next → StaysCovered world next
   unfolding library_row

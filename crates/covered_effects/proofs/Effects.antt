@@ -84,7 +84,7 @@ use Rattle.covering_laws.proofs.covered_library.Calling.{effects_covered}
 use Rattle.covering_laws.proofs.covered_library.Effects.{back_in, back_second_in, called_back}
 use Rattle.covering_laws.proofs.covered_library.Table.{lists_of}
 use Rattle.covering_laws.specs.covered_state.World.{World, trees_of, view_in, sets_of, setting_in, IsCallAt, IsFunctionAt, IsTargetAt}
-use Rattle.covering_laws.specs.covered_state.Items.{Each, NodeIn, IsPending, ItemIn}
+use Rattle.covering_laws.specs.covered_state.Items.{Each, NodeIn, IsPending, IsPendingBack, ItemIn}
 use Rattle.covering_laws.specs.covered_state.Awaited.{IsBare, IsAwaited, AwaitedIn}
 use Rattle.covering_laws.specs.covered_state.State.{FrameIn, KeptIn, Covered}
 use Rattle.covering_laws.proofs.covered_state.Stays.{each_append, items_stay, frames_stay, settled_in}
@@ -358,6 +358,12 @@ entered_as w count entry arguments made e = by_entity (slice_get w.trees.entitie
     by_entity : (o : Option Entity) → slice_get w.trees.entities entry.function ≡ o → activation_of w count entry arguments o ≡ Ok made → IsEnteredAs w count entry arguments made
     by_entity (Some entity) is g = by_body entity is entity.body refl g
     by_entity None is g = absurd (err_ok g)
+
+-- what an effect leaves: a memory beside the one before, and where it calls a function of the library back, that is one
+-- of those that it calls back
+pub record EffectGoes (world : World) (memory : List Instance) (n : ℕ) (e : Effected) : Type 0 where
+  pub leaves : Leaves (sets_of world) memory e.memory
+  pub back : (callee : Cell) (given : List Value) (other : ℕ) → e.outcome.next ≡ Calls callee given → comparison_of (trees_of world) callee ≡ Ok (FunctionKey other) → IsPendingBack world n other
 
 module _ (world : World) (stands : Stands world) (characters : TypeId) (served : IsServed world stands characters) (state : State) (f : Frame) (rest : List Frame) (n k : ℕ) (arguments : List Value) (items : List Item) (word : ℕ)
     (stays : StaysCovered world state) (frames_are : state.frames ≡ f ∷ rest) (items_are : f.items ≡ Library n k arguments ∷ items) (pending : IsPending world state.memory n k arguments) (waits : ConversionWaits world n items) where
@@ -712,23 +718,25 @@ module _ (world : World) (stands : Stands world) (characters : TypeId) (served :
           edge = edge_of back.m number f'.0 (Some (suc back.i, suc back.j)) back.lists is_back;
         }
 
+    -- a library function that is called back
+    back_so : (callee : Cell) (given : List Value) (other : ℕ) → e.outcome.next ≡ Calls callee given → comparison_of (trees_of world) callee ≡ Ok (FunctionKey other) → IsPendingBack world n other
+    back_so callee given other next is_comparison =
+        let two = is_compared (trees_of world) callee (FunctionKey other) is_comparison in
+        let c = compared callee given (called_with callee given next) (FunctionKey other) two.0 two.1 in
+        record {
+          library = pending.target.function;
+          back = c.number;
+          called = record { caller = FunctionKey k; library_is = pending.target.function_is; target = pending.target; back_is = c.function_at; edge = c.edge };
+        }
+
     library_so : (callee : Cell) (given : List Value) → e.outcome.next ≡ Calls callee given → (other : ℕ) → comparison_of (trees_of world) callee ≡ Ok (FunctionKey other)
         → StaysCovered world (record (record state { memory = e.memory }) { frames = record f { items = Library n other given ∷ f.items } ∷ rest; notes = only [] })
     library_so callee given next other is_comparison =
-        let two = is_compared (trees_of world) callee (FunctionKey other) is_comparison in
-        let c = compared callee given (called_with callee given next) (FunctionKey other) two.0 two.1 in
         record {
           covered = record {
             memory = leaves.covered;
             frames = (
-              frame_with (Library n other given ∷ f.items) (
-                inr (record {
-                  library = pending.target.function;
-                  back = c.number;
-                  called = record { caller = FunctionKey k; library_is = pending.target.function_is; target = pending.target; back_is = c.function_at; edge = c.edge };
-                }),
-                items_in,
-              ),
+              frame_with (Library n other given ∷ f.items) (inr (back_so callee given other next is_comparison), items_in),
               rest_in,
             );
             kept = covered.kept;
@@ -866,6 +874,10 @@ module _ (world : World) (stands : Stands world) (characters : TypeId) (served :
       by : (o : Option TypeId) → performed_as (running_in world characters) state.memory n k arguments word o ≡ Ok e → (result : TypeId) × (effect world.program.types state.memory k key fixed result arguments word ≡ Ok e)
       by (Some result) g = (result, g)
       by None g = absurd (err_ok g)
+
+  -- what the effect leaves
+  pub effect_goes : (e : Effected) → performed (running_in world characters) state.memory n k arguments word ≡ Ok e → EffectGoes world state.memory n e
+  effect_goes e is = (let p = performed_so e is in record { leaves = leaves e p.0 p.1; back = back_so e p.0 p.1 })
 
   effected_so : (next : State) → library_row (running_in world characters) state f rest n k arguments word ≡ Ok next → StaysCovered world next
   unfolding library_row

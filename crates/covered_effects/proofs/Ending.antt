@@ -20,11 +20,11 @@ use Rattle.ref_frames.specs.declared.entering.Activation.{Activation}
 use Rattle.ref_frames.specs.Frames.{parameter_objects, activation, entered}
 use Rattle.ref_frames.specs.OnTop.{only, on_top}
 use Rattle.ref_calls.specs.Calls.{is_function, signature_of}
-use Rattle.ref_calls.specs.Ending.{entry_of, but_last, last_of, pending_frame, kept_entered}
+use Rattle.ref_calls.specs.Ending.{entry_of, but_last, last_of, pending_frame, kept_entered, kept_called}
 use Rattle.covering_laws.specs.covered_memory.Covered.{MemoryIn}
 use Rattle.covering_laws.proofs.covered_rows.Targets.{function_number, function_there}
 use Rattle.covering_laws.specs.covered_state.World.{World, trees_of, view_in, sets_of, IsFunctionAt}
-use Rattle.covering_laws.specs.covered_state.Items.{Each}
+use Rattle.covering_laws.specs.covered_state.Items.{Each, IsPendingBack}
 use Rattle.covering_laws.specs.covered_state.State.{at_exit, IsInGraph, FrameIn, KeptIn, Covered}
 use Rattle.covered_values.specs.Values.{Stands}
 use Rattle.covered_values.proofs.Operands.{went, ok_one, err_ok}
@@ -88,9 +88,14 @@ module _ (world : World) (stands : Stands world) (characters : TypeId) (served :
   fewer_found : Each (λ (entry : ObjectKey × ℕ). IsKeptFound world entry.0) (but_last state.kept)
   fewer_found = each_taken (λ (entry : ObjectKey × ℕ). IsKeptFound world entry.0) (length state.kept - 1) state.kept stays.found.each
 
+  -- a library function that is called
+  back_so : (k : ℕ) → key ≡ FunctionKey k → IsCalled → IsPendingBack world n k
+  back_so k is c =
+      let back_is : IsFunctionAt world c.number (FunctionKey k) = subst (IsFunctionAt world c.number) is c.number_is in
+      record { library = found.library; back = c.number; called = record { caller = FunctionKey at_exit; library_is = found.library_is; target = kept.target; back_is = back_is; edge = c.edge } }
+
   library_so : (k : ℕ) → key ≡ FunctionKey k → IsCalled → StaysCovered world (record (record state { kept = but_last state.kept }) { frames = pending_frame k n ∷ state.frames; notes = only [] })
   library_so k is c =
-      let back_is : IsFunctionAt world c.number (FunctionKey k) = subst (IsFunctionAt world c.number) is c.number_is in
       record {
         covered = record {
           memory = covered.memory;
@@ -98,7 +103,7 @@ module _ (world : World) (stands : Stands world) (characters : TypeId) (served :
             record {
               called = tt;
               back = subst (IsInGraph world at_exit) is c.graph;
-              items = (inr (record { library = found.library; back = c.number; called = record { caller = FunctionKey at_exit; library_is = found.library_is; target = kept.target; back_is = back_is; edge = c.edge } }), tt);
+              items = (inr (back_so k is c), tt);
             },
             covered.frames,
           );
@@ -149,6 +154,15 @@ module _ (world : World) (stands : Stands world) (characters : TypeId) (served :
       → (let r : Result State Reason = cond b (kept_entered (running_in world characters) (record state { kept = but_last state.kept }) key n) (Err BadCall) in r) ≡ Ok next → StaysCovered world next
   called_so true is h = entered_so (type_true (signature_of (trees_of world) key) at_end is) key refl h
   called_so false is h = absurd (err_ok h)
+
+  pended_by : (b : Bool) → same_type (signature_of (trees_of world) key) at_end ≡ b
+      → (let r : Result State Reason = cond b (kept_entered (running_in world characters) (record state { kept = but_last state.kept }) key n) (Err BadCall) in r) ≡ Ok next → (k : ℕ) → key ≡ FunctionKey k → IsPendingBack world n k
+  pended_by true is h k own = back_so k own (called (type_true (signature_of (trees_of world) key) at_end is))
+  pended_by false is h k own = absurd (err_ok h)
+
+  -- a library function that was kept last is pending
+  pub kept_pended : kept_called (running_in world characters) state key n ≡ Ok next → (k : ℕ) → key ≡ FunctionKey k → IsPendingBack world n k
+  kept_pended h = pended_by (same_type (signature_of (trees_of world) key) at_end) refl h
 
 pub steps_kept : StepsKept
 steps_kept world stands characters served state key n next stays frames_are last h =

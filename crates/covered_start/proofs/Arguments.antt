@@ -41,7 +41,7 @@ some_one h = cc
 none_some : {X : Type 0} → {x : X} → ◌≡◌ {A = Option X} None (Some x) → ⊥
 none_some h = cc
 
-list_content : HasContent 9 (Scalars 4)
+pub list_content : HasContent 9 (Scalars 4)
 unfolding library_rows
 list_content row e = ap (λ (r : LibraryRow). r.content) (sym (some_one e))
 

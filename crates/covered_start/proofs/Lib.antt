@@ -4,3 +4,6 @@ pub mod Pointed
 pub mod Static
 pub mod Fixed
 pub mod Arguments
+pub mod Filled
+pub mod Mains
+pub mod Begun

@@ -5,7 +5,7 @@ use Rattle.std.proofs.lemmas.Bool.{false≢true}
 use Rattle.c_types.specs.declared.key.ObjectKey.{ObjectKey}
 use Rattle.c_types.specs.declared.key.ObjectKey.TheVariants.{Entity as EntityKey, Text as TextKey, Call as CallKey, Library as LibraryKey, Star as StarKey, Function as FunctionKey}
 use Rattle.c_types.specs.declared.term.TypeId.{TypeId}
-use Rattle.c_types.specs.Trees.{Ctype, VoidType, IntegerType, PointerTo, ArrayOf}
+use Rattle.c_types.specs.Trees.{Ctype, IntegerType, PointerTo, ArrayOf}
 use Rattle.c_types.specs.Table.{Table, type_of}
 use Rattle.c_types.specs.Made.{IsMade, AreNamed}
 use Rattle.type_rules.specs.Kinds.{IsScalar}
@@ -193,19 +193,19 @@ module _ (p : Program) (made : IsMade p.types) (named : AreNamed p.types) where
   library_shape (suc (suc zero)) inst few o row e =
       of_content inst row Blob (ap (λ (r : LibraryRow). r.content) (some_one e)) (inl (ap (typed_whole (machine_table p) inst) o.type_is))
   library_shape (suc (suc (suc zero))) inst few o row e =
-      of_content inst row (Scalar 4) (ap (λ (r : LibraryRow). r.content) (some_one e)) (scalar_shape (machine_table p) inst (LibraryKey 3) (id (length p.types.terms + 6)) (PointerTo VoidType) 4 o refl (pointer_type p made named) (inr tt) refl)
+      of_content inst row (Scalar 4) (ap (λ (r : LibraryRow). r.content) (some_one e)) (scalar_shape (machine_table p) inst (LibraryKey 3) (id (length p.types.terms + 5)) (PointerTo (IntegerType 1 1 true)) 4 o refl (pointer_type p made named) (inr tt) refl)
   library_shape (suc (suc (suc (suc zero)))) inst few o row e =
-      of_content inst row (Scalar 4) (ap (λ (r : LibraryRow). r.content) (some_one e)) (scalar_shape (machine_table p) inst (LibraryKey 4) (id (length p.types.terms + 6)) (PointerTo VoidType) 4 o refl (pointer_type p made named) (inr tt) refl)
+      of_content inst row (Scalar 4) (ap (λ (r : LibraryRow). r.content) (some_one e)) (scalar_shape (machine_table p) inst (LibraryKey 4) (id (length p.types.terms + 5)) (PointerTo (IntegerType 1 1 true)) 4 o refl (pointer_type p made named) (inr tt) refl)
   library_shape (suc (suc (suc (suc (suc zero))))) inst few o row e =
-      of_content inst row (Scalar 4) (ap (λ (r : LibraryRow). r.content) (some_one e)) (scalar_shape (machine_table p) inst (LibraryKey 5) (id (length p.types.terms + 6)) (PointerTo VoidType) 4 o refl (pointer_type p made named) (inr tt) refl)
+      of_content inst row (Scalar 4) (ap (λ (r : LibraryRow). r.content) (some_one e)) (scalar_shape (machine_table p) inst (LibraryKey 5) (id (length p.types.terms + 5)) (PointerTo (IntegerType 1 1 true)) 4 o refl (pointer_type p made named) (inr tt) refl)
   library_shape (suc (suc (suc (suc (suc (suc zero)))))) inst few o row e =
-      of_content inst row (Scalar 2) (ap (λ (r : LibraryRow). r.content) (some_one e)) (scalar_shape (machine_table p) inst (LibraryKey 6) (id (length p.types.terms + 8)) (IntegerType 4 4 true) 2 o refl (number_type p made named) (inl tt) refl)
+      of_content inst row (Scalar 2) (ap (λ (r : LibraryRow). r.content) (some_one e)) (scalar_shape (machine_table p) inst (LibraryKey 6) (id (length p.types.terms + 7)) (IntegerType 4 4 true) 2 o refl (number_type p made named) (inl tt) refl)
   library_shape (suc (suc (suc (suc (suc (suc (suc zero))))))) inst few o row e =
-      of_content inst row (Scalar 4) (ap (λ (r : LibraryRow). r.content) (some_one e)) (scalar_shape (machine_table p) inst (LibraryKey 7) (id (length p.types.terms + 6)) (PointerTo VoidType) 4 o refl (pointer_type p made named) (inr tt) refl)
+      of_content inst row (Scalar 4) (ap (λ (r : LibraryRow). r.content) (some_one e)) (scalar_shape (machine_table p) inst (LibraryKey 7) (id (length p.types.terms + 5)) (PointerTo (IntegerType 1 1 true)) 4 o refl (pointer_type p made named) (inr tt) refl)
   library_shape (suc (suc (suc (suc (suc (suc (suc (suc zero)))))))) inst few o row e =
       of_content inst row (Scalars 1) (ap (λ (r : LibraryRow). r.content) (some_one e)) (scalars_shape (machine_table p) inst (LibraryKey 8) (id (length p.types.terms + 4)) (IntegerType 2 3 false) 384 1 o refl (classes_type p made named) (inl tt) refl)
   library_shape (suc (suc (suc (suc (suc (suc (suc (suc (suc zero))))))))) inst few o row e =
-      of_content inst row (Scalars 4) (ap (λ (r : LibraryRow). r.content) (some_one e)) (scalars_shape (machine_table p) inst (LibraryKey 9) (id (length p.types.terms + 7)) (PointerTo VoidType) 9 4 o refl (arguments_type p made named) (inr tt) refl)
+      of_content inst row (Scalars 4) (ap (λ (r : LibraryRow). r.content) (some_one e)) (scalars_shape (machine_table p) inst (LibraryKey 9) (id (length p.types.terms + 6)) (PointerTo (IntegerType 1 1 true)) 9 4 o refl (arguments_type p made named) (inr tt) refl)
   library_shape (suc (suc (suc (suc (suc (suc (suc (suc (suc (suc zero)))))))))) inst few o row e = absurd (false≢true (sym few))
   library_shape (suc (suc (suc (suc (suc (suc (suc (suc (suc (suc (suc k))))))))))) inst few o row e = absurd (none_some e)
 

@@ -1,9 +1,9 @@
 -- The types of the library's objects in the machine's table, and the program's own there.
 use Rattle.std.proofs.Common.{arith, ◌≡◌, ◌∙◌, ℕ, ◌+◌, true, false, length, Option, Some, IsSome, slice_get, refl, sym, ap, subst}
 use Rattle.c_types.specs.declared.term.Term.{Term}
-use Rattle.c_types.specs.declared.term.Term.TheVariants.{Void, Integer, Pointer, Array}
+use Rattle.c_types.specs.declared.term.Term.TheVariants.{Integer, Pointer, Array}
 use Rattle.c_types.specs.declared.term.TypeId.{TypeId}
-use Rattle.c_types.specs.Trees.{Ctype, VoidType, IntegerType, PointerTo, ArrayOf, grow}
+use Rattle.c_types.specs.Trees.{Ctype, IntegerType, PointerTo, ArrayOf, grow}
 use Rattle.c_types.specs.Layout.{Extent}
 use Rattle.c_types.specs.Table.{types_of, type_of, extent_in}
 use Rattle.c_types.specs.Made.{IsMade, AreNamed}
@@ -23,7 +23,7 @@ a & b = (a, b)
 -- the types of the library's objects may stand behind those of any table
 pub library_follow : (n : ℕ) → MayFollow n (library_terms n)
 library_follow n =
-    (tt, refl, tt) & (omega arith, tt, tt) & (omega arith, tt, tt) & (tt, refl, tt) & (omega arith, tt, tt) & (tt, tt, tt) & (omega arith, tt, tt) & (omega arith, tt, tt) & (tt, refl, tt) & tt
+    (tt, refl, tt) & (omega arith, tt, tt) & (omega arith, tt, tt) & (tt, refl, tt) & (omega arith, tt, tt) & (omega arith, tt, tt) & (omega arith, tt, tt) & (tt, refl, tt) & tt
 
 module _ (p : Program) (made : IsMade p.types) (named : AreNamed p.types) where
   pub longer : IsKept p.types (machine_table p)
@@ -53,17 +53,13 @@ module _ (p : Program) (made : IsMade p.types) (named : AreNamed p.types) where
   pub classes_type : type_of (machine_table p) (length p.types.terms + 4) ≡ ArrayOf (IntegerType 2 3 false) (Some 384)
   classes_type = type_behind (length p.types.terms + 4) 4 (Array (id (length p.types.terms + 3)) (Some 384)) refl refl ∙ ap (λ (t : Ctype). ArrayOf t (Some 384)) class_type
 
-  nothing_type : type_of (machine_table p) (length p.types.terms + 5) ≡ VoidType
-  nothing_type = type_behind (length p.types.terms + 5) 5 Void refl refl
+  pub pointer_type : type_of (machine_table p) (length p.types.terms + 5) ≡ PointerTo (IntegerType 1 1 true)
+  pointer_type = type_behind (length p.types.terms + 5) 5 (Pointer (id (length p.types.terms))) refl refl ∙ ap PointerTo character_type
 
-  pub pointer_type : type_of (machine_table p) (length p.types.terms + 6) ≡ PointerTo VoidType
-  pointer_type = type_behind (length p.types.terms + 6) 6 (Pointer (id (length p.types.terms + 5))) refl refl ∙ ap PointerTo nothing_type
-
-  pub arguments_type : type_of (machine_table p) (length p.types.terms + 7) ≡ ArrayOf (PointerTo VoidType) (Some 9)
+  pub arguments_type : type_of (machine_table p) (length p.types.terms + 6) ≡ ArrayOf (PointerTo (IntegerType 1 1 true)) (Some 9)
   arguments_type =
-      type_behind (length p.types.terms + 7) 7 (Array (id (length p.types.terms + 5 + 1)) (Some 9)) refl refl
-      ∙ (ap (λ (k : ℕ). ArrayOf (type_of (machine_table p) k) (Some 9)) (let e : length p.types.terms + 5 + 1 ≡ length p.types.terms + 6 = omega arith in e)
-      ∙ ap (λ (t : Ctype). ArrayOf t (Some 9)) pointer_type)
+      type_behind (length p.types.terms + 6) 6 (Array (id (length p.types.terms + 5)) (Some 9)) refl refl
+      ∙ ap (λ (t : Ctype). ArrayOf t (Some 9)) pointer_type
 
-  pub number_type : type_of (machine_table p) (length p.types.terms + 8) ≡ IntegerType 4 4 true
-  number_type = type_behind (length p.types.terms + 8) 8 (Integer 4 4 true) refl refl
+  pub number_type : type_of (machine_table p) (length p.types.terms + 7) ≡ IntegerType 4 4 true
+  number_type = type_behind (length p.types.terms + 7) 7 (Integer 4 4 true) refl refl

@@ -1,3 +1,4 @@
 pub mod Objects
 pub mod Fixed
 pub mod Arguments
+pub mod Start

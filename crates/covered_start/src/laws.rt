@@ -2,6 +2,7 @@
 ghost use Rattle.covered_start.specs.Arguments.{TextsCovered, ListsCovered};
 ghost use Rattle.covered_start.specs.Fixed.{FixedCovered};
 ghost use Rattle.covered_start.specs.Objects.{ObjectsCovered, ObjectsTake};
+ghost use Rattle.covered_start.specs.Start.{BeginSteady, StartSteady};
 
 /// The objects that live for the whole run are covered, before any initialiser (C11 5.1.2, 6.7.9p10).
 pub fn objects_covered()
@@ -26,4 +27,14 @@ pub fn texts_covered()
 /// `<argv>`, which points to them, leaves the memory covered.
 pub fn lists_covered()
     ensures { ListsCovered }
+{}
+
+/// The state in which a run starts is covered: each object that lives for the whole run, with its initialiser (6.7.9p10).
+pub fn start_steady()
+    ensures { StartSteady }
+{}
+
+/// So is the state after the first step, which enters main, with arguments where it has parameters (5.1.2.2.1).
+pub fn begin_steady()
+    ensures { BeginSteady }
 {}

@@ -53,7 +53,7 @@ use Rattle.covering_laws.proofs.covered_memory.Access.{Target, cell_written, kep
 use Rattle.covering_laws.proofs.covered_memory.Changes.{PartsIn, puts_in, change_law}
 use Rattle.covering_laws.specs.covered_library.Calls.{StoresIn}
 use Rattle.covering_laws.proofs.covered_library.Stores.{own_stored}
-use Rattle.covering_laws.specs.covered_rows.Nodes.{IsNode}
+use Rattle.covering_laws.specs.covered_rows.Nodes.{IsNode, HeldIn}
 use Rattle.covering_laws.proofs.covered_rows.Values.{of_held}
 use Rattle.covering_laws.proofs.covered_rows.Initials.{item_stores}
 use Rattle.covering_laws.specs.covered_state.World.{World, trees_of, sets_of, setting_in}
@@ -104,8 +104,9 @@ module _ (table : Table) where
       by (Some q) is g next =
           ap (λ (b : Bool). cond b (Err OutOfRange) (walk table (part_type table t step) rest)) (in_range t step q is) ∙ (ap (λ (o : Option Ctype). walk table o rest) is ∙ next q g)
 
-module _ (world : World) (runs : IsRunnable world) (memory : List Instance) (f : Frame) (n : ℕ) (node : Node) (values : List (ℕ × Value)) (all : MemoryIn (sets_of world) memory)
-    (there : slice_get (trees_of world).nodes n ≡ Some node) (each : Each (λ x. NodeIn world memory x.0 x.1) values) (e : ℕ) (paths : List (List PathStep)) (kind : node.kind ≡ Initialise e paths) where
+module _ (world : World) (runs : IsRunnable world) (memory : List Instance) (n : ℕ) (node : Node) (values : List (ℕ × Value)) (all : MemoryIn (sets_of world) memory)
+    (there : slice_get (trees_of world).nodes n ≡ Some node) (held : (v : ℕ) → sort_at (trees_of world) v ≡ ValueNode → HeldIn (sets_of world) (setting_in world) memory v (value_in values v))
+    (e : ℕ) (paths : List (List PathStep)) (kind : node.kind ≡ Initialise e paths) where
   abbrev table : Table
   table = world.program.types
 
@@ -164,7 +165,7 @@ module _ (world : World) (runs : IsRunnable world) (memory : List Instance) (f :
         (kept_row (row_in (setting_in world) v) (nodes_of table (type_at (trees_of world) v))) stores (subst (IsFew table) (sym walked.ty) (value_few v)) p c
         (subst (λ (s : Ctype). CellIn g memory (pointer_row (kept_row (row_in (setting_in world) v) (nodes_of table (type_at (trees_of world) v))) (part_at table (Some (reached s 0 false)) p)) c) (sym walked.ty) h)))
         (of_held world.program world.space world.system world.is_system world.family runs.stands.closed runs.stands.grounds v (type_at (trees_of world) v) memory (value_in values v) refl
-        (value_held world memory values each v sort)))
+        (held v sort)))
       where
         walks : walk table (Some top) path ≡ Ok (type_at (trees_of world) v)
         walks = path_walks table top path (type_at (trees_of world) v) ty
@@ -201,7 +202,7 @@ module _ (world : World) (runs : IsRunnable world) (memory : List Instance) (f :
     own_parts = parts_each paths node.children values_are one_part
 
     -- the instance goes on as the same object, and is covered
-    initialised_in : (clear : Bool) → GoesOn g a (initialised table clear (parts (trees_of world) paths node.children values) a) × InstanceIn g memory (initialised table clear (parts (trees_of world) paths node.children values) a)
+    pub initialised_in : (clear : Bool) → GoesOn g a (initialised table clear (parts (trees_of world) paths node.children values) a) × InstanceIn g memory (initialised table clear (parts (trees_of world) paths node.children values) a)
     initialised_in true = (
       record { key = refl; in_tree = λ p x. x; whole = λ t x. x },
       with_cells g world.system runs.stands.grounds memory (record a { zero = true; cells = [] }) cleared_in (put_all table true (whole_of table a) (kept_parts table (whole_of table a) (parts (trees_of world) paths node.children values)) [])
@@ -222,45 +223,46 @@ module _ (world : World) (runs : IsRunnable world) (memory : List Instance) (f :
   same_type true list a h = h
   same_type false list a h = h
 
-  abbrev after_at : ℕ → Option Instance → List Instance
-  after_at i o = changed memory i o (initialised table (clears paths) (parts (trees_of world) paths node.children values))
+  module _ (f : Frame) where
+    abbrev after_at : ℕ → Option Instance → List Instance
+    after_at i o = changed memory i o (initialised table (clears paths) (parts (trees_of world) paths node.children values))
 
-  found_at : (i : ℕ) → instance_of memory f.instances (EntityKey e) ≡ Some i → IsNamed memory (EntityKey e) (Pointer i [] false)
-  unfolding named_row
-  found_at i is = named_inv memory f.instances (EntityKey e) (Pointer i [] false) (ap whole_place is)
+    found_at : (i : ℕ) → instance_of memory f.instances (EntityKey e) ≡ Some i → IsNamed memory (EntityKey e) (Pointer i [] false)
+    unfolding named_row
+    found_at i is = named_inv memory f.instances (EntityKey e) (Pointer i [] false) (ap whole_place is)
 
-  leaves_at : (i : ℕ) → instance_of memory f.instances (EntityKey e) ≡ Some i → Leaves g memory (after_at i (slice_get memory i))
-  leaves_at i is =
-      change_law g world.system runs.stands.grounds memory i (initialised table (clears paths) (parts (trees_of world) paths node.children values)) all
-      (λ a a_is inside. initialised_in a (key a a_is) inside (clears paths))
-    where
-      named : IsNamed memory (EntityKey e) (Pointer i [] false)
-      named = found_at i is
+    leaves_at : (i : ℕ) → instance_of memory f.instances (EntityKey e) ≡ Some i → Leaves g memory (after_at i (slice_get memory i))
+    leaves_at i is =
+        change_law g world.system runs.stands.grounds memory i (initialised table (clears paths) (parts (trees_of world) paths node.children values)) all
+        (λ a a_is inside. initialised_in a (key a a_is) inside (clears paths))
+      where
+        named : IsNamed memory (EntityKey e) (Pointer i [] false)
+        named = found_at i is
 
-      key : (a : Instance) → slice_get memory i ≡ Some a → a.key ≡ EntityKey e
-      key a a_is =
-          ap (λ (x : Instance). x.key) (some_one (sym a_is ∙ (ap (slice_get memory) (sym (pointer_one named.cell_is)) ∙ named.there.inst_is))) ∙ named.there.key_is
+        key : (a : Instance) → slice_get memory i ≡ Some a → a.key ≡ EntityKey e
+        key a a_is =
+            ap (λ (x : Instance). x.key) (some_one (sym a_is ∙ (ap (slice_get memory) (sym (pointer_one named.cell_is)) ∙ named.there.inst_is))) ∙ named.there.key_is
 
-  back_at : (i : ℕ) (o : Option Instance) → slice_get memory i ≡ o → GoesBack memory (after_at i o)
-  back_at i None is = same_back memory
-  back_at i (Some x) is = set_back memory i x (initialised table (clears paths) (parts (trees_of world) paths node.children values) x) is (same_type (clears paths) (parts (trees_of world) paths node.children values) x)
+    back_at : (i : ℕ) (o : Option Instance) → slice_get memory i ≡ o → GoesBack memory (after_at i o)
+    back_at i None is = same_back memory
+    back_at i (Some x) is = set_back memory i x (initialised table (clears paths) (parts (trees_of world) paths node.children values) x) is (same_type (clears paths) (parts (trees_of world) paths node.children values) x)
 
-  stored_at : (after : List Instance) → MemoryIn g after → (i : ℕ) (o : Option Instance) → slice_get after i ≡ o → StoresIn g after (pointers_in i (cells_in o))
-  stored_at after covered i None is = tt
-  stored_at after covered i (Some b) is = own_stored g world.system runs.stands.grounds after b (covered i b is) after (same_memory g after) i b is refl
+    stored_at : (after : List Instance) → MemoryIn g after → (i : ℕ) (o : Option Instance) → slice_get after i ≡ o → StoresIn g after (pointers_in i (cells_in o))
+    stored_at after covered i None is = tt
+    stored_at after covered i (Some b) is = own_stored g world.system runs.stands.grounds after b (covered i b is) after (same_memory g after) i b is refl
 
-  row_initialised : (o : Option ℕ) (next : Next) → instance_of memory f.instances (EntityKey e) ≡ o
-      → initialised_at (trees_of world) memory f o paths (parts (trees_of world) paths node.children values) ≡ Ok next → IsInitialised world memory f next
-  row_initialised None next is h = absurd (err_ok h)
-  row_initialised (Some i) next is h =
-      let left = leaves_at i is in
-      subst (IsInitialised world memory f) (ok_one h)
-      (record {
-        leaves = left;
-        back = back_at i (slice_get memory i) refl;
-        stores = stored_at (after_at i (slice_get memory i)) left.covered i (slice_get (after_at i (slice_get memory i)) i) refl;
-        frame = refl;
-      })
+    row_initialised : (o : Option ℕ) (next : Next) → instance_of memory f.instances (EntityKey e) ≡ o
+        → initialised_at (trees_of world) memory f o paths (parts (trees_of world) paths node.children values) ≡ Ok next → IsInitialised world memory f next
+    row_initialised None next is h = absurd (err_ok h)
+    row_initialised (Some i) next is h =
+        let left = leaves_at i is in
+        subst (IsInitialised world memory f) (ok_one h)
+        (record {
+          leaves = left;
+          back = back_at i (slice_get memory i) refl;
+          stores = stored_at (after_at i (slice_get memory i)) left.covered i (slice_get (after_at i (slice_get memory i)) i) refl;
+          frame = refl;
+        })
 
 pub initialised_covered : (world : World) → IsRunnable world → (memory : List Instance) (f : Frame) (n : ℕ) (node : Node) (values : List (ℕ × Value)) (next : Next) → MemoryIn (sets_of world) memory
     → slice_get (trees_of world).nodes n ≡ Some node → Each (λ x. NodeIn world memory x.0 x.1) values → initialise_row (trees_of world) memory f node values ≡ Ok next → IsInitialised world memory f next
@@ -268,7 +270,7 @@ unfolding initialise_row
 initialised_covered world runs memory f n node values next all there each h = by (lacks (trees_of world) values node.children) h
   where
     of_kind : (kind : NodeKind) → node.kind ≡ kind → initialise_by (trees_of world) memory f kind node.children values ≡ Ok next → IsInitialised world memory f next
-    of_kind (Initialise e paths) is k = row_initialised world runs memory f n node values all there each e paths is (instance_of memory f.instances (EntityKey e)) next refl k
+    of_kind (Initialise e paths) is k = row_initialised world runs memory n node values all there (value_held world memory values each) e paths is f (instance_of memory f.instances (EntityKey e)) next refl k
     of_kind kind is k = absurd (err_ok k)
 
     by : (b : Bool) → (let r : Row = cond b (Err UnsetUse) (initialise_by (trees_of world) memory f node.kind node.children values) in r) ≡ Ok next → IsInitialised world memory f next

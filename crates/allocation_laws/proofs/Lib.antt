@@ -1,0 +1,10 @@
+pub mod Marks
+pub mod Firsts
+pub mod Ranges
+pub mod Fields
+pub mod Members
+pub mod Keeping
+pub mod Spaced
+pub mod Nodes
+pub mod Calls
+pub mod Spreading

@@ -1,0 +1,7 @@
+pub mod Frames
+pub mod Rows
+pub mod Libraries
+pub mod Ends
+pub mod Steps
+pub mod Runs
+pub mod Scenes

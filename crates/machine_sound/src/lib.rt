@@ -1,0 +1,5 @@
+//! That each step of the reference machine keeps what the sets cover, and so each run: these functions do nothing, and their contracts are
+//! the laws.
+#![tactic(auto)]
+
+pub mod laws;

@@ -1,0 +1,3 @@
+pub mod Stars
+pub mod Serving
+pub mod Stored

@@ -1,0 +1,36 @@
+-- How functions are stored in linked programs.
+use Rattle.std.specs.Prelude.{◌≡◌, ◌⊎◌, ℕ, List, Some, slice_get}
+use Rattle.core_tree.specs.declared.node.Program.{Program}
+use Rattle.core_tree.specs.declared.node.Storage.TheVariants.{FunctionBody, Declared}
+use Rattle.core_tree.specs.declared.node.Unit.{Unit}
+use Rattle.core_tree.specs.Range.{EachEntity}
+use Rattle.core_tree.specs.Typed.{CoreTrees, trees_of, trees_in}
+use Rattle.core_tree.specs.Valid.{IsFunctionEntity}
+use Rattle.unit_link.specs.Linked.{Linked}
+use Rattle.unit_link.specs.Needs.{AreLinkable}
+use Rattle.library_names.specs.Names.{AreDeclaredOnly}
+use Rattle.covered_statements.specs.Founded.{AutomaticObjects}
+
+-- each function has its body, or is only declared
+abbrev pub StoresFunctions : CoreTrees → Type 0
+StoresFunctions u =
+    EachEntity u (λ e entity. IsFunctionEntity u entity → (entity.storage ≡ FunctionBody) ⊎ (entity.storage ≡ Declared))
+
+-- so it is in each of some units
+pub record StoreFunctions (units : List Unit) : Type 0 where
+  pub each : (u : ℕ) (x : Unit) → slice_get units u ≡ Some x → StoresFunctions (trees_of x)
+
+-- then so it is in the program that is linked from them: its automatic objects are no functions, and what has no
+-- body in a unit is only declared there
+pub record AreStored (units : List Unit) (p : Program) : Type 0 where
+  pub functions : StoresFunctions (trees_in p)
+  pub automatic : AutomaticObjects (trees_in p)
+  pub declared : AreDeclaredOnly units
+
+abbrev pub FunctionsStored : Type 0
+FunctionsStored =
+    (units : List Unit) (p : Program)
+    → AreLinkable units
+    → StoreFunctions units
+    → Linked units p
+    → AreStored units p

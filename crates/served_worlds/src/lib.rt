@@ -1,0 +1,4 @@
+//! What a linked program's world has of the library: these functions do nothing, and their contracts are the laws.
+#![tactic(auto)]
+
+pub mod laws;
