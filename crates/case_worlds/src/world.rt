@@ -120,11 +120,29 @@ impl World {
         let place = cell_of(self.alloc, place)?;
         let given = cell_of(self.alloc, given)?;
         let value = Value::one(self.alloc, given)?;
+        self.written(&place, ty, &value)
+    }
+
+    // What a write of a value at a place answers.
+    fn written(&mut self, place: &Cell, ty: TypeId, value: &Value) -> Result<String, Fail> {
         if ty.0 >= self.table.type_count() || !are_known(&self.table, &self.memory) {
             return Ok(format!(in self.alloc; "not known")?);
         }
-        match self.memory.write(&self.table, &place, ty, &value) {
+        match self.memory.write(&self.table, place, ty, value) {
             Ok(()) => Ok(format!(in self.alloc; "written")?),
+            Err(fault) => Ok(shown_fault(self.alloc, &fault)?),
+        }
+    }
+
+    /// What a write of the value at another place answers.
+    pub fn assign(&mut self, place: Arg, ty: TypeId, from: Arg) -> Result<String, Fail> {
+        let place = cell_of(self.alloc, place)?;
+        let from = cell_of(self.alloc, from)?;
+        if ty.0 >= self.table.type_count() || !are_known(&self.table, &self.memory) {
+            return Ok(format!(in self.alloc; "not known")?);
+        }
+        match self.memory.read(&self.table, &from, ty) {
+            Ok(value) => self.written(&place, ty, &value),
             Err(fault) => Ok(shown_fault(self.alloc, &fault)?),
         }
     }

@@ -161,6 +161,54 @@ object union unset`
 get member.1.0 int`Unset
 get member.1.1 pointer`Mismatch
 
+a member of a union without a scalar becomes the active one too, in a copy as well, and under the mark
+object either zero`
+object empty zero`
+object either unset`
+put member.0.0 int 5`written
+put member.2.0 int 7`written
+assign member.0.1 empty whole.1`written
+get member.0.0 int`Mismatch
+get member.0.1 empty`
+get whole.0 either`.1=unset
+assign member.0.1 empty whole.1`written
+get member.0.0 int`Mismatch
+assign whole.2 either whole.0`written
+get member.2.0 int`Mismatch
+get member.2.1 empty`
+put member.0.0 int 5`written
+get member.0.0 int`5
+get member.0.1 empty`Mismatch
+put member.2.0 int 7`written
+assign member.0.1 empty member.2.1`Mismatch
+assign member.0.1 empty whole.1`written
+call 0 memcpy whole.2 whole.0 4`&2
+get member.2.0 int`Mismatch
+call 0 memset whole.0 0 4`&0
+get member.0.0 int`0
+
+memset puts an unsigned char into each cell, reduced to a bit-field's width; of a union and of wider cells no other number than 0
+object fields unset`
+object hollow unset`
+object bytes unset`
+object bits unset`
+call 0 memset whole.0 5 2`&0
+get member.0.0 char`-3
+get member.0.1 char`5
+call 0 memset whole.0 456 2`&0
+get member.0.0 char`0
+get member.0.1 char`-56
+call 0 memset whole.0 -1 2`&0
+get member.0.0 char`-1
+get member.0.1 char`-1
+call 0 memset whole.0 259 1`Mismatch
+call 0 memset whole.0 259 4`OutOfRange
+call 0 memset whole.1 5 2`Mismatch
+call 0 memset whole.2 5 2`Mismatch
+call 0 memset whole.3 5 8`Mismatch
+call 0 memset whole.3 256 8`&3
+get member.3.0 int`0
+
 k->b=&x; g.d=&y; p=g.v.a; with k at the first member of g: the last read is Mismatch
 object nested zero`
 object int zero`
@@ -171,6 +219,14 @@ get nested.0.0.1 pointer`&1
 get nested.0.0.0 pointer`Mismatch
 get whole.0 nested`.0.1=&1 .1=&1
 get member.0.0 pointers`.1=&1
+
+of the library's objects the third alone is an array of as many elements as its bytes hold, and here it has no bytes
+library 2 int`
+library 6 int`
+get element.0.0 int`OutOfRange
+get whole.0 int`Mismatch
+get whole.1 int`0
+get element.1.0 int`Mismatch
 
 strcpy and strcat write the zero too; a refusal leaves all as it was
 hold char[4] char 104 105 0`

@@ -1,6 +1,7 @@
 // Each script on a memory of its own.
 use crate::scripts::SCRIPTS;
 use crate::words::{arg_of, args_from, count, numbers_from, type_of, word, words_of};
+use c_types::key::ObjectKey;
 use case_worlds::world::World;
 use std::alloc::Global;
 use std::test::Fail;
@@ -11,6 +12,10 @@ fn prepares(alloc: Global, world: &mut World, words: &[&str]) -> Result<bool, Fa
     match word(words, 0) {
         "object" => {
             world.object(ty, word(words, 2) == "zero")?;
+        }
+        "library" => {
+            let key = ObjectKey::Library(count(word(words, 1)));
+            world.library(key, type_of(word(words, 2)), true)?;
         }
         "hold" => {
             let numbers = numbers_from(alloc, words, 3)?;
@@ -28,6 +33,7 @@ fn answer(alloc: Global, world: &mut World, words: &[&str]) -> Result<String, Fa
     let ty = type_of(word(words, 2));
     match word(words, 0) {
         "put" => world.put(arg_of(word(words, 1)), ty, arg_of(word(words, 3))),
+        "assign" => world.assign(arg_of(word(words, 1)), ty, arg_of(word(words, 3))),
         "get" => world.get(arg_of(word(words, 1)), ty),
         "elements" => {
             let many = u64::from(count(word(words, 3)));

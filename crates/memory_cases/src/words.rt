@@ -1,8 +1,8 @@
 // What the words of a step say.
 use c_types::term::TypeId;
 use case_worlds::case_types::types::{
-    BITS, CHAR, FOUR_CHARS, INT, NESTED, POINTER, POINTERS, RECORD, SIX_CHARS, THREE_INTS,
-    TWO_CHARS, UNION,
+    BITS, BYTES, CHAR, EITHER, EMPTY, FIELDS, FOUR_CHARS, HOLLOW, INT, NESTED, POINTER, POINTERS,
+    RECORD, SIX_CHARS, THREE_INTS, TWO_CHARS, UNION,
 };
 use case_worlds::world::Arg;
 use std::alloc::Global;
@@ -40,6 +40,11 @@ pub(crate) fn type_of(name: &str) -> TypeId {
         "bits" => BITS,
         "pointers" => POINTERS,
         "nested" => NESTED,
+        "bytes" => BYTES,
+        "empty" => EMPTY,
+        "either" => EITHER,
+        "fields" => FIELDS,
+        "hollow" => HOLLOW,
         _ => TypeId(u32::MAX),
     }
 }

@@ -54,6 +54,18 @@ pub const NESTED: TypeId = TypeId(14);
 /// `struct { char c; union { char d; } u; }`.
 pub const BYTES: TypeId = TypeId(16);
 
+/// `struct { }`.
+pub const EMPTY: TypeId = TypeId(17);
+
+/// `union { int i; struct { } e; }`.
+pub const EITHER: TypeId = TypeId(18);
+
+/// `struct { char f : 3; char c; }`.
+pub const FIELDS: TypeId = TypeId(19);
+
+/// `struct { char c; union { struct { } e; char d; } u; }`.
+pub const HOLLOW: TypeId = TypeId(21);
+
 // Whether a bit-field of an integer type has a width that it may have.
 fn has_bits(table: &TypeTable, id: TypeId, bits: Option<u8>) -> bool
     requires { id.0 < length table.now.terms }
@@ -164,6 +176,15 @@ fn add_scalars(table: &mut TypeTable) -> Result<(), OutOfMemory> {
     Ok(())
 }
 
+// What has a member without a scalar, and what has a bit-field of a byte.
+fn add_hollow(alloc: Global, table: &mut TypeTable) -> Result<(), OutOfMemory> {
+    add_tagged(alloc, table, false, &[])?;
+    add_tagged(alloc, table, true, &[(INT, None), (EMPTY, None)])?;
+    add_tagged(alloc, table, false, &[(CHAR, Some(3)), (CHAR, None)])?;
+    add_tagged(alloc, table, true, &[(EMPTY, None), (CHAR, None)])?;
+    add_tagged(alloc, table, false, &[(CHAR, None), (TypeId(20), None)])
+}
+
 /// The table of the types that the constants name, each at its number; want of memory is an error.
 pub fn table_of_types(alloc: Global) -> Result<TypeTable, OutOfMemory> {
     let mut table = TypeTable::new(alloc);
@@ -200,5 +221,6 @@ pub fn table_of_types(alloc: Global) -> Result<TypeTable, OutOfMemory> {
         false,
         &[(CHAR, None), (TypeId(15), None)],
     )?;
+    add_hollow(alloc, &mut table)?;
     Ok(table)
 }
