@@ -35,6 +35,8 @@ program_command = bare_command (codes "pta")
     ∷ value_option (codes "ask")
     ∷ flag (codes "json")
     ∷ value_option (codes "gen")
+    ∷ value_option (codes "run")
+    ∷ flag (codes "desk")
     ∷ positional_words (codes "unit")
     ∷ [])
 

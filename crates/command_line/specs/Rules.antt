@@ -53,6 +53,10 @@ script_word rows = first_of (codes "ask") rows
 abbrev pub gen_word : List Row → Option Text
 gen_word rows = first_of (codes "gen") rows
 
+-- the word that gives the most steps of a run, where one does
+abbrev pub run_word : List Row → Option Text
+run_word rows = first_of (codes "run") rows
+
 -- whether a flag stands: whether the text that is found for it is `true`
 abbrev pub is_flagged : Text → List Row → Bool
 is_flagged name rows = option_map_or (λ text. bytes_eq text (codes "true")) (first_of name rows) false
@@ -60,6 +64,10 @@ is_flagged name rows = option_map_or (λ text. bytes_eq text (codes "true")) (fi
 -- whether the report is wanted as JSON
 abbrev pub asks_json : List Row → Bool
 asks_json rows = is_flagged (codes "json") rows
+
+-- whether the questions of a script are to go over a desk
+abbrev pub asks_desk : List Row → Bool
+asks_desk rows = is_flagged (codes "desk") rows
 
 -- the option's number is well formed and in the range
 abbrev pub IsNumberIn : ℕ → ℕ → Option Text → Type 0
@@ -74,14 +82,18 @@ abbrev pub HasUnits : Option Text → List Text → Type 0
 HasUnits None units = AreUnits units
 HasUnits (Some text) units = units ≡ []
 
--- what was found keeps the rules: a script has no report, so no form of it, and a generated program has neither; the
--- name that is asked for may be that of a unit too
+-- what was found keeps the rules: a script has no report, so no form of it, a generated program has neither, and a run
+-- has none of the three; a desk stands beside a script alone; the name that is asked for may be that of a unit too
 pub record KeepsRules (rows : List Row) : Type 0 where
   pub workers : IsNumberIn 1 64 (first_of (codes "workers") rows)
   pub ask : IsNameIn (script_word rows)
   pub single : asks_json rows ≡ true → script_word rows ≡ None
   pub gen : IsNumberIn 1 1000 (gen_word rows)
   pub alone : IsSome (gen_word rows) → (script_word rows ≡ None) × (asks_json rows ≡ false)
+  pub run : IsNumberIn 0 1000000 (run_word rows)
+  pub run_alone : IsSome (run_word rows)
+      → (script_word rows ≡ None) × (asks_json rows ≡ false) × (gen_word rows ≡ None)
+  pub desk : asks_desk rows ≡ true → IsSome (script_word rows)
   pub units : HasUnits (gen_word rows) (unit_words rows)
 
 -- clap takes the words, and they keep the rules

@@ -58,5 +58,7 @@ pub(crate) fn program<'a>(alloc: Global) -> Result<Command<'a>, AllocError>
     let command = with_option(alloc, command, "ask")?;
     let command = with_flag(alloc, command, "json")?;
     let command = with_option(alloc, command, "gen")?;
+    let command = with_option(alloc, command, "run")?;
+    let command = with_flag(alloc, command, "desk")?;
     with_words(alloc, command, "unit")
 }

@@ -1,11 +1,12 @@
 //! The words' command.
-ghost use Rattle.std.specs.Prelude.{◌≡◌, IfOk, IfErr, None, [], IsSome, codes, false, map, option_map, string_bytes, true};
+ghost use Rattle.std.specs.Prelude.{◌≡◌, IfOk, IfErr, None, [], IsSome, IsTrue, ◌↔◌, codes, false, map, option_map, string_bytes, true};
 ghost use Rattle.clap.specs.Words.{first_of, found_of, rows_of};
 ghost use Rattle.clap.specs.Walk.{texts};
 ghost use Rattle.std.specs.Str.Parse.{digits_value};
 ghost use Rattle.std.specs.Option.{option_map_or};
 ghost use Rattle.command_line.specs.Meaning.{IsCommandOf, Says, number_of};
-ghost use Rattle.command_line.specs.Rules.{AreRight, AreUnits, HasUnits, asks_json, gen_word, IsNameIn, IsNumberIn, KeepsRules, script_word, unit_words};
+ghost use Rattle.command_line.specs.Rules.{AreRight, AreUnits, HasUnits, IsNameIn, IsNumberIn, KeepsRules};
+ghost use Rattle.command_line.specs.Rules.{asks_desk, asks_json, gen_word, run_word, script_word, unit_words};
 
 use crate::command::Command;
 use crate::fault::WordsFault;
@@ -94,6 +95,18 @@ fn generated(matches: &ArgMatches<'_>) -> Result<Option<u32>, WordsFault>
     }
 }
 
+/// The most steps of a run, where a word gives it.
+fn steps(matches: &ArgMatches<'_>) -> Result<Option<u32>, WordsFault>
+    ensures ok { IfOk result (λ n. let rows = rows_of (found_of matches.now) in
+        IsNumberIn 0 1000000 (run_word rows) × (n ≡ number_of (codes "run") rows)) }
+    ensures usage { IfErr result (λ fault. IsNumberIn 0 1000000 (run_word (rows_of (found_of matches.now))) → ⊥) }
+{
+    match number(matches, "run", 0, 1_000_000)? {
+        Some(number) => Ok(Some(number as u32)),
+        None => Ok(None),
+    }
+}
+
 /// What the words ask for: the name of a script of questions, where they have one, and whether they want the report as JSON, which
 /// they don't beside a script, and neither beside a generated program.
 fn wanted<'a>(
@@ -120,6 +133,44 @@ fn wanted<'a>(
     Ok((ask, json))
 }
 
+/// The most steps of a run, where a word gives it, beside which neither a script nor JSON nor a generated program is asked for.
+fn steps_alone(
+    matches: &ArgMatches<'_>,
+    generated: Option<u32>,
+    asks: bool,
+) -> Result<Option<u32>, WordsFault>
+    requires number { generated ≡ number_of (codes "gen") (rows_of (found_of matches.now)) }
+    requires other { let rows = rows_of (found_of matches.now) in
+        IsTrue asks ↔ (((script_word rows ≡ None) × (asks_json rows ≡ false)) → ⊥) }
+    ensures ok { IfOk result (λ n. let rows = rows_of (found_of matches.now) in
+        IsNumberIn 0 1000000 (run_word rows) × (n ≡ number_of (codes "run") rows)
+        × (IsSome (run_word rows) → (script_word rows ≡ None) × (asks_json rows ≡ false) × (gen_word rows ≡ None))) }
+    ensures usage { IfErr result (λ fault. let rows = rows_of (found_of matches.now) in
+        IsNumberIn 0 1000000 (run_word rows)
+        → (IsSome (run_word rows) → (script_word rows ≡ None) × (asks_json rows ≡ false) × (gen_word rows ≡ None)) → ⊥) }
+{
+    let steps = steps(matches)?;
+    if steps.is_some() && (asks || generated.is_some()) {
+        return Err(WordsFault::Usage);
+    }
+    Ok(steps)
+}
+
+/// Whether the questions of a script are to go over a desk, which is refused where no script is asked for.
+fn desk_beside(matches: &ArgMatches<'_>, asked: bool) -> Result<bool, WordsFault>
+    requires asked { IsTrue asked ↔ IsSome (script_word (rows_of (found_of matches.now))) }
+    ensures ok { IfOk result (λ desk. let rows = rows_of (found_of matches.now) in
+        (asks_desk rows ≡ true → IsSome (script_word rows)) × (desk ≡ asks_desk rows)) }
+    ensures usage { IfErr result (λ fault. let rows = rows_of (found_of matches.now) in
+        (asks_desk rows ≡ true → IsSome (script_word rows)) → ⊥) }
+{
+    let desk = is_set(matches, "desk");
+    if desk && !asked {
+        return Err(WordsFault::Usage);
+    }
+    Ok(desk)
+}
+
 /// The command of words that clap takes.
 fn command_of<'a>(alloc: Global, matches: &ArgMatches<'a>) -> Result<Command<'a>, WordsFault>
     ensures ok { IfOk result (λ command. KeepsRules (rows_of (found_of matches.now)) × Says (rows_of (found_of matches.now)) command) }
@@ -128,22 +179,26 @@ fn command_of<'a>(alloc: Global, matches: &ArgMatches<'a>) -> Result<Command<'a>
     let workers = workers(matches)?;
     let generated = generated(matches)?;
     let (ask, json) = wanted(matches, generated)?;
+    let steps = steps_alone(matches, generated, json || ask.is_some())?;
+    let desk = desk_beside(matches, ask.is_some())?;
     let units = units_beside(alloc, matches, generated)?;
     Ok(Command {
         workers,
         ask,
         json,
         generated,
+        steps,
+        desk,
         units,
     })
 }
 
 /// The command that the words give, without the program's name. `Usage` comes exactly where they break a rule: an option that isn't
-/// `--workers`, `--ask`, `--json` or `--gen`, one that stands twice or lacks its value, a value for `--json`, more than one of `--ask`,
-/// `--json` and `--gen`, a number that isn't 1 to 10 digits or is out of 1 to 64, or behind `--gen` out of 1 to 1000, a unit beside `--gen`,
-/// no unit or more than 256 without it, a name of a unit or of a script that isn't 1 to 255 bytes out of letters, digits, `.`, `_`, `-` and
-/// `/` or begins with `-`, and a unit twice. A script may have the name of a unit. Any words may meet
-/// want of memory.
+/// `--workers`, `--ask`, `--desk`, `--json`, `--gen` or `--run`, one that stands twice or lacks its value, a value for `--desk` or
+/// `--json`, more than one of `--ask`, `--json`, `--gen` and `--run`, `--desk` without `--ask`, a number that isn't 1 to 10 digits or is
+/// out of 1 to 64, or behind `--gen` out of 1 to 1000, or behind `--run` over 1,000,000, a unit beside `--gen`, no unit or more than 256
+/// without it, a name of a unit or of a script that isn't 1 to 255 bytes out of letters, digits, `.`, `_`, `-` and `/` or begins with
+/// `-`, and a unit twice. A script may have the name of a unit. Any words may meet want of memory.
 pub fn parse_words<'a>(alloc: Global, words: &'a [String]) -> Result<Command<'a>, WordsFault>
     ensures ok { IfOk result (λ command. IsCommandOf (map string_bytes words.entry.now) command) }
     ensures usage { IfErr result (λ fault. fault ≡ WordsFault.Usage → AreRight (map string_bytes words.entry.now) → ⊥) }

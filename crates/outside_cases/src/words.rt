@@ -56,7 +56,11 @@ fn scripts(rt: HostRuntime) {
 }
 
 /// Words of a command line, and whether they are refused.
-static REFUSED: [(&[&str], bool); 29] = [
+static REFUSED: [(&[&str], bool); 33] = [
+    (&["--ask=s", "--desk", "a.i"], false),
+    (&["--desk", "a.i"], true),
+    (&["--desk", "--ask=s", "--desk", "a.i"], true),
+    (&["--desk", "--gen", "3"], true),
     (&["--json", "a.i"], false),
     (&["a.i", "--json"], false),
     (&["--json", "a.i", "--json"], true),

@@ -2,6 +2,7 @@
 use pta_base::{Gate, MemorySink, MemoryUnits, OutOfMemory};
 use report_cli::analyse;
 use std::alloc::Global;
+use std::sync::Wait;
 use std::thread::Threads;
 
 pub(crate) struct OpenGate;
@@ -84,7 +85,7 @@ fn sink_of(
     }
 }
 
-fn status_of<R: Threads + Sync, G: Gate + Sync>(
+fn status_of<R: Threads + Wait + Sync, G: Gate + Sync>(
     rt: &R,
     alloc: Global,
     words: &[String],
@@ -98,7 +99,7 @@ fn status_of<R: Threads + Sync, G: Gate + Sync>(
 }
 
 /// Whether a call answers what it has to, where workers pass a gate.
-pub(crate) fn is_answered<R: Threads + Sync, G: Gate + Sync>(
+pub(crate) fn is_answered<R: Threads + Wait + Sync, G: Gate + Sync>(
     rt: &R,
     alloc: Global,
     case: &Case<'_>,

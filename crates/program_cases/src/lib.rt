@@ -4,6 +4,8 @@
 #[cfg(test)]
 mod asker;
 #[cfg(test)]
+mod askers;
+#[cfg(test)]
 mod calls;
 #[cfg(test)]
 mod generated;
@@ -13,6 +15,8 @@ mod long;
 mod outside;
 #[cfg(test)]
 mod rows;
+#[cfg(test)]
+mod runs;
 #[cfg(test)]
 mod scripts;
 #[cfg(test)]

@@ -1,6 +1,7 @@
-// Texts at the limits: as in `rows`, but that a text stands by its pieces, each of them and how often it stands there, apart by bars. They are
-// blocks that nest, closed or not, also in a unit that a thread of its own reads; alignments, which are read as deep as memory goes; and a
-// unit and a script of one byte more than a text may have (a script is looked at when the units are linked).
+// Texts at the limits: as in `rows`, but that a text stands by its pieces, each of them and how often it stands there, apart by bars; `#` is
+// how often it stands there up to here. They are blocks that nest, closed or not, also in a unit that a thread of its own reads; alignments,
+// which are read as deep as memory goes; a unit and a script of one byte more than a text may have (a script is looked at when the units are
+// linked); and as many objects as a table has room for, 512 words of each of 32,768 rows, and one more.
 use crate::calls::{Case, OpenGate, is_answered};
 use crate::tests::case_of;
 use pta_base::OutOfMemory;
@@ -56,12 +57,33 @@ a.i`a.i`6` |1|                                |524288``a.i: too large text 16777
 
 |524288|
 ^int x,*p,*q,*r; int main(void){p=&x;return 0;}|1``s: too large text 16777217
+~
+a.i`a.i`0`int v0|1|,v#|32765|; int main(void){return 0;}|1`pta 1
+end
+`~
+a.i`a.i`6`int v0|1|,v#|32766|; int main(void){return 0;}|1``too large rows 16777728
 ";
 
-/// The same piece so many times more.
-fn repeat(text: &mut String, piece: &str, times: usize) -> Result<(), OutOfMemory> {
-    for _ in 0..times {
-        text.push_str(piece)?;
+/// The piece once more, with a number in the place of each `#`.
+fn push_piece(
+    alloc: Global,
+    text: &mut String,
+    piece: &str,
+    number: usize,
+) -> Result<(), OutOfMemory> {
+    for (at, part) in piece.split('#').enumerate() {
+        if at > 0 {
+            text.push_str(format!(in alloc; "{number}")?.as_str())?;
+        }
+        text.push_str(part)?;
+    }
+    Ok(())
+}
+
+/// The same piece so many times more, numbered from 1 on.
+fn repeat(alloc: Global, text: &mut String, piece: &str, times: usize) -> Result<(), OutOfMemory> {
+    for number in 0..times {
+        push_piece(alloc, text, piece, number + 1)?;
     }
     Ok(())
 }
@@ -74,7 +96,7 @@ fn text_of(alloc: Global, pieces: &str) -> Result<String, OutOfMemory> {
         if at % 2 == 0 {
             piece = word;
         } else {
-            repeat(&mut text, piece, word.parse().unwrap_or(0))?;
+            repeat(alloc, &mut text, piece, word.parse().unwrap_or(0))?;
         }
     }
     Ok(text)

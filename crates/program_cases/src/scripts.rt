@@ -1,6 +1,22 @@
 // Worked scripts of questions: as in `several`, where the second text is the script.
 pub(crate) const SCRIPTS: &str =
-    "--workers 2 --ask s a.i`a.i s`0`int x,*p,*q,*r; int main(void){p=&x;return 0;}^points p x
+    "--workers 2 --desk --ask s a.i`a.i s`0`int x,*p,*q,*r; int main(void){p=&x;return 0;}^points p x
+points q x
+alias p p
+alias q r
+`ask 1
+yes
+no
+yes
+no
+end
+`~
+--desk a.i`a.i s`2`int x,*p,*q,*r; int main(void){p=&x;return 0;}^``usage
+~
+--desk --ask s a.i`a.i s`10`int x,*p,*q,*r; int main(void){p=&x;return 0;}^points x p
+``question 1
+~
+--workers 2 --ask s a.i`a.i s`0`int x,*p,*q,*r; int main(void){p=&x;return 0;}^points p x
 points q x
 alias p p
 alias q r

@@ -3,10 +3,12 @@ use crate::calls::{Case, OpenGate, ROOM, is_answered};
 use crate::generated::GENERATED;
 use crate::outside::OUTSIDE;
 use crate::rows::ROWS;
+use crate::runs::RUNS;
 use crate::scripts::SCRIPTS;
 use crate::several::SEVERAL;
 use pta_base::OutOfMemory;
 use std::alloc::Global;
+use std::sync::Wait;
 use std::thread::Threads;
 
 /// What a row says, where a read or a write takes so many bytes at the most, if the row doesn't say it.
@@ -36,6 +38,7 @@ fn rows_of(number: u32) -> &'static str {
         1 => SEVERAL,
         2 => SCRIPTS,
         3 => OUTSIDE,
+        4 => RUNS,
         _ => GENERATED,
     }
 }
@@ -49,7 +52,7 @@ fn with_workers(alloc: Global, words: &str, workers: u32) -> Result<String, OutO
 }
 
 /// The number of the first row, counted from 0, that a call with so many workers doesn't answer as the row says.
-fn first_wrong<R: Threads + Sync>(
+fn first_wrong<R: Threads + Wait + Sync>(
     rt: &R,
     alloc: Global,
     rows: &str,
@@ -78,13 +81,16 @@ fn worked_rows(rt: HostRuntime) -> Result<(), OutOfMemory> {
         (2, 0, 0),
         (3, 0, 0),
         (4, 0, 0),
+        (5, 0, 0),
         (0, 1, 0),
         (1, 1, 0),
         (2, 1, 0),
+        (4, 1, 0),
         (1, 0, 1),
         (1, 0, 2),
         (1, 0, 4),
         (1, 0, 64),
+        (4, 0, 4),
     ] {
         let wrong = first_wrong(&rt, rt.alloc(), rows_of(number), step, workers)?;
         assert!(rt;

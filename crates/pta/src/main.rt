@@ -1,5 +1,5 @@
-// Reads the units that the words name, and writes the report of their program, or the answers to a script of questions on it, or the
-// summary of a generated program.
+// Reads the units that the words name, and writes the report of their program, or the answers to a script of questions on it, the text of a
+// run of it, or the summary of a generated program.
 #![tactic(auto)]
 
 use pta_base::{FileUnits, Gate, Sink, StreamSink};

@@ -11,5 +11,5 @@ mod view;
 
 pub use ask::{Ask, Full};
 pub use desk::{Desk, Sender, Taker};
-pub use settling::settle;
+pub use settling::{answer_to, settle};
 pub use view::View;

@@ -13,8 +13,8 @@ use alias_query::{Answer, AskSeat, Queries, Question};
 use pta_base::OutOfMemory;
 use std::alloc::Global;
 
-/// Asks a question.
-fn answer_to(queries: &Queries, seat: &mut AskSeat, question: Question) -> Answer
+/// Asks a question, whose numbers must be in range: one load of the closing word, and then loads of the words of its rows alone.
+pub fn answer_to(queries: &Queries, seat: &mut AskSeat, question: Question) -> Answer
     requires own { IsOf queries.now.table.now seat.old }
     requires known { IsKnown queries.now.system.now question }
     ensures own { IsOf queries.now.table.now seat.new }

@@ -1,6 +1,6 @@
 -- What holds of texts that were read as far as a limit holds of the whole texts.
 use Rattle.std.proofs.Common.{◌≡◌, ℕ, Bool, ◌+◌, ◌<◌, ◌≤◌, ◌^◌, ◌⊎◌, List, [], ◌∷◌, zero, suc, Option, Some, None, option_map, IfSome, map, take, slice_get, length, min, refl, sym, ◌∙◌, ap, subst, inl, inr, arith, take_all, length-take}
-use Rattle.std.specs.Prelude.{option_and_then, zip}
+use Rattle.std.specs.Prelude.{option_and_then, zip, IsSome}
 use Rattle.c_lexer.specs.declared.Token.{Token}
 use Rattle.c_lexer.specs.declared.LexFault.{LexFault}
 use Rattle.c_lexer.specs.declared.LexFault.TheVariants.{BadByte, Unended, BadNumber, TooLong, OutOfMemory}
@@ -24,17 +24,17 @@ use Rattle.std.proofs.lemmas.List.{length-map}
 use Rattle.command_line.specs.Language.{found_in}
 use Rattle.command_line.specs.Meaning.{Says}
 use Rattle.command_line.specs.declared.command.Command.{Command}
-use Rattle.report_cli.specs.Words.{json_read, names_read, number_read, units_read, with_script}
+use Rattle.report_cli.specs.Words.{json_read, names_read, number_read, script_read as script_asked, side_name, steps_read, units_read, with_side}
 use Rattle.report_cli.specs.declared.form.Form.{Form}
 use Rattle.report_cli.specs.declared.form.Form.TheVariants.{Report}
-use Rattle.report_cli.specs.Told.{Told, parted, told_by, names_for, read_as, told_as, told_for}
-use Rattle.report_cli.specs.Printed.{AreAnswersTo, IsPrinted, IsLongScript, HasRefusedLine, IsRefusedScript}
+use Rattle.report_cli.specs.Told.{Side, no_side, with_questions, with_words, Told, side_of, parted, told_by, names_for, read_as, told_as, told_for}
+use Rattle.report_cli.specs.Printed.{AreAnswersTo, IsRun, IsPrinted, IsLongScript, HasRefusedLine, HasRefusedByte, IsRefusedScript, AreRefusedWords, IsRefusedSide}
 use Rattle.report_cli.specs.Faults.{IsFaultOfTold}
 use Rattle.report_cli.specs.Answers.{NamedText, Answer, told_units}
 use Rattle.report_cli.specs.Alone.{IsReadAs, IsRefusedAlone, lexical_refusal, syntax_refusal, name_refusal}
 use Rattle.report_cli.specs.Lowered.{IsParsed, IsRightText, AreRightTexts, IsRefusedRow}
 use Rattle.report_cli.specs.Linking.{IsLinkRefusal, HaveManyNodes, HaveManyWords, link_refusal}
-use Rattle.report_cli.specs.Outcome.{Denotes, IsRefusedText, FirstRefused, AreRefusedTogether, Refuses, RefusesScript, RefusesTold}
+use Rattle.report_cli.specs.Outcome.{Denotes, IsRefusedText, FirstRefused, AreRefusedTogether, Refuses, RefusesSide, RefusesTold}
 
 -- the names of told units are those that were asked for
 named_first : (name : List ℕ) (names : List (List ℕ)) (o : Option (List ℕ)) (told : Option (List NamedText)) → IfSome told (λ units. names ≡ map (λ (unit : NamedText). unit.0) units)
@@ -175,13 +175,25 @@ unfolding Refuses
 refuses_whole told answer (inl h) = inl (first_whole 0 told answer h)
 refuses_whole told answer (inr h) = inr (together_whole told answer h)
 
--- what was read of what is told: its units as far as they were read, and its script
+-- what was read of what is told: its units as far as they were read, and what stands beside them
 pub cut : NamedText → NamedText
 cut text = (text.0, take 16777217 text.1)
 
+pub cut_side : Side → Side
+cut_side no_side = no_side
+cut_side (with_questions script) = with_questions (cut script)
+cut_side (with_words steps words) = with_words steps (cut words)
+
+side_of-cut : (steps : Option ℕ) (text : Option NamedText) → side_of steps (option_map cut text) ≡ cut_side (side_of steps text)
+unfolding cut_side
+side_of-cut None None = refl
+side_of-cut (Some steps) None = refl
+side_of-cut None (Some text) = refl
+side_of-cut (Some steps) (Some text) = refl
+
 pub record IsCutOf (read told : Told) : Type 0 where
   pub units : read.units ≡ read_units told.units
-  pub script : read.script ≡ option_map cut told.script
+  pub side : read.side ≡ cut_side told.side
   pub form : read.form ≡ told.form
 
 -- a generated program is told as it is
@@ -200,11 +212,17 @@ script_read n [] = refl
 script_read zero (text ∷ texts) = refl
 script_read (suc n) (text ∷ texts) = script_read n texts
 
-parted_read : (names texts : List (List ℕ)) (told : List NamedText) (j k : Bool) (m n : ℕ) → j ≡ k → m ≡ n → AreReadUnits names texts told → IsCutOf (parted j m (zip names texts)) (parted k n told)
-parted_read names texts told j k m n form same read =
+parted_read : (names texts : List (List ℕ)) (told : List NamedText) (j k : Bool) (s t : Option ℕ) (m n : ℕ) → j ≡ k → s ≡ t → m ≡ n → AreReadUnits names texts told
+    → IsCutOf (parted j s m (zip names texts)) (parted k t n told)
+parted_read names texts told j k s t m n form steps same read =
     let is : zip names texts ≡ read_units told = zip_is_read names texts told read in record {
       units = ap (λ (k : ℕ). take k (zip names texts)) same ∙ ap (take n) is ∙ take_read n told;
-      script = ap (λ (k : ℕ). slice_get (zip names texts) k) same ∙ ap (λ (l : List NamedText). slice_get l n) is ∙ script_read n told;
+      side =
+          ap (λ (k : ℕ). side_of s (slice_get (zip names texts) k)) same
+          ∙ ap (λ (l : List NamedText). side_of s (slice_get l n)) is
+          ∙ ap (side_of s) (script_read n told)
+          ∙ side_of-cut s (slice_get told n)
+          ∙ ap (λ (o : Option ℕ). cut_side (side_of o (slice_get told n))) steps;
       form = ap Report form;
     }
 
@@ -220,18 +238,39 @@ unfolding AreAnswersTo
 answers_whole script program system text h =
     let P : List ℕ → Type 0 = λ t. AreAnswersTo t program system text in subst P (whole_text script.1 h.0) h
 
-printed_whole : (form : Form) (script : Option NamedText) (program : Program) (system : System) (text : List ℕ) → IsPrinted form (option_map cut script) program system text → IsPrinted form script program system text
-unfolding cut
-printed_whole form None program system text h = h
-printed_whole form (Some script) program system text h = answers_whole script program system text h
+-- and for the words of a run
+run_whole : (steps : ℕ) (words : NamedText) (program : Program) (system : System) (text : List ℕ) (status : ℕ) → IsRun steps (take 16777217 words.1) program system text status → IsRun steps words.1 program system text status
+run_whole steps words program system text status h =
+    let P : List ℕ → Type 0 = λ t. IsRun steps t program system text status in subst P (whole_text words.1 h.short) h
 
-pub told_prints : (read told : Told) (program : Program) (system : System) (text : List ℕ) → IsReadOf read told → IsPrinted read.form read.script program system text → IsPrinted told.form told.script program system text
+printed_whole : (form : Form) (side : Side) (program : Program) (system : System) (text : List ℕ) (status : ℕ) → IsPrinted form (cut_side side) program system text status → IsPrinted form side program system text status
+unfolding cut cut_side
+printed_whole form no_side program system text status h = h
+printed_whole form (with_questions script) program system text status h = (answers_whole script program system text h.0, h.1)
+printed_whole form (with_words steps words) program system text status h = run_whole steps words program system text status h
+
+pub told_prints : (read told : Told) (program : Program) (system : System) (text : List ℕ) (status : ℕ) → IsReadOf read told → IsPrinted read.form read.side program system text status → IsPrinted told.form told.side program system text status
 unfolding IsReadOf
-told_prints read told program system text (inl same) printed = let P : Told → Type 0 = λ known. IsPrinted known.form known.script program system text in subst P same printed
-told_prints read told program system text (inr of) printed =
-    let P : Option NamedText → Type 0 = λ script. IsPrinted read.form script program system text in
-    let F : Form → Type 0 = λ form. IsPrinted form told.script program system text in
-    subst F of.form (printed_whole read.form told.script program system text (subst P of.script printed))
+told_prints read told program system text status (inl same) printed = let P : Told → Type 0 = λ known. IsPrinted known.form known.side program system text status in subst P same printed
+told_prints read told program system text status (inr of) printed =
+    let P : Side → Type 0 = λ side. IsPrinted read.form side program system text status in
+    let F : Form → Type 0 = λ form. IsPrinted form told.side program system text status in
+    subst F of.form (printed_whole read.form told.side program system text status (subst P of.side printed))
+
+-- what is printed with the status 11 is the text of a run
+not_both : (status : ℕ) → status ≡ 0 → status ≡ 11 → ⊥
+not_both status none eleven = omega arith
+
+stopped_run : (form : Form) (steps : Option ℕ) (beside : Option NamedText) (program : Program) (system : System) (text : List ℕ) → IsPrinted form (side_of steps beside) program system text 11 → IsSome steps
+stopped_run form (Some steps) beside program system text h = refl
+stopped_run form None None program system text h = absurd (not_both 11 h.1 refl)
+stopped_run form None (Some script) program system text h = absurd (not_both 11 h.1 refl)
+
+-- so a run is asked for
+pub run_asked : (number : Option ℕ) (json : Bool) (steps : Option ℕ) (count : ℕ) (texts : List NamedText) (program : Program) (system : System) (text : List ℕ)
+    → IsPrinted (told_by number (parted json steps count texts)).form (told_by number (parted json steps count texts)).side program system text 11 → IsSome steps
+run_asked None json steps count texts program system text h = stopped_run (Report json) steps (slice_get texts count) program system text h
+run_asked (Some number) json steps count texts program system text h = absurd (not_both 11 h.1 refl)
 
 -- the same of a script's refusal
 long_whole : (script : NamedText) (answer : Answer) → IsLongScript (script.0, take 16777217 script.1) answer → IsLongScript script answer
@@ -248,16 +287,29 @@ script_whole : (program : Program) (space : List Location) (system : System) (sc
 script_whole program space system script answer (inl h) = inl (long_whole script answer h)
 script_whole program space system script answer (inr h) = inr (line_whole program space system script answer h)
 
-script_refused_whole : (told : List NamedText) (script : Option NamedText) (answer : Answer) → RefusesScript (read_units told) (option_map cut script) answer → RefusesScript told script answer
-unfolding cut
-script_refused_whole told None answer h = h
-script_refused_whole told (Some script) answer h = record {
+-- and of that of the words of a run
+byte_whole : (words : NamedText) (answer : Answer) → HasRefusedByte (words.0, take 16777217 words.1) answer → HasRefusedByte words answer
+byte_whole words answer h =
+    let P : List ℕ → Type 0 = λ t. HasRefusedByte (words.0, t) answer in subst P (whole_text words.1 h.short) h
+
+run_words_whole : (words : NamedText) (answer : Answer) → AreRefusedWords (words.0, take 16777217 words.1) answer → AreRefusedWords words answer
+run_words_whole words answer (inl h) = inl (long_whole words answer h)
+run_words_whole words answer (inr h) = inr (byte_whole words answer h)
+
+refused_side_whole : (side : Side) (program : Program) (space : List Location) (system : System) (answer : Answer) → IsRefusedSide (cut_side side) program space system answer → IsRefusedSide side program space system answer
+unfolding cut cut_side
+refused_side_whole no_side program space system answer h = h
+refused_side_whole (with_questions script) program space system answer h = script_whole program space system script answer h
+refused_side_whole (with_words steps words) program space system answer h = run_words_whole words answer h
+
+side_refused_whole : (told : List NamedText) (side : Side) (answer : Answer) → RefusesSide (read_units told) (cut_side side) answer → RefusesSide told side answer
+side_refused_whole told side answer h = record {
   program = h.program;
   denoted = denotes_whole told h.program h.denoted;
   space = h.space;
   system = h.system;
   system_of = h.system_of;
-  refused = script_whole h.program h.space h.system script answer h.refused;
+  refused = refused_side_whole side h.program h.space h.system answer h.refused;
 }
 
 pub told_refuses : (read told : Told) (answer : Answer) → IsReadOf read told → RefusesTold read answer → RefusesTold told answer
@@ -266,9 +318,9 @@ told_refuses read told answer (inl same) h = let P : Told → Type 0 = λ known.
 told_refuses read told answer (inr of) (inl h) =
     let P : List NamedText → Type 0 = λ units. Refuses units answer in inl (refuses_whole told.units answer (subst P of.units h))
 told_refuses read told answer (inr of) (inr h) =
-    let P : List NamedText → Type 0 = λ units. RefusesScript units read.script answer in
-    let Q : Option NamedText → Type 0 = λ script. RefusesScript (read_units told.units) script answer in
-    inr (script_refused_whole told.units told.script answer (subst Q of.script (subst P of.units h)))
+    let P : List NamedText → Type 0 = λ units. RefusesSide units read.side answer in
+    let Q : Side → Type 0 = λ side. RefusesSide (read_units told.units) side answer in
+    inr (side_refused_whole told.units told.side answer (subst Q of.side (subst P of.units h)))
 
 -- what follows from the told texts and what was read of them
 with_told : (told : Option (List NamedText)) (names texts : List (List ℕ)) (Q : List NamedText → Type 0) → IfSome told (λ units. names ≡ map (λ (unit : NamedText). unit.0) units)
@@ -303,7 +355,9 @@ generated_read number other read told same of =
 -- the names that a command reads are those that its words ask for, and its units are as many
 pub names_asked : (words : List (List ℕ)) (command : Command) → Says (found_in words) command → names_for command ≡ names_read words
 names_asked words command says =
-    ap (λ (units : List (List ℕ)). with_script units (option_map (λ (b : Bor (List ℕ)). b.now) command.ask)) says.units ∙ ap (with_script (units_read words)) says.ask
+    ap (λ (units : List (List ℕ)). with_side units (side_name (option_map (λ (b : Bor (List ℕ)). b.now) command.ask) command.steps)) says.units
+    ∙ ap (λ (ask : Option (List ℕ)). with_side (units_read words) (side_name ask command.steps)) says.ask
+    ∙ ap (λ (steps : Option ℕ). with_side (units_read words) (side_name (script_asked words) steps)) says.steps
 
 pub units_asked : (words : List (List ℕ)) (command : Command) → Says (found_in words) command → length command.units.items ≡ length (units_read words)
 units_asked words command says = sym (length-map command.units.items (λ (b : Bor (List ℕ)). b.now)) ∙ ap length says.units
@@ -315,11 +369,12 @@ pub with_told_for : (text_of : List ℕ → Option (List ℕ)) (words : List (Li
 with_told_for text_of words command sliced texts slice Q says names slice_is read follows =
     let n : ℕ = length (units_read words) in
     let json : Bool = json_read words in
-    let f : List NamedText → Told = λ units. told_by (number_read words) (parted json n units) in
+    let steps : Option ℕ = steps_read words in
+    let f : List NamedText → Told = λ units. told_by (number_read words) (parted json steps n units) in
     with_mapped (told_units text_of (names_read words)) f Q
     (with_names text_of sliced (names_for command) (names_read words) texts slice (λ units. Q (f units)) names (names_asked words command says) slice_is read
-    (λ units h. follows (f units) (generated_read command.generated (number_read words) (read_as command slice) (parted json n units) says.generated
-    (parted_read (names_for command) slice units command.json json (length command.units.items) n says.json (units_asked words command says) h))))
+    (λ units h. follows (f units) (generated_read command.generated (number_read words) (read_as command slice) (parted json steps n units) says.generated
+    (parted_read (names_for command) slice units command.json json command.steps steps (length command.units.items) n says.json says.steps (units_asked words command says) h))))
 
 -- the statuses of refusals
 abbrev pub IsStatus : ℕ → Type 0
@@ -378,14 +433,19 @@ refused_script_status : (program : Program) (space : List Location) (system : Sy
 refused_script_status program space system script answer (inl h) = status_of answer _ h.answer_is (inr (inr (inr (inl refl))))
 refused_script_status program space system script answer (inr h) = status_of answer _ h.answer_is (inr (inr (inr (inr refl))))
 
-script_status : (units : List NamedText) (script : Option NamedText) (answer : Answer) → RefusesScript units script answer → IsStatus answer.status
-script_status units None answer h = absurd h
-script_status units (Some script) answer h = refused_script_status h.program h.space h.system script answer h.refused
+refused_side_status : (side : Side) (program : Program) (space : List Location) (system : System) (answer : Answer) → IsRefusedSide side program space system answer → IsStatus answer.status
+refused_side_status no_side program space system answer h = absurd h
+refused_side_status (with_questions script) program space system answer h = refused_script_status program space system script answer h
+refused_side_status (with_words steps words) program space system answer (inl h) = status_of answer _ h.answer_is (inr (inr (inr (inl refl))))
+refused_side_status (with_words steps words) program space system answer (inr h) = status_of answer _ h.answer_is (inl refl)
+
+side_status : (units : List NamedText) (side : Side) (answer : Answer) → RefusesSide units side answer → IsStatus answer.status
+side_status units side answer h = refused_side_status side h.program h.space h.system answer h.refused
 
 -- a refusal has one of these statuses
 pub told_status : (told : Told) (answer : Answer) → RefusesTold told answer → IsStatus answer.status
 told_status told answer (inl h) = refuses_status told.units answer h
-told_status told answer (inr h) = script_status told.units told.script answer h
+told_status told answer (inr h) = side_status told.units told.side answer h
 
 pub refused_status : (told : Told) (fault : UnitsFault) (status : ℕ) (line : List ℕ) → fault ≡ Refused status line → IsFaultOfTold told fault → IsStatus status
 refused_status told fault status line is refused =

@@ -1,5 +1,5 @@
--- A script that is taken isn't refused.
-use Rattle.std.proofs.Common.{◌≡◌, ◌∙◌, ◌⊎◌, ℕ, List, [], ◌∷◌, ◌++◌, arith, inl, inr, sym, ap, subst}
+-- A script, or the words of a run, that are taken aren't refused.
+use Rattle.std.proofs.Common.{◌≡◌, ◌∙◌, ◌⊎◌, ℕ, List, [], ◌∷◌, ◌++◌, Ok, Err, arith, inl, inr, sym, ap, subst}
 use Rattle.alias_query.specs.declared.answers.Question.{Question}
 use Rattle.alias_query.specs.declared.answers.Question.TheVariants.{Points, Alias, Reaches}
 use Rattle.alias_query.specs.Script.{pieces, lines_of, IsForm, IsVerb, IsBad}
@@ -9,8 +9,9 @@ use Rattle.sol_model.specs.declared.system.System.{System}
 use Rattle.obj_space.specs.declared.location.Location.{Location}
 use Rattle.unit_report.specs.unit_answers.Answered.{setting_of}
 use Rattle.report_cli.specs.Answers.{NamedText, Answer}
-use Rattle.report_cli.specs.Printed.{IsRefusedScript}
-use Rattle.report_cli.specs.Accepted.{IsTakenScript}
+use Rattle.run_text.proofs.OneReading.{one_reading}
+use Rattle.report_cli.specs.Printed.{IsRefusedScript, AreRefusedWords}
+use Rattle.report_cli.specs.Accepted.{IsTakenScript, AreTakenWords}
 
 module _ (setting : Setting) where
   -- a line among others that are asked
@@ -65,3 +66,11 @@ pub taken_or_refused : (program : Program) (space : List Location) (system : Sys
 taken_or_refused program space system script answer taken (inl h) = let short = taken.short in let long = h.long in omega arith
 taken_or_refused program space system script answer taken (inr h) =
     asked_or_refused (setting_of program space system) (lines_of script.1) taken.questions h.number taken.asked h.line
+
+-- words that are read aren't refused
+ok_or_err : (numbers : List ℕ) (at : ℕ) → Ok numbers ≡ Err at → ⊥
+ok_or_err numbers at h = cc
+
+pub words_taken_or_refused : (words : NamedText) (answer : Answer) → AreTakenWords words → AreRefusedWords words answer → ⊥
+words_taken_or_refused words answer taken (inl h) = let short = taken.short in let long = h.long in omega arith
+words_taken_or_refused words answer taken (inr h) = ok_or_err taken.numbers h.at (one_reading 0 words.1 (Ok taken.numbers) (Err h.at) taken.reading h.reading)

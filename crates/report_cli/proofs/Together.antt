@@ -1,5 +1,5 @@
 -- Texts are refused together with one answer, and not where they are accepted.
-use Rattle.std.proofs.Common.{◌≡◌, ◌∙◌, ◌⊎◌, ◌<◌, ◌≤◌, ◌^◌, ℕ, List, map, length, Option, Some, None, arith, inl, inr, sym, ap}
+use Rattle.std.proofs.Common.{◌≡◌, ◌∙◌, ◌⊎◌, ◌<◌, ◌≤◌, ◌^◌, ℕ, List, map, length, arith, inl, inr, sym, ap}
 use Rattle.core_tree.specs.declared.node.Unit.{Unit}
 use Rattle.core_tree.specs.declared.node.Program.{Program}
 use Rattle.unit_link.specs.Linked.{Linked}
@@ -8,16 +8,16 @@ use Rattle.obj_space.specs.View.{view_of}
 use Rattle.constraints.specs.System.{IsWithin}
 use Rattle.outcome_laws.proofs.text_faults.Texts.{one_text_fault}
 use Rattle.report_cli.specs.Answers.{NamedText, Answer}
-use Rattle.report_cli.specs.Told.{Told}
+use Rattle.report_cli.specs.Told.{Side, no_side, with_questions, with_words, Told}
 use Rattle.report_cli.specs.Lowered.{AreRightTexts}
 use Rattle.report_cli.specs.Linking.{IsLinkRefusal, HaveManyNodes, HaveManyWords, link_refusal}
-use Rattle.report_cli.specs.Outcome.{Denotes, AreRefusedTogether, Refuses, RefusesScript, RefusesTold}
-use Rattle.report_cli.specs.Accepted.{TakesScript, AreAccepted}
+use Rattle.report_cli.specs.Outcome.{Denotes, AreRefusedTogether, Refuses, RefusesSide, RefusesTold}
+use Rattle.report_cli.specs.Accepted.{TakesSide, AreAccepted}
 use Rattle.report_cli.specs.Laws.{OneOutcome}
 use Rattle.report_cli.proofs.OneOutcome.{one_text, one_first, none_right, denoted_right, together_right, refuses_right}
 use Rattle.report_cli.proofs.ProgramSize.{linked_count, many, many_words, few}
 use Rattle.report_cli.proofs.Twins.{same_texts}
-use Rattle.report_cli.proofs.Taken.{taken_or_refused}
+use Rattle.report_cli.proofs.Taken.{taken_or_refused, words_taken_or_refused}
 
 module _ (texts : List NamedText) where
   abbrev names : List (List ℕ)
@@ -78,13 +78,14 @@ module _ (texts : List NamedText) where
   refused one other (inr h) (inr k) = together one other h k
 
 -- what is accepted isn't refused
-no_script : (units : List NamedText) (script : Option NamedText) (answer : Answer) → ((other : Program) → Denotes units other → TakesScript other script) → RefusesScript units script answer → ⊥
-no_script units None answer takes h = h
-no_script units (Some script) answer takes h = taken_or_refused h.program h.space h.system script answer (takes h.program h.denoted h.space h.system h.system_of) h.refused
+side_taken : (units : List NamedText) (side : Side) (answer : Answer) → ((other : Program) → Denotes units other → TakesSide other side) → RefusesSide units side answer → ⊥
+side_taken units no_side answer takes h = h.refused
+side_taken units (with_questions script) answer takes h = taken_or_refused h.program h.space h.system script answer (takes h.program h.denoted h.space h.system h.system_of) h.refused
+side_taken units (with_words steps words) answer takes h = words_taken_or_refused words answer (takes h.program h.denoted) h.refused
 
 pub accepted_or_refused : (told : Told) (answer : Answer) → AreAccepted told → RefusesTold told answer → ⊥
 accepted_or_refused told answer accepted (inl h) = within told.units accepted.program answer accepted.denoted accepted.within h
-accepted_or_refused told answer accepted (inr h) = no_script told.units told.script answer accepted.script h
+accepted_or_refused told answer accepted (inr h) = side_taken told.units told.side answer accepted.side h
 
 pub one_outcome : OneOutcome
 one_outcome = record {

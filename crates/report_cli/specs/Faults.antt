@@ -13,8 +13,9 @@ use Rattle.c_parser.specs.declared.ParseFault.{ParseFault}
 use Rattle.c_parser.specs.declared.ParseFault.TheVariants.{Malformed, Unsupported, TooDeep, OutOfMemory}
 use Rattle.report_cli.specs.declared.fault.UnitsFault.{UnitsFault}
 use Rattle.report_cli.specs.declared.fault.UnitsFault.TheVariants.{Refused, Memory}
-use Rattle.report_cli.specs.Answers.{NamedText, Answer, refusal}
-use Rattle.report_cli.specs.Alone.{IsRefusedAlone, lexical_refusal, syntax_refusal, name_refusal}
+use Rattle.c_lexer.specs.Places.{line_of, column_of}
+use Rattle.report_cli.specs.Answers.{NamedText, Answer, refusal, place_text}
+use Rattle.report_cli.specs.Alone.{IsRefusedAlone, lexical_refusal, malformed_at, syntax_refusal, name_refusal}
 use Rattle.pta_base.specs.declared.kind.Kind.TheVariants.{Operand}
 use Rattle.core_nodes.specs.declared.fault.CheckFault.{CheckFault}
 use Rattle.core_nodes.specs.declared.fault.CheckFault.TheVariants as check
@@ -28,8 +29,10 @@ use Rattle.sol_model.specs.declared.system.System.{System}
 use Rattle.obj_space.specs.declared.location.Location.{Location}
 use Rattle.unit_report.specs.declared.unit_answers.fault.AnswersFault.{AnswersFault}
 use Rattle.unit_report.specs.declared.unit_answers.fault.AnswersFault.TheVariants as answers
-use Rattle.report_cli.specs.Told.{Told}
-use Rattle.report_cli.specs.Printed.{IsRefusedScript}
+use Rattle.ref_state.specs.declared.run_words.words.WordsFault.{WordsFault}
+use Rattle.ref_state.specs.declared.run_words.words.WordsFault.TheVariants as words
+use Rattle.report_cli.specs.Told.{Side, Told}
+use Rattle.report_cli.specs.Printed.{AreRefusedWords, IsRefusedSide}
 use Rattle.report_cli.specs.Outcome.{IsRefusedText, FirstRefused, IsRefusedBy, Refuses}
 
 -- a fault is a refusal
@@ -46,11 +49,17 @@ abbrev pub IsFaultOfTold : Told → UnitsFault → Type 0
 IsFaultOfTold told (Refused status line) = IsRefusedBy told status line
 IsFaultOfTold told Memory = Unit {0}
 
--- a refusal is that of a script on a program
-abbrev pub IsFaultOfScript : Program → List Location → System → NamedText → UnitsFault → Type 0
-IsFaultOfScript program space system script (Refused status line) =
-    IsRefusedScript program space system script (record { status = status; out = []; err = line })
-IsFaultOfScript program space system script Memory = Unit {0}
+-- a refusal is that of what is read beside the units of a program
+abbrev pub IsFaultOfSide : Program → List Location → System → Side → UnitsFault → Type 0
+IsFaultOfSide program space system side (Refused status line) =
+    IsRefusedSide side program space system (record { status = status; out = []; err = line })
+IsFaultOfSide program space system side Memory = Unit {0}
+
+-- a refusal is that of the words of a run
+abbrev pub AreFaultOfWords : NamedText → UnitsFault → Type 0
+AreFaultOfWords words (Refused status line) =
+    AreRefusedWords words (record { status = status; out = []; err = line })
+AreFaultOfWords words Memory = Unit {0}
 
 -- a refusal is that of a unit alone
 abbrev pub IsFaultAlone : NamedText → UnitsFault → Type 0
@@ -114,3 +123,9 @@ abbrev pub IsAnswersRefusal : AnswersFault → UnitsFault → Type 0
 IsAnswersRefusal (answers.Question number) fault =
     fault ≡ fault_of (refusal 10 (codes "question " ++ decimal number))
 IsAnswersRefusal answers.OutOfMemory fault = fault ≡ Memory
+
+-- the refusal for the fault of the words of a run
+abbrev pub IsWordsRefusal : NamedText → WordsFault → UnitsFault → Type 0
+IsWordsRefusal text (words.Malformed at) fault =
+    fault ≡ fault_of (malformed_at (place_text text.0 (line_of text.1 at) (column_of text.1 at)))
+IsWordsRefusal text words.OutOfMemory fault = fault ≡ Memory

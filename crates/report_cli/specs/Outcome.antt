@@ -1,5 +1,5 @@
--- What the words, the texts of the units and the script of questions say of the answer.
-use Rattle.std.specs.Prelude.{◌≡◌, ◌⊎◌, ℕ, ◌+◌, ⊤, List, [], ◌∷◌, Option, Some, None, codes}
+-- What the words, the texts of the units and what is read beside them say of the answer.
+use Rattle.std.specs.Prelude.{◌≡◌, ◌⊎◌, ℕ, ◌+◌, ⊤, List, [], ◌∷◌, codes}
 use Rattle.core_tree.specs.declared.node.Unit.{Unit}
 use Rattle.core_tree.specs.declared.node.Program.{Program}
 use Rattle.sol_model.specs.declared.system.System.{System}
@@ -10,8 +10,8 @@ use Rattle.report_cli.specs.Answers.{NamedText, Answer, refusal}
 use Rattle.report_cli.specs.Alone.{IsRefusedAlone}
 use Rattle.report_cli.specs.Lowered.{IsRightText, AreRightTexts, IsRefusedRow}
 use Rattle.report_cli.specs.Linking.{IsLinkRefusal, HaveManyNodes, HaveManyWords}
-use Rattle.report_cli.specs.Told.{Told}
-use Rattle.report_cli.specs.Printed.{IsPrinted, IsRefusedScript}
+use Rattle.report_cli.specs.Told.{Side, Told}
+use Rattle.report_cli.specs.Printed.{IsPrinted, IsRefusedSide}
 
 -- a program that texts denote: each is right, as a core unit, and the program is linked from these, on a table that
 -- its own functions made
@@ -49,36 +49,32 @@ abbrev pub HaveRightUnits : ℕ → List NamedText → Type 0
 HaveRightUnits number [] = ⊤
 HaveRightUnits number (text ∷ texts) = ((u : Unit) × IsRightText number text u) × HaveRightUnits (number + 1) texts
 
--- a script is refused on the program that texts denote
-pub record IsScriptRefusal (texts : List NamedText) (script : NamedText) (answer : Answer) : Type 0 where
+-- what is read beside the units is refused on the program that their texts denote
+pub record RefusesSide (texts : List NamedText) (side : Side) (answer : Answer) : Type 0 where
   pub program : Program
   pub denoted : Denotes texts program
   pub space : List Location
   pub system : System
   pub system_of : IsSystemOf program space system
-  pub refused : IsRefusedScript program space system script answer
+  pub refused : IsRefusedSide side program space system answer
 
-abbrev pub RefusesScript : List NamedText → Option NamedText → Answer → Type 0
-RefusesScript texts None answer = ⊥
-RefusesScript texts (Some script) answer = IsScriptRefusal texts script answer
-
--- the first refusal of what is told: that of the units, else that of the script on their program
+-- the first refusal of what is told: that of the units, else that of what is read beside them on their program
 abbrev pub RefusesTold : Told → Answer → Type 0
-RefusesTold told answer = Refuses told.units answer ⊎ RefusesScript told.units told.script answer
+RefusesTold told answer = Refuses told.units answer ⊎ RefusesSide told.units told.side answer
 
 -- the same of units whose texts are read alone
 abbrev pub RefusesToldRead : Told → Answer → Type 0
-RefusesToldRead told answer = RefusesRead told.units answer ⊎ RefusesScript told.units told.script answer
+RefusesToldRead told answer = RefusesRead told.units answer ⊎ RefusesSide told.units told.side answer
 
 -- the same of units whose texts each have a right unit
 abbrev pub RefusesToldRight : Told → Answer → Type 0
-RefusesToldRight told answer = AreRefusedTogether told.units answer ⊎ RefusesScript told.units told.script answer
+RefusesToldRight told answer = AreRefusedTogether told.units answer ⊎ RefusesSide told.units told.side answer
 
 -- the answer of what is told: what is printed of the program that the units denote, or the first refusal
 abbrev pub OutcomeOf : Told → Answer → Type 0
 OutcomeOf told answer =
     ((program : Program) × (system : System) × Denotes told.units program
-    × IsPrinted told.form told.script program system answer.out × (answer.status ≡ 0) × (answer.err ≡ []))
+    × IsPrinted told.form told.side program system answer.out answer.status × (answer.err ≡ []))
     ⊎ RefusesTold told answer
 
 -- the answer of words and of what is told of the names that they ask for: where the words aren't right, how the

@@ -1,5 +1,5 @@
 -- What a call leaves behind outside.
-use Rattle.std.specs.Prelude.{ℕ, List, ◌++◌, Option, codes}
+use Rattle.std.specs.Prelude.{◌≡◌, ◌⊎◌, ℕ, List, ◌++◌, Option, codes}
 use Rattle.pta_base.specs.Outside.{IsSteady}
 use Rattle.unit_report.specs.report_text.Outside.{Grows, GrowsInPart}
 
@@ -7,6 +7,10 @@ use Rattle.unit_report.specs.report_text.Outside.{Grows, GrowsInPart}
 pub record Receives (before after : Option (List ℕ)) (faults_before faults_after : ℕ) (text : List ℕ) : Type 0 where
   pub whole : IsSteady faults_before faults_after → Grows before after text
   pub part : GrowsInPart before after text
+
+-- the statuses of a text that was written whole: 11 where it tells a run that stopped, and else 0
+abbrev pub IsWritten : ℕ → Type 0
+IsWritten status = (status ≡ 0) ⊎ (status ≡ 11)
 
 -- the lines that speak of the outside
 abbrev pub source_fault : List ℕ → List ℕ

@@ -1,15 +1,19 @@
--- A script as the code has it.
-use Rattle.std.specs.Prelude.{List, Option, option_map}
+-- What is read beside the units, as the code has it.
+use Rattle.std.specs.Prelude.{List}
 use Rattle.report_cli.specs.declared.form.Form.{Form}
-use Rattle.report_cli.specs.declared.solved.Script.{Script}
+use Rattle.report_cli.specs.declared.side.SideText.{SideText}
+use Rattle.report_cli.specs.declared.side.Side.{Side as SideRead}
+use Rattle.report_cli.specs.declared.side.Side.TheVariants as read
 use Rattle.report_cli.specs.Answers.{NamedText}
-use Rattle.report_cli.specs.Told.{Told}
+use Rattle.report_cli.specs.Told.{Side, no_side, with_questions, with_words, Told}
 
-abbrev pub named : Script → NamedText
-named script = (script.name.now, script.text.now)
+abbrev pub named : SideText → NamedText
+named text = (text.name.now, text.text.now)
 
-abbrev pub named_script : Option Script → Option NamedText
-named_script script = option_map named script
+abbrev pub named_side : SideRead → Side
+named_side read.Nothing = no_side
+named_side (read.Questions script desk) = with_questions (named script)
+named_side (read.Words steps words) = with_words steps (named words)
 
-abbrev pub told_with : List NamedText → Option NamedText → Form → Told
-told_with units script form = record { units = units; script = script; form = form }
+abbrev pub told_with : List NamedText → Side → Form → Told
+told_with units side form = record { units = units; side = side; form = form }

@@ -1,25 +1,43 @@
 -- What a call is told.
-use Rattle.std.specs.Prelude.{ℕ, Bool, List, [], ◌∷◌, Option, Some, None, option_map, length, slice_get, take, zip, codes}
+use Rattle.std.specs.Prelude.{ℕ, Bool, List, [], ◌∷◌, Option, Some, None, option_map}
+use Rattle.std.specs.Prelude.{length, slice_get, take, zip, codes}
 use Rattle.gen_units.specs.Generated.{unit_text}
 use Rattle.command_line.specs.declared.command.Command.{Command}
 use Rattle.report_cli.specs.declared.form.Form.{Form}
 use Rattle.report_cli.specs.declared.form.Form.TheVariants.{Report, Summary}
-use Rattle.report_cli.specs.Words.{json_read, names_of, names_read, number_read, units_read, with_script}
+use Rattle.report_cli.specs.Words.{json_read, names_of, names_read, number_read, side_name, steps_read, units_read}
+use Rattle.report_cli.specs.Words.{with_side}
 use Rattle.report_cli.specs.Answers.{NamedText, told_units}
 
--- the units with their texts, the script of questions where there is one, and what is printed where there is none
+-- what is read beside the units: nothing, a script of questions, or the words of a run of at most so many steps
+pub data Side : Type 0 where
+  no_side : Side
+  with_questions : (script : NamedText) → Side
+  with_words : (steps : ℕ) (words : NamedText) → Side
+
+-- the units with their texts, what is read beside them, and what is printed where that is nothing
 pub record Told : Type 0 where
   pub units : List NamedText
-  pub script : Option NamedText
+  pub side : Side
   pub form : Form
 
--- of named texts the first so many are units, and the one behind them is the script
-abbrev pub parted : Bool → ℕ → List NamedText → Told
-parted json count texts = record { units = take count texts; script = slice_get texts count; form = Report json }
+-- a text beside the units is the words of a run, where one is asked for, and else a script of questions
+abbrev pub side_of : Option ℕ → Option NamedText → Side
+side_of steps None = no_side
+side_of None (Some text) = with_questions text
+side_of (Some steps) (Some text) = with_words steps text
+
+-- of named texts the first so many are units, and the one behind them stands beside them
+abbrev pub parted : Bool → Option ℕ → ℕ → List NamedText → Told
+parted json steps count texts = record {
+  units = take count texts;
+  side = side_of steps (slice_get texts count);
+  form = Report json;
+}
 
 -- the generated program of a number: the one unit `gen`, of which a summary is printed
 abbrev pub generated : ℕ → Told
-generated number = record { units = (codes "gen", unit_text number) ∷ []; script = None; form = Summary number }
+generated number = record { units = (codes "gen", unit_text number) ∷ []; side = no_side; form = Summary number }
 
 -- the generated program of a number, where there is one, and else what was read
 abbrev pub told_by : Option ℕ → Told → Told
@@ -30,16 +48,19 @@ told_by (Some number) read = generated number
 -- generated program name nothing else
 abbrev pub told_for : (List ℕ → Option (List ℕ)) → List (List ℕ) → Option Told
 told_for text_of words =
-    option_map (λ texts. told_by (number_read words) (parted (json_read words) (length (units_read words)) texts))
+    option_map (λ texts. told_by (number_read words)
+    (parted (json_read words) (steps_read words) (length (units_read words)) texts))
     (told_units text_of (names_read words))
 
 -- the names that a command reads, and what was read for it
 abbrev pub names_for : Command → List (List ℕ)
-names_for command = with_script (names_of command.units.items) (option_map (λ name. name.now) command.ask)
+names_for command =
+    with_side (names_of command.units.items) (side_name (option_map (λ name. name.now) command.ask) command.steps)
 
 -- what was read for a command
 abbrev pub read_as : Command → List (List ℕ) → Told
-read_as command texts = parted command.json (length command.units.items) (zip (names_for command) texts)
+read_as command texts =
+    parted command.json command.steps (length command.units.items) (zip (names_for command) texts)
 
 abbrev pub told_as : Command → List (List ℕ) → Told
 told_as command texts = told_by command.generated (read_as command texts)

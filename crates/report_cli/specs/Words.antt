@@ -36,11 +36,20 @@ json_read words = asks_json (found_in words)
 abbrev pub number_read : List (List ℕ) → Option ℕ
 number_read words = number_of (codes "gen") (found_in words)
 
--- the names of units, and behind them that of a script where there is one
-abbrev pub with_script : List (List ℕ) → Option (List ℕ) → List (List ℕ)
-with_script units None = units
-with_script units (Some script) = units ++ script ∷ []
+-- the most steps of the run that words ask for, where they do
+abbrev pub steps_read : List (List ℕ) → Option ℕ
+steps_read words = number_of (codes "run") (found_in words)
+
+-- the name of the text that is read beside the units: that of a script of questions, and `words` for a run
+abbrev pub side_name : Option (List ℕ) → Option ℕ → Option (List ℕ)
+side_name script None = script
+side_name script (Some steps) = Some (codes "words")
+
+-- the names of units, and behind them that of the text beside them where there is one
+abbrev pub with_side : List (List ℕ) → Option (List ℕ) → List (List ℕ)
+with_side units None = units
+with_side units (Some side) = units ++ side ∷ []
 
 -- the names that words ask for, in the order in which they are read
 abbrev pub names_read : List (List ℕ) → List (List ℕ)
-names_read words = with_script (units_read words) (script_read words)
+names_read words = with_side (units_read words) (side_name (script_read words) (steps_read words))

@@ -21,8 +21,8 @@ use c_scope::{Bound, NameFault, resolve};
 use pta_base::{Kind, Listing};
 use std::alloc::{AllocError, Global};
 
-/// The refusal of a text that is no C11, at a place.
-fn malformed(place: Vec<u8>) -> Result<UnitsFault, AllocError>
+/// The refusal of a text that is no C11, or of words that are no numbers, at a place.
+pub(crate) fn malformed(place: Vec<u8>) -> Result<UnitsFault, AllocError>
     ensures { IfOk result (λ fault. fault ≡ fault_of (malformed_at place.items)) }
 {
     let mut line = place;

@@ -1,6 +1,17 @@
 // What is printed of a program.
 
-/// What is printed of a program where there is no script of questions: its report, as JSON or as lines, or the summary of the generated
+use unit_report::Solved;
+
+/// What is printed of a program: its bytes, the status, which is 11 where they tell a run that stopped and else 0, and the system that was
+/// solved.
+#[derive(Drop)]
+pub(crate) struct Printed {
+    pub(crate) text: Vec<u8>,
+    pub(crate) status: u8,
+    pub(crate) solved: Solved,
+}
+
+/// What is printed of a program where nothing is read beside its units: its report, as JSON or as lines, or the summary of the generated
 /// program of a number.
 #[derive(Clone, Copy)]
 pub(crate) enum Form {

@@ -6,7 +6,7 @@ use pta_base::{OutOfMemory, Units};
 use std::alloc::{AllocError, AllocFailed, Global};
 
 /// Why a text could not be read.
-#[derive(Clone, Copy, Debug, PartialEq, Eq)]
+#[derive(Clone, Copy)]
 pub enum ReadFault {
     Source,
     Memory,

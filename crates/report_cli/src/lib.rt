@@ -11,6 +11,8 @@ mod output;
 mod places;
 mod reading;
 mod refusals;
+mod running;
+mod side;
 mod solved;
 mod top;
 

@@ -1,7 +1,7 @@
 // Reading the texts of all units.
-ghost use Rattle.std.specs.Prelude.{◌≡◌, ℕ, ◌<◌, ◌≤◌, List, Some, Err, ◌+◌, map, take, length, slice_get, IfOk, IfSome, OnOk};
+ghost use Rattle.std.specs.Prelude.{◌≡◌, ℕ, ◌<◌, ◌≤◌, List, Some, Err, ◌+◌, map, option_map, take, length, slice_get, IfOk, IfSome, OnOk};
 ghost use Rattle.pta_base.specs.Outside.{HasRisen};
-ghost use Rattle.report_cli.specs.Words.{names_of};
+ghost use Rattle.report_cli.specs.Words.{names_of, side_name};
 ghost use Rattle.report_cli.specs.Answers.{told_units};
 ghost use Rattle.report_cli.specs.Told.{names_for};
 
@@ -11,7 +11,7 @@ use pta_base::{Listing, Units};
 use std::alloc::{AllocError, AllocFailed, Global};
 
 /// Why the texts of units could not be read: the outside failed under the name of this number, or memory wanted.
-#[derive(Clone, Copy, Debug, PartialEq, Eq)]
+#[derive(Clone, Copy)]
 pub(crate) enum ReadingFault {
     Source(usize),
     Memory,
@@ -57,7 +57,17 @@ pub(crate) fn name_at<'a>(names: &[&'a str], number: usize) -> &'a str
     names[number]
 }
 
-/// The names that a command reads: those of its units in order, and then that of its script.
+/// The name of the text that a command reads beside its units: that of its script, and `words` for a run.
+pub(crate) fn side_name<'a>(command: &Command<'a>) -> Option<&'a str>
+    ensures { option_map (λ name. name.now) result ≡ side_name (option_map (λ name. name.now) command.now.ask) command.now.steps }
+{
+    match command.steps {
+        Some(_) => Some("words"),
+        None => command.ask,
+    }
+}
+
+/// The names that a command reads: those of its units in order, and then that of the text beside them.
 pub(crate) fn names_for<'a>(
     alloc: Global,
     command: &Command<'a>,
@@ -65,8 +75,8 @@ pub(crate) fn names_for<'a>(
     ensures { IfOk result (λ names. names_of names.items ≡ names_for command.now) }
 {
     let mut names = Vec::from_slice(alloc, command.units.as_slice())?;
-    if let Some(script) = command.ask {
-        names.push(script)?;
+    if let Some(side) = side_name(command) {
+        names.push(side)?;
     }
     Ok(names)
 }

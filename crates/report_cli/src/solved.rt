@@ -4,6 +4,8 @@ ghost use Rattle.command_line.specs.Distinct.{AreDistinct};
 ghost use Rattle.link_model.specs.filled_units.Filled.{AreFilled};
 ghost use Rattle.unit_link.specs.Needs.{AreLinkable};
 ghost use Rattle.core_tree.specs.declared.node.Program.{Program};
+ghost use Rattle.core_tree.specs.Range.{InRange};
+ghost use Rattle.core_tree.specs.Typed.{trees_in};
 ghost use Rattle.sol_model.specs.declared.system.System.{System};
 ghost use Rattle.obj_space.specs.Space.{DistinctNames};
 ghost use Rattle.location_laws.specs.named_laws.Units.{AreNamedUnits};
@@ -14,32 +16,26 @@ ghost use Rattle.report_cli.specs.Answers.{NamedText};
 ghost use Rattle.report_cli.specs.Lowered.{AreRightTexts};
 ghost use Rattle.report_cli.specs.Printed.{AreAnswersTo, IsInForm, IsPrinted};
 ghost use Rattle.report_cli.specs.Outcome.{Denotes};
-ghost use Rattle.report_cli.specs.Scripts.{named, named_script, told_with};
-ghost use Rattle.report_cli.specs.Faults.{IsFaultOf, IsFaultOfScript, IsFaultOfTold};
+ghost use Rattle.report_cli.specs.Told.{with_questions};
+ghost use Rattle.report_cli.specs.Scripts.{named, named_side, told_with};
+ghost use Rattle.report_cli.specs.Faults.{IsFaultOf, IsFaultOfSide, IsFaultOfTold};
 
 use crate::alone::too_large;
 use crate::fault::UnitsFault;
-use crate::form::Form;
+use crate::form::{Form, Printed};
 use crate::lowered::lower_each;
 use crate::refusals::{answers_refusal, system_refusal};
+use crate::running::ran;
+use crate::side::{MOST, Side, SideText};
 use core_tree::Unit;
 use gen_summary::summary_of_system;
 use pta_base::{Gate, Listing, OutOfMemory};
 use std::alloc::Global;
+use std::sync::Wait;
 use std::thread::Threads;
 use unit_report::unit_answers::answers_of_system;
 use unit_report::unit_system::{UnitSystem, linked_system};
 use unit_report::{Solved, report_of_system};
-
-/// The limit on the bytes of a script of questions.
-const MOST: usize = 16_777_216;
-
-/// A script of questions: its name, and its text as far as it was read.
-#[derive(Clone, Copy, Drop)]
-pub(crate) struct Script<'a> {
-    pub(crate) name: &'a str,
-    pub(crate) text: &'a [u8],
-}
 
 /// The program that the texts of core units denote, with its locations, no two of which have one name, and its system, or the fault that
 /// refuses them.
@@ -52,6 +48,7 @@ fn linked(alloc: Global, names: &[&str], units: Vec<Unit>) -> Result<UnitSystem,
     ensures refused { (texts : List NamedText) → names_of names.now ≡ map (λ text. text.0) texts → AreRightTexts 0 texts units.items →
         IfErr result (IsFaultOf texts) }
     ensures distinct { IfOk result (λ made. DistinctNames made.space) }
+    ensures range { IfOk result (λ made. InRange (trees_in made.program)) }
 {
     match linked_system(alloc, units) {
         Ok(made) => Ok(made),
@@ -59,27 +56,32 @@ fn linked(alloc: Global, names: &[&str], units: Vec<Unit>) -> Result<UnitSystem,
     }
 }
 
-/// The answers to a script on a program, with the system that was solved for them, or the fault that refuses the script.
-fn answers_to<R: Threads + Sync, G: Gate + Sync>(
+/// The answers to a script on a program, by a desk or not, with the system that was solved for them, or the fault that refuses the script.
+fn answers_to<R: Threads + Wait + Sync, G: Gate + Sync>(
     rt: &R,
     alloc: Global,
     made: UnitSystem,
-    script: Script<'_>,
+    script: SideText<'_>,
+    desk: bool,
     workers: u32,
     gate: &G,
-) -> Result<(Vec<u8>, Solved), UnitsFault>
+) -> Result<Printed, UnitsFault>
     requires system { IsSystemOf made.program made.space made.system }
     requires distinct { DistinctNames made.space }
     requires workers { (0 < workers) × (workers ≤ 64) }
-    ensures printed { IfOk result (λ found. AreAnswersTo script.entry.text.now made.program made.system found.0.items) }
-    ensures solved { IfOk result (λ found. IsSolvedShared made.system found.1) }
-    ensures refused { IfErr result (IsFaultOfScript made.program made.space made.system (named script.entry)) }
+    ensures printed { IfOk result (λ found. AreAnswersTo script.entry.text.now made.program made.system found.text.items × (found.status ≡ 0)) }
+    ensures solved { IfOk result (λ found. IsSolvedShared made.system found.solved) }
+    ensures refused { IfErr result (IsFaultOfSide made.program made.space made.system (with_questions (named script.entry))) }
 {
     if script.text.len() > MOST {
         return Err(too_large(alloc, script.name)?);
     }
-    match answers_of_system(rt, alloc, made, script.text, workers, gate) {
-        Ok(found) => Ok(found),
+    match answers_of_system(rt, alloc, made, script.text, desk, workers, gate) {
+        Ok((text, solved)) => Ok(Printed {
+            text,
+            status: 0,
+            solved,
+        }),
         Err(fault) => Err(answers_refusal(alloc, fault)?),
     }
 }
@@ -104,34 +106,44 @@ fn text_in_form<R: Threads + Sync, G: Gate + Sync>(
     }
 }
 
-/// What is printed of the program of units of distinct names, its report, as JSON or as lines, its summary, or the answers to a script,
-/// with the system that was solved for it, or the fault that refuses the units or the script.
-pub(crate) fn text_of_units<R: Threads + Sync, G: Gate + Sync>(
+/// What is printed of the program of units of distinct names, its report, as JSON or as lines, its summary, the answers to a script or the
+/// text of a run, with the system that was solved for it, or the fault that refuses the units or what is read beside them.
+pub(crate) fn text_of_units<R: Threads + Wait + Sync, G: Gate + Sync>(
     rt: &R,
     alloc: Global,
     names: &[&str],
     texts: &[Listing<u8>],
-    script: Option<Script<'_>>,
+    side: Side<'_>,
     form: Form,
     workers: u32,
     gate: &G,
-) -> Result<(Vec<u8>, Solved), UnitsFault>
+) -> Result<Printed, UnitsFault>
     requires few { length names.now ≤ 2 ^ 8 }
     requires distinct { AreDistinct (names_of names.now) }
     requires bytes { AreUnitNames (names_of names.now) }
     requires count { length texts.now ≡ length names.now }
     requires workers { (0 < workers) × (workers ≤ 64) }
     ensures printed { IfOk result (λ made. (program : Program) × (system : System) × Denotes (zip (names_of names.now) texts.now) program
-        × IsPrinted form (named_script script.entry) program system made.0.items × IsSolvedShared system made.1) }
-    ensures refused { IfErr result (IsFaultOfTold (told_with (zip (names_of names.now) texts.now) (named_script script.entry) form)) }
+        × IsPrinted form (named_side side.entry) program system made.text.items made.status × IsSolvedShared system made.solved) }
+    ensures refused { IfErr result (IsFaultOfTold (told_with (zip (names_of names.now) texts.now) (named_side side.entry) form)) }
 {
     let units = lower_each(rt, alloc, names, texts, workers, gate)?;
     let made = match linked(alloc, names, units) {
         Ok(made) => made,
         Err(fault) => return Err(fault),
     };
-    match script {
-        Some(script) => answers_to(rt, alloc, made, script, workers, gate),
-        None => Ok(text_in_form(rt, alloc, made, form, workers, gate)?),
+    match side {
+        Side::Nothing => {
+            let (text, solved) = text_in_form(rt, alloc, made, form, workers, gate)?;
+            Ok(Printed {
+                text,
+                status: 0,
+                solved,
+            })
+        }
+        Side::Questions(script, desk) => {
+            answers_to(rt, alloc, made, script, desk, workers, gate)
+        }
+        Side::Words(steps, words) => ran(rt, alloc, made, steps, words, workers, gate),
     }
 }

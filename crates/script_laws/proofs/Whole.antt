@@ -1,25 +1,31 @@
 -- What is told has one status and one line.
-use Rattle.std.proofs.Common.{◌≡◌, ◌∙◌, ◌++◌, ◌⊎◌, ℕ, List, codes, Option, Some, None, arith, sym, ap, inl, inr}
+use Rattle.std.proofs.Common.{◌≡◌, ◌∙◌, ◌++◌, ◌⊎◌, ℕ, Bool, true, false, if◌then◌else◌, List, codes, Result, Err, arith, sym, ap, inl, inr}
 use Rattle.std.specs.Prelude.{decimal}
 use Rattle.core_tree.specs.declared.node.Program.{Program}
 use Rattle.sol_model.specs.declared.system.System.{System}
 use Rattle.obj_space.specs.declared.location.Location.{Location}
 use Rattle.unit_report.specs.unit_system.Of.{IsSystemOf}
 use Rattle.alias_query.specs.Script.{lines_of}
-use Rattle.report_cli.specs.Answers.{NamedText, Answer, refusal}
-use Rattle.report_cli.specs.Told.{Told}
-use Rattle.report_cli.specs.Printed.{AreAnswersTo, IsPrinted, IsRefusedScript}
-use Rattle.report_cli.specs.Outcome.{Denotes, IsScriptRefusal, Refuses, RefusesScript, RefusesTold, OutcomeOf, Outcome}
-use Rattle.report_cli.specs.Accepted.{IsTakenScript, TakesScript, AreAccepted}
+use Rattle.c_lexer.specs.Places.{line_of, column_of}
+use Rattle.run_text.proofs.OneReading.{one_reading}
+use Rattle.report_cli.specs.Answers.{NamedText, Answer, refusal, place_text}
+use Rattle.report_cli.specs.Alone.{malformed_at}
+use Rattle.report_cli.specs.Told.{Side, no_side, with_questions, with_words, Told}
+use Rattle.report_cli.specs.Outside.{IsWritten}
+use Rattle.report_cli.specs.Printed.{AreAnswersTo, IsPrinted, IsRefusedScript, AreRefusedWords}
+use Rattle.report_cli.specs.Outcome.{Denotes, Refuses, RefusesSide, RefusesTold, OutcomeOf, Outcome}
+use Rattle.report_cli.specs.Accepted.{IsTakenScript, AreTakenWords, TakesSide, AreAccepted}
+use Rattle.report_cli.proofs.Taken.{words_taken_or_refused}
 use Rattle.report_cli.proofs.Linked.{formed}
 use Rattle.report_cli.proofs.Together.{one_outcome}
-use Rattle.script_laws.specs.Scripted.{OneScript, SameFate, OneFate}
+use Rattle.script_laws.specs.Scripted.{OneScript, SameStatus, SameFate, OneFate}
 use Rattle.script_laws.proofs.Settings.{same_scripts, within}
 
-taken : (texts : List NamedText) (p q : Program) (space : List Location) (system : System) (script : Option NamedText) → Denotes texts p → Denotes texts q → IsSystemOf p space system
-    → TakesScript p script → TakesScript q script
-taken texts p q space system None h k of takes = tt
-taken texts p q space system (Some script) h k of takes = λ there other z.
+taken : (texts : List NamedText) (p q : Program) (space : List Location) (system : System) (side : Side) → Denotes texts p → Denotes texts q → IsSystemOf p space system
+    → TakesSide p side → TakesSide q side
+taken texts p q space system no_side h k of takes = tt
+taken texts p q space system (with_words steps words) h k of takes = takes
+taken texts p q space system (with_questions script) h k of takes = λ there other z.
     let mine : IsTakenScript p space system script = takes space system of in
     let its = (same_scripts texts p q space there system other h k of z).taken (lines_of script.1) mine.questions mine.asked in
     record { short = mine.short; questions = its.0; asked = its.1 }
@@ -39,20 +45,34 @@ module _ (texts : List NamedText) (p q : Program) (space there : List Location) 
   asked_or_refused answer a (inl b) = (let short = a.short in let long = b.long in omega arith)
   asked_or_refused answer a (inr b) = (same_scripts texts p q space there system other h k s z).apart (lines_of script.1) a.questions b.number a.asked b.line
 
-refused : (texts : List NamedText) (script : Option NamedText) (one other : Answer) → RefusesScript texts script one → RefusesScript texts script other → one ≡ other
-refused texts None one other h k = absurd h
-refused texts (Some script) one other h k =
+-- ---- the words of a run
+err_of : (a b : ℕ) → ◌≡◌ {A = Result (List ℕ) ℕ} (Err a) (Err b) → a ≡ b
+err_of a b h = cc
+
+one_words : (words : NamedText) (one two : Answer) → AreRefusedWords words one → AreRefusedWords words two → one ≡ two
+one_words words one two (inl a) (inl b) = a.answer_is ∙ sym b.answer_is
+one_words words one two (inl a) (inr b) = (let long = a.long in let short = b.short in absurd (omega arith))
+one_words words one two (inr a) (inl b) = (let long = b.long in let short = a.short in absurd (omega arith))
+one_words words one two (inr a) (inr b) =
+    let same : a.at ≡ b.at = err_of a.at b.at (one_reading 0 words.1 (Err a.at) (Err b.at) a.reading b.reading) in
+    a.answer_is ∙ (ap (λ (n : ℕ). malformed_at (place_text words.0 (line_of words.1 n) (column_of words.1 n))) same ∙ sym b.answer_is)
+
+refused : (texts : List NamedText) (side : Side) (one other : Answer) → RefusesSide texts side one → RefusesSide texts side other → one ≡ other
+refused texts no_side one other h k = absurd h.refused
+refused texts (with_words steps words) one other h k = one_words words one other h.refused k.refused
+refused texts (with_questions script) one other h k =
     one_refusal texts h.program k.program h.space k.space h.system k.system h.denoted k.denoted h.system_of k.system_of script one other h.refused k.refused
 
 apart_so : (texts : List NamedText) (p : Program) (space : List Location) (system : System) (script : NamedText) (answer : Answer) → Denotes texts p → IsSystemOf p space system
-    → IsTakenScript p space system script → IsScriptRefusal texts script answer → ⊥
+    → IsTakenScript p space system script → RefusesSide texts (with_questions script) answer → ⊥
 apart_so texts p space system script answer h of takes k =
     asked_or_refused texts p k.program space k.space system k.system h k.denoted of k.system_of script answer takes k.refused
 
-apart : (texts : List NamedText) (p : Program) (space : List Location) (system : System) (script : Option NamedText) (answer : Answer) → Denotes texts p → IsSystemOf p space system
-    → TakesScript p script → RefusesScript texts script answer → ⊥
-apart texts p space system None answer h of takes k = k
-apart texts p space system (Some script) answer h of takes k = apart_so texts p space system script answer h of (takes space system of) k
+apart : (texts : List NamedText) (p : Program) (space : List Location) (system : System) (side : Side) (answer : Answer) → Denotes texts p → IsSystemOf p space system
+    → TakesSide p side → RefusesSide texts side answer → ⊥
+apart texts p space system no_side answer h of takes k = k.refused
+apart texts p space system (with_words steps words) answer h of takes k = words_taken_or_refused words answer takes k.refused
+apart texts p space system (with_questions script) answer h of takes k = apart_so texts p space system script answer h of (takes space system of) k
 
 pub one_script : OneScript
 one_script = record { taken = taken; refused = refused; apart = apart }
@@ -62,57 +82,78 @@ one_script = record { taken = taken; refused = refused; apart = apart }
 units_or_system : (texts : List NamedText) (p : Program) (space : List Location) (system : System) (answer : Answer) → Denotes texts p → IsSystemOf p space system → Refuses texts answer → ⊥
 units_or_system texts p space system answer h of k = one_outcome.within texts p answer h (within p space system of) k
 
-units_or_script : (texts : List NamedText) (script : Option NamedText) (one other : Answer) → Refuses texts one → RefusesScript texts script other → ⊥
-units_or_script texts None one other h k = k
-units_or_script texts (Some script) one other h k = units_or_system texts k.program k.space k.system one k.denoted k.system_of h
+units_or_side : (texts : List NamedText) (side : Side) (one other : Answer) → Refuses texts one → RefusesSide texts side other → ⊥
+units_or_side texts side one other h k = units_or_system texts k.program k.space k.system one k.denoted k.system_of h
 
 told_refused : (told : Told) (one other : Answer) → RefusesTold told one → RefusesTold told other → one ≡ other
 told_refused told one other (inl h) (inl k) = one_outcome.refused told.units one other h k
-told_refused told one other (inl h) (inr k) = absurd (units_or_script told.units told.script one other h k)
-told_refused told one other (inr h) (inl k) = absurd (units_or_script told.units told.script other one k h)
-told_refused told one other (inr h) (inr k) = refused told.units told.script one other h k
+told_refused told one other (inl h) (inr k) = absurd (units_or_side told.units told.side one other h k)
+told_refused told one other (inr h) (inl k) = absurd (units_or_side told.units told.side other one k h)
+told_refused told one other (inr h) (inr k) = refused told.units told.side one other h k
 
--- what is printed of a program has its system, and takes the script
-HasSystem : Program → System → Option NamedText → Type 0
-HasSystem p system None = (space : List Location) × IsSystemOf p space system
-HasSystem p system (Some script) = (space : List Location) × IsSystemOf p space system × IsTakenScript p space system script
+-- what is printed of a program has its system, and takes what is read beside the units
+HasSystem : Program → System → Side → Type 0
+HasSystem p system no_side = (space : List Location) × IsSystemOf p space system
+HasSystem p system (with_words steps words) = (space : List Location) × IsSystemOf p space system × AreTakenWords words
+HasSystem p system (with_questions script) = (space : List Location) × IsSystemOf p space system × IsTakenScript p space system script
 
-printed_system : (told : Told) (p : Program) (system : System) (script : Option NamedText) (out : List ℕ) → IsPrinted told.form script p system out → HasSystem p system script
+printed_system : (told : Told) (p : Program) (system : System) (side : Side) (out : List ℕ) (status : ℕ) → IsPrinted told.form side p system out status → HasSystem p system side
 unfolding HasSystem AreAnswersTo
-printed_system told p system None out h = formed told.form p system out h
-printed_system told p system (Some script) out h = (h.1.0, h.1.1, record { short = h.0; questions = h.1.2.questions; asked = h.1.2.asked })
+printed_system told p system no_side out status h = formed told.form p system out h.0
+printed_system told p system (with_words steps words) out status h = (h.space, h.system_of, record { short = h.short; numbers = h.numbers; reading = h.reading })
+printed_system told p system (with_questions script) out status h = (h.0.1.0, h.0.1.1, record { short = h.0.0; questions = h.0.1.2.questions; asked = h.0.1.2.asked })
 
-system_or_refused : (texts : List NamedText) (p : Program) (system : System) (script : Option NamedText) (answer : Answer) → Denotes texts p → HasSystem p system script
-    → Refuses texts answer ⊎ RefusesScript texts script answer → ⊥
+system_or_refused : (texts : List NamedText) (p : Program) (system : System) (side : Side) (answer : Answer) → Denotes texts p → HasSystem p system side
+    → Refuses texts answer ⊎ RefusesSide texts side answer → ⊥
 unfolding HasSystem
-system_or_refused texts p system None answer h has (inl k) = units_or_system texts p has.0 system answer h has.1 k
-system_or_refused texts p system None answer h has (inr k) = k
-system_or_refused texts p system (Some script) answer h has (inl k) = units_or_system texts p has.0 system answer h has.1 k
-system_or_refused texts p system (Some script) answer h has (inr k) = apart_so texts p has.0 system script answer h has.1 has.2 k
+system_or_refused texts p system no_side answer h has (inl k) = units_or_system texts p has.0 system answer h has.1 k
+system_or_refused texts p system no_side answer h has (inr k) = k.refused
+system_or_refused texts p system (with_words steps words) answer h has (inl k) = units_or_system texts p has.0 system answer h has.1 k
+system_or_refused texts p system (with_words steps words) answer h has (inr k) = words_taken_or_refused words answer has.2 k.refused
+system_or_refused texts p system (with_questions script) answer h has (inl k) = units_or_system texts p has.0 system answer h has.1 k
+system_or_refused texts p system (with_questions script) answer h has (inr k) = apart_so texts p has.0 system script answer h has.1 has.2 k
 
-printed : (told : Told) (p : Program) (system : System) (out : List ℕ) (answer : Answer) → Denotes told.units p → IsPrinted told.form told.script p system out → RefusesTold told answer → ⊥
-printed told p system out answer h print k = system_or_refused told.units p system told.script answer h (printed_system told p system told.script out print) k
+printed : (told : Told) (p : Program) (system : System) (out : List ℕ) (status : ℕ) (answer : Answer) → Denotes told.units p → IsPrinted told.form told.side p system out status → RefusesTold told answer → ⊥
+printed told p system out status answer h print k = system_or_refused told.units p system told.side answer h (printed_system told p system told.side out status print) k
 
-accepted : (told : Told) (p : Program) (space : List Location) (system : System) → Denotes told.units p → IsSystemOf p space system → TakesScript p told.script → AreAccepted told
+accepted : (told : Told) (p : Program) (space : List Location) (system : System) → Denotes told.units p → IsSystemOf p space system → TakesSide p told.side → AreAccepted told
 accepted told p space system h of takes = record {
   program = p;
   denoted = h;
   within = within p space system of;
-  script = λ q k. taken told.units p q space system told.script h k of takes;
+  side = λ q k. taken told.units p q space system told.side h k of takes;
 }
 
-told_so : (told : Told) (one other : Answer) → OutcomeOf told one → OutcomeOf told other → SameFate one other
-told_so told one other (inl h) (inl k) = record { status = h.4 ∙ sym k.4; err = h.5 ∙ sym k.5 }
-told_so told one other (inl h) (inr k) = absurd (printed told h.0 h.1 one.out other h.2 h.3 k)
-told_so told one other (inr h) (inl k) = absurd (printed told k.0 k.1 other.out one k.2 k.3 h)
+-- one status, but for that of a run
+same_status : (side : Side) (a b : ℕ) → a ≡ b → SameStatus side a b
+same_status no_side a b h = h
+same_status (with_questions script) a b h = h
+same_status (with_words steps words) a b h = inl h
+
+run_status : (stopped : Bool) (n : ℕ) → n ≡ (if stopped then 11 else 0) → IsWritten n
+run_status true n is = inr is
+run_status false n is = inl is
+
+printed_status : (told : Told) (side : Side) (p q : Program) (system other : System) (out text : List ℕ) (a b : ℕ) → IsPrinted told.form side p system out a → IsPrinted told.form side q other text b → SameStatus side a b
+printed_status told no_side p q system other out text a b h k = h.1 ∙ sym k.1
+printed_status told (with_questions script) p q system other out text a b h k = h.1 ∙ sym k.1
+printed_status told (with_words steps words) p q system other out text a b h k = inr (run_status _ a h.status_is, run_status _ b k.status_is)
+
+told_so : (told : Told) (one other : Answer) → OutcomeOf told one → OutcomeOf told other → SameFate told.side one other
+told_so told one other (inl h) (inl k) = record {
+  status = printed_status told told.side h.0 k.0 h.1 k.1 one.out other.out one.status other.status h.3 k.3;
+  err = h.4 ∙ sym k.4;
+}
+told_so told one other (inl h) (inr k) = absurd (printed told h.0 h.1 one.out one.status other h.2 h.3 k)
+told_so told one other (inr h) (inl k) = absurd (printed told k.0 k.1 other.out other.status one k.2 k.3 h)
 told_so told one other (inr h) (inr k) =
     let same : one ≡ other = told_refused told one other h k in
-    record { status = ap (λ (a : Answer). a.status) same; err = ap (λ (a : Answer). a.err) same }
+    record { status = same_status told.side one.status other.status (ap (λ (a : Answer). a.status) same); err = ap (λ (a : Answer). a.err) same }
 
-words_so : (words : List (List ℕ)) (told : Told) (one other : Answer) → Outcome words told one → Outcome words told other → SameFate one other
+words_so : (words : List (List ℕ)) (told : Told) (one other : Answer) → Outcome words told one → Outcome words told other → SameFate told.side one other
 words_so words told one other (inl h) (inl k) =
     let same : one ≡ other = h.1 ∙ sym k.1 in
-    record { status = ap (λ (a : Answer). a.status) same; err = ap (λ (a : Answer). a.err) same }
+    record { status = same_status told.side one.status other.status (ap (λ (a : Answer). a.status) same); err = ap (λ (a : Answer). a.err) same }
 words_so words told one other (inl h) (inr k) = absurd (h.0 k.0)
 words_so words told one other (inr h) (inl k) = absurd (k.0 h.0)
 words_so words told one other (inr h) (inr k) = told_so told one other h.1 k.1

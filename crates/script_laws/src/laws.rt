@@ -1,16 +1,17 @@
 //! That what is told has one status and one line, whatever program its units denote.
 ghost use Rattle.script_laws.specs.Scripted.{OneScript, OneFate};
 
-/// The programs that texts denote take the same scripts of questions: where one of them with a system takes a script, all take it. A
-/// script is refused with one answer, for its length or at one line, the first one that isn't in the grammar or names nothing of the
-/// right sort; and it isn't refused where one of these programs takes it.
+/// The programs that texts denote take the same scripts of questions, and the same words of a run: where one of them with a system takes
+/// such a text, all take it. It is refused with one answer, for its length, at one line of a script, the first one that isn't in the
+/// grammar or names nothing of the right sort, or at one byte of words; and it isn't refused where one of these programs takes it.
 pub fn one_script()
     ensures { OneScript }
 {}
 
 /// Two answers to what is told, and to words with it, have one status and one line of `err`. Two refusals are one answer, and what is
-/// printed, a report or the answers to a script, shuts out each refusal. Units with one program that has a system, and takes the script
-/// where there is one, are accepted. That two reports, or two lists of answers, are the same bytes isn't said here.
+/// printed, a report, the answers to a script or the text of a run, shuts out each refusal. Units with one program that has a system, and
+/// takes what is read beside them, are accepted. That two reports, or two lists of answers, are the same bytes isn't said here; nor that
+/// the runs of two programs which the units denote both stop or both don't, so the status of a run is 0 or 11 by this law.
 pub fn one_fate()
     ensures { OneFate }
 {}

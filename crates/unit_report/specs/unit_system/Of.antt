@@ -3,6 +3,8 @@ use Rattle.std.specs.Prelude.{◌≡◌, ◌+◌, ◌<◌, ◌≤◌, ◌^◌, L
 use Rattle.c_types.specs.Made.{IsMade, AreNamed}
 use Rattle.core_tree.specs.declared.node.Unit.{Unit}
 use Rattle.core_tree.specs.declared.node.Program.{Program}
+use Rattle.core_tree.specs.Range.{InRange}
+use Rattle.core_tree.specs.Typed.{trees_in}
 use Rattle.sol_model.specs.declared.system.System.{System}
 use Rattle.sol_model.specs.Systems.{IsValid, location_count}
 use Rattle.unit_link.specs.Linked.{Linked}
@@ -13,12 +15,13 @@ use Rattle.normal_form.specs.SystemOf.{SystemOf}
 
 -- a program that is linked from units, on a table that the table's own functions made, in which each term comes
 -- behind its types, and with so few types that a signature of 32 bits, which is 2 above a type's number, is never
--- that of a type that the table lacks
+-- that of a type that the table lacks; each number in it is in range
 pub record IsProgramOf (units : List Unit) (p : Program) : Type 0 where
   pub linked : Linked units p
   pub made : IsMade p.types
   pub named : AreNamed p.types
   pub room : length p.types.terms + 2 < 2 ^ 32
+  pub range : InRange (trees_in p)
 
 -- a program's locations, and its system over these: the program is within the limit of nodes, the system within
 -- that of words

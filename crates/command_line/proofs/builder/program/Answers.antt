@@ -10,4 +10,6 @@ returns c =
     let two = added _ _ _ (value_option (codes "ask")) c.in_ok-command-2.ensures one in
     let three = added _ _ _ (flag (codes "json")) c.in_ok-command-3.ensures two in
     let four = added _ _ _ (value_option (codes "gen")) c.in_ok-command-4.ensures three in
-    IfOk-weaker c.with_words.result _ _ (λ m h. added _ _ _ (positional_words (codes "unit")) h four) c.with_words.ensures
+    let five = added _ _ _ (value_option (codes "run")) c.in_ok-command-5.ensures four in
+    let six = added _ _ _ (flag (codes "desk")) c.in_ok-command-6.ensures five in
+    IfOk-weaker c.with_words.result _ _ (λ m h. added _ _ _ (positional_words (codes "unit")) h six) c.with_words.ensures

@@ -16,3 +16,6 @@ pub returns-in-Ok-clause-distinct : goal.returns-in-Ok-clause-distinct
 returns-in-Ok-clause-distinct c =
     let made = c.in-Ok.made in
     are_distinct c.args.units.items made.program made.space made.system c.requires.linkable c.requires.named c.in-Ok.ensures
+
+pub returns-in-Ok-clause-range : goal.returns-in-Ok-clause-range
+returns-in-Ok-clause-range c = c.in-Ok.ensures.own.range

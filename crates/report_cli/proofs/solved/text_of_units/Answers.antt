@@ -1,15 +1,16 @@
 use Rattle.std.specs.Prelude.{zip}
-use Rattle.std.proofs.Common.{List, ℕ, Option, sym, subst}
+use Rattle.std.proofs.Common.{List, ℕ, refl, sym, subst}
 use Rattle.command_line.specs.Distinct.{AreDistinct}
 use Rattle.report_cli.specs.Words.{names_of, AreUnitNames}
-use Rattle.report_cli.specs.declared.solved.Script.{Script}
+use Rattle.report_cli.specs.declared.side.Side.{Side}
 use Rattle.report_cli.specs.Printed.{IsPrinted}
 use Rattle.report_cli.specs.Faults.{IsFaultOfTold}
-use Rattle.report_cli.specs.Scripts.{named, named_script, told_with}
+use Rattle.report_cli.specs.Told.{with_questions, with_words}
+use Rattle.report_cli.specs.Scripts.{named, named_side, told_with}
 use Rattle.report_cli.proofs.Refused.{zip_names}
 use Rattle.report_cli.proofs.Linkable.{linkable, filled}
 use Rattle.report_cli.proofs.Naming.{are_named}
-use Rattle.report_cli.proofs.Scripted.{both_ok, on_fault, units_told, script_told}
+use Rattle.report_cli.proofs.Scripted.{both_ok, on_fault, side_told, units_told}
 use Rattle.report_cli.proofs.solved.text_of_units.Goals as goal
 
 pub linked-requires-clause-filled : goal.linked-requires-clause-filled
@@ -31,34 +32,53 @@ pub returns-in-Err-clause-refused : goal.returns-in-Err-clause-refused
 returns-in-Err-clause-refused g c =
     units_told _ _ c.args.form _ (c.in-Err.ensures.refused (zip (names_of c.args.names.now) c.args.texts.now) (zip_names c.args.names.now c.args.texts.now c.requires.count) c.in_ok-units.ensures.right)
 
-pub returns-in-Some-clause-printed : goal.returns-in-Some-clause-printed
-returns-in-Some-clause-printed g c =
+pub returns-in-Questions-clause-printed : goal.returns-in-Questions-clause-printed
+returns-in-Questions-clause-printed g c =
     let made = c.in-Ok.made in
     let linked = c.in-Ok.ensures.linked (zip (names_of c.args.names.now) c.args.texts.now) c.in_ok-units.ensures.right in
     both_ok c.answers_to.result _ _ _ (λ found printed solved.
-    let P : Option Script → Type 0 = λ script. IsPrinted c.args.form (named_script script) made.program made.system found.0.items in
-    (made.program, made.system, linked.0, subst P (sym c.in-Some.is) printed, solved)) c.answers_to.ensures.printed c.answers_to.ensures.solved
+    let P : Side → Type 0 = λ side. IsPrinted c.args.form (named_side side) made.program made.system found.text.items found.status in
+    (made.program, made.system, linked.0, subst P (sym c.in-Questions.is) printed, solved)) c.answers_to.ensures.printed c.answers_to.ensures.solved
 
-pub returns-in-Some-clause-refused : goal.returns-in-Some-clause-refused
-returns-in-Some-clause-refused g c =
+pub returns-in-Questions-clause-refused : goal.returns-in-Questions-clause-refused
+returns-in-Questions-clause-refused g c =
     let made = c.in-Ok.made in
     let texts = zip (names_of c.args.names.now) c.args.texts.now in
     let linked = c.in-Ok.ensures.linked texts c.in_ok-units.ensures.right in
     on_fault c.answers_to.result _ _ (λ fault refused.
-    let P : Option Script → Type 0 = λ script. IsFaultOfTold (told_with texts (named_script script) c.args.form) fault in
-    subst P (sym c.in-Some.is)
-    (script_told made.program made.space made.system (named c.in-Some.script) texts c.args.form fault linked.0 linked.1 refused))
+    let P : Side → Type 0 = λ side. IsFaultOfTold (told_with texts (named_side side) c.args.form) fault in
+    subst P (sym c.in-Questions.is)
+    (side_told made.program made.space made.system (with_questions (named c.in-Questions.script)) texts c.args.form fault linked.0 linked.1 refused))
     c.answers_to.ensures.refused
 
-pub returns-in_ok-text_in_form-in-None-clause-printed : goal.returns-in_ok-text_in_form-in-None-clause-printed
-returns-in_ok-text_in_form-in-None-clause-printed g c =
+pub returns-in-Words-clause-printed : goal.returns-in-Words-clause-printed
+returns-in-Words-clause-printed g c =
     let made = c.in-Ok.made in
-    let found = c.in_ok-text_in_form-in-None.field-0 in
     let linked = c.in-Ok.ensures.linked (zip (names_of c.args.names.now) c.args.texts.now) c.in_ok-units.ensures.right in
-    let P : Option Script → Type 0 = λ script. IsPrinted c.args.form (named_script script) made.program made.system found.0.items in (
+    both_ok c.ran.result _ _ _ (λ found printed solved.
+    let P : Side → Type 0 = λ side. IsPrinted c.args.form (named_side side) made.program made.system found.text.items found.status in
+    (made.program, made.system, linked.0, subst P (sym c.in-Words.is) printed, solved)) c.ran.ensures.printed c.ran.ensures.solved
+
+pub returns-in-Words-clause-refused : goal.returns-in-Words-clause-refused
+returns-in-Words-clause-refused g c =
+    let made = c.in-Ok.made in
+    let texts = zip (names_of c.args.names.now) c.args.texts.now in
+    let linked = c.in-Ok.ensures.linked texts c.in_ok-units.ensures.right in
+    on_fault c.ran.result _ _ (λ fault refused.
+    let P : Side → Type 0 = λ side. IsFaultOfTold (told_with texts (named_side side) c.args.form) fault in
+    subst P (sym c.in-Words.is)
+    (side_told made.program made.space made.system (with_words c.in-Words.steps (named c.in-Words.words)) texts c.args.form fault linked.0 linked.1 refused))
+    c.ran.ensures.refused
+
+pub returns-in_ok-text-in-Nothing-clause-printed : goal.returns-in_ok-text-in-Nothing-clause-printed
+returns-in_ok-text-in-Nothing-clause-printed g c =
+    let made = c.in-Ok.made in
+    let linked = c.in-Ok.ensures.linked (zip (names_of c.args.names.now) c.args.texts.now) c.in_ok-units.ensures.right in
+    let found = c.in_ok-text-in-Nothing in
+    let P : Side → Type 0 = λ side. IsPrinted c.args.form (named_side side) made.program made.system found.text.items 0 in (
       made.program,
       made.system,
       linked.0,
-      subst P (sym c.in-None.is) c.in_ok-text_in_form-in-None.ensures.printed,
-      c.in_ok-text_in_form-in-None.ensures.solved,
+      subst P (sym c.in-Nothing.is) (found.ensures.printed, refl),
+      found.ensures.solved,
     )

@@ -1,5 +1,5 @@
-use Rattle.std.proofs.Common.{◌≡◌, ℕ, List, [], Some, inl, inr, refl, sym, ◌∙◌, ap, subst, arith, codes, Err, slice_get}
-use Rattle.std.specs.Prelude.{Contains}
+use Rattle.std.proofs.Common.{◌≡◌, ℕ, List, [], length, Option, Some, inl, inr, refl, sym, ◌∙◌, ap, subst, arith, codes, Err, slice_get}
+use Rattle.std.specs.Prelude.{zip, Contains, IsSome}
 use Rattle.sol_model.proofs.Members.{Contains-at}
 use Rattle.command_line.specs.Language.{found_in}
 use Rattle.command_line.specs.Rules.{AreRight, gen_word, unit_words}
@@ -7,8 +7,8 @@ use Rattle.command_line.specs.Distinct.{AreDistinct}
 use Rattle.report_cli.specs.Words.{names_of, texts_of, AreUnitNames}
 use Rattle.report_cli.specs.Answers.{Answer, refusal}
 use Rattle.report_cli.specs.Told.{names_for, told_for}
-use Rattle.report_cli.specs.Outside.{Receives, source_fault}
-use Rattle.report_cli.proofs.Lifted.{IsStatus, names_asked, with_told_for, told_denotes, told_prints, told_refuses}
+use Rattle.report_cli.specs.Outside.{IsWritten, Receives, source_fault}
+use Rattle.report_cli.proofs.Lifted.{IsStatus, names_asked, run_asked, with_told_for, told_denotes, told_prints, told_refuses}
 use Rattle.report_cli.proofs.Exclusion.{told_read}
 use Rattle.report_cli.proofs.OneOutcome.{told_right}
 use Rattle.report_cli.proofs.Together.{accepted_or_refused}
@@ -52,10 +52,30 @@ no_nine status (inr (inr (inl five))) e = omega arith
 no_nine status (inr (inr (inr (inl six)))) e = omega arith
 no_nine status (inr (inr (inr (inr ten)))) e = omega arith
 
+no_written : (status : ℕ) → IsStatus status → IsWritten status → ⊥
+no_written status refused (inl zero) = no_success status refused zero
+no_written status (inl three) (inr e) = omega arith
+no_written status (inr (inl four)) (inr e) = omega arith
+no_written status (inr (inr (inl five))) (inr e) = omega arith
+no_written status (inr (inr (inr (inl six)))) (inr e) = omega arith
+no_written status (inr (inr (inr (inr ten)))) (inr e) = omega arith
+
 pub returns-in-Err-Usage-clause-outcome : goal.returns-in-Err-Usage-clause-outcome
 returns-in-Err-Usage-clause-outcome g c not7 not8 not9 =
     always (told_for (g.U.Units.text c.args.units.now) (texts_of c.args.words.now)) _
     (λ told. (refusal 2 (codes "usage"), inl (c.in-Err-Usage.ensures.usage c.in-Err-Usage.field-0-is, refl), refl, grows_nothing _ _ refl, c.say.ensures))
+
+pub returns-in-Err-Usage-clause-complete : goal.returns-in-Err-Usage-clause-complete
+returns-in-Err-Usage-clause-complete g c =
+    always (told_for (g.U.Units.text c.args.units.now) (texts_of c.args.words.now)) _ (λ told words alone sources sink. absurd (c.in-Err-Usage.ensures.usage c.in-Err-Usage.field-0-is words))
+
+pub returns-in-Err-Usage-clause-right : goal.returns-in-Err-Usage-clause-right
+returns-in-Err-Usage-clause-right g c =
+    always (told_for (g.U.Units.text c.args.units.now) (texts_of c.args.words.now)) _ (λ told words units sources sink. absurd (c.in-Err-Usage.ensures.usage c.in-Err-Usage.field-0-is words))
+
+pub returns-in-Err-Usage-clause-accepted : goal.returns-in-Err-Usage-clause-accepted
+returns-in-Err-Usage-clause-accepted g c =
+    always (told_for (g.U.Units.text c.args.units.now) (texts_of c.args.words.now)) _ (λ told words accepted sources sink. absurd (c.in-Err-Usage.ensures.usage c.in-Err-Usage.field-0-is words))
 
 pub returns-in-Err-Source-clause-source : goal.returns-in-Err-Source-clause-source
 returns-in-Err-Source-clause-source g c seven =
@@ -136,14 +156,29 @@ returns-clause-headline g c zero =
     with_told_for (g.U.Units.text c.args.units.now) (texts_of c.args.words.now) c.in-Ok.command _ _ c.as_slice.result.now _ c.in-Ok.ensures.ok.says
     (ap names_of c.as_slice-all.ensures.value ∙ c.in-Ok-names_for.ensures) c.as_slice.ensures.value c.in-Ok-read_units.ensures.texts
     (λ told read. let given = c.answer_units.ensures.delivered zero in
-    (given.0, given.1, given.2, told_denotes _ told given.0 read given.3, told_prints _ told given.0 given.1 given.2 read given.4, given.5))
+    (given.0, given.1, given.2, told_denotes _ told given.0 read given.3, told_prints _ told given.0 given.1 given.2 0 read given.4, given.5))
+
+pub returns-clause-stopped : goal.returns-clause-stopped
+returns-clause-stopped g c eleven =
+    with_told_for (g.U.Units.text c.args.units.now) (texts_of c.args.words.now) c.in-Ok.command _ _ c.as_slice.result.now _ c.in-Ok.ensures.ok.says
+    (ap names_of c.as_slice-all.ensures.value ∙ c.in-Ok-names_for.ensures) c.as_slice.ensures.value c.in-Ok-read_units.ensures.texts
+    (λ told read. let given = c.answer_units.ensures.stopped eleven in
+    (given.0, given.1, given.2, told_denotes _ told given.0 read given.3, told_prints _ told given.0 given.1 given.2 11 read given.4, given.5))
+
+pub returns-clause-run : goal.returns-clause-run
+returns-clause-run g c eleven =
+    let command = c.in-Ok.command in
+    let given = c.answer_units.ensures.stopped eleven in
+    let S : Option ℕ → Type 0 = λ steps. IsSome steps in
+    subst S c.in-Ok.ensures.ok.says.steps
+    (run_asked command.generated command.json command.steps (length command.units.items) (zip (names_for command) c.as_slice.result.now) given.0 given.1 given.2 given.4)
 
 pub returns-clause-broken : goal.returns-clause-broken
 returns-clause-broken g c eight =
     with_told_for (g.U.Units.text c.args.units.now) (texts_of c.args.words.now) c.in-Ok.command _ _ c.as_slice.result.now _ c.in-Ok.ensures.ok.says
     (ap names_of c.as_slice-all.ensures.value ∙ c.in-Ok-names_for.ensures) c.as_slice.ensures.value c.in-Ok-read_units.ensures.texts
     (λ told read. let given = c.answer_units.ensures.broken eight in
-    (given.0, given.1, given.2, told_denotes _ told given.0 read given.3, told_prints _ told given.0 given.1 given.2 read given.4, given.5))
+    (given.0, given.1, given.2, given.3, told_denotes _ told given.0 read given.4, told_prints _ told given.0 given.1 given.2 given.3 read given.5, given.6))
 
 pub returns-clause-outcome : goal.returns-clause-outcome
 returns-clause-outcome g c not7 not8 not9 =
@@ -151,21 +186,29 @@ returns-clause-outcome g c not7 not8 not9 =
     with_told_for (g.U.Units.text c.args.units.now) (texts_of c.args.words.now) c.in-Ok.command _ _ c.as_slice.result.now _ c.in-Ok.ensures.ok.says
     (ap names_of c.as_slice-all.ensures.value ∙ c.in-Ok-names_for.ensures) c.as_slice.ensures.value c.in-Ok-read_units.ensures.texts
     (λ told read. elim c.answer_units.ensures.listed [
-      | inl zero ↦
+      | inl (inl zero) ↦
           let given = c.answer_units.ensures.delivered zero in (
             record { status = 0; out = given.2; err = [] },
-            inr (words, inl (given.0, given.1, told_denotes _ told given.0 read given.3, told_prints _ told given.0 given.1 given.2 read given.4, refl, refl)),
+            inr (words, inl (given.0, given.1, told_denotes _ told given.0 read given.3, told_prints _ told given.0 given.1 given.2 0 read given.4, refl)),
             zero,
             given.5,
             receives_nothing _ _ _ _ given.6,
           )
+      | inl (inr eleven) ↦
+          let given = c.answer_units.ensures.stopped eleven in (
+            record { status = 11; out = given.2; err = [] },
+            inr (words, inl (given.0, given.1, told_denotes _ told given.0 read given.3, told_prints _ told given.0 given.1 given.2 11 read given.4, refl)),
+            eleven,
+            given.5,
+            receives_nothing _ _ _ _ given.6,
+          )
       | inr (inl refused) ↦
-          let not0 : c.answer_units.result ≡ 0 → ⊥ = no_success _ refused in
-          let given = c.answer_units.ensures.refused not0 not8 not9 in (
+          let unwritten : IsWritten c.answer_units.result → ⊥ = no_written _ refused in
+          let given = c.answer_units.ensures.refused unwritten not8 not9 in (
             record { status = c.answer_units.result; out = []; err = given.0 },
             inr (words, inr (told_refuses _ told _ read given.1)),
             refl,
-            grows_nothing _ _ (c.answer_units.ensures.unwritten not0 not8),
+            grows_nothing _ _ (c.answer_units.ensures.unwritten unwritten not8),
             given.2,
           )
       | inr (inr (inl eight)) ↦ absurd (not8 eight)
@@ -175,7 +218,8 @@ returns-clause-outcome g c not7 not8 not9 =
 pub returns-clause-usage : goal.returns-clause-usage
 returns-clause-usage g c = (
   (λ two. elim c.answer_units.ensures.listed [
-    | inl zero ↦ absurd (omega arith)
+    | inl (inl zero) ↦ absurd (omega arith)
+    | inl (inr eleven) ↦ absurd (omega arith)
     | inr (inl refused) ↦ absurd (no_two _ refused two)
     | inr (inr (inl eight)) ↦ absurd (omega arith)
     | inr (inr (inr nine)) ↦ absurd (omega arith)
@@ -185,7 +229,7 @@ returns-clause-usage g c = (
 
 pub returns-clause-listed : goal.returns-clause-listed
 returns-clause-listed g c = elim c.answer_units.ensures.listed [
-  | inl zero ↦ inl zero
+  | inl written ↦ inl written
   | inr (inl refused) ↦ inr (inr (inl refused))
   | inr (inr (inl eight)) ↦ inr (inr (inr (inr (inl eight))))
   | inr (inr (inr nine)) ↦ inr (inr (inr (inr (inr nine))))
@@ -193,7 +237,8 @@ returns-clause-listed g c = elim c.answer_units.ensures.listed [
 
 pub returns-clause-source : goal.returns-clause-source
 returns-clause-source g c seven = elim c.answer_units.ensures.listed [
-  | inl zero ↦ absurd (omega arith)
+  | inl (inl zero) ↦ absurd (omega arith)
+  | inl (inr eleven) ↦ absurd (omega arith)
   | inr (inl refused) ↦ absurd (no_seven _ refused seven)
   | inr (inr (inl eight)) ↦ absurd (omega arith)
   | inr (inr (inr nine)) ↦ absurd (omega arith)
@@ -204,9 +249,9 @@ returns-clause-complete g c =
     with_told_for (g.U.Units.text c.args.units.now) (texts_of c.args.words.now) c.in-Ok.command _ _ c.as_slice.result.now _ c.in-Ok.ensures.ok.says
     (ap names_of c.as_slice-all.ensures.value ∙ c.in-Ok-names_for.ensures) c.as_slice.ensures.value c.in-Ok-read_units.ensures.texts
     (λ told read words alone sources sink. elim c.answer_units.ensures.listed [
-      | inl zero ↦ inl zero
+      | inl written ↦ inl written
       | inr (inl refused) ↦
-          let given = c.answer_units.ensures.refused (no_success _ refused) (no_eight _ refused) (no_nine _ refused) in
+          let given = c.answer_units.ensures.refused (no_written _ refused) (no_eight _ refused) (no_nine _ refused) in
           let answer : Answer = record { status = c.answer_units.result; out = []; err = given.0 } in
           inr (inr (answer, told_read told answer alone (told_refuses _ told answer read given.1), refl))
       | inr (inr (inl eight)) ↦ absurd (not_risen _ _ sink (c.answer_units.ensures.cause eight))
@@ -218,9 +263,9 @@ returns-clause-right g c =
     with_told_for (g.U.Units.text c.args.units.now) (texts_of c.args.words.now) c.in-Ok.command _ _ c.as_slice.result.now _ c.in-Ok.ensures.ok.says
     (ap names_of c.as_slice-all.ensures.value ∙ c.in-Ok-names_for.ensures) c.as_slice.ensures.value c.in-Ok-read_units.ensures.texts
     (λ told read words units sources sink. elim c.answer_units.ensures.listed [
-      | inl zero ↦ inl zero
+      | inl written ↦ inl written
       | inr (inl refused) ↦
-          let given = c.answer_units.ensures.refused (no_success _ refused) (no_eight _ refused) (no_nine _ refused) in
+          let given = c.answer_units.ensures.refused (no_written _ refused) (no_eight _ refused) (no_nine _ refused) in
           let answer : Answer = record { status = c.answer_units.result; out = []; err = given.0 } in
           inr (inr (answer, told_right told answer units (told_refuses _ told answer read given.1), refl))
       | inr (inr (inl eight)) ↦ absurd (not_risen _ _ sink (c.answer_units.ensures.cause eight))
@@ -232,9 +277,9 @@ returns-clause-accepted g c =
     with_told_for (g.U.Units.text c.args.units.now) (texts_of c.args.words.now) c.in-Ok.command _ _ c.as_slice.result.now _ c.in-Ok.ensures.ok.says
     (ap names_of c.as_slice-all.ensures.value ∙ c.in-Ok-names_for.ensures) c.as_slice.ensures.value c.in-Ok-read_units.ensures.texts
     (λ told read words accepted sources sink. elim c.answer_units.ensures.listed [
-      | inl zero ↦ inl zero
+      | inl written ↦ inl written
       | inr (inl refused) ↦
-          let given = c.answer_units.ensures.refused (no_success _ refused) (no_eight _ refused) (no_nine _ refused) in
+          let given = c.answer_units.ensures.refused (no_written _ refused) (no_eight _ refused) (no_nine _ refused) in
           let answer : Answer = record { status = c.answer_units.result; out = []; err = given.0 } in
           absurd (accepted_or_refused told answer accepted (told_refuses _ told answer read given.1))
       | inr (inr (inl eight)) ↦ absurd (not_risen _ _ sink (c.answer_units.ensures.cause eight))
@@ -246,11 +291,12 @@ returns-clause-solved g c zero =
     with_told_for (g.U.Units.text c.args.units.now) (texts_of c.args.words.now) c.in-Ok.command _ _ c.as_slice.result.now _ c.in-Ok.ensures.ok.says
     (ap names_of c.as_slice-all.ensures.value ∙ c.in-Ok-names_for.ensures) c.as_slice.ensures.value c.in-Ok-read_units.ensures.texts
     (λ told read. let given = c.answer_units.ensures.delivered zero in
-    (given.0, given.1, given.2, told_denotes _ told given.0 read given.3, told_prints _ told given.0 given.1 given.2 read given.4, given.5, given.7))
+    (given.0, given.1, given.2, told_denotes _ told given.0 read given.3, told_prints _ told given.0 given.1 given.2 0 read given.4, given.5, given.7))
 
 pub returns-clause-said : goal.returns-clause-said
 returns-clause-said g c two = elim c.answer_units.ensures.listed [
-  | inl zero ↦ absurd (omega arith)
+  | inl (inl zero) ↦ absurd (omega arith)
+  | inl (inr eleven) ↦ absurd (omega arith)
   | inr (inl refused) ↦ absurd (no_two _ refused two)
   | inr (inr (inl eight)) ↦ absurd (omega arith)
   | inr (inr (inr nine)) ↦ absurd (omega arith)

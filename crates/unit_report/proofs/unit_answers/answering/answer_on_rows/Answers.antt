@@ -7,8 +7,8 @@ use Rattle.set_rows.specs.Views.{fresh, known, words_of, SamePart}
 use Rattle.set_rows.specs.Calls.{view}
 use Rattle.unit_report.proofs.unit_answers.answering.answer_on_rows.Goals as goal
 
-pub solve_and_ask-requires-clause-fresh : goal.solve_and_ask-requires-clause-fresh
-solve_and_ask-requires-clause-fresh g c κs within row location h =
+pub solved_and_asked-requires-clause-fresh : goal.solved_and_asked-requires-clause-fresh
+solved_and_asked-requires-clause-fresh g c κs within row location h =
     let S = c.args.system in
     zeros_show_nothing (width_of S) (words_of S) row location (subst (λ (v : View). Has (known v) row location) c.in_ok-table.ensures.view h)
 

@@ -15,11 +15,11 @@ pub returns-in-Ok : goal.returns-in-Ok
 returns-in-Ok c =
     let told = c.type_count-types.ensures in
     record {
-      own = record { linked = c.in_ok-program.ensures.linked; made = told.made; named = told.named; room = c.in_ok-program.ensures.room };
+      own = record { linked = c.in_ok-program.ensures.linked; made = told.made; named = told.named; room = c.in_ok-program.ensures.room; range = c.in_ok-program.ensures.range };
       system_of = c.in-Ok.ensures;
     }
 
 pub returns-in-Err : goal.returns-in-Err
 returns-in-Err c =
     let told = c.type_count-types.ensures in
-    program_refused c.args.units.items c.in_ok-program.program c.in-Err.fault (record { linked = c.in_ok-program.ensures.linked; made = told.made; named = told.named; room = c.in_ok-program.ensures.room }) c.in-Err.ensures
+    program_refused c.args.units.items c.in_ok-program.program c.in-Err.fault (record { linked = c.in_ok-program.ensures.linked; made = told.made; named = told.named; room = c.in_ok-program.ensures.room; range = c.in_ok-program.ensures.range }) c.in-Err.ensures

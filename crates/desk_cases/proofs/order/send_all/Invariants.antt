@@ -1,0 +1,7 @@
+use Rattle.std.proofs.Common.{◌≡◌, ◌≤◌, length}
+use Rattle.question_desk.specs.Calls.{number_of, sent, IsSenderOf}
+use Rattle.desk_cases.proofs.order.send_all.Given as goal
+
+abbrev pub invariant-loop : goal.invariant-loop
+invariant-loop g l =
+    IsSenderOf l.desk.now l.sender × (number_of l.sender ≡ number_of l.fn.sender) × (length (sent l.sender) ≡ l.next) × (l.next ≤ 1000)
