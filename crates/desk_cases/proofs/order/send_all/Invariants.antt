@@ -4,4 +4,5 @@ use Rattle.desk_cases.proofs.order.send_all.Given as goal
 
 abbrev pub invariant-loop : goal.invariant-loop
 invariant-loop g l =
-    IsSenderOf l.desk.now l.sender × (number_of l.sender ≡ number_of l.fn.sender) × (length (sent l.sender) ≡ l.next) × (l.next ≤ 1000)
+    (goal.iterator-loop g).can_next l.iterator' × (goal.iterator-loop g).is_finite l.iterator'
+    × IsSenderOf l.desk l.sender × (number_of l.sender ≡ number_of l.fn.sender) × (length (sent l.sender) ≡ l.next) × (l.next ≤ 1000)
