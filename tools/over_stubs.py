@@ -236,7 +236,7 @@ def stub(source, target, is_whole):
         for at, _, names in os.walk(f"{source}/{part}"):
             for name in names:
                 path = os.path.join(os.path.relpath(at, source), name)
-                if name in ANSWERS and not is_whole:
+                if part == "proofs" and name in ANSWERS and not is_whole:
                     continue
                 wanted.add(path)
                 with open(f"{source}/{path}", encoding="utf-8") as file:
