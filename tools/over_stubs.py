@@ -78,6 +78,8 @@ def is_of_proof(line, depth, name):
         return True
     if indent_of(line) < depth or text.startswith(name + " : "):
         return False
+    if "◌" in name and f" {name.strip('◌')} " in text and " : " not in text:
+        return True
     return text[0] in ")]}" or text.startswith(("unfolding ", name + " ")) or text == name
 
 
@@ -236,11 +238,11 @@ def stub(source, target, is_whole):
         for at, _, names in os.walk(f"{source}/{part}"):
             for name in names:
                 path = os.path.join(os.path.relpath(at, source), name)
-                if part == "proofs" and name in ANSWERS and not is_whole:
-                    continue
-                wanted.add(path)
                 with open(f"{source}/{path}", encoding="utf-8") as file:
                     text = file.read()
+                if part == "proofs" and name in ANSWERS and (name != "Answers.antt" or ".Goals" in text) and not is_whole:
+                    continue
+                wanted.add(path)
                 change = {"proofs": with_holes, "src": without_bodies}.get(part, str)
                 write(f"{target}/{path}", text if is_whole else change(text))
     for at, _, names in os.walk(target):
