@@ -38,7 +38,8 @@ def checks(root):
     for number in filter(str.isdigit, os.listdir("/proc")):
         try:
             with open(f"/proc/{number}/cmdline", encoding="utf-8", errors="replace") as file:
-                if not file.read().split("\0")[0].endswith("bin/rattle"):
+                words = file.read().split("\0")
+                if not words[0].endswith("bin/rattle") or words[1] not in ("check", "build"):
                     continue
             folder = os.readlink(f"/proc/{number}/cwd")
             with open(f"/proc/{number}/stat", encoding="utf-8", errors="replace") as file:

@@ -62,13 +62,19 @@ def with_holes(text):
         if not found or record is not None or KEPT.match(line) or line.lstrip().startswith("--"):
             continue
         depth, name = len(found.group(1)), found.group(3)
-        while at < len(lines) and (not lines[at].strip() or indent_of(lines[at]) > depth):
+        begun = at - 1
+        while at < len(lines) and (not lines[at].strip() or indent_of(lines[at]) > depth or is_open("".join(lines[begun:at]))):
             out += [lines[at]] if lines[at].strip() else []
             at += 1
         while at < len(lines) and is_of_proof(lines[at], depth, name):
             at += 1
         out += [" " * depth + name + " = ?", ""]
     return "\n".join(out)
+
+
+def is_open(text):
+    """Returns whether a bracket of this text is still open."""
+    return sum(text.count(it) for it in "([{") > sum(text.count(it) for it in ")]}")
 
 
 def is_of_proof(line, depth, name):
