@@ -159,7 +159,7 @@ let_go n v (Returned w ∷ rest) h = refl
 let_go n v (Wait m left values ∷ rest) h = absurd h
 
 module _ (world : World) (stands : Stands world) (characters : TypeId) (served : IsServed world stands characters) (state : State) (f : Frame) (rest : List Frame) (n k : ℕ) (arguments : List Value) (items : List Item) (word : ℕ)
-    (stays : StaysCovered world state) (frames_are : state.frames ≡ f ∷ rest) (items_are : f.items ≡ Library n k arguments ∷ items) (pending : IsPendingBack world n k) (below : IsNoWait items) where
+    (stays : StaysCovered world state) (frames_are : state.frames ≡ f ∷ rest) (items_are : f.items ≡ Library n k arguments ∷ items) (pending : IsPendingBack world state.memory n k arguments) (below : IsNoWait items) where
   abbrev covered : Covered world state
   covered = stays.covered
 

@@ -84,10 +84,12 @@ use Rattle.covering_laws.proofs.covered_library.Calling.{effects_covered}
 use Rattle.covering_laws.proofs.covered_library.Effects.{back_in, back_second_in, called_back}
 use Rattle.covering_laws.proofs.covered_library.Table.{lists_of}
 use Rattle.covering_laws.specs.covered_state.World.{World, trees_of, view_in, sets_of, setting_in, IsCallAt, IsFunctionAt, IsTargetAt}
-use Rattle.covering_laws.specs.covered_state.Items.{Each, NodeIn, IsPending, IsPendingBack, ItemIn}
-use Rattle.covering_laws.specs.covered_state.Awaited.{IsBare, IsAwaited, AwaitedIn}
+use Rattle.covering_laws.specs.covered_state.Items.{Each, NodeIn, AllExist, IsPending, IsPendingBack, ItemIn}
+use Rattle.covering_laws.specs.covered_state.Awaited.{AreApart, ItemApart, IsBare, IsAwaited, AwaitedIn}
+use Rattle.covering_laws.specs.covered_state.Exists.{ItemBelow, PointersExist}
 use Rattle.covering_laws.specs.covered_state.State.{FrameIn, KeptIn, Covered}
-use Rattle.covering_laws.proofs.covered_state.Stays.{each_append, items_stay, frames_stay, settled_in}
+use Rattle.covering_laws.proofs.covered_state.Stays.{each_append, back_stays, items_stay, frames_stay, settled_in}
+use Rattle.covering_laws.proofs.covered_state.Exists.{cell_exists, covered_exist, cells_apart, items_apart, frames_apart}
 use Rattle.covered_values.specs.Values.{Stands}
 use Rattle.covered_values.proofs.Operands.{went, ok_one, err_ok, value_node}
 use Rattle.covered_steps.specs.Steps.{NoneBare}
@@ -363,7 +365,7 @@ entered_as w count entry arguments made e = by_entity (slice_get w.trees.entitie
 -- of those that it calls back
 pub record EffectGoes (world : World) (memory : List Instance) (n : ℕ) (e : Effected) : Type 0 where
   pub leaves : Leaves (sets_of world) memory e.memory
-  pub back : (callee : Cell) (given : List Value) (other : ℕ) → e.outcome.next ≡ Calls callee given → comparison_of (trees_of world) callee ≡ Ok (FunctionKey other) → IsPendingBack world n other
+  pub back : (callee : Cell) (given : List Value) (other : ℕ) → e.outcome.next ≡ Calls callee given → comparison_of (trees_of world) callee ≡ Ok (FunctionKey other) → IsPendingBack world memory n other given
 
 module _ (world : World) (stands : Stands world) (characters : TypeId) (served : IsServed world stands characters) (state : State) (f : Frame) (rest : List Frame) (n k : ℕ) (arguments : List Value) (items : List Item) (word : ℕ)
     (stays : StaysCovered world state) (frames_are : state.frames ≡ f ∷ rest) (items_are : f.items ≡ Library n k arguments ∷ items) (pending : IsPending world state.memory n k arguments) (waits : ConversionWaits world n items) where
@@ -449,11 +451,21 @@ module _ (world : World) (stands : Stands world) (characters : TypeId) (served :
         by (inr grown) = absurd (other grown.next)
 
     -- the call is done
-    done_awaited : AwaitedIn world (with_top (record state { memory = e.memory }) (record f { items = settled n e.outcome.value f.items }) rest e.outcome.stores)
+    abbrev with_done : State
+    with_done = with_top (record state { memory = e.memory }) (record f { items = settled n e.outcome.value f.items }) rest e.outcome.stores
+
+    done_awaited : AwaitedIn world with_done
     done_awaited = record { each = λ i inst at bare. by traced.adds i inst at bare }
       where
+        -- what points to something before the call points to nothing that the call made
+        there : PointersExist state
+        there = covered_exist world state covered
+
+        frames_there : Each (λ f. Each (ItemBelow (length state.memory)) f.items) (f ∷ rest)
+        frames_there = subst (Each (λ f. Each (ItemBelow (length state.memory)) f.items)) frames_are there.frames
+
         waiting : IsGrown state.memory key e → (i : ℕ) (inst : Instance) → i ≡ length state.memory → inst.key ≡ key → IsBare world inst → (b : Bool) → is_named (named_library (trees_of world) pending.node) k ≡ b
-            → IsAwaited world i inst (record f { items = settled n e.outcome.value f.items } ∷ rest)
+            → IsAwaited world i inst with_done.memory with_done.frames
         waiting grown i inst place own bare false named =
             let star : inst.key ≡ StarKey k = own ∙ key_by world stands characters served n k reaches state f rest arguments items covered.awaited frames_are items_are covered.memory pending.arguments_in false named in
             absurd (star_blob k bare.id (sym (served.star_contents k bare.first bare.location (ap (first_from 0 world.space) (sym star) ∙ bare.first_is) bare.location_is) ∙ bare.content_is))
@@ -475,9 +487,14 @@ module _ (world : World) (stands : Stands world) (characters : TypeId) (served :
               kind = c.kind;
               child = c.child;
               key = call;
+              others = subst (λ (m : ℕ). Each (ItemApart m) below.0) (sym place)
+                  (items_apart (length state.memory) below.0 (subst (Each (ItemBelow (length state.memory))) (items_are ∙ ap (λ (l : List Item). Library n k arguments ∷ l) below.1) frames_there.0).1.1);
+              below = subst (λ (m : ℕ). Each (λ f. Each (ItemApart m) f.items) rest) (sym place) (frames_apart (length state.memory) rest frames_there.1);
+              apart = λ j other at.
+                  subst (λ (m : ℕ). AreApart m other.cells) (sym place) (cells_apart (length state.memory) other.cells (grown.cells there.memory j other at));
             }
 
-        by : Adds state.memory key e → (i : ℕ) (inst : Instance) → slice_get e.memory i ≡ Some inst → IsBare world inst → IsAwaited world i inst (record f { items = settled n e.outcome.value f.items } ∷ rest)
+        by : Adds state.memory key e → (i : ℕ) (inst : Instance) → slice_get e.memory i ≡ Some inst → IsBare world inst → IsAwaited world i inst with_done.memory with_done.frames
         by (inl long) i inst at bare = absurd (none_after world state.memory e.memory leaves.extends none_before long i inst at bare)
         by (inr grown) i inst at bare = elim (grown.each i inst at) [
           | inl lt ↦ absurd (bare_before world state.memory e.memory leaves.extends none_before i inst at lt bare)
@@ -719,14 +736,17 @@ module _ (world : World) (stands : Stands world) (characters : TypeId) (served :
         }
 
     -- a library function that is called back
-    back_so : (callee : Cell) (given : List Value) (other : ℕ) → e.outcome.next ≡ Calls callee given → comparison_of (trees_of world) callee ≡ Ok (FunctionKey other) → IsPendingBack world n other
+    back_so : (callee : Cell) (given : List Value) (other : ℕ) → e.outcome.next ≡ Calls callee given → comparison_of (trees_of world) callee ≡ Ok (FunctionKey other) → IsPendingBack world state.memory n other given
     back_so callee given other next is_comparison =
         let two = is_compared (trees_of world) callee (FunctionKey other) is_comparison in
-        let c = compared callee given (called_with callee given next) (FunctionKey other) two.0 two.1 in
+        let with : IsBack callee given = called_with callee given next in
+        let c = compared callee given with (FunctionKey other) two.0 two.1 in
         record {
           library = pending.target.function;
           back = c.number;
           called = record { caller = FunctionKey k; library_is = pending.target.function_is; target = pending.target; back_is = c.function_at; edge = c.edge };
+          exist = subst (AllExist world state.memory) (sym with.given_is)
+              ((cell_exists world state.memory (Some (row_in (setting_in world) with.left.0)) with.a with.a_in, tt), ((cell_exists world state.memory (Some (row_in (setting_in world) with.right.0)) with.b with.b_in, tt), tt));
         }
 
     library_so : (callee : Cell) (given : List Value) → e.outcome.next ≡ Calls callee given → (other : ℕ) → comparison_of (trees_of world) callee ≡ Ok (FunctionKey other)
@@ -736,7 +756,7 @@ module _ (world : World) (stands : Stands world) (characters : TypeId) (served :
           covered = record {
             memory = leaves.covered;
             frames = (
-              frame_with (Library n other given ∷ f.items) (inr (back_so callee given other next is_comparison), items_in),
+              frame_with (Library n other given ∷ f.items) (inr (back_stays world state.memory e.memory leaves.extends n other given (back_so callee given other next is_comparison)), items_in),
               rest_in,
             );
             kept = covered.kept;

@@ -89,10 +89,10 @@ module _ (world : World) (stands : Stands world) (characters : TypeId) (served :
   fewer_found = each_taken (λ (entry : ObjectKey × ℕ). IsKeptFound world entry.0) (length state.kept - 1) state.kept stays.found.each
 
   -- a library function that is called
-  back_so : (k : ℕ) → key ≡ FunctionKey k → IsCalled → IsPendingBack world n k
+  back_so : (k : ℕ) → key ≡ FunctionKey k → IsCalled → IsPendingBack world state.memory n k []
   back_so k is c =
       let back_is : IsFunctionAt world c.number (FunctionKey k) = subst (IsFunctionAt world c.number) is c.number_is in
-      record { library = found.library; back = c.number; called = record { caller = FunctionKey at_exit; library_is = found.library_is; target = kept.target; back_is = back_is; edge = c.edge } }
+      record { library = found.library; back = c.number; called = record { caller = FunctionKey at_exit; library_is = found.library_is; target = kept.target; back_is = back_is; edge = c.edge }; exist = tt }
 
   library_so : (k : ℕ) → key ≡ FunctionKey k → IsCalled → StaysCovered world (record (record state { kept = but_last state.kept }) { frames = pending_frame k n ∷ state.frames; notes = only [] })
   library_so k is c =
@@ -156,12 +156,12 @@ module _ (world : World) (stands : Stands world) (characters : TypeId) (served :
   called_so false is h = absurd (err_ok h)
 
   pended_by : (b : Bool) → same_type (signature_of (trees_of world) key) at_end ≡ b
-      → (let r : Result State Reason = cond b (kept_entered (running_in world characters) (record state { kept = but_last state.kept }) key n) (Err BadCall) in r) ≡ Ok next → (k : ℕ) → key ≡ FunctionKey k → IsPendingBack world n k
+      → (let r : Result State Reason = cond b (kept_entered (running_in world characters) (record state { kept = but_last state.kept }) key n) (Err BadCall) in r) ≡ Ok next → (k : ℕ) → key ≡ FunctionKey k → IsPendingBack world state.memory n k []
   pended_by true is h k own = back_so k own (called (type_true (signature_of (trees_of world) key) at_end is))
   pended_by false is h k own = absurd (err_ok h)
 
   -- a library function that was kept last is pending
-  pub kept_pended : kept_called (running_in world characters) state key n ≡ Ok next → (k : ℕ) → key ≡ FunctionKey k → IsPendingBack world n k
+  pub kept_pended : kept_called (running_in world characters) state key n ≡ Ok next → (k : ℕ) → key ≡ FunctionKey k → IsPendingBack world state.memory n k []
   kept_pended h = pended_by (same_type (signature_of (trees_of world) key) at_end) refl h
 
 pub steps_kept : StepsKept

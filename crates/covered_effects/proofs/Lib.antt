@@ -1,3 +1,4 @@
+pub mod Below
 pub mod Traces
 pub mod Told
 pub mod Needs

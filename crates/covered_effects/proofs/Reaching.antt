@@ -1,7 +1,8 @@
 -- What a call reaches is among its targets, and where that is the library's the call waits for it.
-use Rattle.std.proofs.Common.{arith, ◌≡◌, ◌∙◌, inl, inr, ℕ, zero, suc, ◌+◌, ◌&&◌, Bool, true, false, cond, List, [], ◌∷◌, length, map, take, filter_map, Option, Some, None, Result, Ok, Err, slice_get, refl, sym, ap, subst}
+use Rattle.std.proofs.Common.{arith, ◌≡◌, ◌∙◌, inl, inr, ℕ, zero, suc, ◌+◌, ◌&&◌, Bool, true, false, cond, List, [], ◌∷◌, ◌≤◌, length, map, take, filter_map, Option, Some, None, Result, Ok, Err, slice_get, refl, sym, ap, subst}
 use Rattle.std.specs.List.{range_with_len, AllZip}
 use Rattle.std.proofs.lemmas.Bool.{false≢true}
+use Rattle.std.proofs.lemmas.List.{length-map}
 use Rattle.std.proofs.lemmas.Option.{slice_get_within}
 use Rattle.c_types.specs.declared.key.ObjectKey.{ObjectKey}
 use Rattle.c_types.specs.declared.key.ObjectKey.TheVariants.{Function as FunctionKey}
@@ -179,6 +180,10 @@ unfolding reached
 reached_covered world stands characters served memory n node values target there kind each e =
     reached_so world stands characters served memory n node values target there kind each node.children refl (sym (ap (λ (o : Option Node). reached_by (trees_of world) (children_of o) values) there) ∙ e)
 
+-- a call has no more arguments than operands
+pub all_given : (f : ℕ → Value) (nodes : List ℕ) (arguments : List Value) → arguments ≡ map f nodes → length arguments ≤ length nodes
+all_given f nodes arguments is = (let long : length arguments ≡ length nodes = ap length is ∙ length-map nodes f in omega arith)
+
 call_convert : CallNode ≡ Convert → ⊥
 call_convert h = cc
 
@@ -189,7 +194,7 @@ pub steps_pended : StepsPended
 steps_pended world stands characters served state f rest n k node values items target note covered frames_are items_are there kind is key noted =
     steps_moved world state f rest state.memory f.instances (Library n k target.arguments ∷ items) (record { target = note; stores = [] }) covered frames_are
     (record { extends = same_memory (sets_of world) state.memory; covered = covered.memory })
-    (inl (record { node = node; there = there; target = at; fits = type; arguments_in = r.arguments_in }), own.1)
+    (inl (record { node = node; there = there; target = at; fits = type; arguments_in = r.arguments_in; all = all_given (value_in values) (rest_of node.children) target.arguments r.arguments_are }), own.1)
     (record { target = noted_in note noted; stores = tt })
     (none_bare world state f rest covered frames_are (Wait n [] values) items items_are
     (λ m vs other same there_m converts.

@@ -40,6 +40,8 @@ use Rattle.ref_lib.specs.declared.rows.Row.TheVariants.{Makes, Moves, Writes, An
 use Rattle.ref_lib.specs.ref_alloc.Allocation.{kept_elements, regrown, regrown_at, realloc_of, heap_at, freed, free_row, takes, ctype_set, ctype_in}
 use Rattle.ref_lib.specs.ref_alloc.Plain.{keep_row}
 use Rattle.ref_lib.specs.Effects.{rows, makes, moves, spells, answers, row_effect, effect}
+use Rattle.covering_laws.specs.covered_state.Exists.{AllBelow, MemoryBelow}
+use Rattle.covered_effects.proofs.Below.{kept_below, text_below}
 use Rattle.covered_effects.specs.Traces.{MayCall, MayGo, Adds, IsTraced, EffectsTraced}
 
 some_one : {X : Type 0} → {x y : X} → ◌≡◌ {A = Option X} (Some x) (Some y) → x ≡ y
@@ -88,17 +90,29 @@ get_end [] b (suc i) a e = absurd (none_some e)
 get_end (x ∷ xs) b zero a e = inl (omega arith)
 get_end (x ∷ xs) b (suc i) a e = elim (get_end xs b i a e) [ inl lt ↦ inl (omega arith) | inr at ↦ (let same = at.0 in inr ((omega arith), at.1)) ]
 
--- a change of a key's instance leaves its key
+-- which is one of these, or the other
+get_either : (xs : List Instance) (b : Instance) (i : ℕ) (a : Instance) → slice_get (xs ++ b ∷ []) i ≡ Some a → (slice_get xs i ≡ Some a) ⊎ (b ≡ a)
+get_either [] b zero a e = inr (some_one e)
+get_either [] b (suc i) a e = absurd (none_some e)
+get_either (x ∷ xs) b zero a e = inl e
+get_either (x ∷ xs) b (suc i) a e = get_either xs b i a e
+
+-- a change of a key's instance leaves its key and its cells
 key_changed : (xs : List Instance) (j : ℕ) (o : Option Instance) → slice_get xs j ≡ o → (i : ℕ) (a : Instance) → slice_get (changed xs j o (λ inst. record inst { live = false })) i ≡ Some a
-    → (b : Instance) × (slice_get xs i ≡ Some b) × (a.key ≡ b.key)
-key_changed xs j None is i a e = (a, e, refl)
+    → (b : Instance) × (slice_get xs i ≡ Some b) × (a.key ≡ b.key) × (a.cells ≡ b.cells)
+key_changed xs j None is i a e = (a, e, refl, refl)
 key_changed xs j (Some inst) is i a e = by xs j i is e
   where
-    by : (xs : List Instance) (j i : ℕ) → slice_get xs j ≡ Some inst → slice_get (set xs j (record inst { live = false })) i ≡ Some a → (b : Instance) × (slice_get xs i ≡ Some b) × (a.key ≡ b.key)
+    by : (xs : List Instance) (j i : ℕ) → slice_get xs j ≡ Some inst → slice_get (set xs j (record inst { live = false })) i ≡ Some a → (b : Instance) × (slice_get xs i ≡ Some b) × (a.key ≡ b.key) × (a.cells ≡ b.cells)
     by [] j i is e = absurd (none_some is)
-    by (x ∷ xs) zero zero is e = (x, refl, ap (λ (z : Instance). z.key) (sym (some_one e)) ∙ ap (λ (z : Instance). z.key) (sym (some_one is)))
-    by (x ∷ xs) zero (suc i) is e = (a, e, refl)
-    by (x ∷ xs) (suc j) zero is e = (a, e, refl)
+    by (x ∷ xs) zero zero is e = (
+      x,
+      refl,
+      ap (λ (z : Instance). z.key) (sym (some_one e)) ∙ ap (λ (z : Instance). z.key) (sym (some_one is)),
+      ap (λ (z : Instance). z.cells) (sym (some_one e)) ∙ ap (λ (z : Instance). z.cells) (sym (some_one is)),
+    )
+    by (x ∷ xs) zero (suc i) is e = (a, e, refl, refl)
+    by (x ∷ xs) (suc j) zero is e = (a, e, refl, refl)
     by (x ∷ xs) (suc j) (suc i) is e = by xs j i is e
 
 module _ (table : Table) (memory : List Instance) (key : ObjectKey) (arguments : List Value) where
@@ -118,16 +132,29 @@ module _ (table : Table) (memory : List Instance) (key : ObjectKey) (arguments :
   with_one ty bytes empty cells i inst e =
       elim (get_end memory (record { key = key; live = true; ty = ty; bytes = bytes; zero = empty; cells = cells }) i inst e) [ inl lt ↦ inl lt | inr at ↦ inr (at.0, ap (λ (x : Instance). x.key) (sym at.1)) ]
 
-  regrown_so : (row : Row) (fixed : Option TypeId) (bytes i : ℕ) (o : Option Instance) → IfOk (regrown table memory key fixed bytes i o) (Is row)
-  regrown_so row fixed bytes i None = tt
-  regrown_so row fixed bytes i (Some old) =
+  -- and its cells
+  cells_one : (ty : Option TypeId) (bytes : ℕ) (empty : Bool) (cells : CellList) → AllBelow (length memory) cells → MemoryBelow (length memory) memory → MemoryBelow (length memory) (with_new memory key ty bytes empty cells)
+  cells_one ty bytes empty cells h all i inst e =
+      elim (get_either memory (record { key = key; live = true; ty = ty; bytes = bytes; zero = empty; cells = cells }) i inst e) [
+        | inl old ↦ all i inst old
+        | inr new ↦ subst (λ (x : Instance). AllBelow (length memory) x.cells) new h
+      ]
+
+  regrown_so : (row : Row) (fixed : Option TypeId) (bytes i : ℕ) (o : Option Instance) → slice_get memory i ≡ o → IfOk (regrown table memory key fixed bytes i o) (Is row)
+  regrown_so row fixed bytes i None at = tt
+  regrown_so row fixed bytes i (Some old) at =
       either (Is row) (takes table fixed old.ty) _ _ (
         tt,
         inr (record {
           each = λ k inst e.
               let longer = with_new memory key old.ty bytes false (kept_elements table old bytes old.ty) in
               let b = key_changed longer i (slice_get longer i) refl k inst e in
-              elim (with_one old.ty bytes false (kept_elements table old bytes old.ty) k b.0 b.1) [ inl lt ↦ inl lt | inr at ↦ inr (at.0, b.2 ∙ at.1) ];
+              elim (with_one old.ty bytes false (kept_elements table old bytes old.ty) k b.0 b.1) [ inl lt ↦ inl lt | inr last ↦ inr (last.0, b.2 ∙ last.1) ];
+          cells = λ all k inst e.
+              let cells : CellList = kept_elements table old bytes old.ty in
+              let longer = with_new memory key old.ty bytes false cells in
+              let b = key_changed longer i (slice_get longer i) refl k inst e in
+              subst (AllBelow (length memory)) (sym b.3) (cells_one old.ty bytes false cells (kept_below (length memory) table old bytes old.ty (all i old at)) all k b.0 b.1);
           value = refl;
           next = refl;
         }),
@@ -136,10 +163,10 @@ module _ (table : Table) (memory : List Instance) (key : ObjectKey) (arguments :
 
   regrown_at_so : (row : Row) (fixed : Option TypeId) (bytes : ℕ) (o : Option ℕ) → IfOk (regrown_at table memory key fixed bytes o) (Is row)
   regrown_at_so row fixed bytes None = tt
-  regrown_at_so row fixed bytes (Some i) = regrown_so row fixed bytes i (slice_get memory i)
+  regrown_at_so row fixed bytes (Some i) = regrown_so row fixed bytes i (slice_get memory i) refl
 
   realloc_so : (row : Row) (fixed : Option TypeId) (bytes : ℕ) (a1 : Cell) → IfOk (realloc_of table memory key fixed bytes a1) (Is row)
-  realloc_so row fixed bytes Null = (tt, inr (record { each = with_one None bytes false []; value = refl; next = refl }))
+  realloc_so row fixed bytes Null = (tt, inr (record { each = with_one None bytes false []; cells = cells_one None bytes false [] tt; value = refl; next = refl }))
   realloc_so row fixed bytes a1 = regrown_at_so row fixed bytes (heap_at memory a1)
 
   element_so : (row : Row) (o : Option ℕ) → IfOk (element_of_object memory o) (Is row)
@@ -161,8 +188,8 @@ module _ (table : Table) (memory : List Instance) (key : ObjectKey) (arguments :
 
   makes_so : (row : Making) (fixed : Option TypeId) (word : ℕ) → IfOk (makes table memory row key fixed arguments word) (Is (Makes row))
   makes_so Malloc fixed word =
-      either (Is (Makes Malloc)) (is_odd word) _ _ (tt, inl refl) (tt, inr (record { each = with_one None (count_of (argument arguments 0)) false []; value = refl; next = refl }))
-  makes_so Calloc fixed word = either (Is (Makes Calloc)) (is_odd word) _ _ (tt, inl refl) (tt, inr (record { each = with_one None _ true []; value = refl; next = refl }))
+      either (Is (Makes Malloc)) (is_odd word) _ _ (tt, inl refl) (tt, inr (record { each = with_one None (count_of (argument arguments 0)) false []; cells = cells_one None (count_of (argument arguments 0)) false [] tt; value = refl; next = refl }))
+  makes_so Calloc fixed word = either (Is (Makes Calloc)) (is_odd word) _ _ (tt, inl refl) (tt, inr (record { each = with_one None _ true []; cells = cells_one None _ true [] tt; value = refl; next = refl }))
   makes_so Realloc fixed word = either (Is (Makes Realloc)) (is_odd word) _ _ (tt, inl refl) (realloc_so (Makes Realloc) fixed (count_of (argument arguments 1)) (argument arguments 0))
   makes_so Free fixed word = free_so (Makes Free) (argument arguments 0)
   makes_so (Perhaps position) fixed word = either (Is (Makes (Perhaps position))) (is_odd word) _ _ (tt, inl refl) (element_so (Makes (Perhaps position)) (object_from position 0 memory))
@@ -278,7 +305,7 @@ module _ (table : Table) (memory : List Instance) (key : ObjectKey) (arguments :
       (λ text. writes_so (Writes CopyPart) (argument arguments 0) 0 (filled_up (count_of (argument arguments 2)) text) (one_cell (argument arguments 0)))
   spells_so Duplicate fixed result word =
       either (Is (Writes Duplicate)) (is_odd word) _ (duplicated table memory key fixed (argument arguments 0)) (tt, inl refl)
-      (after (Is (Writes Duplicate)) (text_at table memory (argument arguments 0)) _ (λ text. (tt, inr (record { each = with_one fixed _ false _; value = refl; next = refl }))))
+      (after (Is (Writes Duplicate)) (text_at table memory (argument arguments 0)) _ (λ text. (tt, inr (record { each = with_one fixed _ false _; cells = cells_one fixed _ false _ (text_below (length memory) 0 (closed text)); value = refl; next = refl }))))
   spells_so Print fixed result word = writes_so (Writes Print) (argument arguments 0) 0 (closed (text_of word)) (number_value result (pos word))
   spells_so PrintPart fixed result word =
       either (Is (Writes PrintPart)) (count_of (argument arguments 1) == 0) _ _ (tt, inl refl)

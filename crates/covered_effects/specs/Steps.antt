@@ -144,7 +144,7 @@ StepsBacked =
     → StaysCovered world state
     → state.frames ≡ f ∷ rest
     → f.items ≡ Library n k arguments ∷ items
-    → IsPendingBack world n k
+    → IsPendingBack world state.memory n k arguments
     → IsNoWait items
     → library_row (running_in world characters) state f rest n k arguments word ≡ Ok next
     → StaysCovered world next

@@ -15,6 +15,7 @@ use Rattle.ref_lib.specs.declared.rows.Plain.TheVariants.{Keep}
 use Rattle.ref_lib.specs.declared.rows.Row.{Row}
 use Rattle.ref_lib.specs.declared.rows.Row.TheVariants.{Moves, Answers}
 use Rattle.ref_lib.specs.Effects.{rows, effect}
+use Rattle.covering_laws.specs.covered_state.Exists.{MemoryBelow}
 
 -- two rows call back
 abbrev pub MayCall : Row → Type 0
@@ -33,11 +34,13 @@ MayGo row arguments (Calls callee given) = MayCall row
 MayGo row arguments (Keeps cell) = MayKeep row arguments cell
 MayGo row arguments next = Unit {0}
 
--- one instance more, which is the call's object, and to whose first element the value points
+-- One instance more, which is the call's object, and to whose first element the value points. Where no cell pointed past
+-- the memory before, none points to that object.
 pub record IsGrown (memory : List Instance) (key : ObjectKey) (e : Effected) : Type 0 where
   pub each : (i : ℕ) (inst : Instance)
       → slice_get e.memory i ≡ Some inst
       → (i < length memory) ⊎ ((i ≡ length memory) × (inst.key ≡ key))
+  pub cells : MemoryBelow (length memory) memory → MemoryBelow (length memory) e.memory
   pub value : e.outcome.value ≡ start_value (length memory)
   pub next : e.outcome.next ≡ Done
 

@@ -11,6 +11,7 @@ use Rattle.covering_laws.proofs.covered_memory.Stays.{value_stays}
 use Rattle.covering_laws.specs.covered_rows.Nodes.{node_row}
 use Rattle.covering_laws.specs.covered_state.World.{World, trees_of, sets_of, setting_in}
 use Rattle.covering_laws.specs.covered_state.Items.{ArgumentsIn}
+use Rattle.covering_laws.proofs.covered_state.Stays.{back_stays}
 use Rattle.covered_statements.specs.Stacked.{PendingOn, Stacked, FramesStand}
 
 module _ (world : World) (old new : List Instance) (extends : Extends (sets_of world) old new) where
@@ -21,8 +22,8 @@ module _ (world : World) (old new : List Instance) (extends : Extends (sets_of w
 
   pub pending_stays : (n function : ℕ) (arguments : List Value) (items : List Item) → PendingOn world old n function arguments items → PendingOn world new n function arguments items
   pending_stays n function arguments items (inl h) =
-      inl (h.0, record { node = h.1.node; there = h.1.there; target = h.1.target; fits = h.1.fits; arguments_in = arguments_stay _ arguments h.1.arguments_in })
-  pending_stays n function arguments items (inr h) = inr h
+      inl (h.0, record { node = h.1.node; there = h.1.there; target = h.1.target; fits = h.1.fits; arguments_in = arguments_stay _ arguments h.1.arguments_in; all = h.1.all })
+  pending_stays n function arguments items (inr h) = inr (h.0, back_stays world old new extends n function arguments h.1)
 
   pub stacked_stays : (items : List Item) → Stacked (trees_of world).nodes (PendingOn world old) items → Stacked (trees_of world).nodes (PendingOn world new) items
   stacked_stays [] h = tt

@@ -47,7 +47,7 @@ waits_next items = false
 abbrev pub PendingOn : World → List Instance → ℕ → ℕ → List Value → List Item → Type 0
 PendingOn world memory n function arguments items =
     ((waits_next items ≡ true) × IsPending world memory n function arguments)
-    ⊎ ((waits_next items ≡ false) × IsPendingBack world n function)
+    ⊎ ((waits_next items ≡ false) × IsPendingBack world memory n function arguments)
 
 abbrev pub ItemStands : List Node → (ℕ → ℕ → List Value → List Item → Type 0) → Item → List Item → Type 0
 ItemStands nodes pend (Wait n left values) items = WaitStands nodes n left values

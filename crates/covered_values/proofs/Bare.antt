@@ -152,7 +152,7 @@ nothing_bare world state f rest own n node values top items word e stands typed 
       content_is = bare.content_is;
     }
 
-    w : IsAwaited world i a.0 state.frames
+    w : IsAwaited world i a.0 state.memory state.frames
     w = awaited.each i a.0 a.1 before
 
     top_is : top ≡ Wait w.convert [] ((w.call, one_cell (Pointer i (Index 0 ∷ []) false)) ∷ [])

@@ -1,5 +1,5 @@
 -- The values of operands, there or not, are covered at their nodes.
-use Rattle.std.proofs.Common.{◌≡◌, ◌∙◌, inl, inr, ◌⊎◌, ℕ, zero, suc, Bool, true, false, cond, eqb, List, [], ◌∷◌, Option, Some, None, Result, Ok, Err, set, slice_get, refl, sym, ap, subst}
+use Rattle.std.proofs.Common.{arith, ◌≡◌, ◌∙◌, inl, inr, ◌⊎◌, ℕ, zero, suc, Bool, true, false, cond, eqb, List, [], ◌∷◌, Option, Some, None, Result, Ok, Err, set, slice_get, refl, sym, ap, subst}
 use Rattle.std.proofs.lemmas.Bool.{false≢true}
 use Rattle.std.proofs.lemmas.Bool.Decides.{eqb_tells}
 use Rattle.c_types.specs.declared.term.PathStep.{PathStep}
@@ -75,10 +75,10 @@ module _ (world : World) where
 
   module _ (memory : List Instance) where
     none_in : (s : Sort) (n : ℕ) → SortIn world memory s n no_value
-    none_in NoNode n = tt
-    none_in PlaceNode n = tt
+    none_in NoNode n = refl
+    none_in PlaceNode n = (tt, omega arith)
     none_in ValueNode n = (tt, inl refl)
-    none_in StatementNode n = tt
+    none_in StatementNode n = refl
 
     pub operand_in : (values : List (ℕ × Value)) → Each (λ v. NodeIn world memory v.0 v.1) values → (c : ℕ) → NodeIn world memory c (value_in values c)
     operand_in [] h c = none_in (sort_at (trees_of world) c) c
@@ -94,7 +94,7 @@ module _ (world : World) where
     -- what the operands hold
     module _ (values : List (ℕ × Value)) (each : Each (λ v. NodeIn world memory v.0 v.1) values) where
       pub place_held : (c : ℕ) → sort_at (trees_of world) c ≡ PlaceNode → PlaceIn (sets_of world) (setting_in world) memory c (cell_in values c)
-      place_held c s = subst (λ (sort : Sort). SortIn world memory sort c (value_in values c)) s (operand_in values each c)
+      place_held c s = (subst (λ (sort : Sort). SortIn world memory sort c (value_in values c)) s (operand_in values each c)).0
 
       pub value_held : (c : ℕ) → sort_at (trees_of world) c ≡ ValueNode → HeldIn (sets_of world) (setting_in world) memory c (value_in values c)
       value_held c s = (subst (λ (sort : Sort). SortIn world memory sort c (value_in values c)) s (operand_in values each c)).0
@@ -106,7 +106,7 @@ module _ (world : World) where
     -- what a node of a kind holds
     module _ (n : ℕ) (node : Node) (there : slice_get (trees_of world).nodes n ≡ Some node) (kind : NodeKind) (is : node.kind ≡ kind) where
       pub place_node : sort_of kind ≡ PlaceNode → (c : Cell) → PlaceIn (sets_of world) (setting_in world) memory n c → NodeIn world memory n (one_cell c)
-      place_node s c h = subst (λ (sort : Sort). SortIn world memory sort n (one_cell c)) (sym (sort_is n node kind there is ∙ s)) h
+      place_node s c h = subst (λ (sort : Sort). SortIn world memory sort n (one_cell c)) (sym (sort_is n node kind there is ∙ s)) (h, omega arith)
 
       pub value_node : sort_of kind ≡ ValueNode → (v : Value) → HeldIn (sets_of world) (setting_in world) memory n v
           → (v.cells ≡ []) ⊎ IsHeld world.program.types (type_at (trees_of world) n) → NodeIn world memory n v

@@ -36,7 +36,9 @@ use Rattle.covered_steps.proofs.Steps.{own_items}
 use Rattle.covered_calls.specs.Activations.{Reaches}
 use Rattle.covered_effects.specs.Served.{IsServed}
 use Rattle.covered_effects.specs.Steps.{HasReached, NotesTarget}
-use Rattle.covered_effects.proofs.Reaching.{reached_covered, steps_pended}
+use Rattle.covered_effects.proofs.Reaching.{all_given, reached_covered, steps_pended}
+use Rattle.call_sites.specs.Calls.{rest_of}
+use Rattle.ref_state.specs.Values.{value_in}
 use Rattle.covered_statements.specs.Stacked.{PendingOn, Stacked, FramesStand}
 use Rattle.covered_statements.specs.Runnable.{IsRunnable, Steady}
 use Rattle.covered_statements.specs.Rows.{running_in}
@@ -143,7 +145,7 @@ module _ (world : World) (characters : TypeId) (runs : IsRunnable world) (served
         value = ap (λ (o : Option Node). sort_of (kind_in o)) there ∙ ap sort_of kind
 
         pending : IsPending world state.memory n k target.arguments
-        pending = record { node = node; there = there; target = subst (IsTargetAt world n) key has.is_target; fits = subst IsOfCall key has.type; arguments_in = has.arguments_in }
+        pending = record { node = node; there = there; target = subst (IsTargetAt world n) key has.is_target; fits = subst IsOfCall key has.type; arguments_in = has.arguments_in; all = all_given (value_in values) (rest_of node.children) target.arguments has.arguments_are }
 
     reaches_by : (key : ObjectKey) → target.key ≡ key → called (running_in world characters) state f rest n key target.arguments ≡ Ok next → Carried world next
     reaches_by (EntityKey g) is e =

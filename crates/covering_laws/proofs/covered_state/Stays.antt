@@ -6,6 +6,8 @@ use Rattle.core_tree.specs.Typed.{Sort, NoNode, PlaceNode, ValueNode, StatementN
 use Rattle.row_numbers.specs.Kept.{kept_row}
 use Rattle.row_numbers.specs.Functions.{number_of}
 use Rattle.row_numbers.specs.Setting.{result_row}
+use Rattle.ref_cells.specs.declared.cells.Cell.{Cell}
+use Rattle.ref_cells.specs.declared.cells.Cell.TheVariants.{Unset, Number, Null, Pointer, Function}
 use Rattle.ref_cells.specs.declared.cells.Value.{Value}
 use Rattle.ref_cells.specs.declared.instance.Instance.{Instance}
 use Rattle.ref_state.specs.declared.items.Item.{Item}
@@ -14,11 +16,13 @@ use Rattle.ref_state.specs.declared.frames.Frame.{Frame}
 use Rattle.ref_state.specs.Items.{given, deliver, settled}
 use Rattle.ref_state.specs.Values.{cell_of}
 use Rattle.normal_form.specs.Assignments.{row_in, given_type, type_nodes}
+use Rattle.covering_laws.specs.covered_memory.Cells.{EachCell}
 use Rattle.covering_laws.specs.covered_memory.Covered.{Sets, Extends}
+use Rattle.covering_laws.proofs.covered_memory.Cells.{each_change as cells_change}
 use Rattle.covering_laws.proofs.covered_memory.Stays.{cell_stays, value_stays}
 use Rattle.covering_laws.specs.covered_rows.Nodes.{node_row}
 use Rattle.covering_laws.specs.covered_state.World.{World, trees_of, view_in, sets_of, setting_in}
-use Rattle.covering_laws.specs.covered_state.Items.{Each, SortIn, NodeIn, ReturnedIn, ArgumentsIn, ItemIn}
+use Rattle.covering_laws.specs.covered_state.Items.{Each, SortIn, NodeIn, ReturnedIn, ArgumentsIn, ExistsIn, IsPendingBack, ItemIn}
 use Rattle.covering_laws.specs.covered_state.State.{FrameIn}
 
 pub each_change : {X : Type 0} (P Q : X → Type 0) → ((x : X) → P x → Q x) → (xs : List X) → Each P xs → Each Q xs
@@ -34,10 +38,10 @@ module _ (world : World) (old new : List Instance) (extends : Extends (sets_of w
   g = sets_of world
 
   sort_stays : (sort : Sort) (n : ℕ) (v : Value) → SortIn world old sort n v → SortIn world new sort n v
-  sort_stays NoNode n v h = tt
-  sort_stays PlaceNode n v h = cell_stays g old new extends (Some (row_in (setting_in world) n)) (cell_of v) h
+  sort_stays NoNode n v h = h
+  sort_stays PlaceNode n v h = (cell_stays g old new extends (Some (row_in (setting_in world) n)) (cell_of v) h.0, h.1)
   sort_stays ValueNode n v h = (value_stays g old new extends (node_row (setting_in world) n) (type_at (trees_of world) n) v h.0, h.1)
-  sort_stays StatementNode n v h = tt
+  sort_stays StatementNode n v h = h
 
   pub node_stays : (n : ℕ) (v : Value) → NodeIn world old n v → NodeIn world new n v
   node_stays n v h = sort_stays (sort_at (trees_of world) n) n v h
@@ -57,11 +61,27 @@ module _ (world : World) (old new : List Instance) (extends : Extends (sets_of w
   arguments_stay (a ∷ nodes) [] h = tt
   arguments_stay (a ∷ nodes) (v ∷ values) h = (value_stays g old new extends (node_row (setting_in world) a) (type_at (trees_of world) a) v h.0, arguments_stay nodes values h.1)
 
+  exists_stays : (c : Cell) → ExistsIn world old c → ExistsIn world new c
+  exists_stays (Pointer i path past) h = let b = extends i h.0 h.1 in (b.0, b.1, b.2.in_tree path h.2)
+  exists_stays (Function key) h = tt
+  exists_stays Unset h = tt
+  exists_stays (Number n) h = tt
+  exists_stays Null h = tt
+
+  pub back_stays : (n function : ℕ) (arguments : List Value) → IsPendingBack world old n function arguments → IsPendingBack world new n function arguments
+  back_stays n function arguments h = record {
+    library = h.library;
+    back = h.back;
+    called = h.called;
+    exist = each_change (λ v. EachCell (λ path cell. ExistsIn world old cell) v.cells) (λ v. EachCell (λ path cell. ExistsIn world new cell) v.cells)
+        (λ v x. cells_change (λ path cell. ExistsIn world old cell) (λ path cell. ExistsIn world new cell) v.cells (λ path cell y. exists_stays cell y) x) arguments h.exist;
+  }
+
   pub item_stays : (f : ObjectKey) (item : Item) → ItemIn world old f item → ItemIn world new f item
   item_stays f (Do n) h = h
   item_stays f (Wait n left values) h = (h.0, h.1, each_change (λ v. NodeIn world old v.0 v.1) (λ v. NodeIn world new v.0 v.1) (λ v. node_stays v.0 v.1) values h.2)
-  item_stays f (Library n function arguments) (inl h) = inl (record { node = h.node; there = h.there; target = h.target; fits = h.fits; arguments_in = arguments_stay _ arguments h.arguments_in })
-  item_stays f (Library n function arguments) (inr h) = inr h
+  item_stays f (Library n function arguments) (inl h) = inl (record { node = h.node; there = h.there; target = h.target; fits = h.fits; arguments_in = arguments_stay _ arguments h.arguments_in; all = h.all })
+  item_stays f (Library n function arguments) (inr h) = inr (back_stays n function arguments h)
   item_stays f (Result v) h = returned_stays f v h
 
   pub items_stay : (f : ObjectKey) (items : List Item) → Each (ItemIn world old f) items → Each (ItemIn world new f) items

@@ -1,4 +1,5 @@
 //! What stays covered from step to step.
+ghost use Rattle.covering_laws.specs.covered_state.Exists.{CoveredExist};
 ghost use Rattle.covering_laws.specs.covered_state.Laws.{FramesStay, NothingAwaited, ValuesSettle};
 
 /// Frames that a step doesn't touch stay covered, whatever it does to memory.
@@ -14,4 +15,10 @@ pub fn values_settle()
 /// Where a library call is on top, no object waits for the type of the conversion above its call.
 pub fn nothing_awaited()
     ensures { NothingAwaited }
+{}
+
+/// What the pointers of a covered state name is there: in the cells of memory, in the values that nodes have and in those that wait for a
+/// library function or are returned.
+pub fn pointers_exist()
+    ensures { CoveredExist }
 {}
