@@ -1,7 +1,8 @@
-//! Sizes of objects.
+//! Sizes of objects, and how functions are stored.
 #![tactic(auto)]
 
 pub mod entity_sizes;
+pub mod function_storage;
 pub mod literal_sizes;
 pub mod object_sizes;
 pub mod parameter_sizes;

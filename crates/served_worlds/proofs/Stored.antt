@@ -22,7 +22,8 @@ use Rattle.linked_laws.proofs.link_laws.Wholeness.{maker_found, named_so}
 use Rattle.linked_laws.proofs.alike_laws.Entities.{external_keeps}
 use Rattle.linked_laws.proofs.alike_laws.Origins.{own_type}
 use Rattle.library_names.specs.Names.{AreDeclaredOnly}
-use Rattle.served_worlds.specs.Stored.{StoresFunctions, StoreFunctions, FunctionsStored}
+use Rattle.object_size_laws.specs.function_storage.Stored.{StoresFunctions}
+use Rattle.served_worlds.specs.Stored.{StoreFunctions, FunctionsStored}
 
 some_one : {X : Type 0} → {x y : X} → ◌≡◌ {A = Option X} (Some x) (Some y) → x ≡ y
 some_one h = cc

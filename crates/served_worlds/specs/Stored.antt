@@ -1,22 +1,15 @@
 -- How functions are stored in linked programs.
-use Rattle.std.specs.Prelude.{◌≡◌, ◌⊎◌, ℕ, List, Some, slice_get}
+use Rattle.std.specs.Prelude.{◌≡◌, ℕ, List, Some, slice_get}
 use Rattle.core_tree.specs.declared.node.Program.{Program}
-use Rattle.core_tree.specs.declared.node.Storage.TheVariants.{FunctionBody, Declared}
 use Rattle.core_tree.specs.declared.node.Unit.{Unit}
-use Rattle.core_tree.specs.Range.{EachEntity}
-use Rattle.core_tree.specs.Typed.{CoreTrees, trees_of, trees_in}
-use Rattle.core_tree.specs.Valid.{IsFunctionEntity}
+use Rattle.core_tree.specs.Typed.{trees_of, trees_in}
+use Rattle.object_size_laws.specs.function_storage.Stored.{StoresFunctions}
 use Rattle.unit_link.specs.Linked.{Linked}
 use Rattle.unit_link.specs.Needs.{AreLinkable}
 use Rattle.library_names.specs.Names.{AreDeclaredOnly}
 use Rattle.covered_statements.specs.Founded.{AutomaticObjects}
 
--- each function has its body, or is only declared
-abbrev pub StoresFunctions : CoreTrees → Type 0
-StoresFunctions u =
-    EachEntity u (λ e entity. IsFunctionEntity u entity → (entity.storage ≡ FunctionBody) ⊎ (entity.storage ≡ Declared))
-
--- so it is in each of some units
+-- each function of each of some units has its body, or is only declared
 pub record StoreFunctions (units : List Unit) : Type 0 where
   pub each : (u : ℕ) (x : Unit) → slice_get units u ≡ Some x → StoresFunctions (trees_of x)
 

@@ -1,5 +1,5 @@
 -- The types of names with linkage.
-use Rattle.std.proofs.Common.{◌≡◌, ◌⊎◌, inl, inr, ℕ, nat_eq, Bool, true, false, ◌&&◌, ◌||◌, List, [], ◌∷◌, length, Option, Some, None, refl, sym, ap, ◌∙◌, subst}
+use Rattle.std.proofs.Common.{◌≡◌, ◌⊎◌, inl, inr, ℕ, nat_eq, Bool, true, false, ◌&&◌, ◌||◌, List, length, Option, Some, None, refl, sym, ap, ◌∙◌, subst}
 use Rattle.std.specs.Prelude.{is_none, if◌then◌else◌}
 use Rattle.std.proofs.lemmas.Bool.{eqb-true, eq-eqb}
 use Rattle.c_types.specs.Trees.{Ctype, VoidType, FloatingType, VaListType, StructureOf, UnionOf}
@@ -8,18 +8,15 @@ use Rattle.c_grammar.specs.Productions.{p_field}
 use Rattle.c_grammar.specs.Words.{word_extern, word_static}
 use Rattle.type_rules.specs.Kinds.{IsAggregate}
 use Rattle.type_rules.specs.Sizes.{IsObject, HasSize, IsOpenIn, with_one}
-use Rattle.core_tree.specs.declared.node.Linkage.{Linkage}
 use Rattle.core_tree.specs.declared.node.Linkage.TheVariants.{Internal}
 use Rattle.core_tree.specs.declared.node.Storage.TheVariants.{Static, Automatic, FunctionBody, Parameter as ParameterStorage, Declared as DeclaredStorage}
 use Rattle.core_tree.specs.Rows.{IsFunction}
-use Rattle.c_scope.specs.declared.kinds.Kind.{Kind}
-use Rattle.c_scope.specs.declared.kinds.Kind.TheVariants.{Linked, Typedef, Plain}
 use Rattle.c_scope.specs.declared.kinds.Declared.{Declared}
 use Rattle.c_senses.specs.Tree.{Source, is_a, parent_of}
-use Rattle.c_senses.specs.Names.{ordinary_at, is_linked_kind, is_typedef_kind, has_linkage, names_type, linked_along, linked_before, made_before, scopes_at}
+use Rattle.c_senses.specs.Names.{ordinary_at, has_linkage, linked_along, linked_before, made_before, scopes_at}
 use Rattle.c_senses.specs.Entities.{is_linked, is_typedef, is_parameter, declares_function, has_storage, is_at_file, is_static_at_file, takes_over, some_such, is_internal, is_internal_of, internal_among, keep, first_of, own_type, all_together, types_of, is_defined, is_static_object, initialiser_for, storage_of, linkage_of, entity_of}
 use Rattle.c_senses.specs.Rows.{AreSenses}
-use Rattle.c_senses.specs.Right.{of_internal, is_tentative, is_definition_at, representative}
+use Rattle.c_senses.specs.Right.{of_internal, representative}
 use Rattle.c_senses.specs.Sense.{Sense, sense_in}
 use Rattle.parsed_tree_laws.proofs.placed_laws.Climbing.{Grown}
 use Rattle.declaration_laws.specs.name_order.Order.{Rises}
@@ -30,7 +27,7 @@ use Rattle.object_size_laws.specs.parameter_sizes.PassedOn.{TypeSized, Sized, Co
 use Rattle.object_size_laws.proofs.parameter_sizes.PassedOn.{has_type}
 use Rattle.declared_type_laws.specs.function_types.Typed.{FunctionsTyped, IsNamedType}
 use Rattle.object_size_laws.proofs.entity_sizes.Lists.{In, along_in, made_in, such_in, kept_in, in_kept, earlier_first, entry_is, found_entry}
-use Rattle.object_size_laws.proofs.entity_sizes.Known.{LinkedKnown}
+use Rattle.object_size_laws.proofs.entity_sizes.Known.{Among, LinkedKnown, no_typedef, stands_among}
 use Rattle.object_size_laws.proofs.entity_sizes.Words.{not_both}
 use Rattle.object_size_laws.proofs.entity_sizes.Types.{type_of_one, below_of, IsOpenKind, below_open, open_plain}
 
@@ -49,12 +46,6 @@ and_both false b e h = cc
 or_left : (a b : Bool) → a ≡ true → (a || b) ≡ true
 or_left true b e = refl
 or_left false b e = cc
-
--- what has linkage is no typedef name
-linked_plain : (k : Kind) → is_linked_kind k ≡ true → is_typedef_kind k ≡ false
-linked_plain Linked e = refl
-linked_plain Typedef e = cc
-linked_plain Plain e = cc
 
 -- what its type is, if it isn't a function's
 abbrev pub IsClosed : Table → Ctype → Type 0
@@ -97,13 +88,6 @@ module _
     abbrev ordinary : List Declared
     ordinary = s.declared.ordinary
 
-    no_typedef : (leaf : ℕ) → is_linked s f leaf ≡ true → is_typedef s f leaf ≡ false
-    no_typedef leaf h = by (ordinary_at s leaf) h
-      where
-        by : (o : Option Declared) → (elim o as (λ _. Bool) [ None ↦ false | Some d ↦ has_linkage d ]) ≡ true → (elim o as (λ _. Bool) [ None ↦ false | Some d ↦ names_type d ]) ≡ false
-        by None k = refl
-        by (Some d) k = linked_plain d.kind k
-
     -- the type of a name with linkage
     linked_typed : (leaf : ℕ) (t : Ctype) → is_linked s f leaf ≡ true → own_type s f leaf ≡ Some t → Outcome s f table leaf t
     linked_typed leaf t linked own = by (declares_function s f leaf) refl
@@ -123,7 +107,7 @@ module _
 
         by : (b : Bool) → declares_function s f leaf ≡ b → Outcome s f table leaf t
         by true e = of_function e (functions leaf t e own)
-        by false e = let st = known.stands leaf linked in of_object (sized leaf st.0 st.1 t st.2 st.3 st.4 (plain leaf linked) (no_typedef leaf linked) e own)
+        by false e = let st = known.stands leaf linked in of_object (sized leaf st.0 st.1 t st.2 st.3 st.4 (plain leaf linked) (no_typedef s f leaf linked) e own)
 
     at_name : (d : Declared) → In d ordinary → ordinary_at s d.node ≡ Some d
     at_name d i = entry_is s tree 0 (length s.nodes) ordinary d rises i
@@ -252,25 +236,6 @@ module _
       abbrev pub IsGivenTo : Type 0
       IsGivenTo = IsAggregate T × (declares_function s f leaf ≡ true) × (storage_of s f (representative s senses leaf) ≡ DeclaredStorage)
 
-      -- some declaration of a list has that leaf
-      abbrev Among : List Declared → ℕ → Type 0
-      Among ds x = (d : Declared) × In d ds × (d.node ≡ x)
-
-      first_among : (ds part : List Declared) (x : ℕ) → ((d : Declared) → In d part → In d ds) → Among ds x → Among ds (first_of s f x part)
-      first_among ds [] x sub own = own
-      first_among ds (d ∷ part) x sub own = (d, sub d (inl refl), refl)
-
-      stands_among : Among (of_internal s senses leaf) leaf → Among (of_internal s senses leaf) (representative s senses leaf)
-      stands_among own =
-          let tentative : Among (of_internal s senses leaf) (first_of s f leaf (keep s f (is_tentative s senses) (of_internal s senses leaf)))
-          = first_among (of_internal s senses leaf) (keep s f (is_tentative s senses) (of_internal s senses leaf)) leaf (λ d i. (kept_in s f (is_tentative s senses) (of_internal s senses leaf) d i).0) own in
-          let defined = first_among (of_internal s senses leaf) (keep s f (is_definition_at s senses) (of_internal s senses leaf)) (first_of s f leaf (keep s f (is_tentative s senses) (of_internal s senses leaf)))
-          (λ d i. (kept_in s f (is_definition_at s senses) (of_internal s senses leaf) d i).0) tentative in
-          subst (λ (l : Linkage). Among (of_internal s senses leaf) (elim l as (λ _. ℕ) [
-            | Internal ↦ first_of s f (first_of s f leaf (keep s f (is_tentative s senses) (of_internal s senses leaf))) (keep s f (is_definition_at s senses) (of_internal s senses leaf))
-            | _ ↦ leaf
-          ])) (sym linkage) defined
-
       module _ (y : Declared) (at : ordinary_at s leaf ≡ Some y) where
         abbrev those_y : List Declared
         those_y = keep s f (is_internal_of s f y.symbol) ordinary
@@ -291,7 +256,7 @@ module _
 
         of_entry : IsFunction T ⊎ (IsClosed table T ⊎ IsGivenTo)
         of_entry =
-            let rep = stands_among (subst (λ (ds : List Declared). Among ds leaf) (sym list_is) (y, in_y, found.1)) in
+            let rep = stands_among s senses leaf linkage (subst (λ (ds : List Declared). Among ds leaf) (sym list_is) (y, in_y, found.1)) in
             let in_r : In rep.0 (keep s f (is_internal_of s f y.symbol) s.declared.ordinary) = subst (λ (ds : List Declared). In rep.0 ds) list_is rep.1 in
             let agreed = subst (λ (ds : List Declared). AllAgree None (types_of s f ds)) list_is (known.agree leaf) in
             let whole = ap (λ (ds : List Declared). all_together None (types_of s f ds)) (sym list_is) ∙ all in

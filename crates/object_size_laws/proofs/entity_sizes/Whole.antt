@@ -1,6 +1,6 @@
 -- Each entity has a size, or is only declared.
-use Rattle.std.proofs.Common.{◌≡◌, ◌<◌, ◌⊎◌, inl, inr, ◌==◌, ℕ, nat_eq, Bool, true, false, ◌&&◌, ◌||◌, not, List, [], ◌∷◌, map, length, Option, Some, None, refl, sym, ap, ◌∙◌, subst}
-use Rattle.std.specs.Prelude.{is_none, is_some, option_map, option_and_then, if◌then◌else◌}
+use Rattle.std.proofs.Common.{◌≡◌, ◌<◌, ◌⊎◌, inl, inr, ◌==◌, ℕ, nat_eq, Bool, true, false, ◌&&◌, ◌||◌, not, List, length, Option, Some, None, refl, sym, ap, ◌∙◌, subst}
+use Rattle.std.specs.Prelude.{is_none, is_some, option_map, if◌then◌else◌}
 use Rattle.std.proofs.lemmas.Bool.{eqb-true}
 use Rattle.c_lexer.specs.declared.Tokens.{Tokens}
 use Rattle.c_lexer.specs.Cut.{IsTokens}
@@ -8,11 +8,7 @@ use Rattle.c_types.specs.declared.term.MemberTerm.{MemberTerm}
 use Rattle.c_types.specs.Trees.{Ctype, VoidType, ArrayOf, FunctionFrom, StructureOf, UnionOf}
 use Rattle.c_types.specs.Table.{Table, type_of, members_in}
 use Rattle.c_grammar.specs.declared.trees.Tree.{Tree as SyntaxTree}
-use Rattle.c_grammar.specs.Table.{table, row}
-use Rattle.c_grammar.specs.Tree.{makes_node}
-use Rattle.c_grammar.specs.Productions.{p_external, p_rest, p_declaration, p_field, p_parameter, p_block}
-use Rattle.c_grammar.specs.Reads.{leaf as leaf_production}
-use Rattle.c_grammar.specs.Terminals.{contains}
+use Rattle.c_grammar.specs.Productions.{p_external, p_declaration, p_parameter, p_block}
 use Rattle.c_grammar.specs.Words.{word_extern}
 use Rattle.c_parser.specs.c_units.Units.{IsUnit}
 use Rattle.type_rules.specs.Kinds.{IsAggregate, LacksLength}
@@ -29,23 +25,19 @@ use Rattle.core_tree.specs.Rows.{IsFunction, int}
 use Rattle.core_tree.specs.Valid.{EntitySized}
 use Rattle.c_consts.specs.Core.{Core, ctype_of}
 use Rattle.c_senses.specs.Names.{source_of, numbered}
-use Rattle.c_senses.specs.Tree.{Source, production_at, children_at, is_a, child_of, parent_of}
-use Rattle.c_senses.specs.Declarators.{is_outermost, outermost_of, declaration_around}
+use Rattle.c_senses.specs.Tree.{Source, production_at, is_a, child_of}
 use Rattle.c_senses.specs.Entities.{declaration_of, is_parameter, is_typedef, is_defined, is_linked, is_internal, is_static_object, declares_function, has_storage, initialiser_for, own_type, storage_of, linkage_of, entity_of, all_together, types_of}
 use Rattle.c_senses.specs.Rows.{world_at}
-use Rattle.c_senses.specs.Right.{Declared as Declares, IsDeclaredAt, IsLiteralOf, is_declaring, is_defined_parameter, stands_in_declaration, declares_entity, declared_as, entity_type, internal_type, representative, storage_at, of_internal, literal_as}
+use Rattle.c_senses.specs.Right.{Declared as Declares, IsDeclaredAt, IsLiteralOf, is_declaring, is_defined_parameter, stands_in_declaration, declares_entity, declared_as, entity_type, internal_type, representative, storage_at, of_internal}
 use Rattle.c_senses.specs.Right as right
-use Rattle.c_senses.specs.Sense.{Sense, Nothing, IsDeclarator, Derivation, sense_in}
+use Rattle.c_senses.specs.Sense.{Sense, sense_in}
 use Rattle.sense_laws.specs.Senses.{SoundSense}
 use Rattle.built_unit_laws.specs.built_rows.Rows.{types_declared}
 use Rattle.built_unit_laws.specs.built_units.Built.{IsBuilt}
 use Rattle.core_node_laws.specs.standing_laws.Standing.{IsGrown}
-use Rattle.core_node_laws.proofs.standing_laws.Climbing.{parent_holds}
 use Rattle.parsed_tree_laws.proofs.placed_laws.Climbing.{Grown}
-use Rattle.parsed_tree_laws.specs.grown_parts.Parts.{Brings, IsBrought}
+use Rattle.parsed_tree_laws.specs.grown_parts.Parts.{IsBrought}
 use Rattle.parsed_tree_laws.proofs.grown_parts.Reading.{units_bring}
-use Rattle.parsed_tree_laws.proofs.grown_parts.Declaring.{AllIn}
-use Rattle.parsed_tree_laws.proofs.grown_parts.Allowed.{rows_in, brings_in}
 use Rattle.function_laws.proofs.body_returns.Built.{grown, placed}
 use Rattle.declaration_laws.proofs.name_order.Ordered.{units_ordered}
 use Rattle.function_laws.proofs.passed.definition_laws.linkage_laws.Linked.{stands_linked}
@@ -57,15 +49,15 @@ use Rattle.function_laws.specs.function_bodies.Bodies.{FunctionFits}
 use Rattle.function_laws.proofs.function_bodies.Reading.{parts_of, declarators_of, functions_stand}
 use Rattle.built_unit_laws.proofs.value_laws.Shapes.{structure_complete, union_complete}
 use Rattle.function_laws.proofs.function_bodies.Standing.{named_by}
-use Rattle.declared_type_laws.proofs.declared_leaves.Climbing.{leaves_declared}
 use Rattle.object_size_laws.specs.parameter_sizes.PassedOn.{TypeSized, Sized, Complete, Open, IsSizedType}
-use Rattle.object_size_laws.proofs.parameter_sizes.PassedOn.{objects_sized, found_above}
-use Rattle.object_size_laws.proofs.parameter_sizes.Sizes.{parameters_sized, named_at, sense_within}
+use Rattle.object_size_laws.proofs.parameter_sizes.PassedOn.{objects_sized}
+use Rattle.object_size_laws.proofs.parameter_sizes.Sizes.{parameters_sized}
 use Rattle.object_size_laws.proofs.literal_sizes.Sizes.{literals_sized}
 use Rattle.declared_type_laws.specs.function_types.Typed.{FunctionsTyped, IsNamedType}
 use Rattle.declared_type_laws.proofs.function_types.Reading.{functions_given}
 use Rattle.object_size_laws.specs.entity_sizes.Entities.{EntitiesSized}
 use Rattle.object_size_laws.proofs.entity_sizes.Known.{LinkedKnown, linked_known}
+use Rattle.object_size_laws.proofs.entity_sizes.Placed.{object_placed}
 use Rattle.object_size_laws.proofs.entity_sizes.Types.{one_is, one_again, one_closed, one_function, one_aggregate, aggregate_closed}
 use Rattle.object_size_laws.proofs.entity_sizes.Internals.{internal_typed, named_closed}
 
@@ -86,10 +78,6 @@ not_true : (b : Bool) → not b ≡ true → b ≡ false
 not_true true e = cc
 not_true false e = refl
 
-and_then_some : {A B : Type 0} → (o : Option A) (k : A → Option B) (y : B) → option_and_then k o ≡ Some y → (x : A) × (o ≡ Some x) × (k x ≡ Some y)
-and_then_some None k y e = absurd (none_some e)
-and_then_some (Some x) k y e = (x, refl, e)
-
 map_some : {A B : Type 0} → (o : Option A) (k : A → B) (y : B) → option_map k o ≡ Some y → (x : A) × (o ≡ Some x) × (k x ≡ y)
 map_some None k y e = absurd (none_some e)
 map_some (Some x) k y e = (x, refl, some_one e)
@@ -105,62 +93,6 @@ open_closed types VoidType o k = k
 open_closed types (StructureOf tag) o k = k
 open_closed types (UnionOf tag) o k = k
 open_closed types t o k = o
-
--- ---- no field stands in a declaration
-
-abbrev declaration_parts : List ℕ
-declaration_parts = leaf_production ∷ 2 ∷ 4 ∷ 5 ∷ 6 ∷ 19 ∷ 29 ∷ []
-
-abbrev declaration_rows : List ℕ
-declaration_rows = 48 ∷ 49 ∷ 52 ∷ 53 ∷ 56 ∷ 57 ∷ []
-
-declarations_in : rows_in declaration_parts declaration_rows declaration_rows ≡ true
-unfolding table row makes_node
-declarations_in = refl
-
-external_list : (zs : List ℕ) → Brings 1 0 zs → AllIn declaration_parts zs
-unfolding table row makes_node
-external_list zs b = brings_in declaration_parts declaration_rows refl declarations_in 1 0 zs b refl
-
-declaration_list : (zs : List ℕ) → Brings 3 0 zs → AllIn declaration_parts zs
-unfolding table row makes_node
-declaration_list zs b = brings_in declaration_parts declaration_rows refl declarations_in 3 0 zs b refl
-
-in_all : (allowed : List ℕ) (f : ℕ → ℕ) (ks : List ℕ) (c : ℕ) → AllIn allowed (map f ks) → contains ks c ≡ true → contains allowed (f c) ≡ true
-in_all allowed f [] c h at = cc
-in_all allowed f (k ∷ ks) c h at = by (nat_eq k c) refl at (λ more. in_all allowed f ks c h.1 more)
-  where
-    by : (b : Bool) → nat_eq k c ≡ b → (b || contains ks c) ≡ true → (contains ks c ≡ true → contains allowed (f c) ≡ true) → contains allowed (f c) ≡ true
-    by true same e later = subst (λ (x : ℕ). contains allowed (f x) ≡ true) (eqb-true k c same) h.0
-    by false other e later = later e
-
-module _ (s : Source) (brought : IsBrought s) where
-  part_form : (a m : ℕ) → (is_a s p_external a || is_a s p_declaration a) ≡ true → contains (children_at s a) m ≡ true → contains declaration_parts (production_at s m) ≡ true
-  part_form a m is at = by (is_a s p_external a) refl (is_a s p_declaration a) refl is
-    where
-      zs : List ℕ
-      zs = map (production_at s) (children_at s a)
-
-      by : (x : Bool) → is_a s p_external a ≡ x → (y : Bool) → is_a s p_declaration a ≡ y → (x || y) ≡ true → contains declaration_parts (production_at s m) ≡ true
-      by true e y f h = in_all declaration_parts (production_at s) (children_at s a) m (external_list _ (subst (λ (q : ℕ). Brings q 0 (map (production_at s) (children_at s a))) (eqb-true (production_at s a) p_external e) (brought a))) at
-      by false e true f h = in_all declaration_parts (production_at s) (children_at s a) m (declaration_list _ (subst (λ (q : ℕ). Brings q 0 (map (production_at s) (children_at s a))) (eqb-true (production_at s a) p_declaration f) (brought a))) at
-      by false e false f h = cc
-
-  part_no_field : (a m : ℕ) → (is_a s p_external a || is_a s p_declaration a) ≡ true → contains (children_at s a) m ≡ true → is_a s p_field m ≡ false
-  part_no_field a m is at = by (is_a s p_field m) refl
-    where
-      by : (b : Bool) → is_a s p_field m ≡ b → b ≡ false
-      by false e = refl
-      by true e = let no : false ≡ true = subst (λ (q : ℕ). contains declaration_parts q ≡ true) (eqb-true (production_at s m) p_field e) (part_form a m is at) in cc
-
-  -- the node around a declarator of a declaration is no field
-  around_no_field : (p q : ℕ) (grows : IsGrown s) → declaration_around s p ≡ Some q → (is_a s p_external q || is_a s p_declaration q) ≡ true → is_a s p_field p ≡ false
-  around_no_field p q grows around is = by (is_a s p_rest p) (is_a s p_field p) refl refl around
-    where
-      by : (a b : Bool) → is_a s p_rest p ≡ a → is_a s p_field p ≡ b → (if a || b then parent_of s p else Some p) ≡ Some q → b ≡ false
-      by a false rest field k = refl
-      by true true rest field k = sym field ∙ part_no_field q p is (parent_holds s grows q p k)
-      by false true rest field k = sym field ∙ part_no_field q p is (parent_holds s grows q p k)
 
 module _ (tokens : Tokens) (unit : ℕ) (tree : SyntaxTree) (tag_number : ℕ → ℕ) (name : List ℕ) (u : Unit) (cut : IsTokens tokens.text.now tokens.list.items) (is : IsUnit tokens unit tree) (b : IsBuilt (numbered tag_number (source_of tokens tree)) name u)
     (functions : FunctionsTyped (numbered tag_number (source_of tokens tree)) b.senses)
@@ -258,37 +190,10 @@ module _ (tokens : Tokens) (unit : ℕ) (tree : SyntaxTree) (tag_number : ℕ �
               (both (is_a s p_parameter q) (is_defined_parameter s b.senses leaf)
               (sym (ap (λ (x : Bool). x || (is_a s p_declaration q || (is_a s p_parameter q && is_defined_parameter s b.senses leaf))) a.0 ∙ ap (λ (x : Bool). x || (is_a s p_parameter q && is_defined_parameter s b.senses leaf)) a.1) ∙ k)).1
 
-      in_declaration : is_parameter s f leaf ≡ false → (q : ℕ) × (declaration_of s f leaf ≡ Some q) × ((is_a s p_external q || is_a s p_declaration q) ≡ true)
-      in_declaration h = by (declaration_of s f leaf) refl standing h
-        where
-          pick : (x y z : Bool) → (x || (y || z)) ≡ true → z ≡ false → (x || y) ≡ true
-          pick true y z k l = refl
-          pick false true z k l = refl
-          pick false false z k l = let no : true ≡ false = sym k ∙ l in cc
-
-          cut_off : (x y : Bool) → x ≡ false → (x && y) ≡ false
-          cut_off true y k = cc
-          cut_off false y k = refl
-
-          by : (o : Option ℕ) → declaration_of s f leaf ≡ o → Stands o → Asks o false → (q : ℕ) × (declaration_of s f leaf ≡ Some q) × ((is_a s p_external q || is_a s p_declaration q) ≡ true)
-          by None e k l = cc
-          by (Some q) e k l = (q, e, pick (is_a s p_external q) (is_a s p_declaration q) _ k (cut_off (is_a s p_parameter q) (is_defined_parameter s b.senses leaf) l))
-
       object : (t : Ctype) → is_parameter s f leaf ≡ false → declares_function s f leaf ≡ false → own_type s f leaf ≡ Some t → TypeSized s f u.types leaf t
       object t parameter function own =
-          let n = named_at (numbered tag_number (source_of tokens tree)) b.senses leaf declaring in
-          let m : ℕ = n.0 in
-          let d = in_declaration parameter in
-          let x = and_then_some (option_and_then (parent_of s) (outermost_of s leaf)) (declaration_around s) d.0 d.1 in
-          let y = and_then_some (outermost_of s leaf) (parent_of s) x.0 x.1 in
-          let same : y.0 ≡ n.0 = some_one (sym y.1 ∙ n.2) in
-          let parent : parent_of s m ≡ Some x.0 = ap (parent_of s) (sym same) ∙ y.2 in
-          let within : n.0 < length b.senses = sense_within b.senses n.0 (λ none. never n.1 (sym n.3 ∙ none)) in
-          let by_it = leaves_declared.by_sense s b.senses b.are_senses grew brought n.0 leaf n.1 within (found_above s (is_outermost s) (length s.nodes) n.0 (parent_of s leaf) n.2) n.3 in
-          objects_sized tokens unit tree tag_number name u cut is b leaf m x.0 t by_it parent (around_no_field s brought x.0 d.0 grows x.2 d.2) parameter no_typedef function own
-        where
-          never : (ds : List Derivation) → IsDeclarator (Some leaf) ds ≡ Nothing → ⊥
-          never ds e = cc
+          let d = object_placed s b.senses grows grew brought b.are_senses leaf declaring standing parameter in
+          objects_sized tokens unit tree tag_number name u cut is b leaf d.0 d.1 t d.2 d.3 d.4 parameter no_typedef function own
 
       -- one that has no internal linkage
       module _ (t : Ctype) (same : T ≡ t) (own : own_type s f leaf ≡ Some t) (internal : is_internal s f leaf ≡ false) (linkage : entity.linkage ≡ linkage_of s f leaf) (storage : entity.storage ≡ storage_of s f leaf) where

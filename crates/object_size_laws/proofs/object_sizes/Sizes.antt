@@ -8,7 +8,7 @@ use Rattle.c_types.specs.Table.{members_in}
 use Rattle.c_grammar.specs.Productions.{p_rest, p_field, p_parameter, p_declarator, p_abstract, p_either}
 use Rattle.c_grammar.specs.Terminals.{contains}
 use Rattle.c_grammar.specs.Words.{word_extern}
-use Rattle.type_rules.specs.Kinds.{LacksLength}
+use Rattle.type_rules.specs.Kinds.{IsFunction, LacksLength}
 use Rattle.type_rules.specs.Sizes.{HasSize, with_one}
 use Rattle.core_tree.specs.declared.node.Unit.{Unit}
 use Rattle.core_nodes.specs.Standing.{Knows}
@@ -107,14 +107,21 @@ union_plain : (l : Option ℕ) (tag : ℕ) → with_length l (UnionOf tag) ≡ U
 union_plain None tag = refl
 union_plain (Some n) tag = refl
 
+-- a length makes no function's type
+length_function : (l : Option ℕ) (t : Ctype) → IsFunction (with_length l t) → IsFunction t
+length_function l (FunctionFrom r ps form) h = tt
+length_function None (ArrayOf of None) h = h
+length_function (Some n) (ArrayOf of None) h = h
+length_function None t h = h
+length_function (Some n) t h = h
+
 element_of : (w : World) (s : Source) (sense : ℕ → Sense) (t : Ctype) → element_has_size w s sense t ≡ true → (of : Ctype) × (t ≡ ArrayOf of None) × (has_size w of ≡ true)
 element_of w s sense (ArrayOf of None) h = (of, refl, h)
 element_of w s sense t h = cc
 
 module _
-    (s : Source) (senses : List Sense) (grows : IsGrown s) (tree : Grown s) (are : AreSenses s senses) (whole : length senses ≡ length s.nodes) (u : Unit) (knows : Knows (world_at s senses (length senses)) u) (places : InitialisersPlaced s senses) (owns : InitialisersAreOf s) (leaf m p : ℕ) (t : Ctype)
-    (by_it : IsDeclaredBy s senses m leaf) (parent : parent_of s m ≡ Some p) (field : is_a s p_field p ≡ false) (no_parameter : is_parameter s (sense_in senses) leaf ≡ false) (typedefs : is_typedef s (sense_in senses) leaf ≡ false) (function : declares_function s (sense_in senses) leaf ≡ false)
-    (typed : own_type s (sense_in senses) leaf ≡ Some t)
+    (s : Source) (senses : List Sense) (tree : Grown s) (are : AreSenses s senses) (whole : length senses ≡ length s.nodes) (leaf m p : ℕ) (by_it : IsDeclaredBy s senses m leaf) (parent : parent_of s m ≡ Some p) (field : is_a s p_field p ≡ false)
+    (no_parameter : is_parameter s (sense_in senses) leaf ≡ false) (typedefs : is_typedef s (sense_in senses) leaf ≡ false) (function : declares_function s (sense_in senses) leaf ≡ false)
   where
     abbrev f : ℕ → Sense
     f = sense_in senses
@@ -188,109 +195,121 @@ module _
     abbrev L : Option ℕ
     L = length_given_by s f (initialiser_for s f leaf)
 
-    typed_is : with_length L T ≡ t
-    typed_is = some_one (sym (has_type s senses leaf m by_it no_parameter) ∙ typed)
-
-    inside : m < length senses
-    inside =
-        let child = parent_holds s grows p m parent in
-        let before = tree.before p m child in
-        let within = tree.within p m child in
-        omega (arith, before, within, whole)
-
-    for_is : initialiser_for s f leaf ≡ initialiser_of s f m
-    for_is = ap (option_and_then (initialiser_of s f)) by_it.outermost
-
-    now : has_size W T ≡ true → TypeSized s f u.types leaf t
-    now h =
-        let closed = sized_closed W T h in
-        let same : T ≡ t = sym (closed.0 L) ∙ typed_is in
-        let size : HasSize u.types (with_one T) = subst (HasSize u.types) (sym closed.1) (sized_stays s grows.first senses m u T (let lt = inside in omega (arith, lt)) knows limited h) in
-        subst (λ (x : Ctype). TypeSized s f u.types leaf x) same (Sized size (λ lacks. absurd (closed.2 lacks)))
-
-    -- an array of elements that have a size
-    module _ (of : Ctype) (array : T ≡ ArrayOf of None) (sized : has_size W of ≡ true) where
-      element_limited : within_limits W of ≡ true
-      element_limited = (both true (within_limits W of) (subst (λ (x : Ctype). within_limits W x ≡ true) array limited)).1
-
-      lone : initialiser_of s f m ≡ None → (is_some (initialiser_of s F m) || is_linked s F leaf) ≡ true → TypeSized s f u.types leaf t
-      lone none h =
-          let length_none : length_given_by s f (initialiser_for s f leaf) ≡ None = ap (length_given_by s f) (for_is ∙ none) in
-          let here : t ≡ ArrayOf of None = sym typed_is ∙ (ap (λ (l : Option ℕ). with_length l T) length_none ∙ array) in
-          let linked : is_linked s f leaf ≡ true = ap (λ (o : Option ℕ). is_some o || is_linked s f leaf) (sym (initialiser_same s F f m ∙ none)) ∙ h in
-          let size : HasSize u.types (ArrayOf of (Some 1)) = one_sized u.types of (sized_stays s grows.first senses m u of (let lt = inside in omega (arith, lt)) knows element_limited sized) in
-          subst (λ (x : Ctype). TypeSized s f u.types leaf x) (sym here) (Sized size (λ lacks. linked))
-
-      filled : (init : ℕ) → initialiser_of s f m ≡ Some init → TypeSized s f u.types leaf t
-      filled init some =
-          let place = places m init outer some in
-          let child = parent_holds s grows place.above init place.parent in
-          let lt : init < length senses = (let before = tree.before place.above init child in let within = tree.within place.above init child in omega (arith, before, within, whole)) in
-          let found = owns (known_at s senses init) m init place.declarator (initialiser_same s (known_at s senses init) f m ∙ some) in
-          let before : m < init = declarator_before s senses are init place.above m leaf by_it.derives by_it.words of lt place.initialiser place.parent place.rest found in
-          let h = length_is s senses are init place.above m leaf by_it.derives by_it.words of lt place.initialiser place.parent place.rest found by_it.is by_it.outermost by_it.told array words_at in
-          let n : ℕ = h.1 in
-          let length_some : length_given_by s f (initialiser_for s f leaf) ≡ Some n = ap (length_given_by s f) (for_is ∙ some) ∙ ap (λ (x : Sense). elim x as (λ _. Option ℕ) [ IsInitial c k ↦ k | _ ↦ None ]) h.2 in
-          let here : t ≡ ArrayOf of (Some n) = sym typed_is ∙ (ap (λ (l : Option ℕ). with_length l T) length_some ∙ ap (with_length (Some n)) array) in
-          let has = array_sized W (world_of s senses init) (grows_between s grows.first senses m init (omega (arith, before)) (omega (arith, lt))) of n sized h.3 in
-          let size : HasSize u.types (ArrayOf of (Some n)) = sized_stays s grows.first senses init u (ArrayOf of (Some n)) (omega (arith, lt)) knows h.3 has in
-          subst (λ (x : Ctype). TypeSized s f u.types leaf x) (sym here) (Sized size (λ lacks. absurd lacks))
-
-      elements : (is_some (initialiser_of s F m) || is_linked s F leaf) ≡ true → TypeSized s f u.types leaf t
-      elements h = by (initialiser_of s f m) refl
-        where
-          by : (o : Option ℕ) → initialiser_of s f m ≡ o → TypeSized s f u.types leaf t
-          by None e = lone e h
-          by (Some init) e = filled init e
-
-    -- what will be complete
-    awaited : (x : Ctype) → T ≡ x → will_have_size W s F x ≡ true → TypeSized s f u.types leaf t
-    awaited (StructureOf tag) e h = subst (λ (y : Ctype). TypeSized s f u.types leaf y) (sym (structure_plain L tag) ∙ (ap (with_length L) (sym e) ∙ typed_is)) (Complete tt (structure_is s senses grows.first are whole tag u knows h))
-    awaited (UnionOf tag) e h = subst (λ (y : Ctype). TypeSized s f u.types leaf y) (sym (union_plain L tag) ∙ (ap (with_length L) (sym e) ∙ typed_is)) (Complete tt (union_is s senses grows.first are whole tag u knows h))
-    awaited x e h = cc
-
-    -- what may stay open
-    module _ (extern : has_storage s F word_extern leaf ≡ true) (bare : is_some (initialiser_of s F m) ≡ false) where
-      extern_last : has_storage s f word_extern leaf ≡ true
-      extern_last = ap (λ (o : Option Specified). elim o as (λ _. Bool) [ None ↦ false | Some x ↦ contains x.storage word_extern ]) (words_last ∙ sym by_it.told) ∙ extern
-
-      none_first : initialiser_of s f m ≡ None
-      none_first = by (initialiser_of s f m) (ap is_some (sym (initialiser_same s F f m)) ∙ bare)
-        where
-          by : (o : Option ℕ) → is_some o ≡ false → o ≡ None
-          by None e = refl
-          by (Some x) e = cc
-
-      no_initialiser : initialiser_for s f leaf ≡ None
-      no_initialiser = for_is ∙ none_first
-
-      type_is : T ≡ t
-      type_is = ap (λ (l : Option ℕ). with_length l T) (sym (ap (length_given_by s f) no_initialiser)) ∙ typed_is
-
-      open_as : (x : Ctype) → T ≡ x → may_stay_open W s F x ≡ true → TypeSized s f u.types leaf x
-      open_as VoidType e h = Open tt extern_last no_initialiser
-      open_as (StructureOf tag) e h = by (members_in u.types tag) refl
-        where
-          by : (o : Option (List MemberTerm)) → members_in u.types tag ≡ o → TypeSized s f u.types leaf (StructureOf tag)
-          by None at = Open at extern_last no_initialiser
-          by (Some ms) at = Complete tt (structure_complete u.types tag (ap is_some at))
-      open_as (UnionOf tag) e h = by (members_in u.types tag) refl
-        where
-          by : (o : Option (List MemberTerm)) → members_in u.types tag ≡ o → TypeSized s f u.types leaf (UnionOf tag)
-          by None at = Open at extern_last no_initialiser
-          by (Some ms) at = Complete tt (union_complete u.types tag (ap is_some at))
-      open_as x e h = cc
-
-    pub object_sized : TypeSized s f u.types leaf t
-    object_sized = by asked
+    -- which is no function's
+    pub no_function : (t : Ctype) → own_type s f leaf ≡ Some t → IsFunction t → ⊥
+    no_function t typed h = by T (length_function L T (subst IsFunction (sym (some_one (sym (has_type s senses leaf m by_it no_parameter) ∙ typed))) h)) asked
       where
-        by : Ways W s F m T leaf (is_some (initialiser_of s F m)) → TypeSized s f u.types leaf t
-        by (Now h) = now h
-        by (Elements e i) = let array = element_of W s F T e in elements array.0 array.1 array.2 i
-        by (Awaited h) = awaited T refl h
-        by (Never h extern bare) = subst (λ (x : Ctype). TypeSized s f u.types leaf x) (type_is extern bare) (open_as extern bare T refl h)
+        by : (x : Ctype) → IsFunction x → Ways W s F m x leaf (is_some (initialiser_of s F m)) → ⊥
+        by (FunctionFrom r ps form) k (Now e) = cc
+        by (FunctionFrom r ps form) k (Elements e i) = cc
+        by (FunctionFrom r ps form) k (Awaited e) = cc
+        by (FunctionFrom r ps form) k (Never e extern bare) = cc
+        by x k ways = k
+
+    module _ (grows : IsGrown s) (u : Unit) (knows : Knows (world_at s senses (length senses)) u) (places : InitialisersPlaced s senses) (owns : InitialisersAreOf s) (t : Ctype) (typed : own_type s f leaf ≡ Some t) where
+      typed_is : with_length L T ≡ t
+      typed_is = some_one (sym (has_type s senses leaf m by_it no_parameter) ∙ typed)
+
+      inside : m < length senses
+      inside =
+          let child = parent_holds s grows p m parent in
+          let before = tree.before p m child in
+          let within = tree.within p m child in
+          omega (arith, before, within, whole)
+
+      for_is : initialiser_for s f leaf ≡ initialiser_of s f m
+      for_is = ap (option_and_then (initialiser_of s f)) by_it.outermost
+
+      now : has_size W T ≡ true → TypeSized s f u.types leaf t
+      now h =
+          let closed = sized_closed W T h in
+          let same : T ≡ t = sym (closed.0 L) ∙ typed_is in
+          let size : HasSize u.types (with_one T) = subst (HasSize u.types) (sym closed.1) (sized_stays s grows.first senses m u T (let lt = inside in omega (arith, lt)) knows limited h) in
+          subst (λ (x : Ctype). TypeSized s f u.types leaf x) same (Sized size (λ lacks. absurd (closed.2 lacks)))
+
+      -- an array of elements that have a size
+      module _ (of : Ctype) (array : T ≡ ArrayOf of None) (sized : has_size W of ≡ true) where
+        element_limited : within_limits W of ≡ true
+        element_limited = (both true (within_limits W of) (subst (λ (x : Ctype). within_limits W x ≡ true) array limited)).1
+
+        lone : initialiser_of s f m ≡ None → (is_some (initialiser_of s F m) || is_linked s F leaf) ≡ true → TypeSized s f u.types leaf t
+        lone none h =
+            let length_none : length_given_by s f (initialiser_for s f leaf) ≡ None = ap (length_given_by s f) (for_is ∙ none) in
+            let here : t ≡ ArrayOf of None = sym typed_is ∙ (ap (λ (l : Option ℕ). with_length l T) length_none ∙ array) in
+            let linked : is_linked s f leaf ≡ true = ap (λ (o : Option ℕ). is_some o || is_linked s f leaf) (sym (initialiser_same s F f m ∙ none)) ∙ h in
+            let size : HasSize u.types (ArrayOf of (Some 1)) = one_sized u.types of (sized_stays s grows.first senses m u of (let lt = inside in omega (arith, lt)) knows element_limited sized) in
+            subst (λ (x : Ctype). TypeSized s f u.types leaf x) (sym here) (Sized size (λ lacks. linked))
+
+        filled : (init : ℕ) → initialiser_of s f m ≡ Some init → TypeSized s f u.types leaf t
+        filled init some =
+            let place = places m init outer some in
+            let child = parent_holds s grows place.above init place.parent in
+            let lt : init < length senses = (let before = tree.before place.above init child in let within = tree.within place.above init child in omega (arith, before, within, whole)) in
+            let found = owns (known_at s senses init) m init place.declarator (initialiser_same s (known_at s senses init) f m ∙ some) in
+            let before : m < init = declarator_before s senses are init place.above m leaf by_it.derives by_it.words of lt place.initialiser place.parent place.rest found in
+            let h = length_is s senses are init place.above m leaf by_it.derives by_it.words of lt place.initialiser place.parent place.rest found by_it.is by_it.outermost by_it.told array words_at in
+            let n : ℕ = h.1 in
+            let length_some : length_given_by s f (initialiser_for s f leaf) ≡ Some n = ap (length_given_by s f) (for_is ∙ some) ∙ ap (λ (x : Sense). elim x as (λ _. Option ℕ) [ IsInitial c k ↦ k | _ ↦ None ]) h.2 in
+            let here : t ≡ ArrayOf of (Some n) = sym typed_is ∙ (ap (λ (l : Option ℕ). with_length l T) length_some ∙ ap (with_length (Some n)) array) in
+            let has = array_sized W (world_of s senses init) (grows_between s grows.first senses m init (omega (arith, before)) (omega (arith, lt))) of n sized h.3 in
+            let size : HasSize u.types (ArrayOf of (Some n)) = sized_stays s grows.first senses init u (ArrayOf of (Some n)) (omega (arith, lt)) knows h.3 has in
+            subst (λ (x : Ctype). TypeSized s f u.types leaf x) (sym here) (Sized size (λ lacks. absurd lacks))
+
+        elements : (is_some (initialiser_of s F m) || is_linked s F leaf) ≡ true → TypeSized s f u.types leaf t
+        elements h = by (initialiser_of s f m) refl
+          where
+            by : (o : Option ℕ) → initialiser_of s f m ≡ o → TypeSized s f u.types leaf t
+            by None e = lone e h
+            by (Some init) e = filled init e
+
+      -- what will be complete
+      awaited : (x : Ctype) → T ≡ x → will_have_size W s F x ≡ true → TypeSized s f u.types leaf t
+      awaited (StructureOf tag) e h = subst (λ (y : Ctype). TypeSized s f u.types leaf y) (sym (structure_plain L tag) ∙ (ap (with_length L) (sym e) ∙ typed_is)) (Complete tt (structure_is s senses grows.first are whole tag u knows h))
+      awaited (UnionOf tag) e h = subst (λ (y : Ctype). TypeSized s f u.types leaf y) (sym (union_plain L tag) ∙ (ap (with_length L) (sym e) ∙ typed_is)) (Complete tt (union_is s senses grows.first are whole tag u knows h))
+      awaited x e h = cc
+
+      -- what may stay open
+      module _ (extern : has_storage s F word_extern leaf ≡ true) (bare : is_some (initialiser_of s F m) ≡ false) where
+        extern_last : has_storage s f word_extern leaf ≡ true
+        extern_last = ap (λ (o : Option Specified). elim o as (λ _. Bool) [ None ↦ false | Some x ↦ contains x.storage word_extern ]) (words_last ∙ sym by_it.told) ∙ extern
+
+        none_first : initialiser_of s f m ≡ None
+        none_first = by (initialiser_of s f m) (ap is_some (sym (initialiser_same s F f m)) ∙ bare)
+          where
+            by : (o : Option ℕ) → is_some o ≡ false → o ≡ None
+            by None e = refl
+            by (Some x) e = cc
+
+        no_initialiser : initialiser_for s f leaf ≡ None
+        no_initialiser = for_is ∙ none_first
+
+        type_is : T ≡ t
+        type_is = ap (λ (l : Option ℕ). with_length l T) (sym (ap (length_given_by s f) no_initialiser)) ∙ typed_is
+
+        open_as : (x : Ctype) → T ≡ x → may_stay_open W s F x ≡ true → TypeSized s f u.types leaf x
+        open_as VoidType e h = Open tt extern_last no_initialiser
+        open_as (StructureOf tag) e h = by (members_in u.types tag) refl
+          where
+            by : (o : Option (List MemberTerm)) → members_in u.types tag ≡ o → TypeSized s f u.types leaf (StructureOf tag)
+            by None at = Open at extern_last no_initialiser
+            by (Some ms) at = Complete tt (structure_complete u.types tag (ap is_some at))
+        open_as (UnionOf tag) e h = by (members_in u.types tag) refl
+          where
+            by : (o : Option (List MemberTerm)) → members_in u.types tag ≡ o → TypeSized s f u.types leaf (UnionOf tag)
+            by None at = Open at extern_last no_initialiser
+            by (Some ms) at = Complete tt (union_complete u.types tag (ap is_some at))
+        open_as x e h = cc
+
+      pub object_sized : TypeSized s f u.types leaf t
+      object_sized = by asked
+        where
+          by : Ways W s F m T leaf (is_some (initialiser_of s F m)) → TypeSized s f u.types leaf t
+          by (Now h) = now h
+          by (Elements e i) = let array = element_of W s F T e in elements array.0 array.1 array.2 i
+          by (Awaited h) = awaited T refl h
+          by (Never h extern bare) = subst (λ (x : Ctype). TypeSized s f u.types leaf x) (type_is extern bare) (open_as extern bare T refl h)
 
 pub objects_sized : ObjectsSized
 objects_sized tokens unit tree tag_number name u cut is b leaf m p t by_it parent field parameter typedefs function typed =
-    object_sized (numbered tag_number (source_of tokens tree)) b.senses (grown tokens unit tree tag_number cut is) (placed tokens unit tree tag_number is) b.are_senses b.whole u b.knows
-    (units_place tokens unit tree tag_number b.senses cut is) (initialisers_found tokens unit tree tag_number cut is) leaf m p t by_it parent field parameter typedefs function typed
+    object_sized (numbered tag_number (source_of tokens tree)) b.senses (placed tokens unit tree tag_number is) b.are_senses b.whole leaf m p by_it parent field parameter typedefs function
+    (grown tokens unit tree tag_number cut is) u b.knows (units_place tokens unit tree tag_number b.senses cut is) (initialisers_found tokens unit tree tag_number cut is) t typed
