@@ -1,10 +1,9 @@
--- The rows of statements leave the types of instances those of the table.
+-- The rows of statements leave the types of instances those of the table, and their keys.
 use Rattle.std.proofs.Common.{ℕ, ◌==◌, Bool, true, false, List, [], ◌∷◌, Option, Some, None, IfOk, length, reverse}
 use Rattle.std.specs.Prelude.{find}
 use Rattle.core_tree.specs.Typed.{CoreTrees}
 use Rattle.core_tree.specs.Range.{InRange}
 use Rattle.ref_cells.specs.declared.cells.Value.{Value}
-use Rattle.ref_cells.specs.Places.{AreKnown}
 use Rattle.ref_cells.specs.declared.instance.Instance.{Instance}
 use Rattle.ref_lib.proofs.memory_laws.Steps.{after_any, either}
 use Rattle.ref_state.specs.declared.items.Item.{Item}
@@ -22,20 +21,21 @@ use Rattle.ref_statements.specs.declared.forms.Form.{Form}
 use Rattle.ref_statements.specs.Forms.{opens}
 use Rattle.ref_statements.specs.Rows.{Move}
 use Rattle.ref_statements.specs.Statements.{does_part, is_over, does_branch, branch, parts_left, if_row, turns, asks, while_row, do_while_row, for_asked, for_part, for_row, number_in, switches_to, switch_row, breaks, break_row, continues, continue_row, goes_to, goto_found, goto_row, returns, return_row, lone_row, opened, begun_row, finished_row}
+use Rattle.ref_machine.specs.Standing.{IsAfter}
 use Rattle.ref_machine.proofs.Known.{entered_known, left_known, all_left_known, all_entered_known, parts_left_known}
 
-module _ (u : CoreTrees) (range : InRange u) where
+module _ (u : CoreTrees) (first : List Instance) (range : InRange u) where
   abbrev K : List Instance → Type 0
-  K memory = AreKnown (length u.types.terms) memory
+  K memory = IsAfter (length u.types.terms) first memory
 
   abbrev pub Kept : Move → Type 0
-  Kept move = IfOk move (λ (change : Change). AreKnown (length u.types.terms) change.blocks.memory)
+  Kept move = IfOk move (λ (change : Change). IsAfter (length u.types.terms) first change.blocks.memory)
 
   part_kept : (s : Blocks) (n : ℕ) (operands : List ℕ) (part : ℕ) → K s.memory → Kept (does_part u s n operands part)
-  part_kept s n operands part h = entered_known u range (Part part) s h
+  part_kept s n operands part h = entered_known u first range (Part part) s h
 
   over_kept : (s : Blocks) (n : ℕ) → K s.memory → Kept (is_over u s n)
-  over_kept s n h = left_known u range (Own n) s h
+  over_kept s n h = left_known u first range (Own n) s h
 
   does_branch_kept : (s : Blocks) (n : ℕ) (parts : List ℕ) → K s.memory → Kept (does_branch u s n parts)
   does_branch_kept s n [] h = over_kept s n h
@@ -43,7 +43,7 @@ module _ (u : CoreTrees) (range : InRange u) where
 
   if_kept : (s : Blocks) (n : ℕ) (children : List ℕ) (values : List (ℕ × Value)) → K s.memory → Kept (if_row u s n children values)
   if_kept s n [] values h = tt
-  if_kept s n (c ∷ branches) [] h = over_kept (parts_left u branches s) n (parts_left_known u range branches s h)
+  if_kept s n (c ∷ branches) [] h = over_kept (parts_left u branches s) n (parts_left_known u first range branches s h)
   if_kept s n (c ∷ branches) (v ∷ values) h =
       after_any (is_true (cell_of v.1)) (λ b. does_branch u s n (branch b branches)) (λ (change : Change). K change.blocks.memory)
       (λ b. does_branch_kept s n (branch b branches) h)
@@ -53,7 +53,7 @@ module _ (u : CoreTrees) (range : InRange u) where
   turns_kept s n operands part false h = over_kept s n h
 
   asks_kept : (s : Blocks) (n part c : ℕ) → K s.memory → Kept (asks u s n part c)
-  asks_kept s n part c h = left_known u range (Part part) s h
+  asks_kept s n part c h = left_known u first range (Part part) s h
 
   while_kept : (s : Blocks) (n : ℕ) (children : List ℕ) (values : List (ℕ × Value)) → K s.memory → Kept (while_row u s n children values)
   while_kept s n [] values h = tt
@@ -80,7 +80,7 @@ module _ (u : CoreTrees) (range : InRange u) where
       (λ b. turns_kept s n after part b h)
 
   for_part_kept : (s : Blocks) (n : ℕ) (condition after : List ℕ) (part : ℕ) (values : List (ℕ × Value)) → K s.memory → Kept (for_part u s n condition after part values)
-  for_part_kept s n [] after part values h = part_kept (left u (Part part) s) n after part (left_known u range (Part part) s h)
+  for_part_kept s n [] after part values h = part_kept (left u (Part part) s) n after part (left_known u first range (Part part) s h)
   for_part_kept s n (c ∷ rest) after part values h = for_asked_kept s n c after part (find (λ v. v.0 == c) values) h
 
   for_kept : (s : Blocks) (n : ℕ) (condition after body : List ℕ) (values : List (ℕ × Value)) → K s.memory → Kept (for_row u s n condition after body values)
@@ -89,7 +89,7 @@ module _ (u : CoreTrees) (range : InRange u) where
   for_kept s n condition after (part ∷ d ∷ rest) values h = tt
 
   jumped_known : (s : Blocks) (from to : List Block) → K s.memory → K (all_entered u to (all_left u from s)).memory
-  jumped_known s from to h = all_entered_known u range to (all_left u from s) (all_left_known u range from s h)
+  jumped_known s from to h = all_entered_known u first range to (all_left u from s) (all_left_known u first range from s h)
 
   switches_kept : (items : List Item) (s : Blocks) (n : ℕ) (o : Option ℕ) → K s.memory → Kept (switches_to u items s n o)
   switches_kept items s n None h = over_kept s n h
@@ -99,7 +99,7 @@ module _ (u : CoreTrees) (range : InRange u) where
   switch_kept : (items : List Item) (s : Blocks) (n : ℕ) (children : List ℕ) (values : List (ℕ × Value)) → K s.memory → Kept (switch_row u items s n children values)
   switch_kept items s n [] values h = tt
   switch_kept items s n (c ∷ []) values h = tt
-  switch_kept items s n (c ∷ part ∷ []) [] h = over_kept (left u (Part part) s) n (left_known u range (Part part) s h)
+  switch_kept items s n (c ∷ part ∷ []) [] h = over_kept (left u (Part part) s) n (left_known u first range (Part part) s h)
   switch_kept items s n (c ∷ part ∷ []) (v ∷ values) h =
       after_any (number_in (cell_of v.1)) (λ x. switches_to u items s n (switch_target u.nodes n x)) (λ (change : Change). K change.blocks.memory)
       (λ x. switches_kept items s n (switch_target u.nodes n x) h)
@@ -107,7 +107,7 @@ module _ (u : CoreTrees) (range : InRange u) where
 
   breaks_kept : (items : List Item) (s : Blocks) (n : ℕ) (o : Option ℕ) → K s.memory → Kept (breaks u items s n o)
   breaks_kept items s n None h = tt
-  breaks_kept items s n (Some a) h = all_left_known u range (but_for (blocks_around u n) (blocks_around u a)) s h
+  breaks_kept items s n (Some a) h = all_left_known u first range (but_for (blocks_around u n) (blocks_around u a)) s h
 
   break_kept : (items : List Item) (s : Blocks) (n : ℕ) → K s.memory → Kept (break_row u items s n)
   unfolding break_row
@@ -115,7 +115,7 @@ module _ (u : CoreTrees) (range : InRange u) where
 
   continues_kept : (items : List Item) (s : Blocks) (n : ℕ) (o : Option ℕ) → K s.memory → Kept (continues u items s n o)
   continues_kept items s n None h = tt
-  continues_kept items s n (Some a) h = all_left_known u range (but_for (blocks_around u n) (blocks_with u a)) s h
+  continues_kept items s n (Some a) h = all_left_known u first range (but_for (blocks_around u n) (blocks_with u a)) s h
 
   continue_kept : (items : List Item) (s : Blocks) (n : ℕ) → K s.memory → Kept (continue_row u items s n)
   unfolding continue_row
@@ -144,17 +144,17 @@ module _ (u : CoreTrees) (range : InRange u) where
   lone_kept items s n Form.Break name h = break_kept items s n h
   lone_kept items s n Form.Continue name h = continue_kept items s n h
   lone_kept items s n Form.Goto name h = goto_kept items s n name h
-  lone_kept items s n Form.Compound name h = over_kept (entered u (Own n) s) n (entered_known u range (Own n) s h)
+  lone_kept items s n Form.Compound name h = over_kept (entered u (Own n) s) n (entered_known u first range (Own n) s h)
   lone_kept items s n form name h = h
 
   opened_known : (n : ℕ) (b : Bool) (s : Blocks) → K s.memory → K (opened u n b s).memory
-  opened_known n true s h = entered_known u range (Own n) s h
+  opened_known n true s h = entered_known u first range (Own n) s h
   opened_known n false s h = h
 
   pub begun_kept : (items : List Item) (s : Blocks) (n : ℕ) (form : Form) (name children : List ℕ) → K s.memory → Kept (begun_row u items s n form name children)
   begun_kept items s n form name [] h = lone_kept items s n form name h
   begun_kept items s n Form.Label name (part ∷ rest) h = h
-  begun_kept items s n Form.DoWhile name (part ∷ rest) h = part_kept (entered u (Own n) s) n rest part (entered_known u range (Own n) s h)
+  begun_kept items s n Form.DoWhile name (part ∷ rest) h = part_kept (entered u (Own n) s) n rest part (entered_known u first range (Own n) s h)
   begun_kept items s n form name (part ∷ rest) h = opened_known n (opens form) s h
 
   pub finished_kept : (items : List Item) (s : Blocks) (n : ℕ) (form : Form) (children : List ℕ) (values : List (ℕ × Value)) → K s.memory → Kept (finished_row u items s n form children values)

@@ -1,4 +1,4 @@
--- What the top item of a frame does leaves the types of instances those of the table.
+-- What the top item of a frame does leaves the types of instances those of the table, and their keys.
 use Rattle.std.proofs.Common.{◌≡◌, ℕ, ℤ, ◌<◌, ◌&&◌, Bool, true, false, List, [], ◌∷◌, Option, Some, None, Result, Ok, Err, IfOk, length, slice_get, refl, subst}
 use Rattle.std.specs.Prelude.{◌==◌, not, if◌then◌else◌, is_some}
 use Rattle.c_types.specs.declared.term.TypeId.{TypeId}
@@ -22,7 +22,7 @@ use Rattle.ref_cells.specs.Cells.{under}
 use Rattle.ref_cells.specs.Values.{active}
 use Rattle.ref_cells.specs.declared.cells.Value.{Value}
 use Rattle.ref_cells.specs.declared.instance.Instance.{Instance}
-use Rattle.ref_cells.specs.Places.{IsKnown, AreKnown}
+use Rattle.ref_cells.specs.Places.{IsKnown}
 use Rattle.ref_mem.specs.declared.writes.Initial.{Initial}
 use Rattle.ref_mem.specs.Reads.{read, one_cell}
 use Rattle.ref_mem.specs.Writes.{write, changed, initialised, cleared}
@@ -45,17 +45,18 @@ use Rattle.ref_statements.specs.Rows.{Move, Next, Row, changes, computes}
 use Rattle.ref_statements.specs.Statements.{begun_row, finished_row}
 use Rattle.ref_statements.specs.Initialisers.{initialised_at, initialise_by, initialise_row, parts, clears}
 use Rattle.ref_statements.specs.Nodes.{begun_value, begun_initialiser, begun_by, do_in, do_row, picked, first_value, choose_row, operand_at, part_left, operand_row, taken_by, take_row, finish_row, wait_by, wait_in, wait_row}
-use Rattle.ref_machine.proofs.Known.{changed_known, left_known}
+use Rattle.ref_machine.specs.Standing.{IsAfter}
+use Rattle.ref_machine.proofs.Known.{changed_known, followed, left_known}
 use Rattle.ref_machine.proofs.KnownMoves.{Kept, begun_kept, finished_kept}
 
-module _ (u : CoreTrees) (range : InRange u) where
+module _ (u : CoreTrees) (first : List Instance) (range : InRange u) where
   abbrev K : List Instance → Type 0
-  K memory = AreKnown (length u.types.terms) memory
+  K memory = IsAfter (length u.types.terms) first memory
 
   abbrev KE : Effect → Type 0
-  KE effect = IfOk effect (λ (e : Effected). AreKnown (length u.types.terms) e.memory)
+  KE effect = IfOk effect (λ (e : Effected). IsAfter (length u.types.terms) first e.memory)
 
-  module _ (memory : List Instance) (h : AreKnown (length u.types.terms) memory) where
+  module _ (memory : List Instance) (h : IsAfter (length u.types.terms) first memory) where
     given_kept : (row : Result Cell Reason) → KE (cell_given memory row)
     given_kept row = after_any row (λ cell. gives memory (one_cell cell)) (λ (e : Effected). K e.memory) (λ cell. h)
 
@@ -66,8 +67,8 @@ module _ (u : CoreTrees) (range : InRange u) where
         → ((m : List Instance) → K m → KE (after m)) → KE (write u.types memory place t value >>= after)
     written_kept place t value after keeps =
         and_then (write u.types memory place t value) after (λ m. Follows (length u.types.terms) None memory m) (λ (e : Effected). K e.memory)
-        (written_follows u.types (length u.types.terms) memory h place t value)
-        (λ m f. keeps m f.known)
+        (written_follows u.types (length u.types.terms) memory h.known place t value)
+        (λ m f. keeps m (followed (length u.types.terms) None first memory m f h))
 
     -- an object that gets a type gets a complete one
     complete_if : (b : Bool) (to : TypeId) → is_some (extent_in u.types (type_of u.types to.0)) ≡ b → IsKnown (length u.types.terms) (if b then Some to else None)
@@ -86,7 +87,7 @@ module _ (u : CoreTrees) (range : InRange u) where
         set_kept a true to e less = h
         set_kept a false to e less =
             subst (λ (o : Option Instance). K (changed memory i o (λ inst. record inst { ty = Some to }))) e
-            (changed_known (length u.types.terms) memory i (λ inst. record inst { ty = Some to }) h (λ x q. less))
+            (changed_known (length u.types.terms) first memory i (λ inst. record inst { ty = Some to }) h (λ x q. less) (λ x. refl))
 
         at : (o : Option Instance) → slice_get memory i ≡ o → (id : Option TypeId) → IsKnown (length u.types.terms) id → K (type_given memory i id o)
         at None e None known = h
@@ -176,24 +177,28 @@ module _ (u : CoreTrees) (range : InRange u) where
         (value_kept node.ty node.kind node.children (one_of node.children) values word))
 
     abbrev KR : Row → Type 0
-    KR row = IfOk row (λ (next : Next). AreKnown (length u.types.terms) next.memory)
+    KR row = IfOk row (λ (next : Next). IsAfter (length u.types.terms) first next.memory)
 
     computes_kept : (f : Frame) (n : ℕ) (effect : Effect) → KE effect → KR (computes f n effect)
     computes_kept f n (Ok e) k = k
     computes_kept f n (Err reason) k = tt
 
-    changes_kept : (f : Frame) (move : Move) → Kept u range move → KR (changes f move)
+    changes_kept : (f : Frame) (move : Move) → Kept u first range move → KR (changes f move)
     changes_kept f (Ok change) k = k
     changes_kept f (Err reason) k = tt
 
     initialised_kept : (f : Frame) (o : Option ℕ) (paths : List (List PathStep)) (list : List Initial) → KR (initialised_at u memory f o paths list)
     initialised_kept f None paths list = tt
     initialised_kept f (Some i) paths list =
-        changed_known (length u.types.terms) memory i (initialised u.types (clears paths) list) h (λ a k. same_type (clears paths) a k)
+        changed_known (length u.types.terms) first memory i (initialised u.types (clears paths) list) h (λ a k. same_type (clears paths) a k) (same_key (clears paths))
       where
         same_type : (b : Bool) (a : Instance) → IsKnown (length u.types.terms) a.ty → IsKnown (length u.types.terms) (cleared b a).ty
         same_type true a k = k
         same_type false a k = k
+
+        same_key : (b : Bool) (a : Instance) → (cleared b a).key ≡ a.key
+        same_key true a = refl
+        same_key false a = refl
 
     initialise_by_kept : (f : Frame) (kind : NodeKind) (children : List ℕ) (values : List (ℕ × Value)) → KR (initialise_by u memory f kind children values)
     initialise_by_kept f (Initialise e paths) children values =
@@ -216,7 +221,7 @@ module _ (u : CoreTrees) (range : InRange u) where
     statement_kept : (f : Frame) (n : ℕ) (node : Node) (form : Form) → KR (changes f (begun_row u f.items (blocks_of memory f) n form (goto_name node.kind) node.children))
     statement_kept f n node form =
         changes_kept f (begun_row u f.items (blocks_of memory f) n form (goto_name node.kind) node.children)
-        (begun_kept u range f.items (blocks_of memory f) n form (goto_name node.kind) node.children h)
+        (begun_kept u first range f.items (blocks_of memory f) n form (goto_name node.kind) node.children h)
 
     begun_by_kept : (f : Frame) (n : ℕ) (node : Node) (form : Form) (word : ℕ) → KR (begun_by u memory f n node form word)
     begun_by_kept f n node Form.Value word = begun_value_kept f n node node.children word
@@ -235,7 +240,7 @@ module _ (u : CoreTrees) (range : InRange u) where
 
     part_left_known : (o : Option ℕ) (s : Blocks) → K s.memory → K (part_left u o s).memory
     part_left_known None s k = k
-    part_left_known (Some part) s k = left_known u range (Part part) s k
+    part_left_known (Some part) s k = left_known u first range (Part part) s k
 
     operand_kept : (f : Frame) (form : Form) (children operands : List ℕ) (i : ℕ) → KR (operand_row u memory f form children operands i)
     operand_kept f form children operands i =
@@ -256,7 +261,7 @@ module _ (u : CoreTrees) (range : InRange u) where
     finished_row_kept : (f : Frame) (n : ℕ) (node : Node) (form : Form) (values : List (ℕ × Value)) → KR (changes f (finished_row u f.items (blocks_of memory f) n form node.children values))
     finished_row_kept f n node form values =
         changes_kept f (finished_row u f.items (blocks_of memory f) n form node.children values)
-        (finished_kept u range f.items (blocks_of memory f) n form node.children values h)
+        (finished_kept u first range f.items (blocks_of memory f) n form node.children values h)
 
     finish_kept : (f : Frame) (n : ℕ) (node : Node) (form : Form) (values : List (ℕ × Value)) (word : ℕ) → KR (finish_row u memory f n node form values word)
     finish_kept f n node Form.Value values word = computes_kept f n (computed u memory f.instances n node values word) (computed_kept f.instances n node values word)

@@ -1,5 +1,5 @@
--- A step leaves the types of instances those of the machine's table.
-use Rattle.std.proofs.Common.{◌≡◌, ℕ, suc, ℤ, ◌+◌, ◌%◌, ◌<◌, Bool, true, false, List, [], ◌∷◌, ◌++◌, Option, Some, None, Result, Ok, Err, IfOk, length, slice_get, refl, sym, subst}
+-- A step leaves the types of instances those of the machine's table, and their keys.
+use Rattle.std.proofs.Common.{◌≡◌, ℕ, suc, ℤ, ◌+◌, ◌%◌, ◌<◌, Bool, true, false, List, [], ◌∷◌, Option, Some, None, Result, Ok, Err, IfOk, length, slice_get, refl, sym, subst}
 use Rattle.std.specs.Prelude.{find, if◌then◌else◌}
 use Rattle.std.specs.Option.{option_map}
 use Rattle.std.proofs.lemmas.List.Elements.{All-nil, All-cons, All-append, All-replicate}
@@ -53,15 +53,16 @@ use Rattle.ref_calls.specs.Ending.{entry_of, enters, but_last, last_of, kept_ent
 use Rattle.ref_start.specs.Begin.{text_of_word, texts, main_entry, made_by, begun, begins_at, begins_with, begins, begin, main_of}
 use Rattle.ref_machine.specs.Step.{placed, called, call_row, calls, waited, leaves, item_step, outside_step, frames_step, step}
 use Rattle.ref_machine.specs.Machines.{IsGrounded}
-use Rattle.ref_machine.proofs.Known.{changed_known, ended_known}
+use Rattle.ref_machine.specs.Standing.{IsAfter}
+use Rattle.ref_machine.proofs.Known.{after_itself, joined_known, followed, changed_known, ended_known}
 use Rattle.ref_machine.proofs.KnownRows.{do_kept, wait_kept}
 
-module _ (w : Running) (g : IsGrounded w) where
+module _ (w : Running) (first : List Instance) (g : IsGrounded w) where
   abbrev KS : Result State Reason → Type 0
-  KS result = IfOk result (λ (s : State). AreKnown (length w.trees.types.terms) s.memory)
+  KS result = IfOk result (λ (s : State). IsAfter (length w.trees.types.terms) first s.memory)
 
-  abbrev pub KO : Outcome → Type 0
-  KO (Goes s) = AreKnown (length w.trees.types.terms) s.memory
+  abbrev KO : Outcome → Type 0
+  KO (Goes s) = IsAfter (length w.trees.types.terms) first s.memory
   KO (Ends status) = Unit {0}
   KO (Stops reason n) = Unit {0}
 
@@ -114,44 +115,39 @@ module _ (w : Running) (g : IsGrounded w) where
   unfolding entered
   entered_kept count entry values = of_kept count entry values (slice_get w.trees.entities entry.function)
 
-  -- what is made for a function comes behind a memory
-  joined_known : (memory fresh : List Instance) → AreKnown (length w.trees.types.terms) memory → AreKnown (length w.trees.types.terms) fresh
-      → AreKnown (length w.trees.types.terms) (memory ++ fresh)
-  joined_known memory fresh h k = All-append (λ (inst : Instance). IsKnown (length w.trees.types.terms) inst.ty) memory fresh h k
-
-  all_ended_known : (memory : List Instance) (frames : List Frame) → AreKnown (length w.trees.types.terms) memory → AreKnown (length w.trees.types.terms) (all_ended memory frames)
+  all_ended_known : (memory : List Instance) (frames : List Frame) → IsAfter (length w.trees.types.terms) first memory → IsAfter (length w.trees.types.terms) first (all_ended memory frames)
   all_ended_known memory [] h = h
-  all_ended_known memory (f ∷ rest) h = all_ended_known (ended_all memory f.instances) rest (ended_known (length w.trees.types.terms) memory f.instances h)
+  all_ended_known memory (f ∷ rest) h = all_ended_known (ended_all memory f.instances) rest (ended_known (length w.trees.types.terms) first memory f.instances h)
 
-  left_with_known : (state : State) (f : Frame) (rest : List Frame) (value : Value) (call by : Option ℕ) → AreKnown (length w.trees.types.terms) state.memory
-      → AreKnown (length w.trees.types.terms) (left_with w.trees state f rest value call by).memory
-  left_with_known state f rest value (Some n) by h = ended_known (length w.trees.types.terms) state.memory f.instances h
-  left_with_known state f rest value None (Some k) h = ended_known (length w.trees.types.terms) state.memory f.instances h
+  left_with_known : (state : State) (f : Frame) (rest : List Frame) (value : Value) (call by : Option ℕ) → IsAfter (length w.trees.types.terms) first state.memory
+      → IsAfter (length w.trees.types.terms) first (left_with w.trees state f rest value call by).memory
+  left_with_known state f rest value (Some n) by h = ended_known (length w.trees.types.terms) first state.memory f.instances h
+  left_with_known state f rest value None (Some k) h = ended_known (length w.trees.types.terms) first state.memory f.instances h
   left_with_known state f rest value None None h = all_ended_known state.memory state.frames h
 
-  leaves_known : (state : State) (f : Frame) (rest : List Frame) (value : Value) → AreKnown (length w.trees.types.terms) state.memory
-      → AreKnown (length w.trees.types.terms) (leaves w state f rest value).memory
+  leaves_known : (state : State) (f : Frame) (rest : List Frame) (value : Value) → IsAfter (length w.trees.types.terms) first state.memory
+      → IsAfter (length w.trees.types.terms) first (leaves w state f rest value).memory
   leaves_known state f rest value h = left_with_known state f rest value f.call f.by h
 
   -- calls
 
-  called_kept : (state : State) (f : Frame) (rest : List Frame) (n : ℕ) (key : ObjectKey) (values : List Value) → AreKnown (length w.trees.types.terms) state.memory
+  called_kept : (state : State) (f : Frame) (rest : List Frame) (n : ℕ) (key : ObjectKey) (values : List Value) → IsAfter (length w.trees.types.terms) first state.memory
       → KS (called w state f rest n key values)
   called_kept state f rest n (EntityKey e) values h =
       and_then (entered w (length state.memory) (record { function = e; call = Some n; by = None }) values) _
-      (λ (made : Activation). AreKnown (length w.trees.types.terms) made.fresh) (λ (s : State). AreKnown (length w.trees.types.terms) s.memory)
+      (λ (made : Activation). AreKnown (length w.trees.types.terms) made.fresh) (λ (s : State). IsAfter (length w.trees.types.terms) first s.memory)
       (entered_kept (length state.memory) (record { function = e; call = Some n; by = None }) values)
-      (λ made k. joined_known state.memory made.fresh h k)
+      (λ made k. joined_known (length w.trees.types.terms) first state.memory made.fresh h k)
   called_kept state f rest n (FunctionKey k) values h = h
   called_kept state f rest n (TextKey k) values h = tt
   called_kept state f rest n (CallKey k) values h = tt
   called_kept state f rest n (LibraryKey k) values h = tt
   called_kept state f rest n (Star k) values h = tt
 
-  call_kept : (state : State) (f : Frame) (rest : List Frame) (n : ℕ) (values : List (ℕ × Value)) → AreKnown (length w.trees.types.terms) state.memory
+  call_kept : (state : State) (f : Frame) (rest : List Frame) (n : ℕ) (values : List (ℕ × Value)) → IsAfter (length w.trees.types.terms) first state.memory
       → KS (call_row w state f rest n values)
   call_kept state f rest n values h =
-      after_any (reached w.trees n values) _ (λ (s : State). AreKnown (length w.trees.types.terms) s.memory)
+      after_any (reached w.trees n values) _ (λ (s : State). IsAfter (length w.trees.types.terms) first s.memory)
       (λ target. called_kept state f rest n target.key target.arguments h)
 
   -- the library
@@ -164,96 +160,96 @@ module _ (w : Running) (g : IsGrounded w) where
       at None e = tt
       at (Some x) e = g.elements l x e
 
-  performed_kept : (memory : List Instance) (n k : ℕ) (values : List Value) (word : ℕ) (o : Option TypeId) → AreKnown (length w.trees.types.terms) memory
-      → IfOk (performed_as w memory n k values word o) (λ (e : Effected). AreKnown (length w.trees.types.terms) e.memory)
+  performed_kept : (memory : List Instance) (n k : ℕ) (values : List Value) (word : ℕ) (o : Option TypeId) → IsAfter (length w.trees.types.terms) first memory
+      → IfOk (performed_as w memory n k values word o) (λ (e : Effected). IsAfter (length w.trees.types.terms) first e.memory)
   performed_kept memory n k values word None h = tt
-  performed_kept memory n k values word (Some result) h = at _ _ (effect_leaves w.trees.types g.named g.made memory h k (object_of w.trees n k)
+  performed_kept memory n k values word (Some result) h = at _ _ (effect_leaves w.trees.types g.named g.made memory h.known k (object_of w.trees n k)
       (element_type w (object_of w.trees n k)) result values word (element_known (first_from 0 w.space (object_of w.trees n k))))
     where
       at : (r : Result Effected Reason) (ends : Option ℕ) → IfOk r (λ (e : Effected). Follows (length w.trees.types.terms) ends memory e.memory)
-          → IfOk r (λ (e : Effected). AreKnown (length w.trees.types.terms) e.memory)
-      at (Ok e) ends f = f.known
+          → IfOk r (λ (e : Effected). IsAfter (length w.trees.types.terms) first e.memory)
+      at (Ok e) ends f = followed (length w.trees.types.terms) ends first memory e.memory f h
       at (Err reason) ends f = tt
 
-  back_kept : (state : State) (f : Frame) (rest : List Frame) (n by : ℕ) (values : List Value) (key : ObjectKey) → AreKnown (length w.trees.types.terms) state.memory
+  back_kept : (state : State) (f : Frame) (rest : List Frame) (n by : ℕ) (values : List Value) (key : ObjectKey) → IsAfter (length w.trees.types.terms) first state.memory
       → KS (back_by w state f rest n by values key)
   back_kept state f rest n by values (EntityKey e) h =
       and_then (entered w (length state.memory) (record { function = e; call = None; by = Some by }) values) _
-      (λ (made : Activation). AreKnown (length w.trees.types.terms) made.fresh) (λ (s : State). AreKnown (length w.trees.types.terms) s.memory)
+      (λ (made : Activation). AreKnown (length w.trees.types.terms) made.fresh) (λ (s : State). IsAfter (length w.trees.types.terms) first s.memory)
       (entered_kept (length state.memory) (record { function = e; call = None; by = Some by }) values)
-      (λ made k. joined_known state.memory made.fresh h k)
+      (λ made k. joined_known (length w.trees.types.terms) first state.memory made.fresh h k)
   back_kept state f rest n by values (FunctionKey k) h = h
   back_kept state f rest n by values (TextKey k) h = tt
   back_kept state f rest n by values (CallKey k) h = tt
   back_kept state f rest n by values (LibraryKey k) h = tt
   back_kept state f rest n by values (Star k) h = tt
 
-  goes_kept : (state : State) (f : Frame) (rest : List Frame) (n k : ℕ) (value : Value) (stores : List (Cell × Cell)) (next : Next) → AreKnown (length w.trees.types.terms) state.memory
+  goes_kept : (state : State) (f : Frame) (rest : List Frame) (n k : ℕ) (value : Value) (stores : List (Cell × Cell)) (next : Next) → IsAfter (length w.trees.types.terms) first state.memory
       → KS (goes_by w state f rest n k value stores next)
   goes_kept state f rest n k value stores Done h = h
   goes_kept state f rest n k value stores Again h = h
   goes_kept state f rest n k value stores (Calls callee values) h =
-      after_any (comparison_of w.trees callee) _ (λ (s : State). AreKnown (length w.trees.types.terms) s.memory)
+      after_any (comparison_of w.trees callee) _ (λ (s : State). IsAfter (length w.trees.types.terms) first s.memory)
       (λ key. back_kept state f rest n k values key h)
   goes_kept state f rest n k value stores (Keeps cell) h = h
   goes_kept state f rest n k value stores (EndsNext status at_once) h = all_ended_known state.memory (f ∷ rest) h
 
-  library_kept : (state : State) (f : Frame) (rest : List Frame) (n k : ℕ) (values : List Value) (word : ℕ) → AreKnown (length w.trees.types.terms) state.memory
+  library_kept : (state : State) (f : Frame) (rest : List Frame) (n k : ℕ) (values : List Value) (word : ℕ) → IsAfter (length w.trees.types.terms) first state.memory
       → KS (library_row w state f rest n k values word)
   unfolding library_row performed
   library_kept state f rest n k values word h =
       and_then (performed w state.memory n k values word) _
-      (λ (e : Effected). AreKnown (length w.trees.types.terms) e.memory) (λ (s : State). AreKnown (length w.trees.types.terms) s.memory)
+      (λ (e : Effected). IsAfter (length w.trees.types.terms) first e.memory) (λ (s : State). IsAfter (length w.trees.types.terms) first s.memory)
       (performed_kept state.memory n k values word (result_in (term_in w.trees (library_id k w.trees.entities))) h)
       (λ e known. goes_kept (record state { memory = e.memory }) f rest n k e.outcome.value e.outcome.stores e.outcome.next known)
 
   -- the beginning and the end
 
-  enters_kept : (state : State) (entry : Entry) (values : List Value) → AreKnown (length w.trees.types.terms) state.memory → KS (enters w state entry values)
+  enters_kept : (state : State) (entry : Entry) (values : List Value) → IsAfter (length w.trees.types.terms) first state.memory → KS (enters w state entry values)
   enters_kept state entry values h =
       and_then (entered w (length state.memory) entry values) _
-      (λ (made : Activation). AreKnown (length w.trees.types.terms) made.fresh) (λ (s : State). AreKnown (length w.trees.types.terms) s.memory)
+      (λ (made : Activation). AreKnown (length w.trees.types.terms) made.fresh) (λ (s : State). IsAfter (length w.trees.types.terms) first s.memory)
       (entered_kept (length state.memory) entry values)
-      (λ made k. joined_known state.memory made.fresh h k)
+      (λ made k. joined_known (length w.trees.types.terms) first state.memory made.fresh h k)
 
-  begun_kept : (state : State) (argv main count word : ℕ) → AreKnown (length w.trees.types.terms) state.memory
+  begun_kept : (state : State) (argv main count word : ℕ) → IsAfter (length w.trees.types.terms) first state.memory
       → KS (made_by w (length state.memory) argv main count word >>= λ made. Ok (begun state argv made))
   begun_kept state argv main count word h =
       and_then (made_by w (length state.memory) argv main count word) _
-      (λ (made : CellList × Activation). AreKnown (length w.trees.types.terms) made.1.fresh) (λ (s : State). AreKnown (length w.trees.types.terms) s.memory)
+      (λ (made : CellList × Activation). AreKnown (length w.trees.types.terms) made.1.fresh) (λ (s : State). IsAfter (length w.trees.types.terms) first s.memory)
       (and_then (entered w (length state.memory + count) (main_entry main) _) _
       (λ (made : Activation). AreKnown (length w.trees.types.terms) made.fresh) (λ (made : CellList × Activation). AreKnown (length w.trees.types.terms) made.1.fresh)
       (entered_kept (length state.memory + count) (main_entry main) _)
-      (λ made k. joined_known (texts w count word) made.fresh
+      (λ made k. All-append (λ (inst : Instance). IsKnown (length w.trees.types.terms) inst.ty) (texts w count word) made.fresh
       (All-replicate (λ (inst : Instance). IsKnown (length w.trees.types.terms) inst.ty) count (text_of_word w word) g.texts) k))
-      (λ made k. joined_known (changed state.memory argv (slice_get state.memory argv) (λ inst. record inst { cells = made.0 })) made.1.fresh
-      (changed_known (length w.trees.types.terms) state.memory argv (λ inst. record inst { cells = made.0 }) h (λ a q. q)) k)
+      (λ made k. joined_known (length w.trees.types.terms) first (changed state.memory argv (slice_get state.memory argv) (λ inst. record inst { cells = made.0 })) made.1.fresh
+      (changed_known (length w.trees.types.terms) first state.memory argv (λ inst. record inst { cells = made.0 }) h (λ a q. q) (λ a. refl)) k)
 
-  alone_kept : (state : State) (main : ℕ) → AreKnown (length w.trees.types.terms) state.memory
+  alone_kept : (state : State) (main : ℕ) → IsAfter (length w.trees.types.terms) first state.memory
       → KS (entered w (length state.memory) (main_entry main) [] >>= λ made. Ok (on_top state state.frames (only []) made))
   alone_kept state main h =
       and_then (entered w (length state.memory) (main_entry main) []) _
-      (λ (made : Activation). AreKnown (length w.trees.types.terms) made.fresh) (λ (s : State). AreKnown (length w.trees.types.terms) s.memory)
+      (λ (made : Activation). AreKnown (length w.trees.types.terms) made.fresh) (λ (s : State). IsAfter (length w.trees.types.terms) first s.memory)
       (entered_kept (length state.memory) (main_entry main) [])
-      (λ made k. joined_known state.memory made.fresh h k)
+      (λ made k. joined_known (length w.trees.types.terms) first state.memory made.fresh h k)
 
-  begins_at_kept : (state : State) (main word : ℕ) (o : Option ℕ) → AreKnown (length w.trees.types.terms) state.memory → KS (begins_at w state main word o)
+  begins_at_kept : (state : State) (main word : ℕ) (o : Option ℕ) → IsAfter (length w.trees.types.terms) first state.memory → KS (begins_at w state main word o)
   begins_at_kept state main word None h = tt
   begins_at_kept state main word (Some argv) h = begun_kept state argv main (1 + word % 8) word h
 
-  begins_with_kept : (state : State) (main word : ℕ) (keys : List ObjectKey) → AreKnown (length w.trees.types.terms) state.memory → KS (begins_with w state main word keys)
+  begins_with_kept : (state : State) (main word : ℕ) (keys : List ObjectKey) → IsAfter (length w.trees.types.terms) first state.memory → KS (begins_with w state main word keys)
   begins_with_kept state main word [] h = alone_kept state main h
   begins_with_kept state main word (key ∷ rest) h = begins_at_kept state main word (object_from 9 0 state.memory) h
 
-  begins_kept : (state : State) (word : ℕ) (o : Option ℕ) → AreKnown (length w.trees.types.terms) state.memory → KS (begins w state word o)
+  begins_kept : (state : State) (word : ℕ) (o : Option ℕ) → IsAfter (length w.trees.types.terms) first state.memory → KS (begins w state word o)
   begins_kept state word None h = tt
   begins_kept state word (Some main) h = begins_with_kept state main word (parameters_of w.trees (view_of w.space) main) h
 
-  begin_kept : (state : State) (word : ℕ) → AreKnown (length w.trees.types.terms) state.memory → KS (begin w state word)
+  begin_kept : (state : State) (word : ℕ) → IsAfter (length w.trees.types.terms) first state.memory → KS (begin w state word)
   unfolding begin
   begin_kept state word h = begins_kept state word (main_of w.trees) h
 
-  kept_entered_kept : (state : State) (key : ObjectKey) (n : ℕ) → AreKnown (length w.trees.types.terms) state.memory → KS (kept_entered w state key n)
+  kept_entered_kept : (state : State) (key : ObjectKey) (n : ℕ) → IsAfter (length w.trees.types.terms) first state.memory → KS (kept_entered w state key n)
   kept_entered_kept state (EntityKey e) n h = enters_kept state (entry_of e (Some 24)) [] h
   kept_entered_kept state (FunctionKey k) n h = h
   kept_entered_kept state (TextKey k) n h = tt
@@ -265,54 +261,61 @@ module _ (w : Running) (g : IsGrounded w) where
   outcome_kept n (Ok s) h = h
   outcome_kept n (Err reason) h = tt
 
-  end_kept : (state : State) (status : ℤ) (o : Option (ObjectKey × ℕ)) → AreKnown (length w.trees.types.terms) state.memory → KO (end_step w state status o)
+  end_kept : (state : State) (status : ℤ) (o : Option (ObjectKey × ℕ)) → IsAfter (length w.trees.types.terms) first state.memory → KO (end_step w state status o)
   end_kept state status None h = tt
   end_kept state status (Some kept) h =
       outcome_kept kept.1 (kept_called w state kept.0 kept.1)
       (either (same_type (signature_of w.trees kept.0) at_end) (kept_entered w (record state { kept = but_last state.kept }) kept.0 kept.1) (Err BadCall)
-      (λ (s : State). AreKnown (length w.trees.types.terms) s.memory)
+      (λ (s : State). IsAfter (length w.trees.types.terms) first s.memory)
       (kept_entered_kept (record state { kept = but_last state.kept }) kept.0 kept.1 h) tt)
 
   -- the step
 
-  placed_kept : (state : State) (rest : List Frame) (row : Row) → IfOk row (λ (next : RowNext). AreKnown (length w.trees.types.terms) next.memory) → KS (placed state rest row)
+  placed_kept : (state : State) (rest : List Frame) (row : Row) → IfOk row (λ (next : RowNext). IsAfter (length w.trees.types.terms) first next.memory) → KS (placed state rest row)
   placed_kept state rest (Ok next) h = h
   placed_kept state rest (Err reason) h = tt
 
-  waited_kept : (state : State) (f : Frame) (rest : List Frame) (n : ℕ) (operands : List ℕ) (values : List (ℕ × Value)) (word : ℕ) → AreKnown (length w.trees.types.terms) state.memory
+  waited_kept : (state : State) (f : Frame) (rest : List Frame) (n : ℕ) (operands : List ℕ) (values : List (ℕ × Value)) (word : ℕ) → IsAfter (length w.trees.types.terms) first state.memory
       → KS (waited w state f rest n operands values word)
   waited_kept state f rest n operands values word h =
-      either (calls w.trees n operands) _ _ (λ (s : State). AreKnown (length w.trees.types.terms) s.memory) (call_kept state f rest n values h)
-      (placed_kept state rest (wait_row w.trees state.memory f n operands values word) (wait_kept w.trees g.range state.memory h f n operands values word))
+      either (calls w.trees n operands) _ _ (λ (s : State). IsAfter (length w.trees.types.terms) first s.memory) (call_kept state f rest n values h)
+      (placed_kept state rest (wait_row w.trees state.memory f n operands values word) (wait_kept w.trees first g.range state.memory h f n operands values word))
 
-  item_kept : (state : State) (f : Frame) (rest : List Frame) (items : List Item) (word : ℕ) → AreKnown (length w.trees.types.terms) state.memory
+  item_kept : (state : State) (f : Frame) (rest : List Frame) (items : List Item) (word : ℕ) → IsAfter (length w.trees.types.terms) first state.memory
       → KO (item_step w state f rest items word)
   item_kept state f rest [] word h = leaves_known state f rest no_value h
   item_kept state f rest (Do n ∷ items) word h =
       outcome_kept n (placed state rest (do_row w.trees state.memory f n word))
-      (placed_kept state rest (do_row w.trees state.memory f n word) (do_kept w.trees g.range state.memory h f n word))
+      (placed_kept state rest (do_row w.trees state.memory f n word) (do_kept w.trees first g.range state.memory h f n word))
   item_kept state f rest (Wait n operands values ∷ items) word h =
       outcome_kept n (waited w state f rest n operands values word) (waited_kept state f rest n operands values word h)
   item_kept state f rest (Library n k values ∷ items) word h =
       outcome_kept n (library_row w state f rest n k values word) (library_kept state f rest n k values word h)
   item_kept state f rest (Returned value ∷ items) word h = leaves_known state f rest value h
 
-  outside_kept : (state : State) (status : Option ℤ) (word : ℕ) → AreKnown (length w.trees.types.terms) state.memory → KO (outside_step w state status word)
+  outside_kept : (state : State) (status : Option ℤ) (word : ℕ) → IsAfter (length w.trees.types.terms) first state.memory → KO (outside_step w state status word)
   outside_kept state None word h = outcome_kept 0 (begin w state word) (begin_kept state word h)
   outside_kept state (Some status) word h = end_kept state status (last_of state.kept) h
 
-  frames_kept : (state : State) (frames : List Frame) (word : ℕ) → AreKnown (length w.trees.types.terms) state.memory → KO (frames_step w state frames word)
+  frames_kept : (state : State) (frames : List Frame) (word : ℕ) → IsAfter (length w.trees.types.terms) first state.memory → KO (frames_step w state frames word)
   frames_kept state [] word h = outside_kept state state.status word h
   frames_kept state (f ∷ rest) word h = item_kept state f rest f.items word h
 
-  pub step_kept : (state : State) (word : ℕ) → AreKnown (length w.trees.types.terms) state.memory → KO (step w state word)
+  step_kept : (state : State) (word : ℕ) → IsAfter (length w.trees.types.terms) first state.memory → KO (step w state word)
   unfolding step
   step_kept state word h = frames_kept state state.frames word h
 
--- what a step answers leaves the types known
-pub after_step : {E : Type 0} (w : Running) (g : IsGrounded w) (result : Result StepAnswer E) (old new : State) (given : Outcome)
-    → Steps result old new given → KO w g given → AreKnown (length w.trees.types.terms) old.memory → AreKnown (length w.trees.types.terms) new.memory
-after_step w g (Ok Went) old new given e k h = subst (KO w g) e k
-after_step w g (Ok (Finished status)) old new given e k h = subst (λ (s : State). AreKnown (length w.trees.types.terms) s.memory) (sym e.1) h
-after_step w g (Ok (Stopped reason n)) old new given e k h = subst (λ (s : State). AreKnown (length w.trees.types.terms) s.memory) (sym e.1) h
-after_step w g (Err x) old new given e k h = subst (λ (s : State). AreKnown (length w.trees.types.terms) s.memory) (sym e) h
+-- what a step answers leaves the types known, and the keys
+after_step : {E : Type 0} (w : Running) (first : List Instance) (g : IsGrounded w) (result : Result StepAnswer E) (old new : State) (given : Outcome)
+    → Steps result old new given → KO w first g given → IsAfter (length w.trees.types.terms) first old.memory → IsAfter (length w.trees.types.terms) first new.memory
+after_step w first g (Ok Went) old new given e k h = subst (KO w first g) e k
+after_step w first g (Ok (Finished status)) old new given e k h = subst (λ (s : State). IsAfter (length w.trees.types.terms) first s.memory) (sym e.1) h
+after_step w first g (Ok (Stopped reason n)) old new given e k h = subst (λ (s : State). IsAfter (length w.trees.types.terms) first s.memory) (sym e.1) h
+after_step w first g (Err x) old new given e k h = subst (λ (s : State). IsAfter (length w.trees.types.terms) first s.memory) (sym e) h
+
+-- a memory after a step is later than the one before it
+pub later : {E : Type 0} (w : Running) (g : IsGrounded w) (result : Result StepAnswer E) (old new : State) (word : ℕ)
+    → Steps result old new (step w old word) → AreKnown (length w.trees.types.terms) old.memory → IsAfter (length w.trees.types.terms) old.memory new.memory
+later w g result old new word e known =
+    let same = after_itself (length w.trees.types.terms) old.memory known in
+    after_step w old.memory g result old new (step w old word) e (step_kept w old.memory g old word same) same

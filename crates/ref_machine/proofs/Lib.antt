@@ -4,6 +4,7 @@ pub mod KnownRows
 pub mod KnownSteps
 pub mod Longer
 pub mod PreparedFacts
+pub mod FirstInstances
 pub mod Stepped
 pub mod TopFrame
 pub mod WordFree

@@ -19,9 +19,9 @@ use Rattle.ref_frames.specs.Made.{AreParameters}
 use Rattle.ref_frames.specs.Running.{Running}
 use Rattle.ref_calls.specs.Library.{library_row}
 use Rattle.ref_calls.specs.Outcomes.{Goes, outcome, Steps}
-use Rattle.ref_machine.specs.Step.{top_items, placed, waited, leaves, item_step, outside_step, frames_step, step, has_some, node_chooses, item_chooses, main_chooses, outside_chooses, frames_choose}
+use Rattle.ref_machine.specs.Step.{placed, waited, leaves, item_step, outside_step, frames_step, step, has_some, node_chooses, item_chooses, main_chooses, outside_chooses, frames_choose}
 use Rattle.ref_start.specs.Begin.{main_of}
-use Rattle.ref_machine.proofs.TopFrame.{top_is, items_of_top}
+use Rattle.ref_machine.proofs.TopFrame.{top_is}
 
 -- the items of a frame are those below its top one, and that
 pub split_items : (items : List Item) (item : Item) → slice_get items 0 ≡ Some item → (rest : List Item) × (items ≡ item ∷ rest)
@@ -102,27 +102,6 @@ pub none_chooses : (w : Running) (status : Option ℤ) (frames : List Frame) →
 none_chooses w status [] h = refl
 none_chooses w status (f ∷ rest) h = cc
 
--- What the top item of the top frame tells.
-
-pub do_values : (frames : List Frame) (frame : Frame) (n : ℕ) → slice_get frames 0 ≡ Some frame → slice_get frame.items 0 ≡ Some (Do n)
-    → top_values (top_items frames) ≡ []
-do_values frames frame n there at =
-    ap top_values (items_of_top frames frame there) ∙ ap top_values (split_items frame.items (Do n) at).1
-
-pub wait_left : (frames : List Frame) (frame : Frame) (n : ℕ) (operands : List ℕ) (values : List (ℕ × Value)) → slice_get frames 0 ≡ Some frame
-    → slice_get frame.items 0 ≡ Some (Wait n operands values) → top_left (top_items frames) ≡ operands
-wait_left frames frame n operands values there at =
-    ap top_left (items_of_top frames frame there) ∙ ap top_left (split_items frame.items (Wait n operands values) at).1
-
-some_items : (items : List Item) (item : Item) → slice_get items 0 ≡ Some item → 0 < length items
-some_items [] item h = cc
-some_items (top ∷ rest) item h = omega arith
-
-pub top_there : (frames : List Frame) (frame : Frame) (item : Item) → slice_get frames 0 ≡ Some frame → slice_get frame.items 0 ≡ Some item
-    → 0 < length (top_items frames)
-top_there frames frame item there at =
-    subst (λ (xs : List Item). 0 < length xs) (sym (items_of_top frames frame there)) (some_items frame.items item at)
-
 -- the item of the frame on top
 pub same_item : (frames : List Frame) (frame f : Frame) (rest : List Frame) (o : Option Item) → slice_get frames 0 ≡ Some frame → frames ≡ f ∷ rest
     → slice_get frame.items 0 ≡ o → slice_get f.items 0 ≡ o
@@ -134,11 +113,6 @@ no_status None h = refl
 no_status (Some x) h = absurd (h x refl)
 
 -- which of a node's operands are left
-
-pub none_left : (u : CoreTrees) (node : Node) (operands : List ℕ) → length operands < 1
-    → node_chooses u (Some node) operands ≡ node_chooses u (Some node) []
-none_left u node [] h = refl
-none_left u node (c ∷ rest) h = absurd (omega arith)
 
 pub one_left : (u : CoreTrees) (node : Node) (operands : List ℕ) → 1 ≤ length operands → length operands < 2 → node_chooses u (Some node) operands ≡ false
 one_left u node [] h less = absurd (omega arith)

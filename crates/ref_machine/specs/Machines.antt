@@ -13,6 +13,7 @@ use Rattle.ref_frames.specs.Running.{Running}
 use Rattle.ref_machine.specs.declared.prepared.Prepared.{Prepared}
 use Rattle.ref_machine.specs.declared.machine.Machine.{Machine}
 use Rattle.ref_machine.specs.Types.{trees_with}
+use Rattle.ref_machine.specs.Standing.{AreStanding}
 
 -- what is found of a program once
 pub record IsPreparedOf (p : Program) (prepared : Prepared) : Type 0 where
@@ -32,7 +33,8 @@ pub record IsGrounded (w : Running) : Type 0 where
   pub elements : AreElementsKnown (length w.trees.types.terms) w.characters w.space
   pub texts : w.characters.0 + 1 < length w.trees.types.terms
 
--- it, and a state whose objects have types of the machine's table
+-- it, a state whose objects have types of the machine's table, and the instances that objects have from the start
 pub record IsMachineOf (p : Program) (machine : Machine) : Type 0 where
   pub prepared : IsPreparedOf p machine.prepared
   pub known : AreKnown (length (types_with p.types).terms) machine.state.memory
+  pub standing : AreStanding machine.standing machine.state.memory

@@ -5,6 +5,7 @@ pub mod choices;
 pub mod laws;
 pub mod machine;
 pub mod prepared;
+pub mod standing;
 pub mod steps;
 
 pub use machine::Machine;

@@ -9,6 +9,7 @@ ghost use Rattle.ref_calls.specs.Outcomes.{Steps};
 ghost use Rattle.ref_machine.specs.Machines.{IsPreparedOf};
 ghost use Rattle.ref_machine.specs.Types.{running};
 ghost use Rattle.ref_machine.specs.Step.{step};
+ghost use Rattle.ref_machine.specs.Standing.{AreStanding};
 
 use crate::choices::{item_chooses, outside_chooses};
 use crate::prepared::Prepared;
@@ -21,6 +22,7 @@ use obj_space::Space;
 use pta_base::Listing;
 use ref_frames::frames::depth;
 use ref_mem::memory::Memory;
+use ref_start::standing::{Standing, standing_in};
 use ref_start::start::start_memory;
 use ref_state::frames::{Frame, Frames};
 use ref_state::notes::Notes;
@@ -34,22 +36,25 @@ fn listed(frames: &Frames) -> &[Frame]
     frames.list.as_slice()
 }
 
-// A step, whose objects' types stay those of the machine's table.
+// A step, whose objects' types stay those of the machine's table, and their instances where they are.
 fn stepped(
     alloc: Global,
     prepared: &Prepared,
+    standing: &Standing,
     program: &Program,
     state: &mut State,
     word: u64,
 ) -> Result<StepAnswer, OutOfMemory>
     requires prepared { IsPreparedOf program.now prepared.now }
     requires known { AreKnown (length (types_with program.now.types).terms) state.old.memory }
+    requires standing { AreStanding standing.now state.old.memory }
     ensures step { Steps result state.old state.new (step (running program.now) state.old word) }
     ensures known { AreKnown (length (types_with program.now.types).terms) state.new.memory }
+    ensures standing { AreStanding standing.now state.new.memory }
 {
     let running = prepared.running(alloc, program);
     if depth(&state.frames) > 0 {
-        frame_step(&running, &prepared.plan, state, word)
+        frame_step(&running, &prepared.plan, standing, state, word)
     } else {
         outside_step(&running, prepared.library, state, word)
     }
@@ -60,6 +65,7 @@ fn stepped(
 pub struct Machine {
     alloc: Global,
     prepared: Prepared,
+    standing: Standing,
     state: State,
 }
 
@@ -80,9 +86,11 @@ impl Machine {
         let prepared = Prepared::of(alloc, program)?;
         let running = prepared.running(alloc, program);
         let memory = start_memory(alloc, &running.trees, prepared.library, &prepared.space)?;
+        let standing = standing_in(alloc, memory.instances())?;
         Ok(Machine {
             alloc,
             prepared,
+            standing,
             state: State {
                 memory,
                 frames: Frames::new(alloc),
@@ -112,7 +120,14 @@ impl Machine {
         ensures step { Steps result self.old.state self.new.state (step (running program.now) self.old.state word) }
         ensures kept { IsMachineOf program.now self.new }
     {
-        stepped(self.alloc, &self.prepared, program, &mut self.state, word)
+        stepped(
+            self.alloc,
+            &self.prepared,
+            &self.standing,
+            program,
+            &mut self.state,
+            word,
+        )
     }
 
     /// The memory. It takes no memory.

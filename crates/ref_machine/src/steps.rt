@@ -1,10 +1,13 @@
 // One step of the top frame.
 
-ghost use Rattle.std.specs.Prelude.{◌≡◌, ◌<◌, [], ◌∷◌, List, Result, Ok, OnErr, length, slice_get};
+ghost use Rattle.std.specs.Prelude.{◌≡◌, ◌<◌, false, [], ◌∷◌, List, Result, Ok, OnErr, length, slice_get};
 ghost use Rattle.core_tree.specs.Seen.{core_of};
 ghost use Rattle.ref_cells.specs.Answers.{Gives};
 ghost use Rattle.ref_cells.specs.Places.{AreKnown};
+ghost use Rattle.ref_cells.specs.declared.cells.Cell.TheVariants.{Pointer};
 ghost use Rattle.ref_cells.specs.declared.cells.Reason.{Reason};
+ghost use Rattle.ref_mem.specs.Reads.{one_cell};
+ghost use Rattle.ref_elements.specs.Outcomes.{gives};
 ghost use Rattle.ref_state.specs.declared.frames.Frame.{Frame};
 ghost use Rattle.ref_state.specs.Items.{top_left, top_values};
 ghost use Rattle.ref_state.specs.declared.state.State.{State};
@@ -15,8 +18,11 @@ ghost use Rattle.ref_calls.specs.Reached.{reached};
 ghost use Rattle.ref_blocks.specs.Plans.{IsPlan};
 ghost use Rattle.ref_statements.specs.Made.{IsWorld};
 ghost use Rattle.ref_statements.specs.Nodes.{do_row, wait_row};
+ghost use Rattle.ref_statements.specs.Rows.{computes};
+ghost use Rattle.ref_machine.specs.Standing.{AreStanding};
 ghost use Rattle.ref_machine.specs.Step.{top_items, placed, target_of, is_direct, called, call_row, calls, waited, leaves, item_step, outside_step};
 
+use crate::standing::standing_at;
 use c_types::key::ObjectKey;
 use c_types::term::OutOfMemory;
 use call_sites::calls::is_call;
@@ -34,6 +40,7 @@ use ref_frames::leaving::leave;
 use ref_frames::running::Running;
 use ref_frames::tops::replace_item;
 use ref_start::begin::begin;
+use ref_start::standing::{Standing, place_value};
 use ref_state::items::Item;
 use ref_state::notes::Notes;
 use ref_state::ref_types::types::LibraryTypes;
@@ -41,8 +48,8 @@ use ref_state::state::{State, StepAnswer};
 use ref_statements::nodes::{do_row, wait_row};
 use ref_statements::rows::World;
 
-// The top item is a node that is done.
-fn does(
+// The top item is a node that is done, by its row.
+fn does_row(
     running: &Running<'_>,
     plan: &Plan,
     state: &mut State,
@@ -70,6 +77,51 @@ fn does(
     match done {
         Ok(stores) => Ok(Notes::of(stores)),
         Err(fault) => Err(fault),
+    }
+}
+
+// The top item is a node that names an object of the whole run, which has that instance.
+fn names(running: &Running<'_>, state: &mut State, n: u32, i: u32) -> Result<Notes, MemFault>
+    requires frames { 0 < length state.old.frames }
+    ensures row { (f : Frame) (rest : List Frame) → state.old.frames ≡ f ∷ rest →
+        Gives (λ notes. record state.new { notes = notes }) result
+        (placed state.old rest (computes f n (gives state.old.memory (one_cell (Pointer i [] false))))) }
+    ensures err { OnErr result (state.new ≡ state.old) }
+{
+    let alloc = running.alloc;
+    let value = place_value(alloc, i)?;
+    let mut frame = replace(&mut state.frames, 0, no_frame(alloc));
+    let done = frame.items.settle(n, value);
+    let _none = replace(&mut state.frames, 0, frame);
+    match done {
+        Ok(()) => Ok(Notes::none(alloc)),
+        Err(_) => Err(MemFault::OutOfMemory),
+    }
+}
+
+// The top item is a node that is done.
+fn does(
+    running: &Running<'_>,
+    plan: &Plan,
+    standing: &Standing,
+    state: &mut State,
+    n: u32,
+    word: u64,
+) -> Result<Notes, MemFault>
+    requires running { IsRunning running.now }
+    requires plan { IsPlan (core_of running.now.trees) plan.now }
+    requires memory { AreKnown (length running.now.trees.types.now.terms) state.old.memory }
+    requires standing { AreStanding standing.now state.old.memory }
+    requires frames { 0 < length state.old.frames }
+    requires values { top_values (top_items state.old.frames) ≡ [] }
+    ensures row { (f : Frame) (rest : List Frame) → state.old.frames ≡ f ∷ rest →
+        Gives (λ notes. record state.new { notes = notes }) result
+        (placed state.old rest (do_row (core_of running.now.trees) state.old.memory f n word)) }
+    ensures err { OnErr result (state.new ≡ state.old) }
+{
+    match standing_at(&running.trees, standing, state, n) {
+        Some(i) => names(running, state, n, i),
+        None => does_row(running, plan, state, n, word),
     }
 }
 
@@ -297,12 +349,14 @@ fn waited(
 pub fn frame_step(
     running: &Running<'_>,
     plan: &Plan,
+    standing: &Standing,
     state: &mut State,
     word: u64,
 ) -> Result<StepAnswer, OutOfMemory>
     requires running { IsRunning running.now }
     requires plan { IsPlan (core_of running.now.trees) plan.now }
     requires memory { AreKnown (length running.now.trees.types.now.terms) state.old.memory }
+    requires standing { AreStanding standing.now state.old.memory }
     requires frames { 0 < length state.old.frames }
     ensures { (f : Frame) (rest : List Frame) → state.old.frames ≡ f ∷ rest →
         Steps result state.old state.new (item_step (seen running.now) state.old f rest f.items word) }
@@ -319,7 +373,7 @@ pub fn frame_step(
         }
         Some(Item::Do(n)) => {
             let n = *n;
-            let row = does(running, plan, state, n, word);
+            let row = does(running, plan, standing, state, n, word);
             answers(state, n, row)
         }
         Some(Item::Wait { node, left, .. }) => {

@@ -11,6 +11,7 @@ use Rattle.core_tree.specs.declared.node.NodeKind.TheVariants.{Initialise}
 use Rattle.core_tree.specs.declared.node.Entity.{Entity}
 use Rattle.core_tree.specs.Range.{InRange}
 use Rattle.core_tree.specs.Typed.{CoreTrees}
+use Rattle.c_types.specs.declared.key.ObjectKey.{ObjectKey}
 use Rattle.c_types.specs.declared.key.ObjectKey.TheVariants.{Entity as EntityKey}
 use Rattle.ref_cells.specs.declared.cells.Value.{Value}
 use Rattle.ref_cells.specs.declared.instance.Instance.{Instance}
@@ -22,6 +23,7 @@ use Rattle.ref_frames.proofs.Arguments.{drop_next}
 use Rattle.ref_start.specs.Start.{id_in, cells_by, part_of, parts_of, filled_at, filled_by, filled_in, filled_if, all_filled, filled_over}
 use Rattle.ref_start.specs.Fixed.{Fixing, fixed, value_at, PartsGiven, static_body}
 use Rattle.ref_start.proofs.ObjectSteps.{changed_known}
+use Rattle.ref_start.proofs.FirstInstances.{changed_first}
 
 no_children : (nodes : List Node) (fix : Fixing) (paths : List (List PathStep)) → parts_of nodes fix paths [] ≡ []
 no_children nodes fix [] = refl
@@ -87,6 +89,25 @@ module _ (u : CoreTrees) (objects : List Instance) where
       → all_filled u objects (drop (i + 1) entities) (filled_if u objects memory (static_body entity)) ≡ all
   filled_next entities i entity memory all at h =
       sym (ap (λ (xs : List Entity). all_filled u objects xs memory) (drop_next entities i entity at)) ∙ h
+
+  -- the first instance of an object stays
+  module _ (key : ObjectKey) where
+    at_first : (memory : List Instance) (o : Option ℕ) (parts : List Initial) → first_instance key 0 (filled_at u memory o parts) ≡ first_instance key 0 memory
+    at_first memory None parts = refl
+    at_first memory (Some i) parts = changed_first key memory i (initialised u.types false parts) (λ inst. refl) (slice_get memory i) refl
+
+    by_first : (memory : List Instance) (kind : NodeKind) (children : List ℕ) → first_instance key 0 (filled_by u objects memory kind children) ≡ first_instance key 0 memory
+    by_first memory (Initialise e paths) children =
+        at_first memory (first_instance (EntityKey e) 0 memory) (parts_of u.nodes (fixed u objects) paths children)
+    by_first memory kind children = refl
+
+    in_first : (memory : List Instance) (o : Option Node) → first_instance key 0 (filled_in u objects memory o) ≡ first_instance key 0 memory
+    in_first memory None = refl
+    in_first memory (Some node) = by_first memory node.kind node.children
+
+    pub if_first : (memory : List Instance) (o : Option ℕ) → first_instance key 0 (filled_if u objects memory o) ≡ first_instance key 0 memory
+    if_first memory None = refl
+    if_first memory (Some b) = in_first memory (slice_get u.nodes b)
 
   module _ (n : ℕ) where
     at_known : (memory : List Instance) (o : Option ℕ) (parts : List Initial) → AreKnown n memory → AreKnown n (filled_at u memory o parts)

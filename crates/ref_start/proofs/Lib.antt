@@ -1,5 +1,6 @@
 pub mod CellsInOrder
 pub mod ObjectSteps
+pub mod FirstInstances
 pub mod FixedSteps
 pub mod BodySteps
 pub mod MemoryKept

@@ -1,4 +1,5 @@
 pub mod Objects
+pub mod Standing
 pub mod Fixed
 pub mod Start
 pub mod Begin

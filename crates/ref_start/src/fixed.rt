@@ -7,8 +7,10 @@ ghost use Rattle.core_tree.specs.Range.{InRange};
 ghost use Rattle.core_tree.specs.Seen.{core_of};
 ghost use Rattle.ref_cells.specs.Places.{AreKnown};
 ghost use Rattle.ref_start.specs.Start.{cells_by};
+ghost use Rattle.ref_start.specs.Standing.{AreFirst};
 ghost use Rattle.ref_start.specs.Fixed.{way_of, Keeps, all_fixed, kept_by, branch_by, chosen_by, value_over, fixed, value_at, static_body, static_bodies, PartsGiven, BodiesGiven};
 
+use crate::standing::{Standing, first_named, place_value};
 use c_types::term::{OutOfMemory, Term};
 use core_tree::trees::Trees;
 use core_tree::{Entity, Node, NodeKind, Storage};
@@ -213,15 +215,40 @@ fn value_of(
     }
 }
 
+// A node's value: that of a name by its object's first instance, any other from what its operands' values are. The memory stays.
+fn value_by(
+    alloc: Global,
+    trees: &Trees<'_>,
+    standing: &Standing,
+    memory: &mut Memory,
+    table: &[Option<Value>],
+    n: u32,
+) -> Result<Option<Value>, OutOfMemory>
+    requires range { InRange (core_of trees.now) }
+    requires memory { AreKnown (length trees.now.types.now.terms) memory.old }
+    requires standing { AreFirst standing.now memory.old }
+    requires node { n < length trees.now.nodes.now }
+    requires table { PartsGiven (core_of trees.now) memory.old table.now n }
+    ensures value { IfOk result (λ o. o ≡ fixed (core_of trees.now) memory.old n) }
+    ensures memory { memory.new ≡ memory.old }
+{
+    match first_named(trees, standing, n) {
+        Some(i) => Ok(Some(place_value(alloc, i)?)),
+        None => value_of(alloc, trees, memory, table, n),
+    }
+}
+
 /// The values that static objects are initialised with, over the objects before any initialiser, by node: those of all nodes
 /// under such an initialiser are there. The memory stays.
 pub fn fixed_values(
     alloc: Global,
     trees: &Trees<'_>,
+    standing: &Standing,
     memory: &mut Memory,
 ) -> Result<Vec<Option<Value>>, OutOfMemory>
     requires range { InRange (core_of trees.now) }
     requires memory { AreKnown (length trees.now.types.now.terms) memory.old }
+    requires standing { AreFirst standing.now memory.old }
     ensures table { IfOk result (λ table. BodiesGiven (core_of trees.now) memory.old table.items) }
     ensures memory { memory.new ≡ memory.old }
 {
@@ -233,7 +260,7 @@ pub fn fixed_values(
     let mut table = Vec::new(alloc);
     for n in 0..marks.len() {
         if marks[n] {
-            let value = value_of(alloc, trees, memory, table.as_slice(), n as u32)?;
+            let value = value_by(alloc, trees, standing, memory, table.as_slice(), n as u32)?;
             push(&mut table, value)?;
         } else {
             push(&mut table, None)?;

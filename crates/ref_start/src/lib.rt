@@ -4,4 +4,5 @@
 pub mod begin;
 pub mod fixed;
 pub mod objects;
+pub mod standing;
 pub mod start;

@@ -9,10 +9,12 @@ ghost use Rattle.ref_cells.specs.declared.instance.Instance.{Instance};
 ghost use Rattle.ref_cells.specs.Places.{IsKnown, AreKnown};
 ghost use Rattle.ref_start.specs.Objects.{object_types};
 ghost use Rattle.ref_start.specs.Fixed.{value_at, PartsGiven};
+ghost use Rattle.ref_start.specs.Standing.{AreFirst};
 ghost use Rattle.ref_start.specs.Start.{part_of, parts_of, filled_at, filled_by, filled_if, all_filled, filled_over, start_memory};
 
 use crate::fixed::{cells_by, fixed_values, static_body};
 use crate::objects::static_objects;
+use crate::standing::{Standing, first_of, standing_in};
 use c_types::key::ObjectKey;
 use c_types::term::{OutOfMemory, PathStep};
 use core_tree::trees::Trees;
@@ -22,7 +24,6 @@ use pta_base::Listing;
 use ref_cells::cells::{Value, copy_path};
 use ref_mem::memory::Memory;
 use ref_mem::{Initial, initialise};
-use ref_places::places::first_instance;
 use ref_state::lists::push;
 use ref_state::ref_types::LibraryTypes;
 use std::alloc::Global;
@@ -92,12 +93,14 @@ fn fill(
 fn fill_by(
     alloc: Global,
     trees: &Trees<'_>,
+    standing: &Standing,
     memory: &mut Memory,
     table: &[Option<Value>],
     n: u32,
 ) -> Result<(), OutOfMemory>
     requires range { InRange (core_of trees.now) }
     requires memory { AreKnown (length trees.now.types.now.terms) memory.old }
+    requires standing { AreFirst standing.now memory.old }
     ensures { (objects : List Instance) → PartsGiven (core_of trees.now) objects table.now n →
         OnOk result (memory.new ≡ filled_if (core_of trees.now) objects memory.old (Some n)) }
 {
@@ -107,12 +110,9 @@ fn fill_by(
     let NodeKind::Initialise { entity, paths } = &node.kind else {
         return Ok(());
     };
-    if memory.instances().len() > u32::MAX as usize {
-        return Err(OutOfMemory);
-    }
     let children = node.children.as_slice();
     let parts = parts_of(alloc, trees.nodes, table, paths.as_slice(), children)?;
-    match first_instance(memory.instances(), ObjectKey::Entity(*entity)) {
+    match first_of(standing, ObjectKey::Entity(*entity)) {
         Some(i) => fill(alloc, trees, memory, i, parts.as_slice()),
         None => Ok(()),
     }
@@ -124,10 +124,11 @@ fn fill_all(alloc: Global, trees: &Trees<'_>, memory: &mut Memory) -> Result<(),
     requires memory { AreKnown (length trees.now.types.now.terms) memory.old }
     ensures { OnOk result (memory.new ≡ filled_over (core_of trees.now) memory.old) }
 {
-    let table = fixed_values(alloc, trees, memory)?;
+    let standing = standing_in(alloc, memory.instances())?;
+    let table = fixed_values(alloc, trees, &standing, memory)?;
     for entity in trees.entities {
         match static_body(entity) {
-            Some(body) => fill_by(alloc, trees, memory, table.as_slice(), body)?,
+            Some(body) => fill_by(alloc, trees, &standing, memory, table.as_slice(), body)?,
             None => {}
         }
     }

@@ -6,8 +6,9 @@ use Rattle.ref_blocks.specs.Plans.{IsPlan}
 use Rattle.ref_frames.specs.Running.{Running}
 use Rattle.ref_calls.specs.Outcomes.{Steps}
 use Rattle.ref_machine.specs.Types.{running}
-use Rattle.ref_machine.specs.Step.{item_step, outside_step, step}
-use Rattle.ref_machine.proofs.KnownSteps.{step_kept, after_step}
+use Rattle.ref_machine.specs.Step.{item_step, outside_step}
+use Rattle.ref_machine.proofs.KnownSteps.{later}
+use Rattle.ref_machine.proofs.FirstInstances.{standing_stays}
 use Rattle.ref_machine.proofs.Stepped.{framed, unframed}
 use Rattle.ref_machine.proofs.machine.stepped.Goals as goal
 
@@ -34,15 +35,15 @@ returns-then-depth-gt0-clause-step c =
 
 pub returns-then-depth-gt0-clause-known : goal.returns-then-depth-gt0-clause-known
 returns-then-depth-gt0-clause-known c =
-    let st = c.args.state.now in
-    let new = c.frame_step.new.state in
-    let w = running c.args.program.now in
-    let g = c.running-running.ensures.grounded in
-    after_step w g c.frame_step.result st new (step w st c.args.word)
-    (framed c.frame_step.result st new w c.args.word (omega (arith, c.if-depth-gt0.true, c.depth.ensures))
-    (λ f rest e. subst (λ (w : Running). Steps c.frame_step.result st new (item_step w st f rest f.items c.args.word))
-    c.running-running.ensures.seen (c.frame_step.ensures f rest e)))
-    (step_kept w g st c.args.word c.requires.known) c.requires.known
+    (later (running c.args.program.now) c.running-running.ensures.grounded c.frame_step.result c.args.state.now c.frame_step.new.state c.args.word
+    (returns-then-depth-gt0-clause-step c) c.requires.known).known
+
+pub returns-then-depth-gt0-clause-standing : goal.returns-then-depth-gt0-clause-standing
+returns-then-depth-gt0-clause-standing c =
+    standing_stays c.args.standing.now c.args.state.now.memory c.frame_step.new.state.memory
+    (later (running c.args.program.now) c.running-running.ensures.grounded c.frame_step.result c.args.state.now c.frame_step.new.state c.args.word
+    (returns-then-depth-gt0-clause-step c) c.requires.known).keys
+    c.requires.standing
 
 pub returns-else-depth-gt0-clause-step : goal.returns-else-depth-gt0-clause-step
 returns-else-depth-gt0-clause-step c =
@@ -53,11 +54,12 @@ returns-else-depth-gt0-clause-step c =
 
 pub returns-else-depth-gt0-clause-known : goal.returns-else-depth-gt0-clause-known
 returns-else-depth-gt0-clause-known c =
-    let st = c.args.state.now in
-    let new = c.outside_step.new.state in
-    let w = running c.args.program.now in
-    let g = c.running-running.ensures.grounded in
-    after_step w g c.outside_step.result st new (step w st c.args.word)
-    (unframed c.outside_step.result st new w c.args.word (omega (arith, c.if-depth-gt0.false, c.depth.ensures))
-    (subst (λ (w : Running). Steps c.outside_step.result st new (outside_step w st st.status c.args.word)) c.running-running.ensures.seen c.outside_step.ensures))
-    (step_kept w g st c.args.word c.requires.known) c.requires.known
+    (later (running c.args.program.now) c.running-running.ensures.grounded c.outside_step.result c.args.state.now c.outside_step.new.state c.args.word
+    (returns-else-depth-gt0-clause-step c) c.requires.known).known
+
+pub returns-else-depth-gt0-clause-standing : goal.returns-else-depth-gt0-clause-standing
+returns-else-depth-gt0-clause-standing c =
+    standing_stays c.args.standing.now c.args.state.now.memory c.outside_step.new.state.memory
+    (later (running c.args.program.now) c.running-running.ensures.grounded c.outside_step.result c.args.state.now c.outside_step.new.state c.args.word
+    (returns-else-depth-gt0-clause-step c) c.requires.known).keys
+    c.requires.standing

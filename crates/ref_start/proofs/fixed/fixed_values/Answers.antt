@@ -14,8 +14,8 @@ marks_under-requires-clause-tops c =
     let u = core_of c.args.trees.now in
     subst (All (λ t. t < length u.nodes)) (sym (c.as_slice.ensures.value ∙ c.in_ok-bodies.ensures)) (bodies_within u c.requires.range)
 
-pub value_of-requires-clause-table : goal.value_of-requires-clause-table
-value_of-requires-clause-table c =
+pub value_by-requires-clause-table : goal.value_by-requires-clause-table
+value_by-requires-clause-table c =
     let u = core_of c.args.trees.now in
     let memory = c.args.memory.now in
     let n = c.loop-n.n in

@@ -4,9 +4,10 @@ use Rattle.core_tree.specs.declared.node.Entity.{Entity}
 use Rattle.core_tree.specs.Seen.{core_of}
 use Rattle.ref_cells.specs.declared.cells.Value.{Value}
 use Rattle.ref_cells.specs.Places.{AreKnown}
+use Rattle.ref_places.specs.Places.{first_instance}
 use Rattle.ref_start.specs.Fixed.{PartsGiven, static_body}
 use Rattle.ref_start.specs.Start.{filled_if, all_filled, filled_over}
-use Rattle.ref_start.proofs.FilledSteps.{filled_next, if_known}
+use Rattle.ref_start.proofs.FilledSteps.{filled_next, if_known, if_first}
 use Rattle.ref_start.proofs.start.fill_all.Goals as goal
 use Rattle.ref_start.proofs.start.fill_all.Goals.{in-Some+in_ok-fill_by-in-Some, in-None}
 
@@ -34,6 +35,9 @@ loop-entity-preserved c =
     record {
       known = subst (AreKnown (length u.types.terms)) (sym made)
           (if_known u objects (length u.types.terms) old (static_body entity) c.loop-entity.invariant.known);
+      first = λ key.
+          c.loop-entity.invariant.first key
+          ∙ (sym (if_first u objects key old (static_body entity)) ∙ ap (first_instance key 0) (sym made));
       same =
           ap (all_filled u objects (drop (i + 1) u.entities)) made
           ∙ filled_next u objects u.entities i entity old (filled_over u objects) at c.loop-entity.invariant.same;

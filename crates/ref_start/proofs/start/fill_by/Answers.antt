@@ -25,11 +25,11 @@ fill-requires-clause-parts c =
     let within : All (λ v. v < length u.nodes) children =
     subst (All (λ v. v < length u.nodes)) (sym c.as_slice-children.ensures) (children_within u c.requires.range n node there) in
     subst (All (λ part. part.ty.0 < length u.types.terms))
-    (sym (c.as_slice-in-Some-first_instance.ensures.value ∙ c.in_ok-parts.ensures))
+    (sym (c.as_slice-in-Some-first_of.ensures.value ∙ c.in_ok-parts.ensures))
     (parts_known u c.requires.range fix paths children within)
 
-pub returns-in-Some-first_instance : goal.returns-in-Some-first_instance
-returns-in-Some-first_instance c =
+pub returns-in-Some-first_of : goal.returns-in-Some-first_of
+returns-in-Some-first_of c =
     λ objects given.
     let u = core_of c.args.trees.now in
     let memory = c.args.memory.now in
@@ -41,11 +41,11 @@ returns-in-Some-first_instance c =
     let paths = c.as_slice.result.now in
     let children = c.as_slice-children.result.now in
     let e = c.in-Initialise.entity in
-    let found : first_instance (EntityKey e) 0 memory ≡ Some c.in-Some-first_instance.i =
-    ap (first_instance (EntityKey e) 0) (sym c.instances-2.ensures) ∙ (sym c.first_instance.ensures ∙ c.in-Some-first_instance.is) in
-    let parts = c.as_slice-in-Some-first_instance.result.now in
+    let found : first_instance (EntityKey e) 0 memory ≡ Some c.in-Some-first_of.i =
+    sym (c.requires.standing (EntityKey e)) ∙ (sym c.first_of.ensures ∙ c.in-Some-first_of.is) in
+    let parts = c.as_slice-in-Some-first_of.result.now in
     let made : parts ≡ parts_of u.nodes fix c.in-Initialise.paths node.children =
-    c.as_slice-in-Some-first_instance.ensures.value
+    c.as_slice-in-Some-first_of.ensures.value
     ∙ (c.in_ok-parts.ensures
     ∙ (ap (λ (ps : List (List PathStep)). parts_of u.nodes fix ps children) c.as_slice.ensures
     ∙ ap (parts_of u.nodes fix c.in-Initialise.paths) c.as_slice-children.ensures)) in
@@ -68,7 +68,7 @@ returns c =
     let children = c.as_slice-children.result.now in
     let e = c.in-Initialise.entity in
     let found : first_instance (EntityKey e) 0 memory ≡ None =
-    ap (first_instance (EntityKey e) 0) (sym c.instances-2.ensures) ∙ (sym c.first_instance.ensures ∙ c.in-None.is) in
+    sym (c.requires.standing (EntityKey e)) ∙ (sym c.first_of.ensures ∙ c.in-None.is) in
     let parts = c.in_ok-parts.parts.items in
     let made : parts ≡ parts_of u.nodes fix c.in-Initialise.paths node.children =
     c.in_ok-parts.ensures

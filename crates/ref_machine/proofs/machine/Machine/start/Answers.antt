@@ -1,5 +1,6 @@
-use Rattle.std.proofs.Common.{length, subst}
+use Rattle.std.proofs.Common.{length, ap, sym, subst, ◌∙◌}
 use Rattle.ref_cells.specs.Places.{AreKnown}
+use Rattle.ref_places.specs.Places.{first_instance}
 use Rattle.ref_frames.specs.Made.{seen}
 use Rattle.ref_frames.specs.Running.{Running}
 use Rattle.ref_machine.proofs.PreparedFacts.{library_types_known, memory_starts, starts}
@@ -13,6 +14,8 @@ pub returns-clause-machine : goal.returns-clause-machine
 returns-clause-machine c = record {
   prepared = c.in_ok-prepared.ensures;
   known = subst (λ (w : Running). AreKnown (length w.trees.types.terms) c.in_ok-memory.memory) c.running-running.ensures.seen c.in_ok-memory.ensures.known;
+  standing = λ key i at.
+      sym (c.in_ok-standing.ensures key ∙ ap (first_instance key 0) c.instances.ensures) ∙ at;
 }
 
 pub returns-clause-state : goal.returns-clause-state
