@@ -1,3 +1,4 @@
+mod Joined
 pub mod OneReading
 mod Spots
 mod Stores

@@ -1,6 +1,7 @@
 //! The text of a run of the reference machine: what its steps note, by the names of places, and how it ends.
 #![tactic(auto)]
 
+pub mod laws;
 mod lines;
 mod names;
 mod text;
