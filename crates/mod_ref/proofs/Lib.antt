@@ -1,0 +1,7 @@
+pub mod Gaining
+pub mod Reaching
+pub mod Starts
+pub mod Paths
+pub mod Rising
+pub mod Touching
+pub mod Calling

@@ -1,0 +1,10 @@
+pub mod Pushed
+pub mod Fars
+pub mod Fitting
+pub mod Counting
+pub mod Naming
+pub mod Finding
+pub mod Judging
+pub mod Sighted
+pub mod Loosening
+pub mod Listing
