@@ -6,10 +6,10 @@ use Rattle.std.specs.Str.Parse.{digits_value}
 use Rattle.std.proofs.lemmas.List.{length-map}
 use Rattle.command_line.specs.Rules.{IsNumberIn}
 use Rattle.pta_base.specs.Outside.{HasRisen, IsSteady}
-use Rattle.report_cli.specs.Words.{names_of}
+use Rattle.text_units.specs.Answers.{names_of}
 use Rattle.unit_report.specs.report_text.Outside.{Grows}
 use Rattle.report_cli.specs.Outside.{Receives}
-use Rattle.report_cli.proofs.Texts.{some_same}
+use Rattle.text_units.proofs.Texts.{some_same}
 
 -- nothing was written
 pub grows_nothing : (before after : Option (List ℕ)) → after ≡ before → Grows before after []

@@ -8,11 +8,12 @@ use Rattle.c_grammar.specs.Reads.{State, Fault}
 use Rattle.c_grammar.proofs.Unique.{opens_one}
 use Rattle.c_scope.specs.declared.kinds.NameFault.{NameFault}
 use Rattle.c_scope.specs.Resolves.{first_of}
-use Rattle.report_cli.specs.Answers.{NamedText, Answer}
+use Rattle.text_units.specs.Answers.{NamedText, Answer}
 use Rattle.report_cli.specs.Laws.{OneAlone}
-use Rattle.report_cli.specs.Alone.{Reading, IsReadAs, IsRefusedAlone, AreReadAlone, lexical_refusal, syntax_refusal, name_refusal}
-use Rattle.report_cli.specs.Lowered.{IsRightText, IsRefusedRow}
-use Rattle.report_cli.specs.Outcome.{IsRefusedText, FirstRefused, Refuses, RefusesRead, RefusesTold, RefusesToldRead}
+use Rattle.text_units.specs.Alone.{Reading, IsReadAs, IsRefusedAlone, AreReadAlone, lexical_refusal, syntax_refusal, name_refusal}
+use Rattle.text_units.specs.Lowered.{IsRightText, IsRefusedRow}
+use Rattle.text_units.specs.Refused.{IsRefusedText, FirstRefused}
+use Rattle.report_cli.specs.Outcome.{Refuses, RefusesRead, RefusesTold, RefusesToldRead}
 use Rattle.report_cli.specs.Told.{Told}
 
 -- a unit has one list of tokens

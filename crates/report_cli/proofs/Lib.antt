@@ -1,11 +1,7 @@
 pub mod Written
-pub mod Texts
 pub mod Told
-pub mod Refused
-pub mod Shares
 pub mod Lifted
 pub mod Answered
-pub mod Feeds
 pub mod Pieces
 pub mod Exclusion
 pub mod OneOutcome
@@ -14,6 +10,6 @@ pub mod Twins
 pub mod Taken
 pub mod Together
 pub mod Linked
-pub mod Linkable
 pub mod Scripted
 pub mod Naming
+pub mod Covering

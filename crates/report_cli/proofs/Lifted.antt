@@ -15,8 +15,8 @@ use Rattle.core_tree.specs.declared.node.Program.{Program}
 use Rattle.link_names.specs.declared.fault.LinkFault.{LinkFault}
 use Rattle.link_names.specs.declared.fault.LinkFault.TheVariants as link
 use Rattle.unit_link.specs.Linked.{LinksBadly}
-use Rattle.report_cli.specs.declared.fault.UnitsFault.{UnitsFault}
-use Rattle.report_cli.specs.declared.fault.UnitsFault.TheVariants.{Refused}
+use Rattle.text_units.specs.declared.fault.UnitsFault.{UnitsFault}
+use Rattle.text_units.specs.declared.fault.UnitsFault.TheVariants.{Refused}
 use Rattle.sol_model.specs.declared.system.System.{System}
 use Rattle.obj_space.specs.declared.location.Location.{Location}
 use Rattle.std.specs.Borrow.{Bor}
@@ -30,11 +30,12 @@ use Rattle.report_cli.specs.declared.form.Form.TheVariants.{Report}
 use Rattle.report_cli.specs.Told.{Side, no_side, with_questions, with_words, Told, side_of, parted, told_by, names_for, read_as, told_as, told_for}
 use Rattle.report_cli.specs.Printed.{AreAnswersTo, IsRun, IsPrinted, IsLongScript, HasRefusedLine, HasRefusedByte, IsRefusedScript, AreRefusedWords, IsRefusedSide}
 use Rattle.report_cli.specs.Faults.{IsFaultOfTold}
-use Rattle.report_cli.specs.Answers.{NamedText, Answer, told_units}
-use Rattle.report_cli.specs.Alone.{IsReadAs, IsRefusedAlone, lexical_refusal, syntax_refusal, name_refusal}
-use Rattle.report_cli.specs.Lowered.{IsParsed, IsRightText, AreRightTexts, IsRefusedRow}
+use Rattle.text_units.specs.Answers.{NamedText, Answer, told_units}
+use Rattle.text_units.specs.Alone.{IsReadAs, IsRefusedAlone, lexical_refusal, syntax_refusal, name_refusal}
+use Rattle.text_units.specs.Lowered.{IsParsed, IsRightText, AreRightTexts, IsRefusedRow}
 use Rattle.report_cli.specs.Linking.{IsLinkRefusal, HaveManyNodes, HaveManyWords, link_refusal}
-use Rattle.report_cli.specs.Outcome.{Denotes, IsRefusedText, FirstRefused, AreRefusedTogether, Refuses, RefusesSide, RefusesTold}
+use Rattle.report_cli.specs.Outcome.{Denotes, AreRefusedTogether, Refuses, RefusesSide, RefusesTold}
+use Rattle.text_units.specs.Refused.{IsRefusedText, FirstRefused}
 
 -- the names of told units are those that were asked for
 named_first : (name : List ℕ) (names : List (List ℕ)) (o : Option (List ℕ)) (told : Option (List NamedText)) → IfSome told (λ units. names ≡ map (λ (unit : NamedText). unit.0) units)

@@ -19,12 +19,12 @@ use Rattle.declared_type_laws.proofs.named_rest.Whole.{named_whole}
 use Rattle.command_line.specs.Distinct.{AreDistinct}
 use Rattle.command_line.specs.Rules.{HasUnits, IsUnitWord}
 use Rattle.command_line.specs.Rules as word
-use Rattle.report_cli.specs.Answers.{NamedText}
+use Rattle.text_units.specs.Answers.{NamedText}
 use Rattle.report_cli.specs.Words.{AreUnitNames}
-use Rattle.report_cli.specs.Lowered.{IsRightText, AreRightTexts}
-use Rattle.report_cli.proofs.Texts.{some_same}
-use Rattle.report_cli.proofs.Linked.{cut_tokens}
-use Rattle.report_cli.proofs.Linkable.{IsUnitOf, unit_of}
+use Rattle.text_units.specs.Lowered.{IsRightText, AreRightTexts}
+use Rattle.text_units.proofs.Texts.{some_same}
+use Rattle.text_units.proofs.Lowering.{cut_tokens}
+use Rattle.covered_reports.proofs.Linkable.{IsUnitOf, unit_of}
 
 -- a byte of a word is none that stands between the parts of a location's name
 off : (k : ℕ) → word.is_unit_byte k ≡ false → (c : ℕ) → word.is_unit_byte c ≡ true → nat_eq c k ≡ false

@@ -15,11 +15,12 @@ use Rattle.c_tags.specs.tag_numbers.Ordered.{AreInOrder}
 use Rattle.c_lower.specs.passed.unit_walk.Walked.{AreDense}
 use Rattle.reading_laws.specs.Reading.{IsRead, AreOne}
 use Rattle.reading_laws.proofs.Reading.{one_tree}
-use Rattle.report_cli.specs.Answers.{NamedText, Answer, refusal, place_text}
-use Rattle.report_cli.specs.Alone.{IsReadAs}
-use Rattle.report_cli.specs.Lowered.{IsParsed, IsRightText, AreRightTexts, IsRefusedRow, kind_refusal}
+use Rattle.text_units.specs.Answers.{NamedText, Answer, refusal, place_text}
+use Rattle.text_units.specs.Alone.{IsReadAs}
+use Rattle.text_units.specs.Lowered.{IsParsed, IsRightText, AreRightTexts, IsRefusedRow, kind_refusal}
 use Rattle.report_cli.specs.Told.{Told}
-use Rattle.report_cli.specs.Outcome.{Denotes, IsRefusedText, FirstRefused, HaveRightUnits, AreRefusedTogether, Refuses, RefusesTold, RefusesToldRight}
+use Rattle.report_cli.specs.Outcome.{Denotes, AreRefusedTogether, Refuses, RefusesTold, RefusesToldRight}
+use Rattle.text_units.specs.Refused.{IsRefusedText, FirstRefused, HaveRightUnits}
 use Rattle.report_cli.proofs.Exclusion.{one_alone, alone_or_read, alone_or_right}
 
 -- numbers in the order of first specifiers are one numbering

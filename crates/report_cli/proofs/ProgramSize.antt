@@ -7,8 +7,8 @@ use Rattle.c_senses.specs.Names.{source_of, numbered}
 use Rattle.unit_link.specs.Linked.{Linked}
 use Rattle.reading_laws.specs.right_laws.Alike.{AreAlike}
 use Rattle.reading_laws.proofs.right_laws.RightAlike.{right_alike}
-use Rattle.report_cli.specs.Answers.{NamedText, Answer}
-use Rattle.report_cli.specs.Lowered.{IsRightText, AreRightTexts}
+use Rattle.text_units.specs.Answers.{NamedText, Answer}
+use Rattle.text_units.specs.Lowered.{IsRightText, AreRightTexts}
 use Rattle.report_cli.specs.Linking.{HaveManyNodes, HaveManyWords, nodes_refusal, words_refusal}
 use Rattle.report_cli.specs.Outcome.{Denotes}
 use Rattle.report_cli.specs.Laws.{OneProgramSize}
@@ -21,7 +21,7 @@ use Rattle.outcome_laws.proofs.text_faults.Texts.{right_twins}
 use Rattle.outcome_laws.specs.twin_programs.One.{AreAllRooted}
 use Rattle.outcome_laws.proofs.twin_words.Whole.{one_word_total}
 use Rattle.report_cli.proofs.Twins.{one_text_units, same_texts}
-use Rattle.report_cli.proofs.Linkable.{IsUnitOf, unit_of}
+use Rattle.covered_reports.proofs.Linkable.{IsUnitOf, unit_of}
 
 alike : (number : ℕ) (text : NamedText) (u v : Unit) → IsRightText number text u → IsRightText number text v → AreAlike u v
 alike number text u v h k =

@@ -12,21 +12,22 @@ use Rattle.unit_report.specs.declared.unit_answers.fault.AnswersFault.{AnswersFa
 use Rattle.unit_report.specs.declared.unit_answers.fault.AnswersFault.TheVariants.{Question, OutOfMemory}
 use Rattle.unit_report.specs.unit_answers.Answered.{IsProgramAnswers}
 use Rattle.unit_report.specs.unit_answers.Fault.{IsAnswersFault}
-use Rattle.report_cli.specs.declared.fault.UnitsFault.{UnitsFault}
-use Rattle.report_cli.specs.declared.fault.UnitsFault.TheVariants.{Refused, Memory}
+use Rattle.text_units.specs.declared.fault.UnitsFault.{UnitsFault}
+use Rattle.text_units.specs.declared.fault.UnitsFault.TheVariants.{Refused, Memory}
 use Rattle.report_cli.specs.declared.form.Form.{Form}
 use Rattle.c_lexer.specs.Places.{line_of, column_of}
 use Rattle.ref_state.specs.declared.run_words.words.WordsFault.{WordsFault}
 use Rattle.ref_state.specs.declared.run_words.words.WordsFault.TheVariants as words
 use Rattle.ref_state.specs.run_words.Words.{IsRefusal}
-use Rattle.report_cli.specs.Answers.{NamedText, Answer, refusal, place_text}
-use Rattle.report_cli.specs.Alone.{malformed_at}
-use Rattle.report_cli.specs.Words.{names_of, with_side}
+use Rattle.text_units.specs.Answers.{NamedText, Answer, refusal, place_text, names_of}
+use Rattle.text_units.specs.Alone.{malformed_at}
+use Rattle.report_cli.specs.Words.{with_side}
 use Rattle.report_cli.specs.Told.{Side, no_side, with_questions, with_words, side_of}
 use Rattle.report_cli.specs.Printed.{AreAnswersTo, AreRefusedWords, IsRefusedSide}
 use Rattle.report_cli.specs.Outcome.{Denotes}
 use Rattle.report_cli.specs.Scripts.{told_with}
-use Rattle.report_cli.specs.Faults.{fault_of, AreFaultOfWords, IsFaultOf, IsFaultOfTold, IsFaultOfSide, IsAnswersRefusal, IsWordsRefusal}
+use Rattle.text_units.specs.Faults.{fault_of}
+use Rattle.report_cli.specs.Faults.{AreFaultOfWords, IsFaultOf, IsFaultOfTold, IsFaultOfSide, IsAnswersRefusal, IsWordsRefusal}
 
 one_of : (a b : List ℕ) → Some a ≡ Some b → a ≡ b
 one_of a b h = cc

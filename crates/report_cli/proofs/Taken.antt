@@ -8,7 +8,7 @@ use Rattle.core_tree.specs.declared.node.Program.{Program}
 use Rattle.sol_model.specs.declared.system.System.{System}
 use Rattle.obj_space.specs.declared.location.Location.{Location}
 use Rattle.unit_report.specs.unit_answers.Answered.{setting_of}
-use Rattle.report_cli.specs.Answers.{NamedText, Answer}
+use Rattle.text_units.specs.Answers.{NamedText, Answer}
 use Rattle.run_text.proofs.OneReading.{one_reading}
 use Rattle.report_cli.specs.Printed.{IsRefusedScript, AreRefusedWords}
 use Rattle.report_cli.specs.Accepted.{IsTakenScript, AreTakenWords}

@@ -7,9 +7,9 @@ use Rattle.obj_space.specs.Space.{locations_in}
 use Rattle.obj_space.specs.View.{view_of}
 use Rattle.constraints.specs.System.{IsWithin}
 use Rattle.outcome_laws.proofs.text_faults.Texts.{one_text_fault}
-use Rattle.report_cli.specs.Answers.{NamedText, Answer}
+use Rattle.text_units.specs.Answers.{NamedText, Answer}
 use Rattle.report_cli.specs.Told.{Side, no_side, with_questions, with_words, Told}
-use Rattle.report_cli.specs.Lowered.{AreRightTexts}
+use Rattle.text_units.specs.Lowered.{AreRightTexts}
 use Rattle.report_cli.specs.Linking.{IsLinkRefusal, HaveManyNodes, HaveManyWords, link_refusal}
 use Rattle.report_cli.specs.Outcome.{Denotes, AreRefusedTogether, Refuses, RefusesSide, RefusesTold}
 use Rattle.report_cli.specs.Accepted.{TakesSide, AreAccepted}

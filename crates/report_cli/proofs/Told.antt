@@ -4,9 +4,8 @@ use Rattle.std.specs.Prelude.{option_and_then}
 use Rattle.std.specs.Borrow.{Bor}
 use Rattle.std.proofs.lemmas.List.{map-append, take_more, length-map}
 use Rattle.std.proofs.lemmas.Option.{slice_get-get_or}
-use Rattle.report_cli.proofs.Texts.{some_same}
-use Rattle.report_cli.specs.Words.{names_of}
-use Rattle.report_cli.specs.Answers.{NamedText, told_units}
+use Rattle.text_units.proofs.Texts.{some_same}
+use Rattle.text_units.specs.Answers.{names_of, NamedText, told_units}
 
 with_last : List ℕ → Option (List NamedText) → Option (List ℕ) → Option (List NamedText)
 with_last name told last = option_and_then (λ (units : List NamedText). option_map (λ (text : List ℕ). units ++ (name, text) ∷ []) last) told

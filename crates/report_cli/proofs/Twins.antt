@@ -6,10 +6,10 @@ use Rattle.c_senses.specs.Names.{source_of, numbered}
 use Rattle.c_senses.specs.Right.{Right}
 use Rattle.c_lower.specs.PassedOn.{HasTags}
 use Rattle.outcome_laws.specs.text_faults.Texts.{AreOfOneText, AreOfOneTexts}
-use Rattle.report_cli.specs.Answers.{NamedText}
-use Rattle.report_cli.specs.Lowered.{IsRightText, AreRightTexts}
+use Rattle.text_units.specs.Answers.{NamedText}
+use Rattle.text_units.specs.Lowered.{IsRightText, AreRightTexts}
 use Rattle.report_cli.proofs.OneOutcome.{same_numbered}
-use Rattle.report_cli.proofs.Linked.{cut_tokens}
+use Rattle.text_units.proofs.Lowering.{cut_tokens}
 
 pub one_text_units : (number : ℕ) (text : NamedText) (u v : Unit) → IsRightText number text u → IsRightText number text v → AreOfOneText number u v
 one_text_units number text u v h k =

@@ -11,7 +11,7 @@ use Rattle.alias_query.specs.declared.answers.Question.{Question}
 use Rattle.alias_query.specs.Script.{lines_of}
 use Rattle.alias_query.specs.Asked.{AreAsked}
 use Rattle.unit_report.specs.unit_answers.Answered.{setting_of}
-use Rattle.report_cli.specs.Answers.{NamedText}
+use Rattle.text_units.specs.Answers.{NamedText}
 use Rattle.ref_state.specs.run_words.Words.{IsReading}
 use Rattle.report_cli.specs.Told.{Side, no_side, with_questions, with_words, Told}
 use Rattle.report_cli.specs.Outcome.{Denotes}

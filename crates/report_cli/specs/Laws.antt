@@ -2,15 +2,16 @@
 use Rattle.std.specs.Prelude.{◌≡◌, ◌⊎◌, ℕ, List, length}
 use Rattle.core_tree.specs.declared.node.Unit.{Unit}
 use Rattle.core_tree.specs.declared.node.Program.{Program}
-use Rattle.report_cli.specs.Answers.{NamedText, Answer}
-use Rattle.report_cli.specs.Alone.{IsRefusedAlone, AreReadAlone}
+use Rattle.text_units.specs.Answers.{NamedText, Answer}
+use Rattle.text_units.specs.Alone.{IsRefusedAlone, AreReadAlone}
 use Rattle.reading_laws.specs.right_laws.Alike.{AreAlike}
 use Rattle.obj_space.specs.Space.{locations_in}
 use Rattle.obj_space.specs.View.{view_of}
 use Rattle.constraints.specs.System.{IsWithin, word_total}
-use Rattle.report_cli.specs.Lowered.{IsRightText}
+use Rattle.text_units.specs.Lowered.{IsRightText}
 use Rattle.report_cli.specs.Linking.{IsLinkRefusal, HaveManyNodes, HaveManyWords}
-use Rattle.report_cli.specs.Outcome.{Denotes, FirstRefused, IsRefusedText, HaveRightUnits, Refuses, RefusesTold}
+use Rattle.report_cli.specs.Outcome.{Denotes, Refuses, RefusesTold}
+use Rattle.text_units.specs.Refused.{FirstRefused, IsRefusedText, HaveRightUnits}
 use Rattle.report_cli.specs.Told.{Told}
 use Rattle.report_cli.specs.Accepted.{AreAccepted}
 

@@ -1,7 +1,4 @@
 pub mod Words
-pub mod Answers
-pub mod Alone
-pub mod Lowered
 pub mod Linking
 pub mod Told
 pub mod Printed

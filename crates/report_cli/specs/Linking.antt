@@ -8,8 +8,8 @@ use Rattle.link_names.specs.declared.fault.LinkFault.TheVariants.{Conflict, Twic
 use Rattle.unit_link.specs.Linked.{LinksBadly}
 use Rattle.unit_report.specs.unit_system.Of.{IsProgramOf}
 use Rattle.unit_report.specs.unit_system.Faults.{HasNodes, HasWords}
-use Rattle.report_cli.specs.Answers.{NamedText, Answer, refusal, place_text}
-use Rattle.report_cli.specs.Lowered.{AreRightTexts}
+use Rattle.text_units.specs.Answers.{NamedText, Answer, refusal, place_text}
+use Rattle.text_units.specs.Lowered.{AreRightTexts}
 
 -- the name of a unit by its number
 abbrev pub unit_name : List (List ℕ) → ℕ → List ℕ

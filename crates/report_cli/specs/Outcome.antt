@@ -1,14 +1,14 @@
 -- What the words, the texts of the units and what is read beside them say of the answer.
-use Rattle.std.specs.Prelude.{◌≡◌, ◌⊎◌, ℕ, ◌+◌, ⊤, List, [], ◌∷◌, codes}
+use Rattle.std.specs.Prelude.{◌≡◌, ◌⊎◌, ℕ, List, [], codes}
 use Rattle.core_tree.specs.declared.node.Unit.{Unit}
 use Rattle.core_tree.specs.declared.node.Program.{Program}
 use Rattle.sol_model.specs.declared.system.System.{System}
 use Rattle.obj_space.specs.declared.location.Location.{Location}
 use Rattle.unit_report.specs.unit_system.Of.{IsProgramOf, IsSystemOf}
 use Rattle.command_line.specs.Rules.{AreRight}
-use Rattle.report_cli.specs.Answers.{NamedText, Answer, refusal}
-use Rattle.report_cli.specs.Alone.{IsRefusedAlone}
-use Rattle.report_cli.specs.Lowered.{IsRightText, AreRightTexts, IsRefusedRow}
+use Rattle.text_units.specs.Answers.{NamedText, Answer, refusal}
+use Rattle.text_units.specs.Lowered.{AreRightTexts, IsRefusedRow}
+use Rattle.text_units.specs.Refused.{IsRefusedText, FirstRefused}
 use Rattle.report_cli.specs.Linking.{IsLinkRefusal, HaveManyNodes, HaveManyWords}
 use Rattle.report_cli.specs.Told.{Side, Told}
 use Rattle.report_cli.specs.Printed.{IsPrinted, IsRefusedSide}
@@ -17,19 +17,6 @@ use Rattle.report_cli.specs.Printed.{IsPrinted, IsRefusedSide}
 -- its own functions made
 unfoldable pub Denotes : List NamedText → Program → Type 0
 Denotes texts program = (units : List Unit) × AreRightTexts 0 texts units × IsProgramOf units program
-
--- the refusal of a text, as unit of that number: for its tokens, its syntax or its names, or for its first row that
--- doesn't fit
-abbrev pub IsRefusedText : ℕ → NamedText → Answer → Type 0
-IsRefusedText number text answer = IsRefusedAlone text answer ⊎ IsRefusedRow number text answer
-
--- the refusal of the first text that isn't right, where those before it are; the first text is the unit of that
--- number
-abbrev pub FirstRefused : (ℕ → NamedText → Answer → Type 0) → ℕ → List NamedText → Answer → Type 0
-FirstRefused IsRefused number [] answer = ⊥
-FirstRefused IsRefused number (text ∷ texts) answer =
-    IsRefused number text answer
-    ⊎ ((u : Unit) × IsRightText number text u × FirstRefused IsRefused (number + 1) texts answer)
 
 -- the refusal of texts that are right: for a fault of linking, or for a limit that their program passes
 abbrev pub AreRefusedTogether : List NamedText → Answer → Type 0
@@ -43,11 +30,6 @@ Refuses texts answer = FirstRefused IsRefusedText 0 texts answer ⊎ AreRefusedT
 -- the same of texts that are read alone
 abbrev pub RefusesRead : List NamedText → Answer → Type 0
 RefusesRead texts answer = FirstRefused IsRefusedRow 0 texts answer ⊎ AreRefusedTogether texts answer
-
--- each text has a right unit, the first of them as unit of that number
-abbrev pub HaveRightUnits : ℕ → List NamedText → Type 0
-HaveRightUnits number [] = ⊤
-HaveRightUnits number (text ∷ texts) = ((u : Unit) × IsRightText number text u) × HaveRightUnits (number + 1) texts
 
 -- what is read beside the units is refused on the program that their texts denote
 pub record RefusesSide (texts : List NamedText) (side : Side) (answer : Answer) : Type 0 where

@@ -13,8 +13,8 @@ use Rattle.report_cli.specs.declared.form.Form.{Form}
 use Rattle.report_cli.specs.declared.form.Form.TheVariants.{Report, Summary}
 use Rattle.ref_state.specs.run_words.Words.{IsReading}
 use Rattle.run_text.specs.RunText.{run_told}
-use Rattle.report_cli.specs.Answers.{NamedText, Answer, refusal, place_text}
-use Rattle.report_cli.specs.Alone.{malformed_at}
+use Rattle.text_units.specs.Answers.{NamedText, Answer, refusal, place_text}
+use Rattle.text_units.specs.Alone.{malformed_at}
 use Rattle.report_cli.specs.Told.{Side, no_side, with_questions, with_words}
 
 -- bytes are the report of the least solution of a program's system, as JSON or as lines

@@ -4,7 +4,7 @@ use Rattle.report_cli.specs.declared.form.Form.{Form}
 use Rattle.report_cli.specs.declared.side.SideText.{SideText}
 use Rattle.report_cli.specs.declared.side.Side.{Side as SideRead}
 use Rattle.report_cli.specs.declared.side.Side.TheVariants as read
-use Rattle.report_cli.specs.Answers.{NamedText}
+use Rattle.text_units.specs.Answers.{NamedText}
 use Rattle.report_cli.specs.Told.{Side, no_side, with_questions, with_words, Told}
 
 abbrev pub named : SideText → NamedText

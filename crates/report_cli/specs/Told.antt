@@ -5,9 +5,9 @@ use Rattle.gen_units.specs.Generated.{unit_text}
 use Rattle.command_line.specs.declared.command.Command.{Command}
 use Rattle.report_cli.specs.declared.form.Form.{Form}
 use Rattle.report_cli.specs.declared.form.Form.TheVariants.{Report, Summary}
-use Rattle.report_cli.specs.Words.{json_read, names_of, names_read, number_read, side_name, steps_read, units_read}
+use Rattle.report_cli.specs.Words.{json_read, names_read, number_read, side_name, steps_read, units_read}
+use Rattle.text_units.specs.Answers.{names_of, NamedText, told_units}
 use Rattle.report_cli.specs.Words.{with_side}
-use Rattle.report_cli.specs.Answers.{NamedText, told_units}
 
 -- what is read beside the units: nothing, a script of questions, or the words of a run of at most so many steps
 pub data Side : Type 0 where

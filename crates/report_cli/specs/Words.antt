@@ -1,7 +1,6 @@
 -- The words of the command line, and what right words ask for.
 use Rattle.std.specs.Prelude.{ℕ, Bool, List, [], ◌∷◌, ◌++◌, map, string_bytes, String, codes, Option, Some, None}
 use Rattle.std.specs.List.{All}
-use Rattle.std.specs.Borrow.{Bor}
 use Rattle.std.specs.declared.alloc.Global.{Global}
 use Rattle.location_laws.specs.name_shapes.Bytes.{is_unit_byte, IsMadeOf}
 use Rattle.command_line.specs.Language.{found_in}
@@ -11,10 +10,6 @@ use Rattle.command_line.specs.Meaning.{number_of}
 -- the bytes of words
 abbrev pub texts_of : List (String Global) → List (List ℕ)
 texts_of words = map string_bytes words
-
--- the texts of names that are borrowed
-abbrev pub names_of : List (Bor (List ℕ)) → List (List ℕ)
-names_of names = map (λ name. name.now) names
 
 -- names that are made of the bytes of units' names, which keep the parts of a location's name apart
 abbrev pub AreUnitNames : List (List ℕ) → Type 0

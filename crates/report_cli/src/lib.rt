@@ -1,14 +1,10 @@
 // The top call: from the words of the command line to a report.
 #![tactic(auto)]
 
-mod alone;
-mod fault;
 mod form;
 mod input;
 pub mod laws;
-mod lowered;
 mod output;
-mod places;
 mod reading;
 mod refusals;
 mod running;

@@ -1,14 +1,15 @@
 // Reading the texts of all units.
 ghost use Rattle.std.specs.Prelude.{◌≡◌, ℕ, ◌<◌, ◌≤◌, List, Some, Err, ◌+◌, map, option_map, take, length, slice_get, IfOk, IfSome, OnOk};
 ghost use Rattle.pta_base.specs.Outside.{HasRisen};
-ghost use Rattle.report_cli.specs.Words.{names_of, side_name};
-ghost use Rattle.report_cli.specs.Answers.{told_units};
+ghost use Rattle.text_units.specs.Answers.{names_of, told_units};
+ghost use Rattle.report_cli.specs.Words.{side_name};
 ghost use Rattle.report_cli.specs.Told.{names_for};
 
 use crate::input::{ReadFault, read_text};
 use command_line::Command;
 use pta_base::{Listing, Units};
 use std::alloc::{AllocError, AllocFailed, Global};
+use text_units::lowered::name_at;
 
 /// Why the texts of units could not be read: the outside failed under the name of this number, or memory wanted.
 #[derive(Clone, Copy)]
@@ -46,15 +47,6 @@ fn buffer(alloc: Global, size: usize) -> Result<Vec<u8>, AllocError>
     ensures { IfOk result (λ buffer. 0 < length buffer.items) }
 {
     vec![in alloc; 0u8; size]
-}
-
-/// The name of a number.
-#[tactic(auto, using(crate::proofs::Texts::text_at))]
-pub(crate) fn name_at<'a>(names: &[&'a str], number: usize) -> &'a str
-    requires { number < length names.now }
-    ensures { slice_get (names_of names.now) number ≡ Some result.now }
-{
-    names[number]
 }
 
 /// The name of the text that a command reads beside its units: that of its script, and `words` for a run.

@@ -1,25 +1,16 @@
-// The refusals of texts that are read alone: those of their rows, of linking, and of limits.
-ghost use Rattle.std.specs.Prelude.{◌≡◌, ◌++◌, List, ℕ, IfOk, codes, decimal};
-ghost use Rattle.std.specs.Option.{unwrap_or};
-ghost use Rattle.pta_base.specs.declared.kind.Kind.TheVariants.{Operand};
-ghost use Rattle.report_cli.specs.Words.{names_of};
-ghost use Rattle.report_cli.specs.Answers.{place_text, refusal};
-ghost use Rattle.report_cli.specs.Lowered.{kind_refusal};
+// The refusals of texts that are right: those of linking, and of limits.
+ghost use Rattle.std.specs.Prelude.{◌≡◌, ◌++◌, IfOk, codes, decimal};
+ghost use Rattle.text_units.specs.Answers.{names_of, place_text, refusal};
 ghost use Rattle.report_cli.specs.Linking.{unit_name, link_refusal};
-ghost use Rattle.report_cli.specs.Faults.{fault_of, IsAnswersRefusal, IsKindRefusal, IsSystemRefusal};
+ghost use Rattle.text_units.specs.Faults.{fault_of};
+ghost use Rattle.report_cli.specs.Faults.{IsAnswersRefusal, IsSystemRefusal};
 
-use crate::alone::not_accepted;
-use crate::fault::UnitsFault;
-use crate::places::place_text;
-use c_grammar::Tree;
-use c_lexer::Tokens;
-use c_statements::own_place;
-use core_nodes::CheckFault;
 use itoa::Buffer;
 use link_names::LinkFault;
-use pta_base::{Kind, Listing, OutOfMemory, Place, Text};
+use pta_base::{Listing, Place, Text};
 use std::alloc::{AllocError, Global};
-use tree_reads::Syntax;
+use text_units::fault::UnitsFault;
+use text_units::places::place_text;
 use unit_report::unit_answers::AnswersFault;
 use unit_report::unit_system::UnitFault;
 
@@ -33,48 +24,6 @@ fn refused(status: u8, line: Vec<u8>) -> Result<UnitsFault, AllocError>
         status,
         line: Listing::of(line),
     })
-}
-
-/// The refusal of a construct that isn't accepted, at the own token of a node.
-fn kind_refusal(
-    alloc: Global,
-    name: &str,
-    tokens: &Tokens,
-    tree: &Tree,
-    kind: Kind,
-    node: u32,
-) -> Result<UnitsFault, OutOfMemory>
-    ensures { IfOk result (λ fault. fault ≡ fault_of (kind_refusal name.now tokens.now tree.now kind node)) }
-{
-    let syntax = Syntax::new(alloc, tokens, tree)?;
-    let place = own_place(&syntax, node);
-    let text = place_text(alloc, name, u64::from(place.line), u64::from(place.column))?;
-    let fault = not_accepted(text, kind)?;
-    Ok(fault)
-}
-
-/// The refusal for the fault of a node.
-pub(crate) fn row_refusal(
-    alloc: Global,
-    name: &str,
-    tokens: &Tokens,
-    tree: &Tree,
-    fault: CheckFault,
-) -> Result<UnitsFault, OutOfMemory>
-    ensures { IfOk result (IsKindRefusal name.now tokens.now tree.now fault) }
-{
-    match fault {
-        CheckFault::BadOperand(node) => kind_refusal(
-            alloc,
-            name,
-            tokens,
-            tree,
-            Kind::Operand,
-            node,
-        ),
-        CheckFault::Unsupported(kind, node) => kind_refusal(alloc, name, tokens, tree, kind, node),
-        CheckFault::OutOfMemory => Ok(UnitsFault::Memory),
-    }
 }
 
 /// The name of a unit by its number; no bytes where there is no such unit.

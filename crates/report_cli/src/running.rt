@@ -11,10 +11,7 @@ ghost use Rattle.report_cli.specs.Scripts.{named};
 ghost use Rattle.report_cli.specs.Printed.{IsRun};
 ghost use Rattle.report_cli.specs.Faults.{AreFaultOfWords, IsFaultOfSide, IsWordsRefusal};
 
-use crate::alone::{malformed, too_large};
-use crate::fault::UnitsFault;
 use crate::form::Printed;
-use crate::places::{column_of, line_of, place_text};
 use crate::side::{MOST, SideText};
 use pta_base::{Gate, OutOfMemory};
 use ref_state::run_words::words::{WordsFault, words_in};
@@ -23,6 +20,9 @@ use run_text::run_text;
 use sol_model::System;
 use std::alloc::{AllocError, Global};
 use std::thread::Threads;
+use text_units::alone::{malformed, too_large};
+use text_units::fault::UnitsFault;
+use text_units::places::{column_of, line_of, place_text};
 use unit_report::unit_system::UnitSystem;
 use unit_report::{Solved, solve_on_rows};
 

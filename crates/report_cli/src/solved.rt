@@ -11,19 +11,16 @@ ghost use Rattle.obj_space.specs.Space.{DistinctNames};
 ghost use Rattle.location_laws.specs.named_laws.Units.{AreNamedUnits};
 ghost use Rattle.unit_report.specs.unit_system.Of.{IsSystemOf};
 ghost use Rattle.unit_report.specs.Solved.{IsSolvedShared};
-ghost use Rattle.report_cli.specs.Words.{names_of, AreUnitNames};
-ghost use Rattle.report_cli.specs.Answers.{NamedText};
-ghost use Rattle.report_cli.specs.Lowered.{AreRightTexts};
+ghost use Rattle.text_units.specs.Answers.{names_of, NamedText};
+ghost use Rattle.report_cli.specs.Words.{AreUnitNames};
+ghost use Rattle.text_units.specs.Lowered.{AreRightTexts};
 ghost use Rattle.report_cli.specs.Printed.{AreAnswersTo, IsInForm, IsPrinted};
 ghost use Rattle.report_cli.specs.Outcome.{Denotes};
 ghost use Rattle.report_cli.specs.Told.{with_questions};
 ghost use Rattle.report_cli.specs.Scripts.{named, named_side, told_with};
 ghost use Rattle.report_cli.specs.Faults.{IsFaultOf, IsFaultOfSide, IsFaultOfTold};
 
-use crate::alone::too_large;
-use crate::fault::UnitsFault;
 use crate::form::{Form, Printed};
-use crate::lowered::lower_each;
 use crate::refusals::{answers_refusal, system_refusal};
 use crate::running::ran;
 use crate::side::{MOST, Side, SideText};
@@ -33,6 +30,9 @@ use pta_base::{Gate, Listing, OutOfMemory};
 use std::alloc::Global;
 use std::sync::Wait;
 use std::thread::Threads;
+use text_units::alone::too_large;
+use text_units::fault::UnitsFault;
+use text_units::lowered::lower_each;
 use unit_report::unit_answers::answers_of_system;
 use unit_report::unit_system::{UnitSystem, linked_system};
 use unit_report::{Solved, report_of_system};
@@ -106,6 +106,23 @@ fn text_in_form<R: Threads + Sync, G: Gate + Sync>(
     }
 }
 
+/// The core units that texts are, by so many workers at the most, or the fault that refuses the texts.
+fn lower_texts<R: Threads + Sync, G: Gate + Sync>(
+    rt: &R,
+    alloc: Global,
+    names: &[&str],
+    texts: &[Listing<u8>],
+    workers: u32,
+    gate: &G,
+) -> Result<Vec<Unit>, UnitsFault>
+    requires count { length texts.now ≡ length names.now }
+    requires few { length names.now ≤ 2 ^ 8 }
+    ensures right { IfOk result (λ units. AreRightTexts 0 (zip (names_of names.now) texts.now) units.items) }
+    ensures refused { IfErr result (IsFaultOf (zip (names_of names.now) texts.now)) }
+{
+    lower_each(rt, alloc, names, texts, workers, gate)
+}
+
 /// What is printed of the program of units of distinct names, its report, as JSON or as lines, its summary, the answers to a script or the
 /// text of a run, with the system that was solved for it, or the fault that refuses the units or what is read beside them.
 pub(crate) fn text_of_units<R: Threads + Wait + Sync, G: Gate + Sync>(
@@ -127,7 +144,7 @@ pub(crate) fn text_of_units<R: Threads + Wait + Sync, G: Gate + Sync>(
         × IsPrinted form (named_side side.entry) program system made.text.items made.status × IsSolvedShared system made.solved) }
     ensures refused { IfErr result (IsFaultOfTold (told_with (zip (names_of names.now) texts.now) (named_side side.entry) form)) }
 {
-    let units = lower_each(rt, alloc, names, texts, workers, gate)?;
+    let units = lower_texts(rt, alloc, names, texts, workers, gate)?;
     let made = match linked(alloc, names, units) {
         Ok(made) => made,
         Err(fault) => return Err(fault),

@@ -5,23 +5,24 @@ ghost use Rattle.core_tree.specs.declared.node.Program.{Program};
 ghost use Rattle.sol_model.specs.declared.system.System.{System};
 ghost use Rattle.command_line.specs.Rules.{AreRight};
 ghost use Rattle.command_line.specs.Distinct.{AreDistinct};
-ghost use Rattle.report_cli.specs.Words.{names_of, names_read, steps_read, texts_of, AreUnitNames};
-ghost use Rattle.report_cli.specs.Answers.{Answer};
+ghost use Rattle.text_units.specs.Answers.{names_of, Answer};
+ghost use Rattle.covered_reports.specs.Reports.{AreRunsCovered};
+ghost use Rattle.report_cli.specs.Words.{names_read, steps_read, texts_of, AreUnitNames};
 ghost use Rattle.report_cli.specs.Told.{generated, names_for, read_as, told_as, told_for};
 ghost use Rattle.report_cli.specs.Printed.{IsPrinted};
-ghost use Rattle.report_cli.specs.Alone.{AreReadAlone};
+ghost use Rattle.text_units.specs.Alone.{AreReadAlone};
 ghost use Rattle.report_cli.specs.Scripts.{named_side};
 ghost use Rattle.report_cli.specs.Accepted.{AreAccepted};
-ghost use Rattle.report_cli.specs.Outcome.{Denotes, HaveRightUnits, IsRefusedBy, RefusesToldRead, RefusesToldRight, Outcome};
+ghost use Rattle.report_cli.specs.Outcome.{Denotes, IsRefusedBy, RefusesToldRead, RefusesToldRight, Outcome};
+ghost use Rattle.text_units.specs.Refused.{HaveRightUnits};
 ghost use Rattle.unit_report.specs.report_text.Outside.{Grows, GrowsInPart};
 ghost use Rattle.report_cli.specs.Outside.{IsWritten, Receives, source_fault, sink_fault, out_of_memory, usage_line};
 ghost use Rattle.unit_report.specs.Solved.{IsKept, IsSolvedShared};
 ghost use Rattle.report_cli.specs.Faults.{IsFaultOfTold};
 
-use crate::fault::UnitsFault;
 use crate::form::{Form, Printed};
 use crate::output::say;
-use crate::reading::{ReadingFault, name_at, names_for, read_units, side_name};
+use crate::reading::{ReadingFault, names_for, read_units, side_name};
 use crate::side::{Side, SideText};
 use crate::solved::text_of_units;
 use command_line::{Command, WordsFault, parse_words};
@@ -30,6 +31,8 @@ use pta_base::{Gate, Listing, Sink, Units};
 use std::alloc::{AllocError, Global};
 use std::sync::Wait;
 use std::thread::Threads;
+use text_units::fault::UnitsFault;
+use text_units::lowered::name_at;
 use unit_report::Solved;
 use unit_report::report_text::write_text;
 
@@ -285,10 +288,12 @@ pub fn analyse<R: Threads + Wait + Sync, U: Units, O: Sink, E: Sink, G: Gate + S
 
     // Status 0 means that the bytes written are the report of the least solution of the constraints of the program that
     // the units denote, or with a script the answers to its questions by that solution, with `--gen` the summary of it, or
-    // with `--run` the text of a run of the program in which no step stopped.
+    // with `--run` the text of a run of the program in which no step stopped; and that in every run of defined steps of the
+    // reference machine on that program, each pointer held in memory and each function called through a pointer stands in
+    // the sets of that solution.
     ensures headline { result ≡ 0 → IfSome (told_for (U.text units.old) (texts_of words.now)) (λ told.
         (program : Program) × (system : System) × (text : List ℕ) × Denotes told.units program
-        × IsPrinted told.form told.side program system text 0
+        × IsPrinted told.form told.side program system text 0 × AreRunsCovered program system
         × Grows (O.written out.old) (O.written out.new) text) }
 
     // Status 11 means that the bytes written are the text of a run whose last step stopped; words without `--run` don't

@@ -19,10 +19,10 @@ use Rattle.outcome_laws.proofs.twin_programs.Whole.{twin_programs}
 use Rattle.outcome_laws.proofs.text_faults.Texts.{right_twins}
 use Rattle.outcome_laws.specs.twin_scripts.Scripts.{SameScripts, read_with}
 use Rattle.outcome_laws.proofs.twin_scripts.Whole.{twin_scripts}
-use Rattle.report_cli.specs.Answers.{NamedText}
-use Rattle.report_cli.specs.Lowered.{AreRightTexts}
+use Rattle.text_units.specs.Answers.{NamedText}
+use Rattle.text_units.specs.Lowered.{AreRightTexts}
 use Rattle.report_cli.specs.Outcome.{Denotes}
-use Rattle.report_cli.proofs.Linkable.{IsUnitOf, unit_of}
+use Rattle.covered_reports.proofs.Linkable.{IsUnitOf, unit_of}
 use Rattle.report_cli.proofs.Twins.{same_texts}
 
 -- each node of a right unit is a body or a child, and each initialiser its entity's body

@@ -8,8 +8,8 @@ use Rattle.unit_report.specs.unit_system.Of.{IsSystemOf}
 use Rattle.alias_query.specs.Script.{lines_of}
 use Rattle.c_lexer.specs.Places.{line_of, column_of}
 use Rattle.run_text.proofs.OneReading.{one_reading}
-use Rattle.report_cli.specs.Answers.{NamedText, Answer, refusal, place_text}
-use Rattle.report_cli.specs.Alone.{malformed_at}
+use Rattle.text_units.specs.Answers.{NamedText, Answer, refusal, place_text}
+use Rattle.text_units.specs.Alone.{malformed_at}
 use Rattle.report_cli.specs.Told.{Side, no_side, with_questions, with_words, Told}
 use Rattle.report_cli.specs.Outside.{IsWritten}
 use Rattle.report_cli.specs.Printed.{AreAnswersTo, IsPrinted, IsRefusedScript, AreRefusedWords}

@@ -4,7 +4,7 @@ use Rattle.core_tree.specs.declared.node.Program.{Program}
 use Rattle.sol_model.specs.declared.system.System.{System}
 use Rattle.obj_space.specs.declared.location.Location.{Location}
 use Rattle.unit_report.specs.unit_system.Of.{IsSystemOf}
-use Rattle.report_cli.specs.Answers.{NamedText, Answer}
+use Rattle.text_units.specs.Answers.{NamedText, Answer}
 use Rattle.report_cli.specs.Told.{Side, no_side, with_questions, with_words, Told}
 use Rattle.report_cli.specs.Outside.{IsWritten}
 use Rattle.report_cli.specs.Printed.{IsPrinted}

@@ -1,6 +1,5 @@
 use Rattle.std.proofs.Common.{rules, ◌≡◌, ◌<◌, ◌+◌, ◌++◌, ◌∷◌, [], List, ℕ, Option, length, take, sym, ◌∙◌, ap, subst, IfSome}
-use Rattle.report_cli.specs.Words.{names_of}
-use Rattle.report_cli.specs.Answers.{told_units}
+use Rattle.text_units.specs.Answers.{names_of, told_units}
 use Rattle.report_cli.proofs.Told.{AreRead, read_more}
 use Rattle.report_cli.proofs.reading.read_units.Goals as goal
 

@@ -1,6 +1,5 @@
 use Rattle.std.proofs.Common.{◌≡◌, ℕ, List, map, take, length, IfSome}
-use Rattle.report_cli.specs.Words.{names_of}
-use Rattle.report_cli.specs.Answers.{told_units}
+use Rattle.text_units.specs.Answers.{names_of, told_units}
 use Rattle.report_cli.proofs.reading.read_units.Given as goal
 
 -- what was read is that of the told texts of the words so far

@@ -1,4 +1,4 @@
-use Rattle.report_cli.specs.Words.{names_of}
+use Rattle.text_units.specs.Answers.{names_of}
 use Rattle.report_cli.proofs.Linked.{system_refused, denoted}
 use Rattle.report_cli.proofs.Naming.{are_distinct}
 use Rattle.report_cli.proofs.solved.linked.Goals as goal

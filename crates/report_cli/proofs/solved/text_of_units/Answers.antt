@@ -1,14 +1,15 @@
 use Rattle.std.specs.Prelude.{zip}
 use Rattle.std.proofs.Common.{List, ℕ, refl, sym, subst}
 use Rattle.command_line.specs.Distinct.{AreDistinct}
-use Rattle.report_cli.specs.Words.{names_of, AreUnitNames}
+use Rattle.text_units.specs.Answers.{names_of}
+use Rattle.report_cli.specs.Words.{AreUnitNames}
 use Rattle.report_cli.specs.declared.side.Side.{Side}
 use Rattle.report_cli.specs.Printed.{IsPrinted}
 use Rattle.report_cli.specs.Faults.{IsFaultOfTold}
 use Rattle.report_cli.specs.Told.{with_questions, with_words}
 use Rattle.report_cli.specs.Scripts.{named, named_side, told_with}
-use Rattle.report_cli.proofs.Refused.{zip_names}
-use Rattle.report_cli.proofs.Linkable.{linkable, filled}
+use Rattle.text_units.proofs.Refused.{zip_names}
+use Rattle.covered_reports.proofs.Linkable.{linkable, filled}
 use Rattle.report_cli.proofs.Naming.{are_named}
 use Rattle.report_cli.proofs.Scripted.{both_ok, on_fault, side_told, units_told}
 use Rattle.report_cli.proofs.solved.text_of_units.Goals as goal

@@ -1,17 +1,20 @@
 use Rattle.std.proofs.Common.{◌≡◌, ℕ, List, [], length, Option, Some, inl, inr, refl, sym, ◌∙◌, ap, subst, arith, codes, Err, slice_get}
 use Rattle.std.specs.Prelude.{zip, Contains, IsSome}
+use Rattle.std.specs.Borrow.{Bor}
+use Rattle.std.proofs.lemmas.List.{length-map}
 use Rattle.sol_model.proofs.Members.{Contains-at}
 use Rattle.command_line.specs.Language.{found_in}
 use Rattle.command_line.specs.Rules.{AreRight, gen_word, unit_words}
 use Rattle.command_line.specs.Distinct.{AreDistinct}
-use Rattle.report_cli.specs.Words.{names_of, texts_of, AreUnitNames}
-use Rattle.report_cli.specs.Answers.{Answer, refusal}
-use Rattle.report_cli.specs.Told.{names_for, told_for}
+use Rattle.text_units.specs.Answers.{names_of, Answer, refusal}
+use Rattle.report_cli.specs.Words.{texts_of, AreUnitNames}
+use Rattle.report_cli.specs.Told.{names_for, told_as, told_for}
 use Rattle.report_cli.specs.Outside.{IsWritten, Receives, source_fault}
 use Rattle.report_cli.proofs.Lifted.{IsStatus, names_asked, run_asked, with_told_for, told_denotes, told_prints, told_refuses}
 use Rattle.report_cli.proofs.Exclusion.{told_read}
 use Rattle.report_cli.proofs.OneOutcome.{told_right}
 use Rattle.report_cli.proofs.Together.{accepted_or_refused}
+use Rattle.report_cli.proofs.Covering.{distinct_told, printed_covered}
 use Rattle.report_cli.proofs.Naming.{distinct_units, few_units, formed_units, unit_names}
 use Rattle.report_cli.proofs.Answered.{not_risen, grows_nothing, receives_nothing, always, same_name, number_of_workers, number_generated, few_names}
 use Rattle.report_cli.proofs.top.analyse.Goals as goal
@@ -153,10 +156,24 @@ answer_units-requires-clause-few g c κs within = few_names _ _ c.in-Ok.ensures.
 
 pub returns-clause-headline : goal.returns-clause-headline
 returns-clause-headline g c zero =
-    with_told_for (g.U.Units.text c.args.units.now) (texts_of c.args.words.now) c.in-Ok.command _ _ c.as_slice.result.now _ c.in-Ok.ensures.ok.says
-    (ap names_of c.as_slice-all.ensures.value ∙ c.in-Ok-names_for.ensures) c.as_slice.ensures.value c.in-Ok-read_units.ensures.texts
-    (λ told read. let given = c.answer_units.ensures.delivered zero in
-    (given.0, given.1, given.2, told_denotes _ told given.0 read given.3, told_prints _ told given.0 given.1 given.2 0 read given.4, given.5))
+    let command = c.in-Ok.command in
+    let texts : List (List ℕ) = c.as_slice.result.now in
+    let named : names_of c.as_slice-all.result.now ≡ names_for command = ap names_of c.as_slice-all.ensures.value ∙ c.in-Ok-names_for.ensures in
+    let count : length texts ≡ length (names_for command) =
+    ap length c.as_slice.ensures.value ∙ c.in-Ok-read_units.ensures.count ∙ sym (length-map c.as_slice-all.result.now (λ (b : Bor (List ℕ)). b.now)) ∙ ap length named in
+    let D : List (List ℕ) → Type 0 = AreDistinct in
+    let units : AreDistinct (names_of command.units.items) =
+    subst D (sym c.in-Ok.ensures.ok.says.units) (distinct_units (gen_word (found_in (texts_of c.args.words.now))) (unit_words (found_in (texts_of c.args.words.now))) c.in-Ok.ensures.ok.right.rules.units) in
+    with_told_for (g.U.Units.text c.args.units.now) (texts_of c.args.words.now) command _ _ texts _ c.in-Ok.ensures.ok.says named c.as_slice.ensures.value c.in-Ok-read_units.ensures.texts
+    (λ told read. let given = c.answer_units.ensures.delivered zero in (
+      given.0,
+      given.1,
+      given.2,
+      told_denotes _ told given.0 read given.3,
+      told_prints _ told given.0 given.1 given.2 0 read given.4,
+      printed_covered (told_as command texts) given.0 given.1 given.2 0 (distinct_told command texts count units) given.3 given.4,
+      given.5,
+    ))
 
 pub returns-clause-stopped : goal.returns-clause-stopped
 returns-clause-stopped g c eleven =

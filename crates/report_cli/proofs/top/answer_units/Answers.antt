@@ -2,7 +2,7 @@ use Rattle.std.proofs.Common.{◌≡◌, ◌⊎◌, ℕ, Bool, true, false, if�
 use Rattle.report_cli.proofs.Lifted.{refused_status, IsStatus}
 use Rattle.unit_report.specs.declared.solving.Solved.{Solved}
 use Rattle.unit_report.specs.Solved.{IsKept, IsSolvedShared}
-use Rattle.report_cli.specs.declared.fault.UnitsFault.{UnitsFault}
+use Rattle.text_units.specs.declared.fault.UnitsFault.{UnitsFault}
 use Rattle.core_tree.specs.declared.node.Program.{Program}
 use Rattle.sol_model.specs.declared.system.System.{System}
 use Rattle.report_cli.specs.declared.form.Form.{Form}

@@ -5,12 +5,11 @@ use Rattle.std.proofs.lemmas.Result.{IfOk-weaker}
 use Rattle.core_tree.specs.declared.node.Program.{Program}
 use Rattle.sol_model.specs.declared.system.System.{System}
 use Rattle.unit_report.specs.Solved.{IsSolvedShared}
-use Rattle.report_cli.specs.declared.fault.UnitsFault.{UnitsFault}
+use Rattle.text_units.specs.declared.fault.UnitsFault.{UnitsFault}
 use Rattle.report_cli.specs.declared.form.Form.{Form}
 use Rattle.report_cli.specs.declared.form.Form.TheVariants.{Report}
 use Rattle.report_cli.specs.declared.form.Printed.{Printed}
-use Rattle.report_cli.specs.Answers.{NamedText}
-use Rattle.report_cli.specs.Words.{names_of}
+use Rattle.text_units.specs.Answers.{NamedText, names_of}
 use Rattle.report_cli.specs.Told.{Side, Told, read_as, told_by}
 use Rattle.report_cli.specs.Printed.{IsPrinted}
 use Rattle.report_cli.specs.Outcome.{Denotes}

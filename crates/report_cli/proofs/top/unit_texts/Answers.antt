@@ -1,7 +1,8 @@
 use Rattle.std.proofs.Common.{rules, ◌≡◌, length, ℕ, List, ◌∙◌, ap, option_map, take}
 use Rattle.std.specs.Prelude.{zip}
 use Rattle.std.specs.Borrow.{Bor}
-use Rattle.report_cli.specs.Words.{names_of, side_name}
+use Rattle.text_units.specs.Answers.{names_of}
+use Rattle.report_cli.specs.Words.{side_name}
 use Rattle.report_cli.proofs.Scripted.{units_apart}
 use Rattle.report_cli.proofs.top.unit_texts.Goals as goal
 

@@ -1,0 +1,48 @@
+-- The least sets of the program that texts are read as cover each of its runs.
+use Rattle.std.proofs.Common.{List, map, subst}
+use Rattle.core_tree.specs.declared.node.Program.{Program}
+use Rattle.core_tree.specs.declared.node.Unit.{Unit}
+use Rattle.core_tree.specs.Valid.{ValidProgram}
+use Rattle.sol_model.specs.declared.system.System.{System}
+use Rattle.sol_model.specs.Families.{Family}
+use Rattle.sol_model.specs.Solutions.{IsLeast}
+use Rattle.linked_laws.proofs.valid_laws.Whole.{linked_valid}
+use Rattle.obj_space.specs.declared.location.Location.{Location}
+use Rattle.obj_space.specs.View.{view_of}
+use Rattle.normal_form.specs.SystemOf.{SystemOf}
+use Rattle.command_line.specs.Distinct.{AreDistinct}
+use Rattle.unit_report.specs.unit_system.Of.{IsProgramOf, IsSystemOf}
+use Rattle.text_units.specs.Answers.{NamedText}
+use Rattle.text_units.specs.Lowered.{AreRightTexts}
+use Rattle.covered_programs.specs.Programs.{IsAnalysed}
+use Rattle.covered_programs.proofs.Programs.{programs_covered}
+use Rattle.covered_reports.specs.Reports.{CoversRuns, ReportsCovered}
+use Rattle.covered_reports.proofs.Linkable.{filled, linkable, stored, tables}
+
+module _ (texts : List NamedText) (units : List Unit) (p : Program) (distinct : AreDistinct (map (λ (text : NamedText). text.0) texts)) (right : AreRightTexts 0 texts units) (of : IsProgramOf units p) where
+  valid : ValidProgram p
+  valid =
+      linked_valid units p (linkable texts units distinct right) (tables texts units right) (filled texts units right) of.linked (record { nodes = of.range.types; entities = of.range.entity_types }) of.made of.named
+
+  analysed : (space : List Location) (system : System) (family : Family) → IsSystemOf p space system → IsLeast system family → IsAnalysed units p system family
+  analysed space system family own least = record {
+    linkable = linkable texts units distinct right;
+    tables = tables texts units right;
+    filled = filled texts units right;
+    stored = stored texts units right;
+    linked = of.linked;
+    valid = valid;
+    made = of.made;
+    named = of.named;
+    is_system = subst (λ (s : List Location). SystemOf p (view_of s) system) own.space_is own.system_is;
+    system_valid = own.valid;
+    least = least;
+  }
+
+  covers : (space : List Location) (system : System) (family : Family) → IsSystemOf p space system → IsLeast system family → CoversRuns p system family
+  covers space system family own least =
+      let c = programs_covered units p system family (analysed space system family own least) in
+      record { solved = c.0; covered = c.1 }
+
+pub reports_covered : ReportsCovered
+reports_covered texts units p space system distinct right of own family least = covers texts units p distinct right of space system family own least

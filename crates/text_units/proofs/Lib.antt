@@ -1,0 +1,5 @@
+pub mod Texts
+pub mod Refused
+pub mod Shares
+pub mod Feeds
+pub mod Lowering

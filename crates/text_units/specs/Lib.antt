@@ -1,0 +1,5 @@
+pub mod Answers
+pub mod Alone
+pub mod Lowered
+pub mod Refused
+pub mod Faults
