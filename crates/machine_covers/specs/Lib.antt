@@ -1,0 +1,5 @@
+pub mod Frames
+pub mod Bare
+pub mod Decided
+pub mod Covers
+pub mod Exact

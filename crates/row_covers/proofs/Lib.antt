@@ -1,0 +1,5 @@
+pub mod Walked
+pub mod Spotted
+pub mod Rows
+pub mod Sums
+pub mod Decided
