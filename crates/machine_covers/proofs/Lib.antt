@@ -1,2 +1,9 @@
 pub mod Covers
 pub mod Official
+pub mod Numbers
+pub mod Counted
+pub mod Aims
+pub mod Given
+pub mod Waiting
+pub mod Whole
+pub mod Runs

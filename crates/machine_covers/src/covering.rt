@@ -7,6 +7,7 @@ ghost use Rattle.ref_cells.specs.Places.{AreKnown};
 ghost use Rattle.ref_machine.specs.Machines.{IsMachineOf};
 ghost use Rattle.row_covers.specs.Scene.{IsScene, sight_of};
 ghost use Rattle.machine_covers.specs.Decided.{PartsBy, StateBy, sight_over};
+ghost use Rattle.machine_covers.specs.Whole.{TellsCovered};
 
 use crate::bare::are_awaited;
 use crate::frames::{are_frames_covered, are_kept_covered, are_notes_covered};
@@ -48,6 +49,9 @@ fn are_parts_covered(
 /// waits for the type of a conversion is pointed to by that conversion's operand alone. It takes no memory. The time that it takes grows
 /// with memory, frames and items one by one; the row of each node's value, and the number of each call, is counted over the nodes before.
 ///
+/// Where the system is that of the machine's program over this space, this is `IsCovered`: what the invariant of steps says of memory,
+/// values, frames, kept functions, notes and objects that wait for a type.
+///
 /// It needs the program with which the machine was started, the space and the valid system of that program, and rows of that system's size.
 pub fn covers(
     space: &Space,
@@ -60,7 +64,8 @@ pub fn covers(
     requires nodes { length program.now.nodes.items < 2 ^ 32 }
     requires valid { IsValid system.now }
     requires fits { Fits system.now rows.now }
-    ensures { IsTrue result ↔ StateBy (sight_over program.now space.now system.now (members rows.now)) machine.now.state }
+    ensures decided { IsTrue result ↔ StateBy (sight_over program.now space.now system.now (members rows.now)) machine.now.state }
+    ensures covered { TellsCovered (IsTrue result) program.now space.now system.now (members rows.now) machine.now.state }
 {
     let scene = Scene {
         trees: trees_over(program, machine.types()),
