@@ -9,7 +9,7 @@ stubs it keeps in $STUBS (/tmp/stubs), so a second run is fast.
 
 A verdict counts for CRATE's own files alone, given that what the crates below state holds. All lines go to $STUBS/ROOT/CRATE.log; what
 they say of CRATE itself (refusals, goals at holes, functions that aren't through) is printed. Lemmas that no function's answers reach
-aren't read.
+aren't read, and a function above one that calls a stub may go unchecked: what is through here still has to be proved over its libraries.
 """
 import argparse
 import os
