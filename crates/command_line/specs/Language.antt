@@ -37,6 +37,8 @@ program_command = bare_command (codes "pta")
     ∷ value_option (codes "gen")
     ∷ value_option (codes "run")
     ∷ flag (codes "desk")
+    ∷ flag (codes "effects")
+    ∷ flag (codes "stops")
     ∷ positional_words (codes "unit")
     ∷ [])
 

@@ -5,7 +5,7 @@ use Rattle.std.specs.Str.Parse.{digits_value}
 use Rattle.clap.specs.Words.{Row, Text, first_of}
 use Rattle.clap.specs.Walk.{texts}
 use Rattle.command_line.specs.Language.{found_in}
-use Rattle.command_line.specs.Rules.{AreRight, asks_desk, asks_json, script_word, unit_words}
+use Rattle.command_line.specs.Rules.{AreRight, asks_desk, asks_effects, asks_json, asks_stops, script_word, unit_words}
 use Rattle.command_line.specs.declared.command.Command.{Command}
 
 -- the number of an option, where it stands
@@ -20,6 +20,8 @@ pub record Says (rows : List Row) (command : Command) : Type 0 where
   pub generated : command.generated ≡ number_of (codes "gen") rows
   pub steps : command.steps ≡ number_of (codes "run") rows
   pub desk : command.desk ≡ asks_desk rows
+  pub effects : command.effects ≡ asks_effects rows
+  pub stops : command.stops ≡ asks_stops rows
   pub units : texts command.units.items ≡ unit_words rows
 
 -- the words are right, and the command says what they say

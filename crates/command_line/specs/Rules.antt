@@ -1,5 +1,6 @@
 -- The rules for the words after clap's parse.
-use Rattle.std.specs.Prelude.{◌≡◌, ◌≢◌, ◌<◌, ◌≤◌, ◌||◌, ◌==◌, ℕ, Bool, List, [], Option, None, Some, IfSome, IsSome, length}
+use Rattle.std.specs.Prelude.{◌≡◌, ◌≢◌, ◌<◌, ◌≤◌, ◌||◌, ◌==◌, ℕ, Bool, List, [], Option, None, Some}
+use Rattle.std.specs.Prelude.{IfSome, IsSome, length}
 use Rattle.std.specs.Prelude.{true, false, slice_index, unwrap_or, codes}
 use Rattle.std.specs.Char.{is_ascii_alphanumeric}
 use Rattle.std.specs.List.{All}
@@ -69,6 +70,21 @@ asks_json rows = is_flagged (codes "json") rows
 abbrev pub asks_desk : List Row → Bool
 asks_desk rows = is_flagged (codes "desk") rows
 
+-- whether it is asked what each function may read and write
+abbrev pub asks_effects : List Row → Bool
+asks_effects rows = is_flagged (codes "effects") rows
+
+-- whether it is asked where a run may stop for a type
+abbrev pub asks_stops : List Row → Bool
+asks_stops rows = is_flagged (codes "stops") rows
+
+-- no script, no report as JSON, no generated program, and no run is asked for
+pub record AsksNoOther (rows : List Row) : Type 0 where
+  pub script : script_word rows ≡ None
+  pub json : asks_json rows ≡ false
+  pub gen : gen_word rows ≡ None
+  pub run : run_word rows ≡ None
+
 -- the option's number is well formed and in the range
 abbrev pub IsNumberIn : ℕ → ℕ → Option Text → Type 0
 IsNumberIn least most text = IfSome text (IsDecimalIn least most)
@@ -83,7 +99,8 @@ HasUnits None units = AreUnits units
 HasUnits (Some text) units = units ≡ []
 
 -- what was found keeps the rules: a script has no report, so no form of it, a generated program has neither, and a run
--- has none of the three; a desk stands beside a script alone; the name that is asked for may be that of a unit too
+-- has none of the three; a desk stands beside a script alone; what functions touch and where a run may stop are asked
+-- for each without another text; the name that is asked for may be that of a unit too
 pub record KeepsRules (rows : List Row) : Type 0 where
   pub workers : IsNumberIn 1 64 (first_of (codes "workers") rows)
   pub ask : IsNameIn (script_word rows)
@@ -94,6 +111,9 @@ pub record KeepsRules (rows : List Row) : Type 0 where
   pub run_alone : IsSome (run_word rows)
       → (script_word rows ≡ None) × (asks_json rows ≡ false) × (gen_word rows ≡ None)
   pub desk : asks_desk rows ≡ true → IsSome (script_word rows)
+  pub effects : asks_effects rows ≡ true → AsksNoOther rows
+  pub stops : asks_stops rows ≡ true → AsksNoOther rows
+  pub one : asks_stops rows ≡ true → asks_effects rows ≡ false
   pub units : HasUnits (gen_word rows) (unit_words rows)
 
 -- clap takes the words, and they keep the rules

@@ -60,5 +60,7 @@ pub(crate) fn program<'a>(alloc: Global) -> Result<Command<'a>, AllocError>
     let command = with_option(alloc, command, "gen")?;
     let command = with_option(alloc, command, "run")?;
     let command = with_flag(alloc, command, "desk")?;
+    let command = with_flag(alloc, command, "effects")?;
+    let command = with_flag(alloc, command, "stops")?;
     with_words(alloc, command, "unit")
 }

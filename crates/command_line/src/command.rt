@@ -3,8 +3,9 @@
 /// What the words ask for: the number of workers, 1 to 64 and 1 where no word gives it, the name of a script of questions, where a word
 /// gives it, whether the report is wanted as JSON, which it isn't with a script, the number of a generated program, 1 to 1000, where a
 /// word gives it, with neither of these two, the most steps of a run, 0 to 1,000,000, where a word gives it, with none of these three,
-/// whether the questions are to go over a desk, which they are with a script alone, and the names of the units in order: 1 to 256 of them,
-/// and none of a generated program. The names are borrowed from the words.
+/// whether the questions are to go over a desk, which they are with a script alone, whether it is asked what each function may read and
+/// write, with none of these, whether it is asked where a run may stop for a type, with none of these either, and the names of the units
+/// in order: 1 to 256 of them, and none of a generated program. The names are borrowed from the words.
 #[derive(Drop)]
 pub struct Command<'a> {
     pub workers: u32,
@@ -13,5 +14,7 @@ pub struct Command<'a> {
     pub generated: Option<u32>,
     pub steps: Option<u32>,
     pub desk: bool,
+    pub effects: bool,
+    pub stops: bool,
     pub units: Vec<&'a str>,
 }

@@ -5,8 +5,8 @@ ghost use Rattle.clap.specs.Walk.{texts};
 ghost use Rattle.std.specs.Str.Parse.{digits_value};
 ghost use Rattle.std.specs.Option.{option_map_or};
 ghost use Rattle.command_line.specs.Meaning.{IsCommandOf, Says, number_of};
-ghost use Rattle.command_line.specs.Rules.{AreRight, AreUnits, HasUnits, IsNameIn, IsNumberIn, KeepsRules};
-ghost use Rattle.command_line.specs.Rules.{asks_desk, asks_json, gen_word, run_word, script_word, unit_words};
+ghost use Rattle.command_line.specs.Rules.{AreRight, AreUnits, AsksNoOther, HasUnits, IsNameIn, IsNumberIn, KeepsRules};
+ghost use Rattle.command_line.specs.Rules.{asks_desk, asks_json, gen_word, is_flagged, run_word, script_word, unit_words};
 
 use crate::command::Command;
 use crate::fault::WordsFault;
@@ -171,6 +171,35 @@ fn desk_beside(matches: &ArgMatches<'_>, asked: bool) -> Result<bool, WordsFault
     Ok(desk)
 }
 
+/// Whether a script, a report as JSON, a generated program or a run is asked for.
+fn asks_other(
+    matches: &ArgMatches<'_>,
+    wanted: bool,
+    generated: Option<u32>,
+    steps: Option<u32>,
+) -> bool
+    requires wanted { let rows = rows_of (found_of matches.now) in
+        IsTrue wanted ↔ (((script_word rows ≡ None) × (asks_json rows ≡ false)) → ⊥) }
+    requires generated { generated ≡ number_of (codes "gen") (rows_of (found_of matches.now)) }
+    requires steps { steps ≡ number_of (codes "run") (rows_of (found_of matches.now)) }
+    ensures none { result ≡ false → AsksNoOther (rows_of (found_of matches.now)) }
+    ensures some { result ≡ true → AsksNoOther (rows_of (found_of matches.now)) → ⊥ }
+{
+    wanted || generated.is_some() || steps.is_some()
+}
+
+/// Whether a flag stands that asks for a text of its own, which is refused beside any other.
+fn flag_alone(matches: &ArgMatches<'_>, flag: &str, other: bool) -> Result<bool, WordsFault>
+    ensures ok { IfOk result (λ set. (set ≡ is_flagged flag.now (rows_of (found_of matches.now))) × (set ≡ true → other ≡ false)) }
+    ensures usage { IfErr result (λ fault. (is_flagged flag.now (rows_of (found_of matches.now)) ≡ true) × (other ≡ true)) }
+{
+    let set = is_set(matches, flag);
+    if set && other {
+        return Err(WordsFault::Usage);
+    }
+    Ok(set)
+}
+
 /// The command of words that clap takes.
 fn command_of<'a>(alloc: Global, matches: &ArgMatches<'a>) -> Result<Command<'a>, WordsFault>
     ensures ok { IfOk result (λ command. KeepsRules (rows_of (found_of matches.now)) × Says (rows_of (found_of matches.now)) command) }
@@ -181,6 +210,9 @@ fn command_of<'a>(alloc: Global, matches: &ArgMatches<'a>) -> Result<Command<'a>
     let (ask, json) = wanted(matches, generated)?;
     let steps = steps_alone(matches, generated, json || ask.is_some())?;
     let desk = desk_beside(matches, ask.is_some())?;
+    let other = asks_other(matches, json || ask.is_some(), generated, steps);
+    let effects = flag_alone(matches, "effects", other)?;
+    let stops = flag_alone(matches, "stops", other || effects)?;
     let units = units_beside(alloc, matches, generated)?;
     Ok(Command {
         workers,
@@ -189,16 +221,19 @@ fn command_of<'a>(alloc: Global, matches: &ArgMatches<'a>) -> Result<Command<'a>
         generated,
         steps,
         desk,
+        effects,
+        stops,
         units,
     })
 }
 
 /// The command that the words give, without the program's name. `Usage` comes exactly where they break a rule: an option that isn't
-/// `--workers`, `--ask`, `--desk`, `--json`, `--gen` or `--run`, one that stands twice or lacks its value, a value for `--desk` or
-/// `--json`, more than one of `--ask`, `--json`, `--gen` and `--run`, `--desk` without `--ask`, a number that isn't 1 to 10 digits or is
-/// out of 1 to 64, or behind `--gen` out of 1 to 1000, or behind `--run` over 1,000,000, a unit beside `--gen`, no unit or more than 256
-/// without it, a name of a unit or of a script that isn't 1 to 255 bytes out of letters, digits, `.`, `_`, `-` and `/` or begins with
-/// `-`, and a unit twice. A script may have the name of a unit. Any words may meet want of memory.
+/// `--workers`, `--ask`, `--desk`, `--json`, `--gen`, `--run`, `--effects` or `--stops`, one that stands twice or lacks its value, a value
+/// for `--desk`, `--json`, `--effects` or `--stops`, more than one of `--ask`, `--json`, `--gen`, `--run`, `--effects` and `--stops`,
+/// `--desk` without `--ask`, a number that isn't 1 to 10 digits or is out of 1 to 64, or behind `--gen` out of 1 to 1000, or behind `--run`
+/// over 1,000,000, a unit beside `--gen`, no unit or more than 256 without it, a name of a unit or of a script that isn't 1 to 255 bytes
+/// out of letters, digits, `.`, `_`, `-` and `/` or begins with `-`, and a unit twice. A script may have the name of a unit. Any words may
+/// meet want of memory.
 pub fn parse_words<'a>(alloc: Global, words: &'a [String]) -> Result<Command<'a>, WordsFault>
     ensures ok { IfOk result (λ command. IsCommandOf (map string_bytes words.entry.now) command) }
     ensures usage { IfErr result (λ fault. fault ≡ WordsFault.Usage → AreRight (map string_bytes words.entry.now) → ⊥) }

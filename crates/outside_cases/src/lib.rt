@@ -14,4 +14,6 @@ mod runs;
 #[cfg(test)]
 mod streams;
 #[cfg(test)]
+mod touched;
+#[cfg(test)]
 mod words;

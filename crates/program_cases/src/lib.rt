@@ -8,6 +8,8 @@ mod askers;
 #[cfg(test)]
 mod calls;
 #[cfg(test)]
+mod effects;
+#[cfg(test)]
 mod generated;
 #[cfg(test)]
 mod long;
@@ -21,6 +23,8 @@ mod runs;
 mod scripts;
 #[cfg(test)]
 mod several;
+#[cfg(test)]
+mod stops;
 #[cfg(test)]
 mod tests;
 #[cfg(test)]

@@ -1,11 +1,13 @@
 // Worked rows, whole and with reads and writes of one byte.
 use crate::calls::{Case, OpenGate, ROOM, is_answered};
+use crate::effects::EFFECTS;
 use crate::generated::GENERATED;
 use crate::outside::OUTSIDE;
 use crate::rows::ROWS;
 use crate::runs::RUNS;
 use crate::scripts::SCRIPTS;
 use crate::several::SEVERAL;
+use crate::stops::STOPS;
 use pta_base::OutOfMemory;
 use std::alloc::Global;
 use std::sync::Wait;
@@ -39,7 +41,9 @@ fn rows_of(number: u32) -> &'static str {
         2 => SCRIPTS,
         3 => OUTSIDE,
         4 => RUNS,
-        _ => GENERATED,
+        5 => GENERATED,
+        6 => EFFECTS,
+        _ => STOPS,
     }
 }
 
@@ -82,6 +86,8 @@ fn worked_rows(rt: HostRuntime) -> Result<(), OutOfMemory> {
         (3, 0, 0),
         (4, 0, 0),
         (5, 0, 0),
+        (6, 0, 0),
+        (7, 0, 0),
         (0, 1, 0),
         (1, 1, 0),
         (2, 1, 0),
@@ -91,6 +97,7 @@ fn worked_rows(rt: HostRuntime) -> Result<(), OutOfMemory> {
         (1, 0, 4),
         (1, 0, 64),
         (4, 0, 4),
+        (7, 0, 4),
     ] {
         let wrong = first_wrong(&rt, rt.alloc(), rows_of(number), step, workers)?;
         assert!(rt;

@@ -24,10 +24,9 @@ use Rattle.std.proofs.lemmas.List.{length-map}
 use Rattle.command_line.specs.Language.{found_in}
 use Rattle.command_line.specs.Meaning.{Says}
 use Rattle.command_line.specs.declared.command.Command.{Command}
-use Rattle.report_cli.specs.Words.{json_read, names_read, number_read, script_read as script_asked, side_name, steps_read, units_read, with_side}
+use Rattle.report_cli.specs.Words.{effects_read, names_read, number_read, script_read as script_asked, side_name, steps_read, stops_read, units_read, with_side}
 use Rattle.report_cli.specs.declared.form.Form.{Form}
-use Rattle.report_cli.specs.declared.form.Form.TheVariants.{Report}
-use Rattle.report_cli.specs.Told.{Side, no_side, with_questions, with_words, Told, side_of, parted, told_by, names_for, read_as, told_as, told_for}
+use Rattle.report_cli.specs.Told.{Side, no_side, with_questions, with_words, Told, side_of, form_of, form_read, form_for, parted, told_by, names_for, read_as, told_as, told_for}
 use Rattle.report_cli.specs.Printed.{AreAnswersTo, IsRun, IsPrinted, IsLongScript, HasRefusedLine, HasRefusedByte, IsRefusedScript, AreRefusedWords, IsRefusedSide}
 use Rattle.report_cli.specs.Faults.{IsFaultOfTold}
 use Rattle.text_units.specs.Answers.{NamedText, Answer, told_units}
@@ -213,7 +212,7 @@ script_read n [] = refl
 script_read zero (text ∷ texts) = refl
 script_read (suc n) (text ∷ texts) = script_read n texts
 
-parted_read : (names texts : List (List ℕ)) (told : List NamedText) (j k : Bool) (s t : Option ℕ) (m n : ℕ) → j ≡ k → s ≡ t → m ≡ n → AreReadUnits names texts told
+parted_read : (names texts : List (List ℕ)) (told : List NamedText) (j k : Form) (s t : Option ℕ) (m n : ℕ) → j ≡ k → s ≡ t → m ≡ n → AreReadUnits names texts told
     → IsCutOf (parted j s m (zip names texts)) (parted k t n told)
 parted_read names texts told j k s t m n form steps same read =
     let is : zip names texts ≡ read_units told = zip_is_read names texts told read in record {
@@ -224,7 +223,7 @@ parted_read names texts told j k s t m n form steps same read =
           ∙ ap (side_of s) (script_read n told)
           ∙ side_of-cut s (slice_get told n)
           ∙ ap (λ (o : Option ℕ). cut_side (side_of o (slice_get told n))) steps;
-      form = ap Report form;
+      form = form;
     }
 
 pub told_denotes : (read told : Told) (program : Program) → IsReadOf read told → Denotes read.units program → Denotes told.units program
@@ -268,10 +267,10 @@ stopped_run form None None program system text h = absurd (not_both 11 h.1 refl)
 stopped_run form None (Some script) program system text h = absurd (not_both 11 h.1 refl)
 
 -- so a run is asked for
-pub run_asked : (number : Option ℕ) (json : Bool) (steps : Option ℕ) (count : ℕ) (texts : List NamedText) (program : Program) (system : System) (text : List ℕ)
-    → IsPrinted (told_by number (parted json steps count texts)).form (told_by number (parted json steps count texts)).side program system text 11 → IsSome steps
-run_asked None json steps count texts program system text h = stopped_run (Report json) steps (slice_get texts count) program system text h
-run_asked (Some number) json steps count texts program system text h = absurd (not_both 11 h.1 refl)
+pub run_asked : (number : Option ℕ) (form : Form) (steps : Option ℕ) (count : ℕ) (texts : List NamedText) (program : Program) (system : System) (text : List ℕ)
+    → IsPrinted (told_by number (parted form steps count texts)).form (told_by number (parted form steps count texts)).side program system text 11 → IsSome steps
+run_asked None form steps count texts program system text h = stopped_run form steps (slice_get texts count) program system text h
+run_asked (Some number) form steps count texts program system text h = absurd (not_both 11 h.1 refl)
 
 -- the same of a script's refusal
 long_whole : (script : NamedText) (answer : Answer) → IsLongScript (script.0, take 16777217 script.1) answer → IsLongScript script answer
@@ -363,19 +362,26 @@ names_asked words command says =
 pub units_asked : (words : List (List ℕ)) (command : Command) → Says (found_in words) command → length command.units.items ≡ length (units_read words)
 units_asked words command says = sym (length-map command.units.items (λ (b : Bor (List ℕ)). b.now)) ∙ ap length says.units
 
+-- what a command asks to be printed is what its words ask for
+form_asked : (words : List (List ℕ)) (command : Command) → Says (found_in words) command → form_for command ≡ form_read words
+form_asked words command says =
+    ap (λ (effects : Bool). form_of effects command.stops command.json) says.effects
+    ∙ ap (λ (stops : Bool). form_of (effects_read words) stops command.json) says.stops
+    ∙ ap (λ (json : Bool). form_of (effects_read words) (stops_read words) json) says.json
+
 -- what follows of what a call is told from what was read
 pub with_told_for : (text_of : List ℕ → Option (List ℕ)) (words : List (List ℕ)) (command : Command) (sliced texts slice : List (List ℕ)) (Q : Told → Type 0) → Says (found_in words) command
     → sliced ≡ names_for command → slice ≡ texts → IfSome (told_units text_of sliced) (λ units. texts ≡ map (λ (unit : NamedText). take 16777217 unit.1) units)
     → ((told : Told) → IsReadOf (told_as command slice) told → Q told) → IfSome (told_for text_of words) Q
 with_told_for text_of words command sliced texts slice Q says names slice_is read follows =
     let n : ℕ = length (units_read words) in
-    let json : Bool = json_read words in
+    let form : Form = form_read words in
     let steps : Option ℕ = steps_read words in
-    let f : List NamedText → Told = λ units. told_by (number_read words) (parted json steps n units) in
+    let f : List NamedText → Told = λ units. told_by (number_read words) (parted form steps n units) in
     with_mapped (told_units text_of (names_read words)) f Q
     (with_names text_of sliced (names_for command) (names_read words) texts slice (λ units. Q (f units)) names (names_asked words command says) slice_is read
-    (λ units h. follows (f units) (generated_read command.generated (number_read words) (read_as command slice) (parted json steps n units) says.generated
-    (parted_read (names_for command) slice units command.json json command.steps steps (length command.units.items) n says.json says.steps (units_asked words command says) h))))
+    (λ units h. follows (f units) (generated_read command.generated (number_read words) (read_as command slice) (parted form steps n units) says.generated
+    (parted_read (names_for command) slice units (form_for command) form command.steps steps (length command.units.items) n (form_asked words command says) says.steps (units_asked words command says) h))))
 
 -- the statuses of refusals
 abbrev pub IsStatus : ℕ → Type 0

@@ -13,12 +13,14 @@ use Rattle.unit_report.specs.unit_system.Faults as core
 use Rattle.unit_report.specs.unit_system.Of.{AreLinkedAs, IsSystemOf}
 use Rattle.unit_report.specs.Reported.{IsProgramReport}
 use Rattle.gen_summary.specs.Summary.{IsProgramSummary}
+use Rattle.effects_text.specs.Effects.{IsProgramEffects}
+use Rattle.stop_report.specs.Text.{IsProgramStops}
 use Rattle.text_units.specs.declared.fault.UnitsFault.{UnitsFault}
 use Rattle.report_cli.specs.declared.form.Form.{Form}
-use Rattle.report_cli.specs.declared.form.Form.TheVariants.{Report, Summary}
+use Rattle.report_cli.specs.declared.form.Form.TheVariants.{Report, Summary, Effects, Stops}
 use Rattle.text_units.specs.declared.fault.UnitsFault.TheVariants.{Refused, Memory}
 use Rattle.text_units.specs.Answers.{NamedText, Answer}
-use Rattle.report_cli.specs.Printed.{IsInForm, IsReport, IsSummary}
+use Rattle.report_cli.specs.Printed.{IsInForm, IsReport, IsSummary, AreEffectsOf, AreStopsOf}
 use Rattle.text_units.specs.Lowered.{AreRightTexts}
 use Rattle.report_cli.specs.Linking.{link_refusal}
 use Rattle.report_cli.specs.Outcome.{Denotes, Refuses, AreRefusedTogether}
@@ -82,8 +84,20 @@ pub summed : (number : ℕ) (program : Program) (space : List Location) (system 
 unfolding IsSummary
 summed number program space system text h k = (space, h, k)
 
+-- what the functions of a program may read and write
+pub touched : (program : Program) (space : List Location) (system : System) (text : List ℕ) → IsSystemOf program space system → IsProgramEffects program space system text → AreEffectsOf program system text
+unfolding AreEffectsOf
+touched program space system text h k = (space, h, k)
+
+-- where a run of a program may stop
+pub stopped : (program : Program) (space : List Location) (system : System) (text : List ℕ) → IsSystemOf program space system → IsProgramStops program space system text → AreStopsOf program system text
+unfolding AreStopsOf
+stopped program space system text h k = (space, h, k)
+
 -- what is printed of a program in a form is printed of its system
 pub formed : (form : Form) (program : Program) (system : System) (text : List ℕ) → IsInForm form program system text → (space : List Location) × IsSystemOf program space system
-unfolding IsReport IsSummary
+unfolding IsReport IsSummary AreEffectsOf AreStopsOf
 formed (Report json) program system text h = (h.0, h.1)
 formed (Summary number) program system text h = (h.0, h.1)
+formed Effects program system text h = (h.0, h.1)
+formed Stops program system text h = (h.0, h.1)

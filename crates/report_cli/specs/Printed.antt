@@ -8,9 +8,11 @@ use Rattle.obj_space.specs.declared.location.Location.{Location}
 use Rattle.unit_report.specs.unit_system.Of.{IsSystemOf}
 use Rattle.unit_report.specs.Reported.{IsProgramReport}
 use Rattle.gen_summary.specs.Summary.{IsProgramSummary}
+use Rattle.effects_text.specs.Effects.{IsProgramEffects}
+use Rattle.stop_report.specs.Text.{IsProgramStops}
 use Rattle.unit_report.specs.unit_answers.Answered.{IsProgramAnswers, IsRefusedLine}
 use Rattle.report_cli.specs.declared.form.Form.{Form}
-use Rattle.report_cli.specs.declared.form.Form.TheVariants.{Report, Summary}
+use Rattle.report_cli.specs.declared.form.Form.TheVariants.{Report, Summary, Effects, Stops}
 use Rattle.ref_state.specs.run_words.Words.{IsReading}
 use Rattle.run_text.specs.RunText.{run_told}
 use Rattle.text_units.specs.Answers.{NamedText, Answer, refusal, place_text}
@@ -27,10 +29,22 @@ unfoldable pub IsSummary : ℕ → Program → System → List ℕ → Type 0
 IsSummary number program system text =
     (space : List Location) × IsSystemOf program space system × IsProgramSummary number space system text
 
--- bytes are the report or the summary of a program
+-- bytes are what each function of a program may read and write, by the least solution of its system
+unfoldable pub AreEffectsOf : Program → System → List ℕ → Type 0
+AreEffectsOf program system text =
+    (space : List Location) × IsSystemOf program space system × IsProgramEffects program space system text
+
+-- bytes are the places where a run of a program may stop for a type, by the least solution of its system
+unfoldable pub AreStopsOf : Program → System → List ℕ → Type 0
+AreStopsOf program system text =
+    (space : List Location) × IsSystemOf program space system × IsProgramStops program space system text
+
+-- bytes are the report or the summary of a program, what its functions may read and write, or where it may stop
 abbrev pub IsInForm : Form → Program → System → List ℕ → Type 0
 IsInForm (Report json) program system text = IsReport json program system text
 IsInForm (Summary number) program system text = IsSummary number program system text
+IsInForm Effects program system text = AreEffectsOf program system text
+IsInForm Stops program system text = AreStopsOf program system text
 
 -- bytes are the answers to the questions of a script within the limit, as the least solution of a program's system
 -- says
@@ -53,7 +67,7 @@ pub record IsRun (steps : ℕ) (words : List ℕ) (program : Program) (system : 
   pub status_is : status ≡ (if (run_told program numbers steps).stopped then 11 else 0)
 
 -- bytes are what is printed of a program, with that status: the answers to a script of questions, the text of a run, or
--- else the report, as JSON or as lines, or the summary
+-- else the report, as JSON or as lines, the summary, what functions may read and write, or where a run may stop
 abbrev pub IsPrinted : Form → Side → Program → System → List ℕ → ℕ → Type 0
 IsPrinted form no_side program system text status = IsInForm form program system text × (status ≡ 0)
 IsPrinted form (with_questions script) program system text status =

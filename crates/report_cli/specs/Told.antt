@@ -1,11 +1,12 @@
 -- What a call is told.
-use Rattle.std.specs.Prelude.{ℕ, Bool, List, [], ◌∷◌, Option, Some, None, option_map}
+use Rattle.std.specs.Prelude.{ℕ, Bool, if◌then◌else◌, List, [], ◌∷◌, Option, Some, None, option_map}
 use Rattle.std.specs.Prelude.{length, slice_get, take, zip, codes}
 use Rattle.gen_units.specs.Generated.{unit_text}
 use Rattle.command_line.specs.declared.command.Command.{Command}
 use Rattle.report_cli.specs.declared.form.Form.{Form}
-use Rattle.report_cli.specs.declared.form.Form.TheVariants.{Report, Summary}
-use Rattle.report_cli.specs.Words.{json_read, names_read, number_read, side_name, steps_read, units_read}
+use Rattle.report_cli.specs.declared.form.Form.TheVariants.{Report, Summary, Effects, Stops}
+use Rattle.report_cli.specs.Words.{effects_read, json_read, names_read, number_read, side_name, steps_read}
+use Rattle.report_cli.specs.Words.{stops_read, units_read}
 use Rattle.text_units.specs.Answers.{names_of, NamedText, told_units}
 use Rattle.report_cli.specs.Words.{with_side}
 
@@ -27,12 +28,25 @@ side_of steps None = no_side
 side_of None (Some text) = with_questions text
 side_of (Some steps) (Some text) = with_words steps text
 
+-- what is printed where nothing is read beside the units: what functions touch where that is asked for, else where a
+-- run may stop for a type where that is, and else the report, as JSON or as lines
+abbrev pub form_of : Bool → Bool → Bool → Form
+form_of effects stops json = if effects then Effects else (if stops then Stops else Report json)
+
+-- what words ask for
+abbrev pub form_read : List (List ℕ) → Form
+form_read words = form_of (effects_read words) (stops_read words) (json_read words)
+
+-- what a command asks for
+abbrev pub form_for : Command → Form
+form_for command = form_of command.effects command.stops command.json
+
 -- of named texts the first so many are units, and the one behind them stands beside them
-abbrev pub parted : Bool → Option ℕ → ℕ → List NamedText → Told
-parted json steps count texts = record {
+abbrev pub parted : Form → Option ℕ → ℕ → List NamedText → Told
+parted form steps count texts = record {
   units = take count texts;
   side = side_of steps (slice_get texts count);
-  form = Report json;
+  form = form;
 }
 
 -- the generated program of a number: the one unit `gen`, of which a summary is printed
@@ -49,7 +63,7 @@ told_by (Some number) read = generated number
 abbrev pub told_for : (List ℕ → Option (List ℕ)) → List (List ℕ) → Option Told
 told_for text_of words =
     option_map (λ texts. told_by (number_read words)
-    (parted (json_read words) (steps_read words) (length (units_read words)) texts))
+    (parted (form_read words) (steps_read words) (length (units_read words)) texts))
     (told_units text_of (names_read words))
 
 -- the names that a command reads, and what was read for it
@@ -60,7 +74,7 @@ names_for command =
 -- what was read for a command
 abbrev pub read_as : Command → List (List ℕ) → Told
 read_as command texts =
-    parted command.json command.steps (length command.units.items) (zip (names_for command) texts)
+    parted (form_for command) command.steps (length command.units.items) (zip (names_for command) texts)
 
 abbrev pub told_as : Command → List (List ℕ) → Told
 told_as command texts = told_by command.generated (read_as command texts)

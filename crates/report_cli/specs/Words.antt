@@ -4,7 +4,7 @@ use Rattle.std.specs.List.{All}
 use Rattle.std.specs.declared.alloc.Global.{Global}
 use Rattle.location_laws.specs.name_shapes.Bytes.{is_unit_byte, IsMadeOf}
 use Rattle.command_line.specs.Language.{found_in}
-use Rattle.command_line.specs.Rules.{asks_json, script_word, unit_words}
+use Rattle.command_line.specs.Rules.{asks_effects, asks_json, asks_stops, script_word, unit_words}
 use Rattle.command_line.specs.Meaning.{number_of}
 
 -- the bytes of words
@@ -26,6 +26,14 @@ script_read words = script_word (found_in words)
 -- whether words ask for the report as JSON
 abbrev pub json_read : List (List ℕ) → Bool
 json_read words = asks_json (found_in words)
+
+-- whether words ask what each function may read and write
+abbrev pub effects_read : List (List ℕ) → Bool
+effects_read words = asks_effects (found_in words)
+
+-- whether words ask where a run may stop for a type
+abbrev pub stops_read : List (List ℕ) → Bool
+stops_read words = asks_stops (found_in words)
 
 -- the number of the generated program that words ask for, where they do
 abbrev pub number_read : List (List ℕ) → Option ℕ

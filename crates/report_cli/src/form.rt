@@ -11,10 +11,12 @@ pub(crate) struct Printed {
     pub(crate) solved: Solved,
 }
 
-/// What is printed of a program where nothing is read beside its units: its report, as JSON or as lines, or the summary of the generated
-/// program of a number.
+/// What is printed of a program where nothing is read beside its units: its report, as JSON or as lines, the summary of the generated
+/// program of a number, what each of its functions may read and write, or where a run of it may stop for a type.
 #[derive(Clone, Copy)]
 pub(crate) enum Form {
     Report(bool),
     Summary(u32),
+    Effects,
+    Stops,
 }

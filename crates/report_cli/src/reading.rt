@@ -80,10 +80,12 @@ pub(crate) fn read_units<U: Units>(
     units: &mut U,
     limit: usize,
 ) -> Result<Vec<Listing<u8>>, ReadingFault>
-    ensures texts { IfOk result (λ texts. IfSome (told_units (U.text units.old) (names_of names.now)) (λ told. texts.items ≡ map (λ unit. take limit unit.1) told)) }
+    ensures texts { IfOk result (λ texts. IfSome (told_units (U.text units.old) (names_of names.now))
+        (λ told. texts.items ≡ map (λ unit. take limit unit.1) told)) }
     ensures count { IfOk result (λ texts. length texts.items ≡ length names.now) }
     ensures cause { (number : ℕ) → result ≡ Err (ReadingFault.Source number)
-        → (name : List ℕ) × (slice_get (names_of names.now) number ≡ Some name) × HasRisen (U.faults units.old name) (U.faults units.new name) }
+        → (name : List ℕ) × (slice_get (names_of names.now) number ≡ Some name)
+        × HasRisen (U.faults units.old name) (U.faults units.new name) }
     ensures within { (number : ℕ) → result ≡ Err (ReadingFault.Source number) → number + 1 ≤ length names.now }
     ensures steady { OnOk result ((other : List ℕ) → U.faults units.new other ≡ U.faults units.old other) }
 {

@@ -59,7 +59,8 @@ fn use_refusal(
     place: Place,
     name: &Text,
 ) -> Result<UnitsFault, AllocError>
-    ensures { IfOk result (λ fault. fault ≡ fault_of (refusal 5 (place_text unit.now place.line place.column ++ codes ": undefined " ++ name.now))) }
+    ensures { IfOk result (λ fault.
+        fault ≡ fault_of (refusal 5 (place_text unit.now place.line place.column ++ codes ": undefined " ++ name.now))) }
 {
     let mut line = place_text(alloc, unit, u64::from(place.line), u64::from(place.column))?;
     line.extend_from_slice(b": undefined ")?;

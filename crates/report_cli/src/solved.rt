@@ -25,11 +25,13 @@ use crate::refusals::{answers_refusal, system_refusal};
 use crate::running::ran;
 use crate::side::{MOST, Side, SideText};
 use core_tree::Unit;
+use effects_text::effects_of_system;
 use gen_summary::summary_of_system;
 use pta_base::{Gate, Listing, OutOfMemory};
 use std::alloc::Global;
 use std::sync::Wait;
 use std::thread::Threads;
+use stop_report::stops_of_system;
 use text_units::alone::too_large;
 use text_units::fault::UnitsFault;
 use text_units::lowered::lower_each;
@@ -69,7 +71,8 @@ fn answers_to<R: Threads + Wait + Sync, G: Gate + Sync>(
     requires system { IsSystemOf made.program made.space made.system }
     requires distinct { DistinctNames made.space }
     requires workers { (0 < workers) × (workers ≤ 64) }
-    ensures printed { IfOk result (λ found. AreAnswersTo script.entry.text.now made.program made.system found.text.items × (found.status ≡ 0)) }
+    ensures printed { IfOk result (λ found.
+        AreAnswersTo script.entry.text.now made.program made.system found.text.items × (found.status ≡ 0)) }
     ensures solved { IfOk result (λ found. IsSolvedShared made.system found.solved) }
     ensures refused { IfErr result (IsFaultOfSide made.program made.space made.system (with_questions (named script.entry))) }
 {
@@ -86,7 +89,8 @@ fn answers_to<R: Threads + Wait + Sync, G: Gate + Sync>(
     }
 }
 
-/// The report or the summary of a program, with the system that was solved for it.
+/// The report or the summary of a program, or what its functions touch, or where it may stop for a type, with the system that was solved
+/// for it.
 fn text_in_form<R: Threads + Sync, G: Gate + Sync>(
     rt: &R,
     alloc: Global,
@@ -96,6 +100,7 @@ fn text_in_form<R: Threads + Sync, G: Gate + Sync>(
     gate: &G,
 ) -> Result<(Vec<u8>, Solved), OutOfMemory>
     requires system { IsSystemOf made.program made.space made.system }
+    requires range { InRange (trees_in made.program) }
     requires workers { (0 < workers) × (workers ≤ 64) }
     ensures printed { IfOk result (λ found. IsInForm form made.program made.system found.0.items) }
     ensures solved { IfOk result (λ found. IsSolvedShared made.system found.1) }
@@ -103,6 +108,8 @@ fn text_in_form<R: Threads + Sync, G: Gate + Sync>(
     match form {
         Form::Report(json) => report_of_system(rt, alloc, made, json, workers, gate),
         Form::Summary(number) => summary_of_system(rt, alloc, made, number, workers, gate),
+        Form::Effects => effects_of_system(rt, alloc, made, workers, gate),
+        Form::Stops => stops_of_system(rt, alloc, made, workers, gate),
     }
 }
 
@@ -123,8 +130,9 @@ fn lower_texts<R: Threads + Sync, G: Gate + Sync>(
     lower_each(rt, alloc, names, texts, workers, gate)
 }
 
-/// What is printed of the program of units of distinct names, its report, as JSON or as lines, its summary, the answers to a script or the
-/// text of a run, with the system that was solved for it, or the fault that refuses the units or what is read beside them.
+/// What is printed of the program of units of distinct names, its report, as JSON or as lines, its summary, what its functions touch, where
+/// it may stop for a type, the answers to a script or the text of a run, with the system that was solved for it, or the fault that refuses
+/// the units or what is read beside them.
 pub(crate) fn text_of_units<R: Threads + Wait + Sync, G: Gate + Sync>(
     rt: &R,
     alloc: Global,

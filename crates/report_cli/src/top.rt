@@ -8,7 +8,7 @@ ghost use Rattle.command_line.specs.Distinct.{AreDistinct};
 ghost use Rattle.text_units.specs.Answers.{names_of, Answer};
 ghost use Rattle.covered_reports.specs.Reports.{AreRunsCovered};
 ghost use Rattle.report_cli.specs.Words.{names_read, steps_read, texts_of, AreUnitNames};
-ghost use Rattle.report_cli.specs.Told.{generated, names_for, read_as, told_as, told_for};
+ghost use Rattle.report_cli.specs.Told.{form_for, generated, names_for, read_as, told_as, told_for};
 ghost use Rattle.report_cli.specs.Printed.{IsPrinted};
 ghost use Rattle.text_units.specs.Alone.{AreReadAlone};
 ghost use Rattle.report_cli.specs.Scripts.{named_side};
@@ -61,7 +61,8 @@ fn source_fault_line(alloc: Global, name: &str) -> Result<Vec<u8>, AllocError>
 /// Says that a unit could not be read.
 fn source_fault<E: Sink>(alloc: Global, name: &str, err: &mut E) -> u8
     ensures status { (result ≡ 7) ⊎ (result ≡ 9) }
-    ensures said { result ≡ 7 → Receives (E.written err.old) (E.written err.new) (E.faults err.old) (E.faults err.new) (source_fault name.now) }
+    ensures said { result ≡ 7
+        → Receives (E.written err.old) (E.written err.new) (E.faults err.old) (E.faults err.new) (source_fault name.now) }
     ensures memory { result ≡ 9 → Receives (E.written err.old) (E.written err.new) (E.faults err.old) (E.faults err.new) out_of_memory }
 {
     match source_fault_line(alloc, name) {
@@ -153,6 +154,19 @@ fn text_of_generated<R: Threads + Wait + Sync, G: Gate + Sync>(
     )
 }
 
+/// What is printed for a command where nothing is read beside its units.
+fn form_of(command: &Command<'_>) -> Form
+    ensures { result ≡ form_for command.now }
+{
+    if command.effects {
+        return Form::Effects;
+    }
+    if command.stops {
+        return Form::Stops;
+    }
+    Form::Report(command.json)
+}
+
 /// What is printed for a command by the texts that were read for it, with the system that was solved for it, or the fault that refuses
 /// what it is told.
 fn text_of_command<R: Threads + Wait + Sync, G: Gate + Sync>(
@@ -181,7 +195,7 @@ fn text_of_command<R: Threads + Wait + Sync, G: Gate + Sync>(
             command.units.as_slice(),
             unit_texts(command, texts),
             side_of(command, texts),
-            Form::Report(command.json),
+            form_of(command),
             command.workers,
             gate,
         ),
@@ -205,7 +219,9 @@ fn answer_units<R: Threads + Wait + Sync, O: Sink, E: Sink, G: Gate + Sync>(
     requires workers { (0 < command.now.workers) × (command.now.workers ≤ 64) }
     requires number { IfSome command.now.generated (λ number. (1 ≤ number) × (number ≤ 1000)) }
     requires count { length texts.now ≡ length (names_for command.now) }
-    ensures listed { IsWritten result ⊎ (((result ≡ 3) ⊎ ((result ≡ 4) ⊎ ((result ≡ 5) ⊎ ((result ≡ 6) ⊎ (result ≡ 10))))) ⊎ ((result ≡ 8) ⊎ (result ≡ 9))) }
+    ensures listed { IsWritten result
+        ⊎ (((result ≡ 3) ⊎ ((result ≡ 4) ⊎ ((result ≡ 5) ⊎ ((result ≡ 6) ⊎ (result ≡ 10)))))
+        ⊎ ((result ≡ 8) ⊎ (result ≡ 9))) }
     ensures delivered { result ≡ 0 → (program : Program) × (system : System) × (text : List ℕ)
         × Denotes (told_as command.now texts.now).units program
         × IsPrinted (told_as command.now texts.now).form (told_as command.now texts.now).side program system text 0
@@ -219,7 +235,8 @@ fn answer_units<R: Threads + Wait + Sync, O: Sink, E: Sink, G: Gate + Sync>(
         × Denotes (told_as command.now texts.now).units program
         × IsPrinted (told_as command.now texts.now).form (told_as command.now texts.now).side program system text status
         × GrowsInPart (O.written out.old) (O.written out.new) text }
-    ensures refused { (IsWritten result → ⊥) → result ≢ 8 → result ≢ 9 → (line : List ℕ) × IsRefusedBy (told_as command.now texts.now) result line
+    ensures refused { (IsWritten result → ⊥) → result ≢ 8 → result ≢ 9
+        → (line : List ℕ) × IsRefusedBy (told_as command.now texts.now) result line
         × Receives (E.written err.old) (E.written err.new) (E.faults err.old) (E.faults err.new) line }
     ensures unwritten { (IsWritten result → ⊥) → result ≢ 8 → O.written out.new ≡ O.written out.old }
     ensures cause { result ≡ 8 → HasRisen (O.faults out.old) (O.faults out.new) }
@@ -248,32 +265,35 @@ fn answer_units<R: Threads + Wait + Sync, O: Sink, E: Sink, G: Gate + Sync>(
 }
 
 /// Does all that the program does: reads the units that the words name, writes the report of their program to `out` or the line of a
-/// refusal to `err`, and answers the status. The words are `--workers N`, `--ask UNIT`, `--desk`, `--json`, `--gen N`, `--run N` and units,
-/// in any order (`command_line`). With `--ask` the UNIT is a script of questions, and the answers to them are written in place of the
-/// report; with `--json`, which doesn't stand beside it, the report is one object of JSON; with `--gen`, which stands beside neither of
-/// them nor a unit, the generated program of the number (`gen_units`) is read as the unit `gen`, and a summary (`gen_summary`) is written
-/// in place of the report; with `--run`, which stands beside none of these three, the reference machine (`ref_machine`) makes at most N
-/// steps of the program, of which each that chooses takes the next number of the text `words`, and the text of the run (`run_text`) is
-/// written in place of the report. The statuses are 0 for a text that was written whole, 2 for words that aren't right, 3 for a text that
-/// has no tokens (C11 6.4) or whose tokens are no unit (C11 6.9), or for `words` where it isn't numbers below 2^64 and white space, 4 for a
-/// construct that isn't accepted, 5 for units that don't link, 6 for a text, a script or `words` of more than 2^24 bytes, more than 256
-/// constructs that nest, or a program of more than 2^24 nodes or words of rows, 7 for a unit, a script or `words` that could not be read, 8
-/// for a text that could not be written, 9 for want of memory, 10 for a script's first line that isn't in the grammar or names nothing of
-/// the right sort (`alias_query`), and 11 for the text of a run, written whole, whose last step isn't defined. The units are read in order
-/// and then the script or `words`; its length is looked at when the units are linked and within the limits, and then its lines or numbers,
-/// before the system is solved. All memory is taken before the first byte is written. When all texts are read, the tokens, the syntax, the
-/// names and the types of each unit are one job. As many workers as the words say, 1 where they don't, have a share of the jobs each, at
-/// once, and the job of unit i, from 0, passes the gate first, as worker 100 + i with the turn 0. Whichever job ends first, the first unit
-/// in order whose job fails decides, for want of memory too. The system is solved on shared rows by as many workers; each passes the gate
-/// before each of its pieces. With `--ask` an asker beside the workers tries each question up to 16 times, and passes the gate before each
-/// try t from 0 on, as worker number N with the turn t, where N is the number of workers; what is open then is asked when the rows are
-/// closed. With `--desk`, which stands beside `--ask` alone, two askers send the questions to a desk with room for 64 in its place,
-/// question i from asker i modulo 2, and a thread of the desk's takes them and tries each up to 16 times (`desk_rounds`); an asker passes
-/// the gate before its first try to send a question, as worker 400 and its own number with the number of the question among its own. What
-/// wasn't sent, taken or answered then is asked when the rows are closed, so the text is the same. Only with `--desk` does the call wait
-/// for other threads in the calls of a queue too. `kept` has to be None; with status 0 it holds the system that was solved, which has one
-/// row for all rows of a class of the program's (`row_share`), its table and the seat that solved it, and with any other status it stays
-/// None.
+/// refusal to `err`, and answers the status. The words are `--workers N`, `--ask UNIT`, `--desk`, `--json`, `--gen N`, `--run N`,
+/// `--effects`, `--stops` and units, in any order (`command_line`). With `--ask` the UNIT is a script of questions, and the answers to them
+/// are written in place of the report; with `--json`, which doesn't stand beside it, the report is one object of JSON; with `--gen`, which
+/// stands beside neither of them nor a unit, the generated program of the number (`gen_units`) is read as the unit `gen`, and a summary
+/// (`gen_summary`) is written in place of the report; with `--run`, which stands beside none of these three, the reference machine
+/// (`ref_machine`) makes at most N steps of the program, of which each that chooses takes the next number of the text `words`, and the text
+/// of the run (`run_text`) is written in place of the report; with `--effects`, which stands beside none of these four, what each function
+/// that a unit defines may read and write, by itself and by all that it calls (`mod_ref`), is written in its place, two lines for each
+/// (`effects_text`); with `--stops`, which stands beside none of these five, the places of the nodes that stand as a mismatch or a bad call
+/// by the solution (`stop_places`) are written in its place, a line for each (`stop_report`). The statuses are 0 for a text that was
+/// written whole, 2 for words that aren't right, 3 for a text that has no tokens (C11 6.4) or whose tokens are no unit (C11 6.9), or for
+/// `words` where it isn't numbers below 2^64 and white space, 4 for a construct that isn't accepted, 5 for units that don't link, 6 for a
+/// text, a script or `words` of more than 2^24 bytes, more than 256 constructs that nest, or a program of more than 2^24 nodes or words of
+/// rows, 7 for a unit, a script or `words` that could not be read, 8 for a text that could not be written, 9 for want of memory, 10 for a
+/// script's first line that isn't in the grammar or names nothing of the right sort (`alias_query`), and 11 for the text of a run, written
+/// whole, whose last step isn't defined. The units are read in order and then the script or `words`; its length is looked at when the units
+/// are linked and within the limits, and then its lines or numbers, before the system is solved. All memory is taken before the first byte
+/// is written. When all texts are read, the tokens, the syntax, the names and the types of each unit are one job. As many workers as the
+/// words say, 1 where they don't, have a share of the jobs each, at once, and the job of unit i, from 0, passes the gate first, as worker
+/// 100 + i with the turn 0. Whichever job ends first, the first unit in order whose job fails decides, for want of memory too. The system
+/// is solved on shared rows by as many workers; each passes the gate before each of its pieces. With `--ask` an asker beside the workers
+/// tries each question up to 16 times, and passes the gate before each try t from 0 on, as worker number N with the turn t, where N is the
+/// number of workers; what is open then is asked when the rows are closed. With `--desk`, which stands beside `--ask` alone, two askers
+/// send the questions to a desk with room for 64 in its place, question i from asker i modulo 2, and a thread of the desk's takes them and
+/// tries each up to 16 times (`desk_rounds`); an asker passes the gate before its first try to send a question, as worker 400 and its own
+/// number with the number of the question among its own. What wasn't sent, taken or answered then is asked when the rows are closed, so the
+/// text is the same. Only with `--desk` does the call wait for other threads in the calls of a queue too. `kept` has to be None; with
+/// status 0 it holds the system that was solved, which has one row for all rows of a class of the program's (`row_share`), its table and
+/// the seat that solved it, and with any other status it stays None.
 pub fn analyse<R: Threads + Wait + Sync, U: Units, O: Sink, E: Sink, G: Gate + Sync>(
     rt: &R,
     alloc: Global,
@@ -287,10 +307,11 @@ pub fn analyse<R: Threads + Wait + Sync, U: Units, O: Sink, E: Sink, G: Gate + S
     requires none { kept.old ≡ None }
 
     // Status 0 means that the bytes written are the report of the least solution of the constraints of the program that
-    // the units denote, or with a script the answers to its questions by that solution, with `--gen` the summary of it, or
-    // with `--run` the text of a run of the program in which no step stopped; and that in every run of defined steps of the
-    // reference machine on that program, each pointer held in memory and each function called through a pointer stands in
-    // the sets of that solution.
+    // the units denote, or with a script the answers to its questions by that solution, with `--gen` the summary of it,
+    // with `--run` the text of a run of the program in which no step stopped, with `--effects` what each function may
+    // read and write by that solution, or with `--stops` the places that stand as a mismatch or a bad call by it; and that
+    // in every run of defined steps of the reference machine on that program, each pointer held in memory and each
+    // function called through a pointer stands in the sets of that solution.
     ensures headline { result ≡ 0 → IfSome (told_for (U.text units.old) (texts_of words.now)) (λ told.
         (program : Program) × (system : System) × (text : List ℕ) × Denotes told.units program
         × IsPrinted told.form told.side program system text 0 × AreRunsCovered program system
@@ -311,7 +332,9 @@ pub fn analyse<R: Threads + Wait + Sync, U: Units, O: Sink, E: Sink, G: Gate + S
         × Receives (E.written err.old) (E.written err.new) (E.faults err.old) (E.faults err.new) answer.err) }
     ensures said { result ≡ 2 → Receives (E.written err.old) (E.written err.new) (E.faults err.old) (E.faults err.new) usage_line }
     ensures usage { (result ≡ 2 → AreRight (texts_of words.now) → ⊥) × (AreRight (texts_of words.now) ⊎ ((result ≡ 2) ⊎ (result ≡ 9))) }
-    ensures listed { IsWritten result ⊎ ((result ≡ 2) ⊎ (((result ≡ 3) ⊎ ((result ≡ 4) ⊎ ((result ≡ 5) ⊎ ((result ≡ 6) ⊎ (result ≡ 10))))) ⊎ ((result ≡ 7) ⊎ ((result ≡ 8) ⊎ (result ≡ 9))))) }
+    ensures listed { IsWritten result ⊎ ((result ≡ 2)
+        ⊎ (((result ≡ 3) ⊎ ((result ≡ 4) ⊎ ((result ≡ 5) ⊎ ((result ≡ 6) ⊎ (result ≡ 10)))))
+        ⊎ ((result ≡ 7) ⊎ ((result ≡ 8) ⊎ (result ≡ 9))))) }
     ensures unwritten { (IsWritten result → ⊥) → result ≢ 8 → O.written out.new ≡ O.written out.old }
 
     // With status 0 the program's own system, with one row for all rows of a class, was solved on the table that is left, by its seat and
@@ -323,8 +346,8 @@ pub fn analyse<R: Threads + Wait + Sync, U: Units, O: Sink, E: Sink, G: Gate + S
     ensures unsolved { result ≢ 0 → kept.new ≡ None }
 
     // Where the words are right, each text is that of a unit in which no name is undeclared or redeclared, and the outside doesn't fail,
-    // what is printed of the program is written whole (a report, a summary, answers or the text of a run), or the answer is the first
-    // refusal of such texts by their rows, by linking, by a limit, or by the script or the words of the run.
+    // what is printed of the program is written whole (a report, a summary, answers, the text of a run, effects or stops), or the answer
+    // is the first refusal of such texts by their rows, by linking, by a limit, or by the script or the words of the run.
     ensures complete { IfSome (told_for (U.text units.old) (texts_of words.now)) (λ told. AreRight (texts_of words.now)
         → AreReadAlone told.units
         → ((name : List ℕ) → Contains (names_read (texts_of words.now)) name → IsSteady (U.faults units.old name) (U.faults units.new name))
@@ -349,7 +372,8 @@ pub fn analyse<R: Threads + Wait + Sync, U: Units, O: Sink, E: Sink, G: Gate + S
         → IsWritten result ⊎ (result ≡ 9)) }
 
     // The outside: each of its statuses has its cause, and each of its faults its status.
-    ensures source { result ≡ 7 → (name : List ℕ) × Contains (names_read (texts_of words.now)) name × HasRisen (U.faults units.old name) (U.faults units.new name)
+    ensures source { result ≡ 7 → (name : List ℕ) × Contains (names_read (texts_of words.now)) name
+        × HasRisen (U.faults units.old name) (U.faults units.new name)
         × Receives (E.written err.old) (E.written err.new) (E.faults err.old) (E.faults err.new) (source_fault name) }
     ensures source_risen { (name : List ℕ) → U.faults units.old name < U.faults units.new name → (result ≡ 7) ⊎ (result ≡ 9) }
     ensures sink { result ≡ 8 → HasRisen (O.faults out.old) (O.faults out.new)

@@ -119,7 +119,8 @@ fn at_once<R: Threads + Sync, G: Gate + Sync>(
             requires sync { IsSync R.row × IsSync G.row }
             requires count { length more_texts.now ≡ length more_names.now }
             requires few { next + length more_names.now ≤ 2 ^ 8 }
-            ensures right { IfOk result (λ units. AreRightTexts next (zip (names_of more_names.entry.now) more_texts.entry.now) units.items) }
+            ensures right { IfOk result (λ units.
+                AreRightTexts next (zip (names_of more_names.entry.now) more_texts.entry.now) units.items) }
             ensures refused { IfErr result (IsFirstFault next (zip (names_of more_names.entry.now) more_texts.entry.now)) }
         { at_once(rt, alloc, more_names, more_texts, next, others, gate) },
     );
@@ -135,9 +136,9 @@ fn at_once<R: Threads + Sync, G: Gate + Sync>(
     Ok(units)
 }
 
-/// The core units that named texts are (C11 5.1.1.2, phases 3 to 7), in order, the first as unit 0, by so many workers at the most. The job of
-/// text i passes the gate first, as worker 100 + i with the turn 0. At `Err` the fault of the first text that isn't right, by its tokens, its
-/// syntax, its names or its rows, or want of memory.
+/// The core units that named texts are (C11 5.1.1.2, phases 3 to 7), in order, the first as unit 0, by so many workers at the most. The job
+/// of text i passes the gate first, as worker 100 + i with the turn 0. At `Err` the fault of the first text that isn't right, by its
+/// tokens, its syntax, its names or its rows, or want of memory.
 pub fn lower_each<R: Threads + Sync, G: Gate + Sync>(
     rt: &R,
     alloc: Global,

@@ -10,5 +10,6 @@ mod solving;
 pub mod unit_answers;
 pub mod unit_system;
 
+pub use names::strings_of;
 pub use reporting::{report_of_system, report_of_units};
 pub use solving::{Solved, solve_on_rows};

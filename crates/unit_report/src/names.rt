@@ -6,7 +6,7 @@ use pta_base::{OutOfMemory, Text};
 use std::alloc::Global;
 
 /// Copies of texts, as strings.
-pub(crate) fn strings_of(alloc: Global, texts: &[Text]) -> Result<Vec<String>, OutOfMemory>
+pub fn strings_of(alloc: Global, texts: &[Text]) -> Result<Vec<String>, OutOfMemory>
     ensures { IfOk result (λ list. map string_bytes list.items ≡ texts.now) }
 {
     let mut list = Vec::new(alloc);

@@ -4,7 +4,7 @@ mod edges;
 mod fault;
 pub mod laws;
 pub(crate) mod order;
-mod pieces;
+pub mod pieces;
 mod printing;
 pub(crate) mod sets;
 mod whole;

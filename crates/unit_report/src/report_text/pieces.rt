@@ -1,4 +1,4 @@
-// Names and places in lines.
+//! Names and places in lines.
 ghost use Rattle.std.specs.Prelude.{◌≡◌, ◌++◌, OnOk};
 ghost use Rattle.unit_report.specs.report_text.Report.{name_in, names_of, unit_name, place_text};
 
@@ -8,7 +8,7 @@ use pta_base::Place;
 use std::alloc::AllocError;
 
 /// The name of a location; no bytes where there is no such location.
-pub(in crate::report_text) fn name_in(space: &Space, location: u32) -> &[u8]
+pub fn name_in(space: &Space, location: u32) -> &[u8]
     ensures { result.now ≡ name_in space.now location }
 {
     if location < space.count() {
@@ -19,7 +19,7 @@ pub(in crate::report_text) fn name_in(space: &Space, location: u32) -> &[u8]
 }
 
 /// Adds a space and the name of each of these locations.
-pub(in crate::report_text) fn add_names(
+pub fn add_names(
     text: &mut Vec<u8>,
     space: &Space,
     locations: &[u32],
@@ -44,7 +44,7 @@ fn unit_name(names: &[String], unit: u32) -> &[u8]
 }
 
 /// Adds a place.
-pub(in crate::report_text) fn add_place(
+pub fn add_place(
     text: &mut Vec<u8>,
     names: &[String],
     place: Place,

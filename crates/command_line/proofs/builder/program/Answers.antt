@@ -12,4 +12,6 @@ returns c =
     let four = added _ _ _ (value_option (codes "gen")) c.in_ok-command-4.ensures three in
     let five = added _ _ _ (value_option (codes "run")) c.in_ok-command-5.ensures four in
     let six = added _ _ _ (flag (codes "desk")) c.in_ok-command-6.ensures five in
-    IfOk-weaker c.with_words.result _ _ (λ m h. added _ _ _ (positional_words (codes "unit")) h six) c.with_words.ensures
+    let seven = added _ _ _ (flag (codes "effects")) c.in_ok-command-7.ensures six in
+    let eight = added _ _ _ (flag (codes "stops")) c.in_ok-command-8.ensures seven in
+    IfOk-weaker c.with_words.result _ _ (λ m h. added _ _ _ (positional_words (codes "unit")) h eight) c.with_words.ensures

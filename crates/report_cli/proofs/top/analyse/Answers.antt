@@ -8,7 +8,7 @@ use Rattle.command_line.specs.Rules.{AreRight, gen_word, unit_words}
 use Rattle.command_line.specs.Distinct.{AreDistinct}
 use Rattle.text_units.specs.Answers.{names_of, Answer, refusal}
 use Rattle.report_cli.specs.Words.{texts_of, AreUnitNames}
-use Rattle.report_cli.specs.Told.{names_for, told_as, told_for}
+use Rattle.report_cli.specs.Told.{form_for, names_for, told_as, told_for}
 use Rattle.report_cli.specs.Outside.{IsWritten, Receives, source_fault}
 use Rattle.report_cli.proofs.Lifted.{IsStatus, names_asked, run_asked, with_told_for, told_denotes, told_prints, told_refuses}
 use Rattle.report_cli.proofs.Exclusion.{told_read}
@@ -188,7 +188,7 @@ returns-clause-run g c eleven =
     let given = c.answer_units.ensures.stopped eleven in
     let S : Option ℕ → Type 0 = λ steps. IsSome steps in
     subst S c.in-Ok.ensures.ok.says.steps
-    (run_asked command.generated command.json command.steps (length command.units.items) (zip (names_for command) c.as_slice.result.now) given.0 given.1 given.2 given.4)
+    (run_asked command.generated (form_for command) command.steps (length command.units.items) (zip (names_for command) c.as_slice.result.now) given.0 given.1 given.2 given.4)
 
 pub returns-clause-broken : goal.returns-clause-broken
 returns-clause-broken g c eight =

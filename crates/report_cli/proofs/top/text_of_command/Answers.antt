@@ -1,4 +1,4 @@
-use Rattle.std.proofs.Common.{◌≡◌, ℕ, ◌≤◌, List, Option, IfSome, refl, subst, sym}
+use Rattle.std.proofs.Common.{◌≡◌, ℕ, ◌≤◌, List, Option, IfSome, subst, sym}
 use Rattle.std.specs.Prelude.{zip, IfOk, IfErr}
 use Rattle.std.specs.Borrow.{Bor}
 use Rattle.std.proofs.lemmas.Result.{IfOk-weaker}
@@ -7,7 +7,6 @@ use Rattle.sol_model.specs.declared.system.System.{System}
 use Rattle.unit_report.specs.Solved.{IsSolvedShared}
 use Rattle.text_units.specs.declared.fault.UnitsFault.{UnitsFault}
 use Rattle.report_cli.specs.declared.form.Form.{Form}
-use Rattle.report_cli.specs.declared.form.Form.TheVariants.{Report}
 use Rattle.report_cli.specs.declared.form.Printed.{Printed}
 use Rattle.text_units.specs.Answers.{NamedText, names_of}
 use Rattle.report_cli.specs.Told.{Side, Told, read_as, told_by}
@@ -24,12 +23,13 @@ IsMade told made = (program : Program) × (system : System) × Denotes told.unit
 
 -- what was made of the units of a command and of what is read beside them
 made_told : (form : Form) (units : List (Bor (List ℕ))) (slice : List (Bor (List ℕ))) (texts : List (List ℕ)) (side : Side) (told : Told) (program : Program) (system : System) (text : List ℕ) (status : ℕ) → slice ≡ units
-    → zip (names_of units) texts ≡ told.units → side ≡ told.side → Denotes (zip (names_of slice) texts) program → IsPrinted form side program system text status → Denotes told.units program × IsPrinted form told.side program system text status
-made_told form units slice texts side told program system text status sliced units_are side_is denoted printed =
+    → zip (names_of units) texts ≡ told.units → side ≡ told.side → form ≡ told.form → Denotes (zip (names_of slice) texts) program → IsPrinted form side program system text status → Denotes told.units program × IsPrinted told.form told.side program system text status
+made_told form units slice texts side told program system text status sliced units_are side_is form_is denoted printed =
     let N : List (Bor (List ℕ)) → Type 0 = λ names. Denotes (zip (names_of names) texts) program in
     let D : List NamedText → Type 0 = λ named. Denotes named program in
     let P : Side → Type 0 = λ s. IsPrinted form s program system text status in
-    (subst D units_are (subst N sliced denoted), subst P side_is printed)
+    let F : Form → Type 0 = λ f. IsPrinted f told.side program system text status in
+    (subst D units_are (subst N sliced denoted), subst F form_is (subst P side_is printed))
 
 fault_told : (form : Form) (units : List (Bor (List ℕ))) (slice : List (Bor (List ℕ))) (texts : List (List ℕ)) (side : Side) (told : Told) (fault : UnitsFault) → slice ≡ units
     → zip (names_of units) texts ≡ told.units → side ≡ told.side → form ≡ told.form → IsFaultOfTold (told_with (zip (names_of slice) texts) side form) fault → IsFaultOfTold told fault
@@ -61,7 +61,7 @@ returns-in-None-clause-printed g c =
     let P : Option ℕ → Type 0 = λ n. IfOk c.text_of_units.result (IsMade (told_by n read)) in
     subst P (sym c.in-None.is)
     (IfOk-weaker c.text_of_units.result _ (IsMade read)
-    (λ made h. (let both = made_told (Report c.args.command.now.json) _ _ _ _ read h.0 h.1 made.text.items made.status c.as_slice.ensures.value c.unit_texts.ensures.units c.side_of.ensures h.2 h.3 in
+    (λ made h. (let both = made_told c.form_of.result _ _ _ _ read h.0 h.1 made.text.items made.status c.as_slice.ensures.value c.unit_texts.ensures.units c.side_of.ensures c.form_of.ensures h.2 h.3 in
     (h.0, h.1, both.0, both.1, h.4))) c.text_of_units.ensures.printed)
 
 pub returns-in-None-clause-refused : goal.returns-in-None-clause-refused
@@ -70,4 +70,4 @@ returns-in-None-clause-refused g c =
     let P : Option ℕ → Type 0 = λ n. IfErr c.text_of_units.result (IsFaultOfTold (told_by n read)) in
     subst P (sym c.in-None.is)
     (on_fault c.text_of_units.result _ (IsFaultOfTold read)
-    (λ fault h. fault_told (Report c.args.command.now.json) _ _ _ _ read fault c.as_slice.ensures.value c.unit_texts.ensures.units c.side_of.ensures refl h) c.text_of_units.ensures.refused)
+    (λ fault h. fault_told c.form_of.result _ _ _ _ read fault c.as_slice.ensures.value c.unit_texts.ensures.units c.side_of.ensures c.form_of.ensures h) c.text_of_units.ensures.refused)
