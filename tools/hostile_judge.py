@@ -15,7 +15,7 @@ MEBI = 1024 * KIBI
 
 KINDS = (
     b"floating complex atomic generic vla asm statement-expression typeof builtin old-parameters thread-local inline-definition "
-    b"variadic-definition structure-cast integer-size-cast character-cast number-to-pointer array-of-value flexible-member wide "
+    b"structure-cast integer-size-cast character-cast number-to-pointer array-of-value flexible-member wide "
     b"wide-integer character label-address range undeclared redeclared operand constant constant-range divide-by-zero initialiser"
 ).split()
 

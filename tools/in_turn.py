@@ -3,9 +3,10 @@
 
 On four processors that share ten checks a crate takes up to twice the processor time: a check works on a gigabyte. So while
 several runs of `rt ci` and several clones' checks are under way, this script lets only --gate checks of runs (5 without it) and --others
-of clones (1 without it) run, and stops the rest (SIGSTOP) until their turn (SIGCONT). Of runs those go first that have the longest chain of
-other crates behind them, by the sizes of ROOT's crates; must-fail edits go last; of clones the one that has had the least processor time.
-It prints who runs each time that changes, and lets all go on when it is ended (Ctrl-C, SIGTERM).
+of clones (1 without it) run, and stops the rest (SIGSTOP) until their turn (SIGCONT). Of runs those go first with the longest chain of
+other crates behind them, by sizes of ROOT's crates; must-fail edits go last; of clones those that began first, and where runs have fewer
+than --gate, more of these. It prints who runs each time that changes, and lets all go on when it is ended (Ctrl-C, SIGTERM). Where
+much else runs it needs a high priority itself (`nice`), or it can't stop anybody.
 """
 import argparse
 import functools
@@ -33,8 +34,8 @@ def chains(root):
     return {name: behind(name) for name in rows}
 
 
-def checks(root):
-    """Yields each check that is under way: its process, whether a run of `rt ci` made it, its folder, its processor time, its beginning."""
+def checks():
+    """Yields each process of a check that is under way: its number, whether a run of `rt ci` made it, its folder, its beginning."""
     for number in filter(str.isdigit, os.listdir("/proc")):
         try:
             with open(f"/proc/{number}/cmdline", encoding="utf-8", errors="replace") as file:
@@ -44,22 +45,25 @@ def checks(root):
             folder = os.readlink(f"/proc/{number}/cwd")
             with open(f"/proc/{number}/stat", encoding="utf-8", errors="replace") as file:
                 fields = file.read().rpartition(")")[2].split()
-            is_run = folder.startswith(RUNS) or folder.startswith(f"{root}/")
-            yield int(number), is_run, folder, int(fields[11]) + int(fields[12]), int(fields[19])
+            is_run = folder.startswith(RUNS)
+            yield int(number), is_run, folder, int(fields[19])
         except (OSError, IndexError, ValueError):
             continue
 
 
 def chosen(found, behind, gate, others):
-    """Returns the processes that may run."""
+    """Returns the processes that may run. A check is all processes in one folder: some wait for those that they began."""
 
-    def order(it):
-        _, _, folder, _, begun = it
+    def order(check):
+        _, _, folder, begun = check[0]
         return folder.startswith("/tmp/rt-edit-"), -behind.get(os.path.basename(folder), 0.0), begun
 
-    runs = sorted((it for it in found if it[1]), key=order)
-    rest = sorted((it for it in found if not it[1]), key=lambda it: it[3])
-    return [it[0] for it in runs[:gate] + rest[:others]]
+    groups = {}
+    for it in sorted(found, key=lambda it: it[3]):
+        groups.setdefault(it[2], []).append(it)
+    runs = sorted((it for it in groups.values() if it[0][1]), key=order)[:gate]
+    rest = [it for it in groups.values() if not it[0][1]][: others + gate - len(runs)]
+    return [process[0] for check in runs + rest for process in check]
 
 
 def tell(number, what):
@@ -80,7 +84,7 @@ def main():
     signal.signal(signal.SIGTERM, lambda *_: sys.exit(0))
     try:
         while True:
-            found = list(checks(root))
+            found = list(checks())
             run = chosen(found, behind, words.gate, words.others)
             for it in found:
                 tell(it[0], signal.SIGCONT if it[0] in run else signal.SIGSTOP)
@@ -91,7 +95,7 @@ def main():
     except KeyboardInterrupt:
         return 0
     finally:
-        for it in checks(root):
+        for it in checks():
             tell(it[0], signal.SIGCONT)
 
 

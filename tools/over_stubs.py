@@ -34,10 +34,10 @@ def indent_of(line):
 def without_mutual(lines):
     """Returns the lines with the lemmas of plain mutual blocks one after another: holes don't recurse."""
     out, block = [], None
-    for line in lines:
+    for at, line in enumerate(lines):
         if block is not None and line.strip() and indent_of(line) <= block[0]:
             block = None
-        if block is None and re.match(r"^ *mutual *$", line):
+        if block is None and re.match(r"^ *mutual *$", line) and not has_types(lines, at):
             block = (indent_of(line), None)
             continue
         if block is not None and line.strip():
@@ -47,11 +47,30 @@ def without_mutual(lines):
     return out
 
 
+def has_types(lines, at):
+    """Returns whether types stand in the block that this line begins."""
+    for line in lines[at + 1 :]:
+        if line.strip() and indent_of(line) <= indent_of(lines[at]):
+            return False
+        if re.match(r"^ *(pub )?(data|record)\b", line):
+            return True
+    return False
+
+
 def with_holes(text):
     """Returns a file of lemmas, each with a hole as its proof."""
     lines, out, at, record = without_mutual(text.split("\n")), [], 0, None
+    kept = None
     while at < len(lines):
         line = lines[at]
+        if kept is not None and line.strip() and indent_of(line) <= kept:
+            kept = None
+        if kept is None and re.match(r"^ *abbrev mutual *$", line):
+            kept = indent_of(line)
+        if kept is not None:
+            out.append(line)
+            at += 1
+            continue
         if record is not None and line.strip() and indent_of(line) <= record:
             record = None
         if re.match(r"^ *(pub )?(record|data|deriving)\b", line):

@@ -111,10 +111,29 @@ impl Part {
 }
 """
 
+BLOCKS = """-- by one another
+abbrev mutual
+  deep : Form → Bool
+  deep (Over x) = wide x
+
+  wide : Form → Bool
+  wide x = deep x
+
+mutual
+  data Inner : Type 0 where
+    held : Outer → Inner
+
+  data Outer : Type 0 where
+    holds : Inner → Outer
+"""
+
 
 class Stubs(unittest.TestCase):
     def test_lemmas_keep_their_types_alone(self):
         self.assertEqual([it for it in over_stubs.with_holes(LEMMAS).split("\n") if it], [it for it in HOLES.split("\n") if it])
+
+    def test_blocks_of_definitions_stay(self):
+        self.assertEqual([it for it in over_stubs.with_holes(BLOCKS).split("\n") if it], [it for it in BLOCKS.split("\n") if it])
 
     def test_functions_keep_what_others_see(self):
         self.assertEqual([it for it in over_stubs.without_bodies(CODE).split("\n") if it], [it for it in BARE.split("\n") if it])

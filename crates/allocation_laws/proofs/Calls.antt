@@ -1,5 +1,5 @@
 -- What calls demand leaves an allocating function's location at its names and at what decays from them.
-use Rattle.std.proofs.Common.{arith, ◌≡◌, ◌∙◌, inl, inr, ℕ, zero, suc, Bool, true, false, cond, List, [], ◌∷◌, length, zip, Option, Some, None, slice_get, Contains, refl, sym, ap, subst}
+use Rattle.std.proofs.Common.{arith, ◌≡◌, ◌∙◌, ◌⊎◌, inl, inr, ℕ, zero, suc, Bool, true, false, cond, List, [], ◌∷◌, ◌++◌, length, map, take, zip, Option, Some, None, slice_get, Contains, refl, sym, ap, subst}
 use Rattle.std.specs.Prelude.{option_and_then}
 use Rattle.std.specs.Option.{option_map}
 use Rattle.pta_base.specs.declared.effect.Effect.{Effect}
@@ -11,7 +11,7 @@ use Rattle.c_types.specs.Trees.{Ctype, PointerTo, FunctionFrom, Ctypes, NoTypes,
 use Rattle.c_types.specs.Table.{type_of}
 use Rattle.core_tree.specs.declared.node.Node.{Node}
 use Rattle.core_tree.specs.declared.node.NodeKind.{NodeKind}
-use Rattle.core_tree.specs.declared.node.NodeKind.TheVariants.{Decay, CallNode}
+use Rattle.core_tree.specs.declared.node.NodeKind.TheVariants.{FunctionName, Decay, CallNode}
 use Rattle.core_tree.specs.declared.node.Program.{Program}
 use Rattle.core_tree.specs.Rows.{RowOf, Arguments, Calls, CallRow, IsFurther}
 use Rattle.core_tree.specs.Typed.{CoreTrees, ValueNode, sort_at, type_at, trees_in}
@@ -29,20 +29,23 @@ use Rattle.obj_space.specs.declared.location.Location.{Location}
 use Rattle.obj_space.specs.View.{first_from, view_of}
 use Rattle.lib_summaries.specs.Table.{effects_of}
 use Rattle.row_numbers.specs.Functions.{functions_of}
-use Rattle.row_numbers.specs.Setting.{Setting, none_row, result_row, result_nodes, value_rows}
-use Rattle.call_sites.specs.Calls.{head_of, rest_of, is_named, object_by, fresh_by, fresh_of, givers_in, calls_upto, named_library, IsCallSite, IsSiteAt}
+use Rattle.row_numbers.specs.Setting.{Setting, calls_further, none_row, rest_row, result_row, result_nodes, value_rows}
+use Rattle.call_sites.specs.Calls.{variadic_count, rows_past, head_of, rest_of, is_named, object_by, fresh_by, fresh_of, givers_in, calls_upto, named_library, IsCallSite, IsSiteAt}
 use Rattle.normal_form.specs.SystemOf.{setting_of, SystemOf}
 use Rattle.system_laws.proofs.Calls.{comes_from, call_node}
 use Rattle.system_laws.proofs.Compact.{zip_right}
 use Rattle.system_laws.proofs.Functions.{place_of}
 use Rattle.system_laws.proofs.demand_laws.Fitting.{count_is}
 use Rattle.allocation_laws.specs.Spread.{IsRight, AreSpaced}
-use Rattle.allocation_laws.proofs.Marks.{none_some, some_one}
-use Rattle.allocation_laws.proofs.Ranges.{item_there, mapped_from, list_rows, value_list, location_plain, result_plain, none_plain}
+use Rattle.allocation_laws.proofs.Marks.{none_some, some_one, IsMarked, as_name, as_decay, name_of_kind}
+use Rattle.allocation_laws.proofs.Ranges.{item_there, mapped_from, list_rows, value_list, IsRowOf, rest_of_call, special_row, location_plain, result_plain, none_plain}
 use Rattle.allocation_laws.proofs.Keeping.{IsSpecial, Keeps, key_own, from_child}
 
 decay_call : CallNode ≡ Decay → ⊥
 decay_call h = cc
+
+name_call : (e : ℕ) → FunctionName e ≡ CallNode → ⊥
+name_call e h = cc
 
 later_first : {j : ℕ} → suc j ≡ 0 → ⊥
 later_first h = omega arith
@@ -79,14 +82,38 @@ module _ (u : CoreTrees) where
   calls_pointer (PointerTo (FunctionFrom r ps f)) t args h = (FunctionFrom r ps f, refl)
   calls_pointer c t args h = absurd h
 
-  row_values : (t : Ctype) (children : List ℕ) → CallRow u t children → (j v : ℕ) → slice_get (rest_of children) j ≡ Some v → sort_at u v ≡ ValueNode
+  pub row_values : (t : Ctype) (children : List ℕ) → CallRow u t children → (j v : ℕ) → slice_get (rest_of children) j ≡ Some v → sort_at u v ≡ ValueNode
   row_values t [] h j v at = absurd h
   row_values t (c ∷ args) h j v at = calls_values (type_at u c) t args h.1 j v at
+
+  row_listed : (t : Ctype) (children : List ℕ) → CallRow u t children → children ≡ head_of children ∷ rest_of children
+  row_listed t [] h = absurd h
+  row_listed t (c ∷ args) h = refl
 
   -- what is called is a pointer
   pub row_callee : (t : Ctype) (children : List ℕ) → CallRow u t children → (sort_at u (head_of children) ≡ ValueNode) × (to : Ctype) × (type_at u (head_of children) ≡ PointerTo to)
   row_callee t [] h = absurd h
   row_callee t (c ∷ args) h = let to = calls_pointer (type_at u c) t args h.1 in (h.0, to.0, to.1)
+
+-- a callee that counts its parameters takes more
+counted_further : (t : Ctype) (count : ℕ) → variadic_count t ≡ Some count → calls_further t ≡ true
+counted_further (PointerTo (FunctionFrom r ps Variadic)) count h = refl
+counted_further t count h = absurd (none_some h)
+
+in_either : {X : Type 0} (xs ys : List X) (j : ℕ) (x : X) → slice_get (xs ++ ys) j ≡ Some x → (slice_get xs j ≡ Some x) ⊎ ((i : ℕ) × (slice_get ys i ≡ Some x))
+in_either [] ys j x h = inr (j, h)
+in_either (y ∷ xs) ys zero x h = inl h
+in_either (y ∷ xs) ys (suc j) x h = in_either xs ys j x h
+
+only_one : {X : Type 0} (x y : X) (i : ℕ) → slice_get (x ∷ []) i ≡ Some y → x ≡ y
+only_one x y zero h = some_one h
+only_one x y (suc i) h = absurd (none_some h)
+
+taken : (count : ℕ) (xs : List ℕ) (j v : ℕ) → slice_get (take count xs) j ≡ Some v → slice_get xs j ≡ Some v
+taken zero xs j v h = absurd (none_some h)
+taken (suc count) [] j v h = absurd (none_some h)
+taken (suc count) (x ∷ xs) zero v h = h
+taken (suc count) (x ∷ xs) (suc j) v h = taken count xs j v h
 
 rest_child : (children : List ℕ) (j v : ℕ) → slice_get (rest_of children) j ≡ Some v → slice_get children (suc j) ≡ Some v
 rest_child [] j v at = absurd (none_some at)
@@ -153,10 +180,41 @@ module _ (p : Program) (space : List Location) (system : System) (is : SystemOf 
               ]
         ]
 
+    -- nor has the row of all that is passed past the parameters
+    rest_plain : (count : ℕ) → variadic_count (type_at (trees_in p) (head_of call.node.children)) ≡ Some count → Special (rest_row (trees_in p) (view_of space) call.n) → ⊥
+    rest_plain count counted special = by (special_row (trees_in p) (view_of space) right.rows k call.n (rest_row (trees_in p) (view_of space) call.n) special rows)
+      where
+        rows : IsRowOf (trees_in p) (view_of space) call.n (rest_row (trees_in p) (view_of space) call.n)
+        rows =
+            rest_of_call (trees_in p) (view_of space) call.n call.node (head_of call.node.children) (rest_of call.node.children) call.there call.kind
+            (row_listed (trees_in p) (type_of p.types call.node.ty.0) call.node.children row_is) (counted_further (type_at (trees_in p) (head_of call.node.children)) count counted)
+
+        by : IsMarked (trees_in p) k call.n → ⊥
+        by (as_name h) =
+            let name = name_of_kind (trees_in p) k h.node.kind h.name in
+            name_call name.e (sym name.kind_is ∙ (ap (λ (x : Node). x.kind) (some_one (sym h.there ∙ call.there)) ∙ call.kind))
+        by (as_decay h) = decay_call (sym call.kind ∙ (ap (λ (x : Node). x.kind) (some_one (sym call.there ∙ h.there)) ∙ h.kind))
+
+    passed_plain : (o : Option ℕ) → variadic_count (type_at (trees_in p) (head_of call.node.children)) ≡ o → (j : ℕ) (rows : List ℕ) (i r : ℕ)
+        → slice_get (rows_past (trees_in p) (view_of space) call.n o (rest_of call.node.children)) j ≡ Some rows → slice_get rows i ≡ Some r → Special r → ⊥
+    passed_plain None counted j rows i r at there special =
+        let v = mapped_from (value_rows (trees_in p) (view_of space)) (rest_of call.node.children) j rows at in
+        value_plain j v.0 i r v.1 (ap (λ (ls : List ℕ). slice_get ls i) v.2 ∙ there) special
+    passed_plain (Some count) counted j rows i r at there special =
+        let rest = rest_row (trees_in p) (view_of space) call.n in
+        elim (in_either (map (value_rows (trees_in p) (view_of space)) (take count (rest_of call.node.children))) ((rest ∷ []) ∷ []) j rows at) [
+          | inl own ↦
+              (let v = mapped_from (value_rows (trees_in p) (view_of space)) (take count (rest_of call.node.children)) j rows own in
+              value_plain j v.0 i r (taken count (rest_of call.node.children) j v.0 v.1) (ap (λ (ls : List ℕ). slice_get ls i) v.2 ∙ there) special)
+          | inr last ↦
+              (let only = only_one (rest ∷ []) rows last.0 last.1 in
+              let row = only_one rest r i (ap (λ (ls : List ℕ). slice_get ls i) only ∙ there) in
+              rest_plain count counted (subst Special (sym row) special))
+        ]
+
     rows_plain : (j : ℕ) (rows : List ℕ) (i r : ℕ) → slice_get site.arguments j ≡ Some rows → slice_get rows i ≡ Some r → Special r → ⊥
     rows_plain j rows i r at there special =
-        let v = mapped_from (value_rows (trees_in p) (view_of space)) (rest_of call.node.children) j rows (ap (λ (ls : List (List ℕ)). slice_get ls j) (sym call.right.arguments) ∙ at) in
-        value_plain j v.0 i r v.1 (ap (λ (ls : List ℕ). slice_get ls i) v.2 ∙ there) special
+        passed_plain (variadic_count (type_at (trees_in p) (head_of call.node.children))) refl j rows i r (ap (λ (ls : List (List ℕ)). slice_get ls j) (sym call.right.arguments) ∙ at) there special
 
     argument_plain : (j r : ℕ) → argument_row site j ≡ Some r → Special r → ⊥
     argument_plain zero r h special = none_some h

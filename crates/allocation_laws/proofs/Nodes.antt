@@ -1,10 +1,11 @@
 -- What each kind of node demands leaves an allocating function's location at its names and at what decays from them.
-use Rattle.std.proofs.Common.{arith, ◌≡◌, ◌∙◌, ◌&&◌, inl, inr, ℕ, suc, ◌+◌, ◌<◌, ◌≤◌, Bool, true, false, cond, List, [], ◌∷◌, ◌++◌, length, get_or, Option, Some, None, unwrap_or, slice_get, refl, sym, ap, subst}
-use Rattle.std.specs.List.{All}
+use Rattle.std.proofs.Common.{arith, ◌≡◌, ◌∙◌, ◌&&◌, inl, inr, ℕ, zero, suc, ◌+◌, ◌<◌, ◌≤◌, Bool, true, false, cond, List, [], ◌∷◌, ◌++◌, length, get_or, drop, Option, Some, None, unwrap_or, slice_get, refl, sym, ap, subst}
+use Rattle.std.specs.List.{All, flat_map}
 use Rattle.std.specs.Option.{option_and_then}
 use Rattle.std.proofs.lemmas.Bool.{false≢true}
 use Rattle.std.proofs.lemmas.List.Elements.{All-nil, All-cons, All-append, All-map}
-use Rattle.c_types.specs.declared.key.ObjectKey.TheVariants.{Text as TextKey, Function as FunctionKey}
+use Rattle.std.proofs.lemmas.List.Concat.{flat_map-cons}
+use Rattle.c_types.specs.declared.key.ObjectKey.TheVariants.{Text as TextKey, Function as FunctionKey, Varargs as VarargsKey}
 use Rattle.c_types.specs.declared.term.PathStep.{PathStep}
 use Rattle.c_types.specs.declared.term.Term.TheVariants.{Union}
 use Rattle.c_types.specs.Trees.{Ctype, VoidType, BoolType, IntegerType, FloatingType, VaListType, PointerTo, ArrayOf, FunctionFrom, StructureOf, UnionOf}
@@ -16,11 +17,11 @@ use Rattle.type_rules.specs.Sizes.{PointsToObject}
 use Rattle.core_tree.specs.declared.node.Entity.{Entity}
 use Rattle.core_tree.specs.declared.node.Node.{Node}
 use Rattle.core_tree.specs.declared.node.NodeKind.{NodeKind}
-use Rattle.core_tree.specs.declared.node.NodeKind.TheVariants.{Named, Text, Literal, FunctionName, Deref, Member, Fetch, AddressOf, Decay, PointerAdd, Convert, Upcast, Assign, Update, Choose, Sequence, CallNode, MemberOfValue, Return, Initialise}
+use Rattle.core_tree.specs.declared.node.NodeKind.TheVariants.{Named, Text, Literal, FunctionName, Deref, Member, Fetch, AddressOf, Decay, PointerAdd, Convert, Upcast, Assign, Update, Choose, Sequence, CallNode, VarArgs, NextArg, MemberOfValue, Return, Initialise}
 use Rattle.core_tree.specs.declared.node.Program.{Program}
 use Rattle.core_tree.specs.declared.node.Storage.TheVariants.{Static, Automatic, Declared}
 use Rattle.core_tree.specs.Range.{Has}
-use Rattle.core_tree.specs.Rows.{RowOf, IsEntityIn, InitialValues}
+use Rattle.core_tree.specs.Rows.{RowOf, CallRow, IsEntityIn, InitialValues}
 use Rattle.core_tree.specs.Typed.{ValueNode, sort_at, type_in, type_at, trees_in}
 use Rattle.core_tree.specs.Valid.{IsLiteral, IsLasting}
 use Rattle.sol_model.specs.declared.system.System.{System}
@@ -33,19 +34,21 @@ use Rattle.obj_space.specs.View.{first_from, view_of}
 use Rattle.row_numbers.specs.Kept.{nodes_of, kept, kept_count, kept_row}
 use Rattle.row_numbers.specs.Numbers.{type_number}
 use Rattle.row_numbers.specs.Objects.{location_of}
-use Rattle.row_numbers.specs.Setting.{Setting, row}
+use Rattle.row_numbers.specs.Setting.{Setting, row, list_row, rest_row}
+use Rattle.call_sites.specs.Calls.{variadic_count}
 use Rattle.normal_form.specs.declared.normal.Assignment.{Assignment}
 use Rattle.normal_form.specs.declared.normal.Assignment.TheVariants.{Address, Copy, Load, Store, Field}
-use Rattle.normal_form.specs.Assignments.{copies, spreads, loads, stores, passed_row, is_pointer, is_union_type, part_first, part_of_value, given_type, returned_by, put_at, initialise_row, place_of_kind, value_of_kind, statement_of_kind, node_assignments}
+use Rattle.normal_form.specs.Assignments.{copies, spreads, loads, stores, passed_row, is_pointer, is_union_type, part_first, part_of_value, given_type, returned_by, put_at, gathered_row, gathered_past, call_row, initialise_row, place_of_kind, value_of_kind, statement_of_kind, node_assignments}
 use Rattle.normal_form.specs.SystemOf.{constraint_of, setting_of, SystemOf}
 use Rattle.system_laws.proofs.demand_laws.Fitting.{count_is}
 use Rattle.system_laws.proofs.fact_laws.Facts.{structure_proper}
 use Rattle.allocation_laws.specs.Spread.{IsRight, ReturnsFit, AreSpaced}
-use Rattle.allocation_laws.proofs.Marks.{same_number, name_marked}
+use Rattle.allocation_laws.proofs.Marks.{none_some, same_number, name_marked}
 use Rattle.allocation_laws.proofs.Ranges.{kept_low, IsRowOf, place_row, value_row, pointer_row, location_plain, marked_special}
 use Rattle.allocation_laws.proofs.Firsts.{first_item}
 use Rattle.allocation_laws.proofs.Fields.{no_field}
 use Rattle.allocation_laws.proofs.Members.{part_rows, union_row}
+use Rattle.allocation_laws.proofs.Calls.{row_values}
 use Rattle.allocation_laws.proofs.Keeping.{made_number, number_declared, is_plain, IsSpecial, Keeps, key_or, entity_own, from_child, plain_child}
 
 -- what agrees with a function's type is one
@@ -65,6 +68,18 @@ agree_function t a h function = absurd function
 
 text_function : (n k : ℕ) → TextKey n ≡ FunctionKey k → ⊥
 text_function n k h = cc
+
+varargs_function : (e k : ℕ) → VarargsKey e ≡ FunctionKey k → ⊥
+varargs_function e k h = cc
+
+past_first : {j : ℕ} → suc j ≡ 0 → ⊥
+past_first h = omega arith
+
+-- what stands behind the first so many
+dropped : (count : ℕ) (xs : List ℕ) (j v : ℕ) → slice_get (drop count xs) j ≡ Some v → slice_get xs (count + j) ≡ Some v
+dropped zero xs j v h = subst (λ (i : ℕ). slice_get xs i ≡ Some v) (let e : j ≡ 0 + j = omega arith in e) h
+dropped (suc count) [] j v h = absurd (none_some h)
+dropped (suc count) (x ∷ xs) j v h = subst (λ (i : ℕ). slice_get (x ∷ xs) i ≡ Some v) (let e : suc (count + j) ≡ suc count + j = omega arith in e) (dropped count xs j v h)
 
 static_declared : Static ≡ Declared → ⊥
 static_declared h = cc
@@ -132,6 +147,13 @@ module _ (p : Program) (space : List Location) (system : System) (is : SystemOf 
       (record { edges = λ a b ok h special. absurd h; facts = λ r h. absurd (no_field p space system is right.made right.fit spaced k L x.0 x.1 x.2 h.0 ty member h.2) })
 
   module _ (n : ℕ) (node : Node) (at : slice_get p.nodes.items n ≡ Some node) where
+    -- a row of a value, where its nodes are among the value's
+    among : (v from : ℕ) (t : Ctype) (nodes : List Ctype) → sort_at (trees_in p) v ≡ ValueNode → type_at (trees_in p) v ≡ t → first_row v ≤ from → from + kept_count nodes ≤ first_row v + kept_count (nodes_of p.types t)
+        → (j d : ℕ) → j < length (kept nodes) → IsRowOf (trees_in p) (view_of space) v (kept_row from nodes (get_or (kept nodes) j d))
+    among v from t nodes sort type low high j d lt =
+        let few = kept_low nodes j d lt in
+        value_row (trees_in p) (view_of space) v t (kept_row from nodes (get_or (kept nodes) j d)) sort type (omega arith) (omega arith)
+
     module _ (plain : is_plain node.kind ≡ true) where
       from_plain : (v from : ℕ) → Has node.children v → IsRowOf (trees_in p) (view_of space) v from → Special from → ⊥
       from_plain v from child rows special = plain_child p space system is right spaced F k L own unused n node v from at plain child rows special
@@ -144,13 +166,6 @@ module _ (p : Program) (space : List Location) (system : System) (is : SystemOf 
 
       one_copy : (v to : ℕ) → Has node.children v → IsRowOf (trees_in p) (view_of space) v (first_row v) → AllRight (Copy to (first_row v) ∷ [])
       one_copy v to child rows = one (Copy to (first_row v)) (copy_right v to (first_row v) child rows)
-
-      -- a row of a value, where its nodes are among the value's
-      among : (v from : ℕ) (t : Ctype) (nodes : List Ctype) → sort_at (trees_in p) v ≡ ValueNode → type_at (trees_in p) v ≡ t → first_row v ≤ from → from + kept_count nodes ≤ first_row v + kept_count (nodes_of p.types t)
-          → (j d : ℕ) → j < length (kept nodes) → IsRowOf (trees_in p) (view_of space) v (kept_row from nodes (get_or (kept nodes) j d))
-      among v from t nodes sort type low high j d lt =
-          let few = kept_low nodes j d lt in
-          value_row (trees_in p) (view_of space) v t (kept_row from nodes (get_or (kept nodes) j d)) sort type (omega arith) (omega arith)
 
       copies_right : (v from to : ℕ) (t : Ctype) (nodes : List Ctype) → Has node.children v → sort_at (trees_in p) v ≡ ValueNode → type_at (trees_in p) v ≡ t → first_row v ≤ from
           → from + kept_count nodes ≤ first_row v + kept_count (nodes_of p.types t) → AllRight (copies nodes to from)
@@ -188,6 +203,40 @@ module _ (p : Program) (space : List Location) (system : System) (is : SystemOf 
       items_right e o [] (v ∷ values) mine h = nothing
       items_right e o (path ∷ paths) [] mine h = nothing
       items_right e o (path ∷ paths) (v ∷ values) mine h = All-append Right _ (initialise_row w e paths values) (put_right v _ _ (mine 0 v refl) h.0) (items_right e o paths values (λ j x found. mine (suc j) x found) h.2)
+
+    -- what a call passes
+    passed_right : node.kind ≡ CallNode → (j v to from : ℕ) → slice_get node.children (suc j) ≡ Some v → IsRowOf (trees_in p) (view_of space) v from → Right (Copy to from)
+    passed_right call j v to from child rows = record { edges = edges; facts = λ r h. absurd h }
+      where
+        edges : (a b : ℕ) → IsConstraintValid system (constraint_of (Copy to from)) → (a ≡ from) × (b ≡ to) → Special a → Special b
+        edges a b ok g special = elim (from_child p space system is right spaced F k L own unused n node (suc j) v from at child rows (subst Special g.0 special)) [
+          | inl d ↦ absurd (decay_call (sym d.0 ∙ call))
+          | inr c ↦ absurd (past_first c.1)
+        ]
+
+    gathered_right : node.kind ≡ CallNode → (j v : ℕ) → slice_get node.children (suc j) ≡ Some v → sort_at (trees_in p) v ≡ ValueNode → AllRight (gathered_row w n v)
+    gathered_right call j v child sort =
+        let nodes = nodes_of p.types (type_at (trees_in p) v) in
+        let to = rest_row (trees_in p) (view_of space) n in
+        All-map Right (λ i. Copy to (kept_row (first_row v) nodes i)) (kept nodes)
+        (λ i d lt. passed_right call j v to (kept_row (first_row v) nodes (get_or (kept nodes) i d)) child (among v (first_row v) (type_at (trees_in p) v) nodes sort refl (omega arith) (omega arith) i d lt))
+
+    gathered_all : node.kind ≡ CallNode → (values : List ℕ) → ((j v : ℕ) → slice_get values j ≡ Some v → (i : ℕ) × (slice_get node.children (suc i) ≡ Some v) × (sort_at (trees_in p) v ≡ ValueNode)) → AllRight (flat_map (gathered_row w n) values)
+    gathered_all call [] each = nothing
+    gathered_all call (v ∷ values) each =
+        let mine = each 0 v refl in
+        subst (λ (list : List Assignment). All Right list) (sym (flat_map-cons (gathered_row w n) v values))
+        (All-append Right (gathered_row w n v) (flat_map (gathered_row w n) values) (gathered_right call mine.0 v mine.1 mine.2) (gathered_all call values (λ j x found. each (suc j) x found)))
+
+    call_right : node.kind ≡ CallNode → (t : Ctype) (children : List ℕ) → node.children ≡ children → CallRow (trees_in p) t children → AllRight (call_row w n children)
+    call_right call t [] list h = nothing
+    call_right call t (c ∷ arguments) list h = by (variadic_count (type_at (trees_in p) c))
+      where
+        by : (o : Option ℕ) → AllRight (gathered_past w n o arguments)
+        by None = nothing
+        by (Some count) =
+            gathered_all call (drop count arguments)
+            (λ j v found. (count + j, ap (λ (l : List ℕ). slice_get l (suc (count + j))) list ∙ dropped count arguments j v found, row_values (trees_in p) t (c ∷ arguments) h (count + j) v (dropped count arguments j v found)))
 
     named_own : (e : ℕ) (t : Ctype) → L ≡ location_of (trees_in p) (view_of space) e → IsEntityIn (trees_in p) (slice_get p.entities.items e) t → IsFunction t
     named_own e t h row =
@@ -316,6 +365,14 @@ module _ (p : Program) (space : List Location) (system : System) (is : SystemOf 
       value_right (MemberOfValue m) kind [] list h = nothing
       value_right (MemberOfValue m) kind (v ∷ []) list h = part_right m v (ap is_plain kind) (0, ap (λ (l : List ℕ). slice_get l 0) list) h.0 h.1 h.2
       value_right (MemberOfValue m) kind (v ∷ x ∷ rest) list h = nothing
+      value_right CallNode kind children list h = call_right kind t children list h
+      value_right (VarArgs e) kind children list h =
+          other_right n (unwrap_or (first_from 0 space (VarargsKey e)) 0) (λ same. varargs_function e k (key_or p space system is right spaced F k L own unused (VarargsKey e) same))
+      value_right NextArg kind [] list h = nothing
+      value_right NextArg kind (q ∷ []) list h =
+          let lists = list_row (trees_in p) (view_of space) n in
+          All-cons Right (Load lists (first_row q) 7 0) (loads (nodes_of p.types t) (first_row n) lists (type_number t)) (load_right lists (first_row q) 7 0) (loads_right (nodes_of p.types t) (first_row n) lists (type_number t))
+      value_right NextArg kind (q ∷ x ∷ rest) list h = nothing
       value_right other kind children list h = nothing
 
       -- statements

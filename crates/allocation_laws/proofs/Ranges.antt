@@ -11,14 +11,14 @@ use Rattle.c_types.specs.Table.{Table, type_of}
 use Rattle.type_rules.specs.Conversions.{decayed}
 use Rattle.core_tree.specs.declared.node.Node.{Node}
 use Rattle.core_tree.specs.declared.node.NodeKind.{NodeKind}
-use Rattle.core_tree.specs.declared.node.NodeKind.TheVariants.{FunctionName, Decay}
+use Rattle.core_tree.specs.declared.node.NodeKind.TheVariants.{FunctionName, Decay, CallNode}
 use Rattle.core_tree.specs.Rows.{RowOf, DecayRow}
 use Rattle.core_tree.specs.Typed.{CoreTrees, Sort, PlaceNode, ValueNode, sort_of, sort_in, sort_at, type_in, type_at}
 use Rattle.core_tree.specs.Valid.{InRows}
 use Rattle.obj_space.specs.View.{SpaceView}
 use Rattle.obj_space.proofs.Placed.{get_map}
 use Rattle.row_numbers.specs.Kept.{nodes_of, is_kept, kept_at, kept_from, kept, kept_count, kept_row, row_or, row_list}
-use Rattle.row_numbers.specs.Setting.{width_by, width, widths, row, result_row, none_row, value_rows}
+use Rattle.row_numbers.specs.Setting.{calls_further, width_by, own_width, lead, lead_in, trail, trail_at, width, widths, row, list_row, rest_row, result_row, none_row, value_rows}
 use Rattle.row_numbers.proofs.KeptLemmas.{count_more}
 use Rattle.system_laws.proofs.Rows.{kept_fewer}
 use Rattle.allocation_laws.proofs.Marks.{none_some, some_one, any_there, any_from, same_number, is_marked, IsMarked, as_name, as_decay, marked_is, name_of_kind}
@@ -129,15 +129,15 @@ decayed_pointer (StructureOf tag) t h = absurd (none_some h)
 decayed_pointer (UnionOf tag) t h = absurd (none_some h)
 
 module _ (u : CoreTrees) (s : SpaceView) where
-  -- a row of a node
+  -- a row of a node: one of its own, one in front of these, or one behind them
   pub record IsRowOf (v r : ℕ) : Type 0 where
     pub width : ℕ
     pub width_is : slice_get (widths u) v ≡ Some width
-    pub low : row u s v ≤ r
-    pub high : r < row u s v + width
+    pub low : list_row u s v ≤ r
+    pub high : r < list_row u s v + width
 
   pub rows_apart : (v m r : ℕ) → IsRowOf v r → IsRowOf m r → v ≡ m
-  unfolding row
+  unfolding list_row
   rows_apart v m r a b = elim (cases_lt v m) [
     | inl less ↦ absurd (let apart = sums_apart (widths u) v m a.width a.width_is less in let high = a.high in let low = b.low in omega arith)
     | inr more ↦ elim (cases_lt m v) [
@@ -148,11 +148,11 @@ module _ (u : CoreTrees) (s : SpaceView) where
 
   -- the rows of nodes stand behind those of locations, before those of results and the one that stands for none
   pub row_behind : (v r : ℕ) → IsRowOf v r → s.count ≤ r
-  unfolding row
+  unfolding list_row
   row_behind v r h = let low = h.low in omega arith
 
   row_before : (v r : ℕ) → IsRowOf v r → r < s.count + sum (widths u)
-  unfolding row
+  unfolding list_row
   row_before v r h = let high = h.high in let less = sum_within (widths u) v h.width h.width_is in omega arith
 
   pub before_result : (v r number : ℕ) → IsRowOf v r → r < result_row u s number
@@ -163,28 +163,40 @@ module _ (u : CoreTrees) (s : SpaceView) where
   unfolding none_row
   before_none v r h = let less = row_before v r h in omega arith
 
-  place_width : (v : ℕ) → sort_at u v ≡ PlaceNode → slice_get (widths u) v ≡ Some 1
-  place_width v is = by (slice_get u.nodes v) refl is
-    where
-      by : (o : Option Node) → slice_get u.nodes v ≡ o → sort_in o ≡ PlaceNode → slice_get (widths u) v ≡ Some 1
-      by None at e = cc
-      by (Some node) at e = get_map (width u.types) u.nodes v node at ∙ ap (λ (o : Sort). Some (width_by o (kept_count (nodes_of u.types (type_of u.types node.ty.0))))) e
-
-  value_width : (v : ℕ) (t : Ctype) → sort_at u v ≡ ValueNode → type_at u v ≡ t → slice_get (widths u) v ≡ Some (kept_count (nodes_of u.types t))
-  value_width v t is type = by (slice_get u.nodes v) refl is
-    where
-      by : (o : Option Node) → slice_get u.nodes v ≡ o → sort_in o ≡ ValueNode → slice_get (widths u) v ≡ Some (kept_count (nodes_of u.types t))
-      by None at e = cc
-      by (Some node) at e =
-          get_map (width u.types) u.nodes v node at
-          ∙ (ap (λ (o : Sort). Some (width_by o (kept_count (nodes_of u.types (type_of u.types node.ty.0))))) e
-          ∙ ap (λ (c : Ctype). Some (kept_count (nodes_of u.types c))) (sym (ap (type_in u.types) at) ∙ type))
+  own_row : (v : ℕ) (node : Node) (r : ℕ) → slice_get u.nodes v ≡ Some node → row u s v ≤ r → r < row u s v + own_width u.types node → IsRowOf v r
+  unfolding row list_row
+  own_row v node r at low high =
+      let first : lead_in (slice_get u.nodes v) ≡ lead node.kind = ap lead_in at in
+      record { width = width u node; width_is = get_map (width u) u.nodes v node at; low = omega arith; high = omega arith }
 
   pub place_row : (v : ℕ) → sort_at u v ≡ PlaceNode → IsRowOf v (row u s v)
-  place_row v is = record { width = 1; width_is = place_width v is; low = omega arith; high = omega arith }
+  place_row v is = by (slice_get u.nodes v) refl is
+    where
+      by : (o : Option Node) → slice_get u.nodes v ≡ o → sort_in o ≡ PlaceNode → IsRowOf v (row u s v)
+      by None at e = absurd (cc)
+      by (Some node) at e =
+          let one : own_width u.types node ≡ 1 = ap (λ (o : Sort). width_by o (kept_count (nodes_of u.types (type_of u.types node.ty.0)))) e in
+          own_row v node (row u s v) at (omega arith) (omega arith)
 
   pub value_row : (v : ℕ) (t : Ctype) (r : ℕ) → sort_at u v ≡ ValueNode → type_at u v ≡ t → row u s v ≤ r → r < row u s v + kept_count (nodes_of u.types t) → IsRowOf v r
-  value_row v t r is type low high = record { width = kept_count (nodes_of u.types t); width_is = value_width v t is type; low = low; high = high }
+  value_row v t r is type low high = by (slice_get u.nodes v) refl is
+    where
+      by : (o : Option Node) → slice_get u.nodes v ≡ o → sort_in o ≡ ValueNode → IsRowOf v r
+      by None at e = absurd (cc)
+      by (Some node) at e =
+          let same : own_width u.types node ≡ kept_count (nodes_of u.types t) =
+          ap (λ (o : Sort). width_by o (kept_count (nodes_of u.types (type_of u.types node.ty.0)))) e ∙ ap (λ (c : Ctype). kept_count (nodes_of u.types c)) (sym (ap (type_in u.types) at) ∙ type) in
+          own_row v node r at low (omega arith)
+
+  -- the row of all that a call passes past the parameters
+  pub rest_of_call : (v : ℕ) (node : Node) (c : ℕ) (arguments : List ℕ) → slice_get u.nodes v ≡ Some node → node.kind ≡ CallNode → node.children ≡ c ∷ arguments → calls_further (type_at u c) ≡ true → IsRowOf v (rest_row u s v)
+  unfolding row list_row rest_row
+  rest_of_call v node c arguments at kind list further =
+      let first : lead_in (slice_get u.nodes v) ≡ lead node.kind = ap lead_in at in
+      let own : own_width u.types node ≡ kept_count (nodes_of u.types (type_at u v)) =
+      ap (λ (j : NodeKind). width_by (sort_of j) (kept_count (nodes_of u.types (type_of u.types node.ty.0)))) kind ∙ sym (ap (λ (o : Option Node). kept_count (nodes_of u.types (type_in u.types o))) at) in
+      let behind : trail u node.kind node.children ≡ 1 = ap (λ (j : NodeKind). trail u j node.children) kind ∙ (ap (λ (l : List ℕ). trail u CallNode l) list ∙ ap trail_at further) in
+      record { width = width u node; width_is = get_map (width u) u.nodes v node at; low = omega arith; high = omega arith }
 
   pub pointer_row : (v : ℕ) (to : Ctype) → sort_at u v ≡ ValueNode → type_at u v ≡ PointerTo to → IsRowOf v (row u s v)
   pointer_row v to is type = let one = one_pointer u.types to in value_row v (PointerTo to) (row u s v) is type (omega arith) (omega arith)

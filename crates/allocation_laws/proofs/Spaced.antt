@@ -7,7 +7,7 @@ use Rattle.std.specs.Ordering.{match_ordering}
 use Rattle.std.specs.BTreeMap.{insert_entry}
 use Rattle.std.proofs.lemmas.List.Concat.{flat_map-cons, flat_map-append}
 use Rattle.c_types.specs.declared.key.ObjectKey.{ObjectKey}
-use Rattle.c_types.specs.declared.key.ObjectKey.TheVariants.{Entity as EntityKey, Text as TextKey, Call as CallKey, Library as LibraryKey, Star as StarKey, Function as FunctionKey}
+use Rattle.c_types.specs.declared.key.ObjectKey.TheVariants.{Entity as EntityKey, Text as TextKey, Call as CallKey, Library as LibraryKey, Star as StarKey, Function as FunctionKey, Varargs as VarargsKey}
 use Rattle.c_types.specs.Table.{Table}
 use Rattle.c_types.specs.Made.{IsMade}
 use Rattle.core_tree.specs.declared.node.Entity.{Entity}
@@ -21,7 +21,7 @@ use Rattle.obj_made.specs.declared.object.Content.{Content}
 use Rattle.obj_made.specs.declared.object.Content.TheVariants.{Function, Blob, Scalar, Scalars, Typed, Elements}
 use Rattle.obj_made.specs.declared.object.Object.{Object}
 use Rattle.obj_made.specs.Uses.{entity_number, is_allocator, is_named, is_starred}
-use Rattle.obj_made.specs.Made.{Made, Spot, by_place, in_order, made_at, spot_at, object_unless_declared, entity_made, entities_made, called_object, object_of_call, called_entity, object_of_kind, node_made, nodes_made, made_in_order, objects_in}
+use Rattle.obj_made.specs.Made.{Made, Spot, by_place, in_order, made_at, spot_at, object_unless_declared, entity_made, entities_made, called_object, object_of_call, called_entity, object_of_kind, node_made, nodes_made, has_varargs, varargs_object, varargs_spot, varargs_made, made_of_names, made_in_order, objects_in}
 use Rattle.obj_space.specs.declared.location.Location.{Location}
 use Rattle.obj_space.specs.Objects.{LibraryRow, named_object, function_if, functions_below, library_rows, library_object, library_objects_from, library_objects, is_needed, star_if, star_objects, library_part, objects_of, takes_arguments}
 use Rattle.obj_space.specs.Space.{located, locations_by, locations_of, locations_in, HasTrees}
@@ -38,6 +38,7 @@ abbrev IsToken : ObjectKey → Type 0
 IsToken (EntityKey e) = Unit {0}
 IsToken (TextKey n) = Unit {0}
 IsToken (CallKey n) = Unit {0}
+IsToken (VarargsKey e) = Unit {0}
 IsToken key = ⊥
 
 -- one of the library's, of which functions are made as functions
@@ -112,6 +113,11 @@ module _ (p : Program) where
   nodes_tokens n [] = tt
   nodes_tokens n (node ∷ ns) = tokens_append (node_made p n node) (nodes_made p (n + 1) ns) (kind_token (spot_at node.place (length p.entities.items + n)) n node node.kind) (nodes_tokens (n + 1) ns)
 
+  further_tokens : (e : ℕ) (es : List Entity) → Tokens (varargs_made p e es)
+  further_tokens e [] = tt
+  further_tokens e (entity ∷ es) =
+      tokens_append (made_at (varargs_spot p e entity) (varargs_object p e entity)) (varargs_made p (e + 1) es) (if_token (varargs_spot p e entity) (has_varargs p.types entity) _ tt) (further_tokens (e + 1) es)
+
   listed : (ms : Made) → Tokens ms → Each IsTokens (objects_in ms)
   listed [] h = tt
   listed (m ∷ ms) h = (h.0, listed ms h.1)
@@ -119,7 +125,9 @@ module _ (p : Program) where
   made_tokens : Each IsTokens (objects_in (made_in_order p))
   made_tokens =
       listed (made_in_order p)
+      (ordered (made_of_names p) (varargs_made p 0 p.entities.items)
       (ordered (in_order [] (entities_made p 0 p.entities.items)) (nodes_made p 0 p.nodes.items) (ordered [] (entities_made p 0 p.entities.items) tt (entities_tokens 0 p.entities.items)) (nodes_tokens 0 p.nodes.items))
+      (further_tokens 0 p.entities.items))
 
   each_append : (a b : List Object) → Each IsLibrarys a → Each IsLibrarys b → Each IsLibrarys (a ++ b)
   each_append [] b ha hb = hb

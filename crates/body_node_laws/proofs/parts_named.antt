@@ -1,10 +1,10 @@
 pub mod Listing
 pub mod Owners
+pub mod Linked
 pub mod Counts
 pub mod Roots
 pub mod Apart
 pub mod Objects
-pub mod Linked
 pub mod Firsts
 pub mod Initials
 pub mod Known

@@ -1,5 +1,5 @@
 -- The value of an expression has the expression's constants.
-use Rattle.std.proofs.Common.{◌≡◌, ℕ, Bool, true, false, Option, Some, None, Result, Ok, Err, IfOk, refl, subst}
+use Rattle.std.proofs.Common.{◌≡◌, ◌||◌, ℕ, Bool, true, false, Option, Some, None, Result, Ok, Err, IfOk, refl, subst}
 use Rattle.pta_base.specs.declared.kind.Kind.TheVariants.{Operand}
 use Rattle.c_types.specs.Trees.{Ctype}
 use Rattle.c_types.specs.Table.{look_in, members_in}
@@ -9,7 +9,7 @@ use Rattle.core_tree.specs.Typed.{Sort, NoNode, PlaceNode, ValueNode, StatementN
 use Rattle.c_consts.specs.Core.{Core, ctype_of, core_sort, place_of, over}
 use Rattle.core_nodes.specs.passed.c_senses.Given.{Fits, given_if}
 use Rattle.core_nodes.specs.passed.c_senses.World.{World}
-use Rattle.core_nodes.specs.passed.c_senses.Conversions.{value_of, value_of_sort, fetched_or_decayed, is_fetched, operand_of}
+use Rattle.core_nodes.specs.passed.c_senses.Conversions.{value_of, value_of_sort, fetched_or_decayed, is_fetched, is_list, operand_of}
 use Rattle.core_nodes.specs.Standing.{core_at, Made, Knows, parts_in}
 use Rattle.core_nodes.specs.declared.fault.CheckFault.{CheckFault}
 use Rattle.c_conversions.specs.Constants.{HasRows}
@@ -25,6 +25,7 @@ world_of u = record {
   may_name = λ entity. true;
   may_call = true;
   own_name = None;
+  further = λ leaf. None;
 }
 
 knows_own : (u : Unit) → Knows (world_of u) u
@@ -37,7 +38,7 @@ module _ (w : World) (at : ℕ) (c d : Core) (rows : HasRows c) where
 
   place_rows : (o : Option Ctype) → fetched_or_decayed w at c o ≡ Fits d → HasRows d
   place_rows (Some t) e = let same : over Decay (place_of c) t c ≡ d = cc in subst HasRows same (tt, (rows, tt))
-  place_rows None e = fetched_rows (is_fetched w (operand_of (ctype_of c))) e
+  place_rows None e = fetched_rows (is_fetched w (operand_of (ctype_of c)) || is_list (ctype_of c)) e
 
   sort_rows : (s : Sort) → value_of_sort w at c s ≡ Fits d → HasRows d
   sort_rows NoNode e = cc

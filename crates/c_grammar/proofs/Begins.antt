@@ -60,7 +60,7 @@ zero_is : (c : Bool) → ◌≡◌ {A = ℕ} (cond c 1 0) 0 → c ≡ false
 zero_is true e = absurd (omega arith)
 zero_is false e = refl
 
-pub firsts_are : (p t : ℕ) → p < 252 → has (get_or FIRSTS p 0) t ≡ contains (firsts p) t
+pub firsts_are : (p t : ℕ) → p < 258 → has (get_or FIRSTS p 0) t ≡ contains (firsts p) t
 unfolding has
 firsts_are p t h =
     let l : p < length FIRSTS = omega arith in

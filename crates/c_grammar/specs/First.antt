@@ -3,6 +3,7 @@ use Rattle.std.specs.Prelude.{ℕ, zero, suc, ◌==◌, Bool, true, false, ◌||
 use Rattle.c_grammar.specs.declared.rows.Item.{Item}
 use Rattle.c_grammar.specs.declared.rows.Item.TheVariants.{Token, Use, Choice, Repeat, Scope}
 use Rattle.c_grammar.specs.Table.{row}
+use Rattle.c_grammar.specs.Terminals.{list_names}
 use Rattle.c_grammar.specs.Terminals.{contains, terminals, sign, plain_name, typeof_name, builtin_name, floating}
 use Rattle.c_grammar.specs.Words.{word_asm, word_generic, sign_both}
 use Rattle.c_grammar.specs.Productions.{p_external, p_type, p_abstract, p_either, p_parameter, p_items, p_statement}
@@ -28,7 +29,7 @@ refused_firsts p =
                       elim (p == p_type) [
                         | true ↦ typeof_name ∷ []
                         | false ↦
-                            elim (p == p_parameter) [ true ↦ plain_name ∷ builtin_name ∷ [] | false ↦ [] ]
+                            elim (p == p_parameter) [ true ↦ plain_name ∷ (builtin_name ∷ list_names) | false ↦ [] ]
                       ]
                 ]
           ]
@@ -50,6 +51,6 @@ unfoldable pub firsts_within : ℕ → ℕ → List ℕ
 firsts_within zero p = []
 firsts_within (suc n) p = refused_firsts p ++ row_firsts (firsts_within n) p (row p)
 
--- no production leads through more than 37 others to its first token
+-- no production leads through more than 38 others to its first token
 unfoldable pub firsts : ℕ → List ℕ
-firsts p = firsts_within 38 p
+firsts p = firsts_within 39 p

@@ -24,7 +24,7 @@ has set terminal = nat_lt terminal 128 && set / 2 ^ terminal % 2 == 1
 
 -- whether a production begins with a terminal
 unfoldable pub begins : ℕ → ℕ → Bool
-begins production terminal = nat_lt production 252 && contains (firsts production) terminal
+begins production terminal = nat_lt production 258 && contains (firsts production) terminal
 
 -- a token starts a type where it is a type word, struct, union, enum, a typedef name, typeof, a qualifier or
 -- _Alignas

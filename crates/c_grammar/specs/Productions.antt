@@ -757,3 +757,21 @@ p_primary_2 = 250
 
 abbrev pub p_primary_1 : ℕ
 p_primary_1 = 251
+
+abbrev pub p_list_call : ℕ
+p_list_call = 252
+
+abbrev pub p_list_pair_call : ℕ
+p_list_pair_call = 253
+
+abbrev pub p_list_argument_call : ℕ
+p_list_argument_call = 254
+
+abbrev pub p_list_end_call : ℕ
+p_list_end_call = 255
+
+abbrev pub p_list_call_1 : ℕ
+p_list_call_1 = 256
+
+abbrev pub p_named_primary : ℕ
+p_named_primary = 257

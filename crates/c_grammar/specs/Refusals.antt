@@ -5,6 +5,7 @@ use Rattle.pta_base.specs.declared.kind.Kind.TheVariants.{Floating, Complex, Ato
 use Rattle.pta_base.specs.declared.kind.Kind.TheVariants.{StatementExpression, Typeof, Builtin, OldParameters}
 use Rattle.pta_base.specs.declared.kind.Kind.TheVariants.{ThreadLocal, Wide, WideInteger, Character, LabelAddress}
 use Rattle.pta_base.specs.declared.kind.Kind.TheVariants.{Range}
+use Rattle.c_grammar.specs.Terminals.{contains, list_names}
 use Rattle.c_grammar.specs.Terminals.{sign, plain_name, typeof_name, builtin_name, builtin_type, floating}
 use Rattle.c_grammar.specs.Terminals.{wide_literal, long_character, wide_integer, thread_word}
 use Rattle.c_grammar.specs.Words.{word_asm, word_atomic, word_complex, word_generic, word_imaginary}
@@ -35,7 +36,8 @@ refusal production first second =
     else if (production == p_range_end)
     || (production == p_case_end) then (if first == sign sign_ellipsis then Some Range else None)
     else if production == p_parameter
-    then (if (first == plain_name) || (first == builtin_name) then Some OldParameters else None)
+    then (if (first == plain_name) || (first == builtin_name) || contains list_names first
+    then Some OldParameters else None)
     else None
 
 -- the kind under which a token that doesn't fit is refused, wherever it stands

@@ -57,6 +57,8 @@ use Rattle.c_grammar.specs.Productions.{p_prefix_3, p_prefix_2, p_prefix_1, p_pr
 use Rattle.c_grammar.specs.Productions.{p_aligned, p_postfixed, p_unary_2, p_unary_1, p_index, p_call, p_arguments}
 use Rattle.c_grammar.specs.Productions.{p_dot, p_arrow, p_post_4, p_post_3, p_post_2, p_post_1, p_texts, p_enclosed}
 use Rattle.c_grammar.specs.Productions.{p_just_integer, p_just_character, p_primary_3, p_primary_2, p_primary_1}
+use Rattle.c_grammar.specs.Productions.{p_list_call, p_list_pair_call, p_list_argument_call, p_list_end_call}
+use Rattle.c_grammar.specs.Productions.{p_list_call_1, p_named_primary}
 use Rattle.c_grammar.specs.Words.{sign_add_assign, sign_ampersand, sign_and_assign, sign_arrow, sign_assign}
 use Rattle.c_grammar.specs.Words.{sign_bar, sign_both, sign_caret, sign_colon, sign_comma, sign_decrement}
 use Rattle.c_grammar.specs.Words.{sign_divide_assign, sign_dot, sign_either_or, sign_ellipsis, sign_equal}
@@ -186,7 +188,7 @@ table =
     -- 46 post
     (Choice p_index p_post_1 ∷ []) ∷
     -- 47 primary
-    (Choice p_just_ident p_primary_1 ∷ []) ∷
+    (Choice p_list_call p_named_primary ∷ []) ∷
     -- 48 nothing
     ([]) ∷
     -- 49 just_semicolon
@@ -625,6 +627,21 @@ table =
     (Choice p_just_character p_primary_3 ∷ []) ∷
     -- 251 primary_1
     (Choice p_just_integer p_primary_2 ∷ []) ∷
+    -- 252 list_call
+    (Choice p_list_pair_call p_list_call_1 ∷ []) ∷
+    -- 253 list_pair_call
+    (Token Identifier ∷ Token (Punctuator sign_left_parenthesis) ∷ Use p_assignment ∷ Token (Punctuator sign_comma)
+    ∷ Use p_assignment ∷ Token (Punctuator sign_right_parenthesis) ∷ []) ∷
+    -- 254 list_argument_call
+    (Token Identifier ∷ Token (Punctuator sign_left_parenthesis) ∷ Use p_assignment ∷ Token (Punctuator sign_comma)
+    ∷ Use p_type_name ∷ Token (Punctuator sign_right_parenthesis) ∷ []) ∷
+    -- 255 list_end_call
+    (Token Identifier ∷ Token (Punctuator sign_left_parenthesis) ∷ Use p_assignment
+    ∷ Token (Punctuator sign_right_parenthesis) ∷ []) ∷
+    -- 256 list_call_1
+    (Choice p_list_argument_call p_list_end_call ∷ []) ∷
+    -- 257 named_primary
+    (Choice p_just_ident p_primary_1 ∷ []) ∷
     []
 
 -- the items of a production's row, and the item at a place of it

@@ -10,7 +10,8 @@ use Rattle.c_lexer.specs.declared.TokenKind.{TokenKind}
 use Rattle.c_lexer.specs.declared.TokenKind.TheVariants.{Identifier, Keyword, Punctuator, Integer, Floating}
 use Rattle.c_lexer.specs.declared.TokenKind.TheVariants.{Character, Text, End}
 use Rattle.c_grammar.specs.Names.{Names, is_type}
-use Rattle.c_grammar.specs.Productions.{p_floating_name, p_typedef_name}
+use Rattle.c_grammar.specs.Productions.{p_floating_name, p_typedef_name, p_list_pair_call, p_list_argument_call}
+use Rattle.c_grammar.specs.Productions.{p_list_end_call}
 
 abbrev pub contains : List ℕ → ℕ → Bool
 contains [] x = false
@@ -34,7 +35,7 @@ floating_type = 95
 abbrev pub typeof_name : ℕ
 typeof_name = 96
 
--- a name that begins with __builtin_, and one that is also a typedef name
+-- a name that begins with __builtin_ and stands for no operation on lists, and one that is also a typedef name
 abbrev pub builtin_name : ℕ
 builtin_name = 97
 
@@ -81,6 +82,28 @@ bytes_between text start end =
 abbrev pub spelled : List ℕ → Token → List ℕ
 spelled text t = bytes_between text t.start t.end
 
+-- the names that stand for operations on variadic lists (C11 7.16.1): two that are called with two expressions, one
+-- with an expression and a type, and one with an expression
+abbrev pub list_pair : ℕ
+list_pair = 109
+
+abbrev pub list_argument : ℕ
+list_argument = 110
+
+abbrev pub list_end : ℕ
+list_end = 111
+
+abbrev pub list_names : List ℕ
+list_names = list_pair ∷ list_argument ∷ list_end ∷ []
+
+unfoldable pub list_words : List (List ℕ × ℕ)
+list_words =
+    (codes "__builtin_va_start", list_pair) ∷
+    (codes "__builtin_va_copy", list_pair) ∷
+    (codes "__builtin_va_arg", list_argument) ∷
+    (codes "__builtin_va_end", list_end) ∷
+    []
+
 -- the words that are identifiers to the lexer and have a meaning of their own here
 unfoldable pub own_words : List (List ℕ × ℕ)
 own_words =
@@ -107,7 +130,8 @@ is_builtin name = bytes_eq (take 10 name) (codes "__builtin_")
 unfoldable pub name_terminal : Names → List ℕ → ℕ
 name_terminal names name =
     unwrap_or (own_meaning own_words name)
-    (if is_builtin name then (if is_type names name then builtin_type else builtin_name)
+    (if is_builtin name
+    then (if is_type names name then builtin_type else unwrap_or (own_meaning list_words name) builtin_name)
     else (if is_type names name then type_name else plain_name))
 
 abbrev pub byte_at : List ℕ → ℕ → ℕ
@@ -162,8 +186,15 @@ terminal_of text names (Some t) = terminal_of_kind t.kind names (spelled text t)
 unfoldable pub terminal : List ℕ → List Token → Names → ℕ → ℕ
 terminal text tokens names place = terminal_of text names (slice_get tokens place)
 
+-- the name of an operation on variadic lists, by its row
+abbrev pub list_name : ℕ → ℕ
+list_name production =
+    if production == p_list_pair_call then list_pair
+    else if production == p_list_argument_call then list_argument
+    else list_end
+
 -- the terminals that an item takes. An identifier is any name but a floating type's, which is a type word and
--- nothing else; the two rows for names that are types take these alone.
+-- nothing else; the two rows for names that are types take these alone, and so do those for operations on lists.
 abbrev pub identifiers : ℕ → List ℕ
 identifiers production =
     elim (production == p_floating_name) [
@@ -171,7 +202,11 @@ identifiers production =
       | false ↦
           elim (production == p_typedef_name) [
             | true ↦ type_name ∷ builtin_type ∷ []
-            | false ↦ plain_name ∷ type_name ∷ typeof_name ∷ builtin_name ∷ builtin_type ∷ []
+            | false ↦
+                elim (nat_le p_list_pair_call production && nat_le production p_list_end_call) [
+                  | true ↦ list_name production ∷ []
+                  | false ↦ plain_name ∷ type_name ∷ typeof_name ∷ builtin_name ∷ (builtin_type ∷ list_names)
+                ]
           ]
     ]
 

@@ -30,7 +30,7 @@ pub fn item(production: u32, at: u32) -> Option<Item>
     ensures is { result ≡ item_of production at }
     ensures low { OnSome result (at < 2 ^ 16) }
 {
-    if production >= 252 {
+    if production >= 258 {
         return None;
     }
     let start = u32::from(STARTS[production as usize]);

@@ -27,7 +27,7 @@ fn has(set: u128, terminal: u32) -> bool
 fn begins(production: u32, terminal: u32) -> bool
     ensures { result ≡ test.begins production terminal }
 {
-    production < 252 && has(FIRSTS[production as usize], terminal)
+    production < 258 && has(FIRSTS[production as usize], terminal)
 }
 
 #[tactic(auto, unfolding(crate::specs::Fits::starts_type))]
@@ -200,7 +200,9 @@ pub fn refusal(production: u32, first: u32, second: u32) -> Option<Kind>
         TYPE => kind_where(first == TYPEOF_NAME, Kind::Typeof),
         RANGE_END | CASE_END => kind_where(first == ELLIPSIS, Kind::Range),
         PARAMETER => kind_where(
-            first == PLAIN_NAME || first == BUILTIN_NAME,
+            first == PLAIN_NAME
+                || first == BUILTIN_NAME
+                || (LIST_PAIR <= first && first <= LIST_END),
             Kind::OldParameters,
         ),
         _ => None,

@@ -158,3 +158,9 @@ pub(crate) const CASE_END: u32 = 140;
 pub(crate) const JUST_STRUCT: u32 = 102;
 
 pub(crate) const JUST_UNION: u32 = 103;
+
+pub(crate) const LIST_PAIR_CALL: u32 = 253;
+
+pub(crate) const LIST_ARGUMENT_CALL: u32 = 254;
+
+pub(crate) const LIST_END_CALL: u32 = 255;

@@ -2,7 +2,9 @@
 ghost use Rattle.c_grammar.specs.Terminals as spec;
 ghost use Rattle.std.specs.Prelude.{◌≡◌, ◌<◌, ◌≤◌, ◌^◌, length, drop, true};
 
-use crate::productions::{FLOATING_NAME, TYPEDEF_NAME};
+use crate::productions::{
+    FLOATING_NAME, LIST_ARGUMENT_CALL, LIST_END_CALL, LIST_PAIR_CALL, TYPEDEF_NAME,
+};
 use crate::scopes::Scopes;
 use c_lexer::{Token, TokenKind};
 
@@ -41,6 +43,13 @@ pub(crate) const THREAD_WORD: u32 = 107;
 /// A typedef name that begins with `__builtin_`.
 pub(crate) const BUILTIN_TYPE: u32 = 108;
 
+/// A name that is called with two expressions: `__builtin_va_start` or `__builtin_va_copy`.
+pub(crate) const LIST_PAIR: u32 = 109;
+/// The name that is called with an expression and a type: `__builtin_va_arg`.
+pub(crate) const LIST_ARGUMENT: u32 = 110;
+/// The name `__builtin_va_end`.
+pub(crate) const LIST_END: u32 = 111;
+
 /// The bytes of a token, or none where it is no part of the text.
 pub fn spelled<'a>(text: &'a [u8], token: Token) -> &'a [u8]
     ensures { result.now ≡ spec.spelled text.now token }
@@ -52,6 +61,26 @@ pub fn spelled<'a>(text: &'a [u8], token: Token) -> &'a [u8]
     } else {
         &[]
     }
+}
+
+/// The terminal of a name that stands for an operation on variadic lists (C11 7.16.1).
+#[tactic(auto, unfolding(crate::specs::Terminals::list_words))]
+fn list_meaning(name: &[u8]) -> Option<u32>
+    ensures { result ≡ spec.own_meaning spec.list_words name.now }
+{
+    if name == b"__builtin_va_start".as_slice() {
+        return Some(LIST_PAIR);
+    }
+    if name == b"__builtin_va_copy".as_slice() {
+        return Some(LIST_PAIR);
+    }
+    if name == b"__builtin_va_arg".as_slice() {
+        return Some(LIST_ARGUMENT);
+    }
+    if name == b"__builtin_va_end".as_slice() {
+        return Some(LIST_END);
+    }
+    None
 }
 
 /// The terminal of a word that is an identifier to the lexer and has a meaning of its own here.
@@ -109,7 +138,11 @@ fn name_terminal(scopes: &Scopes, name: &[u8]) -> u32
     }
     let is_type = scopes.is_type(name);
     if is_builtin(name) {
-        if is_type { BUILTIN_TYPE } else { BUILTIN_NAME }
+        if is_type {
+            BUILTIN_TYPE
+        } else {
+            list_meaning(name).unwrap_or(BUILTIN_NAME)
+        }
     } else if is_type {
         TYPE_NAME
     } else {
@@ -248,6 +281,17 @@ pub fn terminal(text: &[u8], tokens: &[Token], scopes: &Scopes, place: usize) ->
     }
 }
 
+/// The terminal with which an operation on variadic lists begins.
+fn list_name(production: u32) -> u32
+    ensures { result ≡ spec.list_name production }
+{
+    match production {
+        LIST_PAIR_CALL => LIST_PAIR,
+        LIST_ARGUMENT_CALL => LIST_ARGUMENT,
+        _ => LIST_END,
+    }
+}
+
 /// Whether an identifier item of a row takes a token of the terminal.
 pub(crate) fn takes_name(production: u32, terminal: u32) -> bool
     ensures { result ≡ spec.contains (spec.identifiers production) terminal }
@@ -258,11 +302,15 @@ pub(crate) fn takes_name(production: u32, terminal: u32) -> bool
     if production == TYPEDEF_NAME {
         return terminal == TYPE_NAME || terminal == BUILTIN_TYPE;
     }
+    if LIST_PAIR_CALL <= production && production <= LIST_END_CALL {
+        return terminal == list_name(production);
+    }
     terminal == PLAIN_NAME
         || terminal == TYPE_NAME
         || terminal == TYPEOF_NAME
         || terminal == BUILTIN_NAME
         || terminal == BUILTIN_TYPE
+        || (LIST_PAIR <= terminal && terminal <= LIST_END)
 }
 
 /// Whether an item of a production's row takes a token of the terminal.

@@ -22,6 +22,7 @@ no_world = record {
   may_name = λ e. true;
   may_call = true;
   own_name = None;
+  further = λ leaf. None;
 }
 
 -- what the definitions see, over the senses of what was made

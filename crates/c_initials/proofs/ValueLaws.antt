@@ -42,6 +42,7 @@ world_of u = record {
   may_name = λ entity. true;
   may_call = true;
   own_name = None;
+  further = λ leaf. None;
 }
 
 knows_own : (u : Unit) → Knows (world_of u) u

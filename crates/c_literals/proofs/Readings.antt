@@ -1,5 +1,6 @@
 -- No item of the grammar takes a wide literal, so none is among the tokens of a reading.
 use Rattle.std.proofs.Common.{◌≡◌, ℕ, zero, suc, ◌+◌, ◌<◌, ◌≤◌, Bool, true, false, not, eqb, Some, Result, Ok, List, [], ◌∷◌, cond, get_or, slice_get, refl, sym, ap, ◌∙◌, subst, inl, inr, arith}
+use Rattle.std.specs.Prelude.{nat_le, ◌&&◌}
 use Rattle.std.specs.List.{list_all, All}
 use Rattle.std.proofs.lemmas.List.Elements.{All-head, All-tail}
 use Rattle.std.proofs.lemmas.Bool.{and_parts, cases_lt, cases_Bool, both_ways, cond-true, or_from, not-true}
@@ -10,8 +11,8 @@ use Rattle.c_grammar.specs.declared.rows.Item.{Item}
 use Rattle.c_grammar.specs.declared.rows.Item.TheVariants as item
 use Rattle.c_grammar.specs.Table.{table, row, item_of}
 use Rattle.c_grammar.specs.Tree.{makes_node}
-use Rattle.c_grammar.specs.Productions.{p_floating_name, p_typedef_name}
-use Rattle.c_grammar.specs.Terminals.{terminal, terminal_of, terminal_of_kind, takes, contains, is_wide, spelled, floating_type, type_name, builtin_type, plain_name, typeof_name, builtin_name, wide_literal, string}
+use Rattle.c_grammar.specs.Productions.{p_floating_name, p_typedef_name, p_list_pair_call, p_list_argument_call, p_list_end_call}
+use Rattle.c_grammar.specs.Terminals.{terminal, terminal_of, terminal_of_kind, takes, contains, is_wide, spelled, floating_type, type_name, builtin_type, plain_name, typeof_name, builtin_name, wide_literal, string, list_name, list_names, list_pair, list_argument, list_end}
 use Rattle.c_grammar.specs.Reads.{State, Fault, first, taken, scoped, opened, closed, Walks, Opens, at_end, token, no_token, use_of, no_use, choice, no_choice, no_alternative, again, no_again, scope, enough, deep, refused, whole, broken}
 use Rattle.c_literals.specs.Laws.{LiteralFits}
 use Rattle.c_literals.specs.Readings.{NotWide, StringsAreNarrow, ReadingsAreReadable}
@@ -42,14 +43,21 @@ unfolding item_of row
 item_other p at i e = all_some is_other (get_or table p []) at i (all_at (list_all is_other) table p [] all_other refl) e
 
 -- no item takes a wide literal
-identifier_none : (b c : Bool) → contains (elim b as (λ x. List ℕ) [ true ↦ floating_type ∷ [] | false ↦ elim c as (λ x. List ℕ) [ true ↦ type_name ∷ builtin_type ∷ [] | false ↦ plain_name ∷ type_name ∷ typeof_name ∷ builtin_name ∷ builtin_type ∷ [] ] ]) 104 ≡ false
-identifier_none true c = refl
-identifier_none false true = refl
-identifier_none false false = refl
+list_none : (b c : Bool) → contains (cond b list_pair (cond c list_argument list_end) ∷ []) 104 ≡ false
+list_none true c = refl
+list_none false true = refl
+list_none false false = refl
+
+identifier_none : (p : ℕ) (b c d : Bool) → contains (elim b as (λ x. List ℕ) [ true ↦ floating_type ∷ [] | false ↦ elim c as (λ x. List ℕ) [ true ↦ type_name ∷ builtin_type ∷ [] | false ↦ elim d as (λ x. List ℕ) [ true ↦ list_name p ∷ [] | false ↦ plain_name ∷ type_name ∷ typeof_name ∷ builtin_name ∷ (builtin_type ∷ list_names) ] ] ]) 104 ≡ false
+identifier_none p true c d = refl
+identifier_none p false true d = refl
+identifier_none p false false true = list_none (eqb p p_list_pair_call) (eqb p p_list_argument_call)
+identifier_none p false false false = refl
 
 takes_none : (p : ℕ) (k : TokenKind) → is_other (item.Token k) ≡ true → takes p k 104 ≡ false
 unfolding takes
-takes_none p Identifier e = identifier_none (eqb p p_floating_name) (eqb p p_typedef_name)
+takes_none p Identifier e =
+    identifier_none p (eqb p p_floating_name) (eqb p p_typedef_name) (nat_le p_list_pair_call p && nat_le p p_list_end_call)
 takes_none p (Keyword k) e = or_from (eqb k 104) false (not-true (eqb k 104) e) refl
 takes_none p (Punctuator n) e = or_from (eqb (45 + n) 104) false (not-true (eqb (45 + n) 104) e) refl
 takes_none p Integer e = refl

@@ -19,10 +19,10 @@ use pta_base::Text;
 use std::alloc::Global;
 
 /// The unit that a text stands for, where its tokens and its tree are those of a text whose names are bound, and each node stands behind
-/// its children. The text is refused only at its first node, in order, whose row doesn't fit: `BadOperand` and `Unsupported` hold the kind
-/// and the node that the row names, and never the kind `NotBuilt`. Where the rows of all nodes fit, only memory may want: of what they
-/// stand for a valid unit is made always (`valid_unit_laws::lowered_laws`). Tags have the numbers of the order of their first specifiers
-/// (C11 6.7.2.3).
+/// its children. The text is refused only at its first node, in order, whose row doesn't fit: `BadOperand` and `Unsupported` hold the
+/// kind and the node that the row names, and never the kind `NotBuilt` or `VariadicDefinition`. Where the rows of all nodes fit, only
+/// memory may want: of what they stand for a valid unit is made always (`valid_unit_laws::lowered_laws`). Tags have the numbers of the
+/// order of their first specifiers (C11 6.7.2.3).
 pub fn lower_unit(
     alloc: Global,
     tokens: &Tokens,

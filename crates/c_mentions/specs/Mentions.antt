@@ -39,6 +39,13 @@ is_type_word name =
     || bytes_eq name (codes "_Float128")
     || bytes_eq name (codes "_Float32x") || bytes_eq name (codes "_Float64x")
 
+-- the names that stand for operations on variadic lists (C11 7.16.1), which are no uses
+unfoldable pub is_list_word : List ℕ → Bool
+is_list_word name =
+    bytes_eq name (codes "__builtin_va_start") || bytes_eq name (codes "__builtin_va_copy")
+    || bytes_eq name (codes "__builtin_va_arg")
+    || bytes_eq name (codes "__builtin_va_end")
+
 -- the names that stand for the function around them (C11 6.4.2.2)
 unfoldable pub is_function_name : List ℕ → Bool
 is_function_name name =
@@ -51,7 +58,7 @@ is_exempt name in_body = (in_body && is_function_name name) || bytes_eq name (co
 
 unfoldable pub name_used : List ℕ → ℕ → Bool → Mention
 name_used name symbol in_body =
-    if is_type_word name then mention.Nothing else mention.Use symbol (is_exempt name in_body)
+    if is_type_word name || is_list_word name then mention.Nothing else mention.Use symbol (is_exempt name in_body)
 
 -- an identifier that stands first in a statement is its label, another one the label of a goto
 abbrev pub label_used : Option ℕ → ℕ → ℕ → Mention

@@ -93,6 +93,17 @@ fn is_type_word(name: &[u8]) -> bool
         || name == b"_Float64x".as_slice()
 }
 
+/// Whether a name stands for an operation on variadic lists, which needs no declaration and has none (C11 7.16.1).
+#[tactic(auto, unfolding(crate::specs::Mentions::is_list_word))]
+fn is_list_word(name: &[u8]) -> bool
+    ensures { result ≡ spec.is_list_word name.now }
+{
+    name == b"__builtin_va_start".as_slice()
+        || name == b"__builtin_va_copy".as_slice()
+        || name == b"__builtin_va_arg".as_slice()
+        || name == b"__builtin_va_end".as_slice()
+}
+
 /// Whether a name is that of the function around it (C11 6.4.2.2).
 #[tactic(auto, unfolding(crate::specs::Mentions::is_function_name))]
 fn is_function_name(name: &[u8]) -> bool
@@ -116,7 +127,7 @@ fn is_exempt(name: &[u8], in_body: bool) -> bool
 fn name_used(name: &[u8], symbol: u32, in_body: bool) -> Mention
     ensures { result ≡ spec.name_used name.now symbol in_body }
 {
-    if is_type_word(name) {
+    if is_type_word(name) || is_list_word(name) {
         Mention::Nothing
     } else {
         let is_exempt = is_exempt(name, in_body);

@@ -2,7 +2,7 @@
 use Rattle.std.proofs.Common.{◌≡◌, ℕ, Bool, true, false, cond, ◌&&◌, ◌||◌, not, List, Option, Some, None, Result, Ok, Err, IfSome, ◌<◌, refl, sym, ap, subst, ◌∙◌}
 use Rattle.std.specs.Prelude.{is_some}
 use Rattle.pta_base.specs.declared.kind.Kind.{Kind}
-use Rattle.pta_base.specs.declared.kind.Kind.TheVariants.{Operand, InlineDefinition, VariadicDefinition}
+use Rattle.pta_base.specs.declared.kind.Kind.TheVariants.{Operand, InlineDefinition}
 use Rattle.c_types.specs.Trees.{Ctype}
 use Rattle.c_senses.specs.Tree.{Source}
 use Rattle.c_senses.specs.Given.{Given, Fits, Refuses, ◌>>=◌, given_if}
@@ -23,7 +23,7 @@ use Rattle.c_named.specs.declared.words.Wording.{Wording}
 use Rattle.c_named.specs.declared.completeness.Completion.{Completion}
 use Rattle.c_named.specs.Words.{go_well}
 use Rattle.c_named.specs.Completed.{is_enough}
-use Rattle.c_senses.specs.Entities.{words_go, is_same_again, has_one_linkage, internal_fits, is_name_complete, is_defined, initialiser_of, definition_row, named_row, result_of, is_void_type, is_variadic, has_function_word, has_storage, parameter_named, by_place, is_typedef, is_linked, declares_function, is_internal, is_at_file, is_in_for, has_function_words, is_without_storage, all_same, agrees_with, all_together, types_of, some_such, defines, internal_before, element_has_size, will_have_size, may_stay_open}
+use Rattle.c_senses.specs.Entities.{words_go, is_same_again, has_one_linkage, internal_fits, is_name_complete, is_defined, initialiser_of, definition_row, named_row, result_of, is_void_type, has_function_word, has_storage, parameter_named, by_place, is_typedef, is_linked, declares_function, is_internal, is_at_file, is_in_for, has_function_words, is_without_storage, all_same, agrees_with, all_together, types_of, some_such, defines, internal_before, element_has_size, will_have_size, may_stay_open}
 use Rattle.c_senses.specs.Names.{before_in_scope, ordinary_at}
 use Rattle.core_nodes.specs.declared.fault.CheckFault.{CheckFault}
 use Rattle.core_nodes.specs.declared.fault.CheckFault.TheVariants.{BadOperand, Unsupported, OutOfMemory}
@@ -178,33 +178,26 @@ module _ (w : World) (s : Source) (sense : ℕ → Sense) (leaf : ℕ) (t : Ctyp
   abbrev pub inline_alone : Bool
   inline_alone = has_function_word s sense word_inline leaf && not (has_storage s sense word_static leaf)
 
-  abbrev pub definition_by : Bool → Bool → Bool → Bool → Given Sense → Given Sense
-  definition_by defined fit alone variadic g =
-      cond defined (given_if fit Operand leaf (given_if (not alone) InlineDefinition leaf (given_if (not variadic) VariadicDefinition leaf g))) g
+  abbrev pub definition_by : Bool → Bool → Bool → Given Sense → Given Sense
+  definition_by defined fit alone g =
+      cond defined (given_if fit Operand leaf (given_if (not alone) InlineDefinition leaf g)) g
 
   pub definition_not : false ≡ is_defined s sense leaf → (g : Given Sense) → definition_row w s sense t leaf g ≡ g
-  definition_not e g = sym (ap (λ (b : Bool). definition_by b result_fits inline_alone (is_variadic w s sense t) g) e)
+  definition_not e g = sym (ap (λ (b : Bool). definition_by b result_fits inline_alone g) e)
 
   pub definition_unfit : true ≡ is_defined s sense leaf → false ≡ result_fits → (g : Given Sense) → definition_row w s sense t leaf g ≡ Refuses Operand leaf
   definition_unfit e f g =
-      sym (ap (λ (b : Bool). definition_by true b inline_alone (is_variadic w s sense t) g) f ∙ ap (λ (b : Bool). definition_by b result_fits inline_alone (is_variadic w s sense t) g) e)
+      sym (ap (λ (b : Bool). definition_by true b inline_alone g) f ∙ ap (λ (b : Bool). definition_by b result_fits inline_alone g) e)
 
   pub definition_inline : true ≡ is_defined s sense leaf → true ≡ result_fits → true ≡ inline_alone → (g : Given Sense) → definition_row w s sense t leaf g ≡ Refuses InlineDefinition leaf
   definition_inline e f h g =
-      sym (ap (λ (b : Bool). definition_by true true b (is_variadic w s sense t) g) h
-      ∙ (ap (λ (b : Bool). definition_by true b inline_alone (is_variadic w s sense t) g) f ∙ ap (λ (b : Bool). definition_by b result_fits inline_alone (is_variadic w s sense t) g) e))
+      sym (ap (λ (b : Bool). definition_by true true b g) h
+      ∙ (ap (λ (b : Bool). definition_by true b inline_alone g) f ∙ ap (λ (b : Bool). definition_by b result_fits inline_alone g) e))
 
-  pub definition_variadic : true ≡ is_defined s sense leaf → true ≡ result_fits → false ≡ inline_alone → true ≡ is_variadic w s sense t → (g : Given Sense) → definition_row w s sense t leaf g ≡ Refuses VariadicDefinition leaf
-  definition_variadic e f h v g =
-      sym (ap (λ (b : Bool). definition_by true true false b g) v
-      ∙ (ap (λ (b : Bool). definition_by true true b (is_variadic w s sense t) g) h
-      ∙ (ap (λ (b : Bool). definition_by true b inline_alone (is_variadic w s sense t) g) f ∙ ap (λ (b : Bool). definition_by b result_fits inline_alone (is_variadic w s sense t) g) e)))
-
-  pub definition_passed : true ≡ is_defined s sense leaf → true ≡ result_fits → false ≡ inline_alone → false ≡ is_variadic w s sense t → (g : Given Sense) → definition_row w s sense t leaf g ≡ g
-  definition_passed e f h v g =
-      sym (ap (λ (b : Bool). definition_by true true false b g) v
-      ∙ (ap (λ (b : Bool). definition_by true true b (is_variadic w s sense t) g) h
-      ∙ (ap (λ (b : Bool). definition_by true b inline_alone (is_variadic w s sense t) g) f ∙ ap (λ (b : Bool). definition_by b result_fits inline_alone (is_variadic w s sense t) g) e)))
+  pub definition_passed : true ≡ is_defined s sense leaf → true ≡ result_fits → false ≡ inline_alone → (g : Given Sense) → definition_row w s sense t leaf g ≡ g
+  definition_passed e f h g =
+      sym (ap (λ (b : Bool). definition_by true true b g) h
+      ∙ (ap (λ (b : Bool). definition_by true b inline_alone g) f ∙ ap (λ (b : Bool). definition_by b result_fits inline_alone g) e))
 
   -- by the place of a declarator
   abbrev pub place_by : Ctype → ℕ → Option ℕ → Given Sense → Given Sense

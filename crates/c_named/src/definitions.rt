@@ -17,7 +17,7 @@ use crate::completeness::either;
 use c_entities::{has_function_word, has_storage, is_defined};
 use c_results::Results;
 use c_types::table::TypeTable;
-use c_types::term::{Form, Term, TypeId};
+use c_types::term::{Term, TypeId};
 use core_nodes::CheckFault;
 use core_nodes::sorts::has_size;
 use core_tree::node::Unit;
@@ -37,21 +37,6 @@ fn is_void_type(types: &TypeTable, ty: TypeId) -> bool
 {
     match types.term(ty) {
         Term::Void => true,
-        _ => false,
-    }
-}
-
-// Whether a type is that of a function over more than its parameters.
-fn is_variadic(types: &TypeTable, ty: TypeId) -> bool
-    requires { ty.0 < length types.now.terms }
-    ensures { (w : World) (s : Source) (sense : ℕ → Sense) →
-        result ≡ spec.is_variadic w s sense (type_of types.now ty.0) }
-{
-    match types.term(ty) {
-        Term::Function {
-            form: Form::Variadic,
-            ..
-        } => true,
         _ => false,
     }
 }
@@ -92,7 +77,7 @@ fn is_inline_alone(syntax: &Syntax, results: &Results, leaf: u32) -> bool
 }
 
 /// What is asked of a function that is defined (C11 6.9.1p3): its result is `void` or complete, which is `operand` at its name else.
-/// A definition that is `inline` and not `static` isn't taken, nor one with `...`.
+/// A definition that is `inline` and not `static` isn't taken.
 pub(crate) fn definition_row(
     unit: &Unit,
     syntax: &Syntax,
@@ -115,9 +100,6 @@ pub(crate) fn definition_row(
     }
     if is_inline_alone(syntax, results, leaf) {
         return Err(CheckFault::Unsupported(Kind::InlineDefinition, leaf));
-    }
-    if is_variadic(&unit.types, ty) {
-        return Err(CheckFault::Unsupported(Kind::VariadicDefinition, leaf));
     }
     Ok(())
 }

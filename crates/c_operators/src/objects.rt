@@ -135,7 +135,7 @@ fn target_row(
     match unit.types.term(to) {
         Term::Void => Err(CheckFault::BadOperand(at)),
         Term::Floating => Err(CheckFault::Unsupported(Kind::Floating, at)),
-        Term::VaList => Err(CheckFault::Unsupported(Kind::Builtin, at)),
+        Term::VaList => push_over(alloc, unit, NodeKind::Deref, place, to, v),
         Term::Bool => push_over(alloc, unit, NodeKind::Deref, place, to, v),
         Term::Integer { .. } => push_over(alloc, unit, NodeKind::Deref, place, to, v),
         Term::Pointer(_) => push_over(alloc, unit, NodeKind::Deref, place, to, v),

@@ -17,7 +17,7 @@ use Rattle.c_grammar.specs.Terminals.{contains, terminal, takes, nothing, plain_
 use Rattle.c_grammar.specs.Refusals.{refusal}
 use Rattle.c_grammar.specs.Tree.{makes_node, nests}
 use Rattle.c_grammar.specs.Reads.{Node, State, Walks, Opens, at_end, token, use_of, choice, enough, first, second, fits_at, chosen_at}
-use Rattle.c_grammar.specs.Productions.{p_expression, p_assignment, p_conditional, p_logical_or, p_logical_and, p_inclusive_or, p_exclusive_or, p_and, p_equality, p_relational, p_shift, p_additive, p_multiplicative, p_cast, p_unary, p_post, p_primary, p_nothing, p_just_text, p_more_expressions, p_assigned, p_arms, p_more_logical_or, p_more_logical_and, p_more_inclusive_or, p_more_exclusive_or, p_more_and, p_more_equality, p_more_relational, p_more_shift, p_more_additive, p_more_multiplicative, p_typed_cast, p_prefixed, p_sized, p_aligned, p_postfixed, p_unary_1, p_unary_2, p_just_ident, p_primary_1, p_primary_2, p_primary_3, p_just_integer, p_just_character, p_texts, p_enclosed}
+use Rattle.c_grammar.specs.Productions.{p_expression, p_assignment, p_conditional, p_logical_or, p_logical_and, p_inclusive_or, p_exclusive_or, p_and, p_equality, p_relational, p_shift, p_additive, p_multiplicative, p_cast, p_unary, p_post, p_primary, p_nothing, p_just_text, p_more_expressions, p_assigned, p_arms, p_more_logical_or, p_more_logical_and, p_more_inclusive_or, p_more_exclusive_or, p_more_and, p_more_equality, p_more_relational, p_more_shift, p_more_additive, p_more_multiplicative, p_typed_cast, p_prefixed, p_sized, p_aligned, p_postfixed, p_unary_1, p_unary_2, p_just_ident, p_list_call, p_named_primary, p_primary_1, p_primary_2, p_primary_3, p_just_integer, p_just_character, p_texts, p_enclosed}
 use Rattle.c_parser.specs.Lone.{is_operand, level_of, is_lone, Grown, leaf_at, over, levels, lone_taken}
 use Rattle.c_parser.proofs.Steps.{read_own, helper}
 
@@ -44,7 +44,7 @@ and_false false = refl
 -- a production whose test is whether it begins with the next token isn't taken
 stops : (p m x : ℕ) → T (at_least level_of p (firsts m)) → ((y : ℕ) (n : Noted) → fits m x y n ≡ begins m x) → level_of x < p → (y : ℕ) (n : Noted) → fits m x y n ≡ false
 unfolding begins
-stops p m x h e l y n = e y n ∙ (ap (λ b. ltb m 252 && b) (never level_of p x (firsts m) h l) ∙ and_false (ltb m 252))
+stops p m x h e l y n = e y n ∙ (ap (λ b. ltb m 258 && b) (never level_of p x (firsts m) h l) ∙ and_false (ltb m 258))
 
 abbrev Stops : ℕ → ℕ → Type 0
 Stops p m = (x : ℕ) → level_of x < p → (y : ℕ) (n : Noted) → fits m x y n ≡ false
@@ -276,9 +276,13 @@ row-unary_2 : Forks p_unary_2 p_aligned p_postfixed
 unfolding item_of row table
 row-unary_2 = (refl, refl)
 
-row-primary : Forks p_primary p_just_ident p_primary_1
+row-primary : Forks p_primary p_list_call p_named_primary
 unfolding item_of row table
 row-primary = (refl, refl)
+
+row-named_primary : Forks p_named_primary p_just_ident p_primary_1
+unfolding item_of row table
+row-named_primary = (refl, refl)
 
 row-primary_1 : Forks p_primary_1 p_just_integer p_primary_2
 unfolding item_of row table
@@ -395,6 +399,10 @@ none-postfixed = (refl, refl, λ a b. refl)
 none-just_ident : HasNone p_just_ident
 unfolding makes_node nests refusal
 none-just_ident = (refl, refl, λ a b. refl)
+
+none-named_primary : HasNone p_named_primary
+unfolding makes_node nests refusal
+none-named_primary = (refl, refl, λ a b. refl)
 
 none-primary_1 : HasNone p_primary_1
 unfolding makes_node nests refusal
@@ -563,6 +571,22 @@ descends-character = (λ b. refl, λ b. refl, λ b n. refl, λ b n. refl, λ b n
 descends-text : Descends string
 unfolding refusal chosen fits begins firsts firsts_within can_be_empty table row
 descends-text = (λ b. refl, λ b. refl, λ b n. refl, λ b n. refl, λ b n. refl, λ b n. refl)
+
+chooses-name-named_primary : Chooses p_list_call p_named_primary p_named_primary plain_name
+unfolding chosen fits begins firsts firsts_within can_be_empty table row
+chooses-name-named_primary = λ b n. refl
+
+chooses-integer-named_primary : Chooses p_list_call p_named_primary p_named_primary integer
+unfolding chosen fits begins firsts firsts_within can_be_empty table row
+chooses-integer-named_primary = λ b n. refl
+
+chooses-character-named_primary : Chooses p_list_call p_named_primary p_named_primary character
+unfolding chosen fits begins firsts firsts_within can_be_empty table row
+chooses-character-named_primary = λ b n. refl
+
+chooses-text-named_primary : Chooses p_list_call p_named_primary p_named_primary string
+unfolding chosen fits begins firsts firsts_within can_be_empty table row
+chooses-text-named_primary = λ b n. refl
 
 chooses-name-just_ident : Chooses p_just_ident p_primary_1 p_just_ident plain_name
 unfolding chosen fits begins firsts firsts_within can_be_empty table row
@@ -737,14 +761,16 @@ module _ (text : List ℕ) (tokens : List Token) (scopes : Names) (place : ℕ) 
   primary-name b this next below nodes =
       let f = notes_token p_just_ident place plain_name in
       let o = gives_none plain_name b this next p_just_ident 0 nodes (leaf_on nodes) f none-just_ident (row_token plain_name b this next p_just_ident kind.Identifier nodes row-just_ident takes-name) in
-      (f, row_fork plain_name b this next p_primary p_just_ident p_primary_1 p_just_ident 0 nodes (leaf_on nodes) f row-primary chooses-name-just_ident o)
+      let named = gives_none plain_name b this next p_named_primary 0 nodes (leaf_on nodes) f none-named_primary (row_fork plain_name b this next p_named_primary p_just_ident p_primary_1 p_just_ident 0 nodes (leaf_on nodes) f row-named_primary chooses-name-just_ident o) in
+      (f, row_fork plain_name b this next p_primary p_list_call p_named_primary p_named_primary 0 nodes (leaf_on nodes) f row-primary chooses-name-named_primary named)
 
   primary-integer : Primary integer
   primary-integer b this next below nodes =
       let f = notes_token p_just_integer place integer in
       let o = gives_none integer b this next p_just_integer 0 nodes (leaf_on nodes) f none-just_integer (row_token integer b this next p_just_integer kind.Integer nodes row-just_integer takes-integer) in
       let r = gives_none integer b this next p_primary_1 0 nodes (leaf_on nodes) f none-primary_1 (row_fork integer b this next p_primary_1 p_just_integer p_primary_2 p_just_integer 0 nodes (leaf_on nodes) f row-primary_1 chooses-integer-just_integer o) in
-      (f, row_fork integer b this next p_primary p_just_ident p_primary_1 p_primary_1 0 nodes (leaf_on nodes) f row-primary chooses-integer-primary_1 r)
+      let named = gives_none integer b this next p_named_primary 0 nodes (leaf_on nodes) f none-named_primary (row_fork integer b this next p_named_primary p_just_ident p_primary_1 p_primary_1 0 nodes (leaf_on nodes) f row-named_primary chooses-integer-primary_1 r) in
+      (f, row_fork integer b this next p_primary p_list_call p_named_primary p_named_primary 0 nodes (leaf_on nodes) f row-primary chooses-integer-named_primary named)
 
   primary-character : Primary character
   primary-character b this next below nodes =
@@ -752,7 +778,8 @@ module _ (text : List ℕ) (tokens : List Token) (scopes : Names) (place : ℕ) 
       let o = gives_none character b this next p_just_character 0 nodes (leaf_on nodes) f none-just_character (row_token character b this next p_just_character kind.Character nodes row-just_character takes-character) in
       let r = gives_none character b this next p_primary_2 0 nodes (leaf_on nodes) f none-primary_2 (row_fork character b this next p_primary_2 p_just_character p_primary_3 p_just_character 0 nodes (leaf_on nodes) f row-primary_2 chooses-character-just_character o) in
       let s = gives_none character b this next p_primary_1 0 nodes (leaf_on nodes) f none-primary_1 (row_fork character b this next p_primary_1 p_just_integer p_primary_2 p_primary_2 0 nodes (leaf_on nodes) f row-primary_1 chooses-character-primary_2 r) in
-      (f, row_fork character b this next p_primary p_just_ident p_primary_1 p_primary_1 0 nodes (leaf_on nodes) f row-primary chooses-character-primary_1 s)
+      let named = gives_none character b this next p_named_primary 0 nodes (leaf_on nodes) f none-named_primary (row_fork character b this next p_named_primary p_just_ident p_primary_1 p_primary_1 0 nodes (leaf_on nodes) f row-named_primary chooses-character-primary_1 s) in
+      (f, row_fork character b this next p_primary p_list_call p_named_primary p_named_primary 0 nodes (leaf_on nodes) f row-primary chooses-character-named_primary named)
 
   primary-text : Primary string
   primary-text b this next below nodes =
@@ -761,7 +788,8 @@ module _ (text : List ℕ) (tokens : List Token) (scopes : Names) (place : ℕ) 
       let r = gives_none string b this next p_primary_3 0 nodes (leaf_on nodes) f none-primary_3 (row_fork string b this next p_primary_3 p_texts p_enclosed p_texts 0 nodes (leaf_on nodes) f row-primary_3 chooses-text-texts o) in
       let s = gives_none string b this next p_primary_2 0 nodes (leaf_on nodes) f none-primary_2 (row_fork string b this next p_primary_2 p_just_character p_primary_3 p_primary_3 0 nodes (leaf_on nodes) f row-primary_2 chooses-text-primary_3 r) in
       let t = gives_none string b this next p_primary_1 0 nodes (leaf_on nodes) f none-primary_1 (row_fork string b this next p_primary_1 p_just_integer p_primary_2 p_primary_2 0 nodes (leaf_on nodes) f row-primary_1 chooses-text-primary_2 s) in
-      (f, row_fork string b this next p_primary p_just_ident p_primary_1 p_primary_1 0 nodes (leaf_on nodes) f row-primary chooses-text-primary_1 t)
+      let named = gives_none string b this next p_named_primary 0 nodes (leaf_on nodes) f none-named_primary (row_fork string b this next p_named_primary p_just_ident p_primary_1 p_primary_1 0 nodes (leaf_on nodes) f row-named_primary chooses-text-primary_1 t) in
+      (f, row_fork string b this next p_primary p_list_call p_named_primary p_named_primary 0 nodes (leaf_on nodes) f row-primary chooses-text-named_primary named)
 
   -- the levels from the innermost on, at an operand
   module _ (a b : ℕ) (this : terminal text tokens scopes place ≡ a) (next : terminal text tokens scopes (place + 1) ≡ b) (is : is_operand a ≡ true) (nodes : List Node) where

@@ -10,7 +10,7 @@ use Rattle.c_mentions.specs.declared.mentions.Mention.TheVariants as mention
 use Rattle.c_mentions.specs.declared.roles.Role.{Role}
 use Rattle.c_mentions.specs.declared.roles.Role.TheVariants.{Elsewhere, Name, Alone, Tag, Statement, Declaration, Parameter}
 use Rattle.c_mentions.specs.Declarators.{declarator}
-use Rattle.c_mentions.specs.Mentions.{mention_at, end_mention, leaf_mention, name_used, name_at, at_leaf, declarator_mention, enumerator_mention, enumerator_leaf, is_type_word, is_exempt}
+use Rattle.c_mentions.specs.Mentions.{mention_at, end_mention, leaf_mention, name_used, name_at, at_leaf, declarator_mention, enumerator_mention, enumerator_leaf, is_type_word, is_list_word, is_exempt}
 use Rattle.c_mentions.specs.Syntax.{first_child, is_name, production_at, token_at}
 use Rattle.c_scope.specs.Binding.{label_at, label_after, LeaveSameLabels}
 
@@ -46,7 +46,7 @@ either false x y h k = k
 
 used : (name : List ℕ) (symbol : ℕ) (in_body : Bool) → is_label (name_used name symbol in_body) ≡ false
 unfolding name_used
-used name symbol in_body = either (is_type_word name) mention.Nothing (mention.Use symbol (is_exempt name in_body)) refl refl
+used name symbol in_body = either (is_type_word name || is_list_word name) mention.Nothing (mention.Use symbol (is_exempt name in_body)) refl refl
 
 leaf : (name : List ℕ) (symbol n : ℕ) (in_body : Bool) (role : Role) → is_in_statement role ≡ false → is_label (leaf_mention name symbol n in_body role) ≡ false
 leaf name symbol n in_body Name h = used name symbol in_body

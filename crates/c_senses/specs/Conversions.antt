@@ -4,7 +4,6 @@ use Rattle.std.specs.Prelude.{None, slice_get, is_some, if◌then◌else◌}
 use Rattle.c_scope.specs.passed.pta_base.declared.kind.Kind.{Kind}
 use Rattle.c_scope.specs.passed.pta_base.declared.kind.Kind.TheVariants.{Operand, NumberToPointer, StructureCast}
 use Rattle.c_scope.specs.passed.pta_base.declared.kind.Kind.TheVariants.{IntegerSizeCast, CharacterCast, Floating}
-use Rattle.c_scope.specs.passed.pta_base.declared.kind.Kind.TheVariants.{Builtin}
 use Rattle.c_inits.specs.passed.c_types.Trees.{Ctype, VoidType, BoolType, IntegerType, FloatingType, VaListType}
 use Rattle.c_inits.specs.passed.c_types.Trees.{PointerTo, ArrayOf, FunctionFrom, StructureOf, UnionOf}
 use Rattle.c_consts.specs.passed.core_tree.declared.node.NodeKind.TheVariants.{NullValue, Fetch, Decay, Convert}
@@ -38,8 +37,13 @@ is_scalar (Address to) = true
 is_scalar (Aggregate tag) = false
 is_scalar Other = false
 
--- 6.3.2.1: the value of a place. An array or a function decays; a scalar, and a structure or union that is
--- complete, is fetched; any other place has no value.
+-- the type of variadic lists (7.16p3)
+abbrev pub is_list : Ctype → Bool
+is_list VaListType = true
+is_list t = false
+
+-- 6.3.2.1: the value of a place. An array or a function decays; a scalar, a variadic list, and a structure or union
+-- that is complete, is fetched; any other place has no value.
 abbrev pub is_fetched : World → OperandSort → Bool
 is_fetched w Whole = true
 is_fetched w (Address to) = true
@@ -49,7 +53,8 @@ is_fetched w Other = false
 abbrev pub fetched_or_decayed : World → ℕ → Core → Option Ctype → Given Core
 fetched_or_decayed w at c (Some pointer) = Fits (over Decay (place_of c) pointer c)
 fetched_or_decayed w at c None =
-    given_if (is_fetched w (operand_of (ctype_of c))) Operand at (Fits (over Fetch (place_of c) (ctype_of c) c))
+    given_if (is_fetched w (operand_of (ctype_of c)) || is_list (ctype_of c)) Operand at
+    (Fits (over Fetch (place_of c) (ctype_of c) c))
 
 abbrev pub value_of_sort : World → ℕ → Core → Sort → Given Core
 value_of_sort w at c NoNode = Refuses Operand at
@@ -227,8 +232,7 @@ to_other w cast at v t = Refuses Operand at
 abbrev pub conversion : World → Bool → ℕ → Core → Ctype → Given Core
 conversion w cast at v t = if same_type (ctype_of v) t then Fits v else to_other w cast at v t
 
--- an expression of floating type, or of the type of variadic lists, is refused whatever else is wrong with it
+-- an expression of floating type is refused whatever else is wrong with it
 abbrev pub typed : ℕ → Ctype → Given Core → Given Core
 typed at FloatingType g = Refuses Floating at
-typed at VaListType g = Refuses Builtin at
 typed at t g = g

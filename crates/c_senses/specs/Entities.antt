@@ -1,9 +1,8 @@
 -- What declarations declare: linkage, storage, and the types that declarations of one name give together (C11
 -- 6.2.2, 6.2.4, 6.2.7, 6.7, 6.9.1, 6.9.2).
-use Rattle.std.specs.Prelude.{ℕ, ◌==◌, Bool, true, false, ◌&&◌, ◌||◌, not, nat_lt, List, [], ◌∷◌, Option, Some}
+use Rattle.std.specs.Prelude.{ℕ, ◌==◌, Bool, true, false, ◌&&◌, ◌||◌, not, nat_lt, List, [], ◌∷◌, length, Option, Some}
 use Rattle.std.specs.Prelude.{None, is_some, is_none, option_and_then, option_map, if◌then◌else◌}
 use Rattle.c_scope.specs.passed.pta_base.declared.kind.Kind.TheVariants.{Operand, InlineDefinition}
-use Rattle.c_scope.specs.passed.pta_base.declared.kind.Kind.TheVariants.{VariadicDefinition}
 use Rattle.c_inits.specs.passed.c_types.declared.term.Form.TheVariants.{Fixed, Variadic, Unspecified}
 use Rattle.c_inits.specs.passed.c_types.Trees.{Ctype, VoidType, ArrayOf, FunctionFrom, StructureOf, UnionOf}
 use Rattle.c_consts.specs.passed.core_tree.declared.node.Linkage.{Linkage}
@@ -30,6 +29,7 @@ use Rattle.c_senses.specs.Limits.{is_function_type, lacks_a_length}
 use Rattle.c_senses.specs.Declarators.{outermost_of, specs_of, declaration_around, derived, is_defined_list}
 use Rattle.c_senses.specs.Tags.{tag_of}
 use Rattle.c_senses.specs.Sense.{Sense, IsSpecified, IsDeclarator, IsParameter, IsValue, IsInitial, Specified}
+use Rattle.c_senses.specs.Sense.{Derivation, Returning}
 
 -- 6.2.7: types agree at their top, and of two that agree the one with the list or the length is the type of both;
 -- where they don't, a declaration has its own
@@ -62,6 +62,17 @@ with_length n t = t
 abbrev pub behind : ℕ → List ℕ → List ℕ
 behind i [] = []
 behind i (c ∷ rest) = if c == i then rest else behind i rest
+
+-- whether a declarator whose steps are these, from the outside in, declares a function that takes arguments past its
+-- parameters
+abbrev pub takes_further : Derivation → Bool
+takes_further (Returning ps Variadic) = true
+takes_further d = false
+
+abbrev pub ends_further : List Derivation → Bool
+ends_further [] = false
+ends_further (d ∷ []) = takes_further d
+ends_further (d ∷ e ∷ rest) = ends_further (e ∷ rest)
 
 module _ (s : Source) (sense : ℕ → Sense) where
   -- the declaration, or external declaration, of a name by its leaf
@@ -281,6 +292,19 @@ module _ (s : Source) (sense : ℕ → Sense) where
   function_around i =
       option_and_then defined_name (nearest_above s (λ p. is_a s p_external p && is_some (child_of s p_block p)) i)
 
+  -- whether that function takes arguments past its parameters
+  abbrev pub is_variadic_definition : ℕ → Bool
+  is_variadic_definition p =
+      elim
+      (child_of s p_declarator p)
+      [ None ↦ false | Some d ↦ elim (sense d) [ IsDeclarator name ds ↦ ends_further ds | _ ↦ false ] ]
+
+  abbrev pub is_in_variadic : ℕ → Bool
+  is_in_variadic i =
+      elim
+      (nearest_above s (λ p. is_a s p_external p && is_some (child_of s p_block p)) i)
+      [ None ↦ false | Some p ↦ is_variadic_definition p ]
+
   -- a node in the initialiser of an object that has its place for the whole run, and in no operand that isn't
   -- evaluated
   abbrev pub is_operand_word : ℕ → Bool
@@ -421,10 +445,6 @@ module _ (w : World) (s : Source) (sense : ℕ → Sense) where
   result_of (FunctionFrom r ps f) = r
   result_of t = t
 
-  abbrev pub is_variadic : Ctype → Bool
-  is_variadic (FunctionFrom r ps Variadic) = true
-  is_variadic t = false
-
   abbrev pub is_void_type : Ctype → Bool
   is_void_type VoidType = true
   is_void_type t = false
@@ -435,8 +455,7 @@ module _ (w : World) (s : Source) (sense : ℕ → Sense) where
       given_if (is_void_type (result_of t) || has_size w (result_of t)) Operand leaf
       (given_if
       (not (has_function_word s sense word_inline leaf && not (has_storage s sense word_static leaf)))
-      InlineDefinition leaf
-      (given_if (not (is_variadic t)) VariadicDefinition leaf g))
+      InlineDefinition leaf g)
       else g
 
   -- the declarator of a declaration, at its name, for its type without what an initialiser adds
@@ -448,6 +467,31 @@ module _ (w : World) (s : Source) (sense : ℕ → Sense) where
       (given_if (has_one_linkage leaf) Operand leaf
       (given_if (internal_fits (initialised || is_defined s sense leaf) t leaf) Operand leaf
       (given_if (is_name_complete initialised t leaf) Operand leaf (definition_row t leaf g)))))
+
+  -- the last parameter of the list of a definition
+  abbrev pub is_last_parameter : ℕ → ℕ → Bool
+  is_last_parameter list parameter =
+      elim
+      (last_where (is_a s p_parameter) (children_at s list))
+      [ None ↦ false | Some last ↦ last == parameter ]
+
+  abbrev pub closes_list : ℕ → Bool
+  closes_list parameter =
+      elim (parent_of s parameter) [
+        | None ↦ false
+        | Some list ↦ is_defined_list w s sense list && is_last_parameter list parameter
+      ]
+
+  -- the entity of a variadic function, by the name of the last parameter of its definition (7.16.1.4p4)
+  abbrev pub further_by : ℕ → Option ℕ → Option ℕ
+  further_by leaf None = None
+  further_by leaf (Some p) =
+      if (is_a s p_parameter p && closes_list p) && is_in_variadic s sense leaf
+      then option_map (entity_of s sense) (function_around s sense leaf) else None
+
+  abbrev pub further_of : ℕ → Option ℕ
+  further_of leaf =
+      if nat_lt leaf (length s.nodes) then further_by leaf (declaration_of s sense leaf) else None
 
   -- the name of a parameter of a definition has a complete type
   abbrev pub is_parameter_complete : Ctype → Bool

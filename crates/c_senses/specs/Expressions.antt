@@ -2,6 +2,8 @@
 use Rattle.std.specs.Prelude.{ℕ, ◌==◌, pos, Bool, true, false, ◌||◌, not, List, [], ◌∷◌, Option, Some, None}
 use Rattle.std.specs.Prelude.{if◌then◌else◌}
 use Rattle.std.specs.List.{flat_map}
+use Rattle.std.specs.Prelude.{codes}
+use Rattle.std.specs.Str.{bytes_eq}
 use Rattle.c_scope.specs.passed.pta_base.declared.kind.Kind.TheVariants.{Operand}
 use Rattle.c_scope.specs.passed.pta_base.declared.place.Place.{Place}
 use Rattle.c_inits.specs.passed.c_grammar.PassedOn.{TokenKind}
@@ -28,7 +30,7 @@ use Rattle.c_senses.specs.Conversions.{operand_of, value_of}
 use Rattle.c_senses.specs.Operators.{Between, between, operator, number_core, promoted_row, not_row, choice_row}
 use Rattle.c_senses.specs.Objects.{text_core, name_row, address_row, indirection_row, index_row, member_row}
 use Rattle.c_senses.specs.Objects.{arrow_row, assign_row, assigned_op, update_row, call_row, cast_row, size_row}
-use Rattle.c_senses.specs.Objects.{align_row, sized_expression}
+use Rattle.c_senses.specs.Objects.{align_row, sized_expression, start_row, copy_row, next_row, end_row}
 use Rattle.c_senses.specs.Sense.{Sense, core_of, value_in, type_of_sense, fits, last_of}
 
 abbrev pub as_sense : Given Core → Given Sense
@@ -103,8 +105,31 @@ module _ (w : World) (s : Source) (sense : ℕ → Sense) where
   abbrev pub string_bytes : List ℕ → List ℕ
   string_bytes leaves = flat_map (λ i. bytes_of_string (spelling_at s i)) leaves
 
+  -- 7.16.1: operations on variadic lists, by their parts and how they are named
+  abbrev pub two_lists : ℕ → Place → List ℕ → Core → Core → Given Core
+  two_lists at place name a b =
+      if bytes_eq name (codes "__builtin_va_copy") then copy_row w place at a b else start_row w place at a b
+
+  abbrev pub list_core : ℕ → Place → List ℕ → List ℕ → Given Core
+  list_core at place name (a ∷ []) = core_of at (sense a) >>= end_row w place at
+  list_core at place name (a ∷ b ∷ []) =
+      if is_a s p_type_name b
+      then (core_of at (sense a) >>= (λ x. type_of_sense at (sense b) >>= next_row place at x))
+      else (core_of at (sense a) >>= (λ x. core_of at (sense b) >>= two_lists at place name x))
+  list_core at place name parts = Refuses Operand at
+
+  abbrev pub list_row : ℕ → ℕ → List ℕ → Given Sense
+  list_row at first rest =
+      as_sense
+      (list_core at (place_at s first) (spelling_at s first) (all_where (λ c. not (is_leaf s c)) rest))
+
+  -- a name alone, or with the parts of an operation on variadic lists
+  abbrev pub named_primary : ℕ → ℕ → List ℕ → Given Sense
+  named_primary at first [] = as_sense (name_row w (place_at s first) at (w.meaning first))
+  named_primary at first (c ∷ rest) = list_row at first (c ∷ rest)
+
   abbrev pub primary_of : ℕ → ℕ → List ℕ → TokenKind → Given Sense
-  primary_of at first rest Identifier = as_sense (name_row w (place_at s first) at (w.meaning first))
+  primary_of at first rest Identifier = named_primary at first rest
   primary_of at first rest Integer =
       fits
       (leaf (Number (pos (value_of_integer (spelling_at s first)))) (place_at s first)

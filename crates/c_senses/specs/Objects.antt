@@ -1,12 +1,12 @@
 -- Names, objects and their parts, assignments, calls and casts (C11 6.5.1 to 6.5.4, 6.5.16).
-use Rattle.std.specs.Prelude.{ℕ, zero, suc, ◌+◌, ◌==◌, pos, Bool, true, false, ◌&&◌, not, List, [], ◌∷◌, length}
+use Rattle.std.specs.Prelude.{ℕ, zero, suc, ◌+◌, ◌==◌, pos, Bool, true, false, ◌&&◌, ◌||◌, not, List, [], ◌∷◌, length}
 use Rattle.std.specs.Prelude.{Option, Some, None, slice_get, is_some, is_none, if◌then◌else◌}
 use Rattle.c_scope.specs.passed.pta_base.declared.kind.Kind.TheVariants.{Operand, ArrayOfValue, FlexibleMember}
 use Rattle.c_scope.specs.passed.pta_base.declared.place.Place.{Place}
 use Rattle.c_inits.specs.passed.c_types.declared.term.Form.{Form}
 use Rattle.c_inits.specs.passed.c_types.declared.term.Form.TheVariants.{Fixed, Variadic, Unspecified}
 use Rattle.c_inits.specs.passed.c_types.Trees.{Ctype, Ctypes, NoTypes, MoreTypes, VoidType, PointerTo, ArrayOf}
-use Rattle.c_inits.specs.passed.c_types.Trees.{FunctionFrom}
+use Rattle.c_inits.specs.passed.c_types.Trees.{FunctionFrom, VaListType}
 use Rattle.c_inits.specs.passed.c_types.Layout.{Extent}
 use Rattle.c_inits.specs.passed.c_types.Table.{size_below}
 use Rattle.c_consts.specs.passed.core_tree.declared.node.Op.{Op}
@@ -15,6 +15,7 @@ use Rattle.c_consts.specs.passed.core_tree.declared.node.Op.TheVariants.{ShiftLe
 use Rattle.c_consts.specs.passed.core_tree.declared.node.NodeKind.TheVariants.{Named, Text, FunctionName, Deref}
 use Rattle.c_consts.specs.passed.core_tree.declared.node.NodeKind.TheVariants.{Member, Number, AddressOf, Assign}
 use Rattle.c_consts.specs.passed.core_tree.declared.node.NodeKind.TheVariants.{Update, CallNode, MemberOfValue}
+use Rattle.c_consts.specs.passed.core_tree.declared.node.NodeKind.TheVariants.{Convert, VarArgs, NextArg}
 use Rattle.c_consts.specs.passed.core_tree.Typed.{Sort, PlaceNode}
 use Rattle.c_consts.specs.passed.core_tree.Rows.{int, character}
 use Rattle.c_inits.specs.passed.c_grammar.Words.{sign_multiply_assign, sign_divide_assign, sign_remainder_assign}
@@ -28,7 +29,7 @@ use Rattle.c_senses.specs.World.{World, Meaning, Object, Function, TypeName, Tag
 use Rattle.c_senses.specs.World.{members_of, way_to}
 use Rattle.c_senses.specs.Literals.{unsigned_long}
 use Rattle.c_senses.specs.Conversions.{OperandSort, Whole, Address, Aggregate, Other, operand_of, value_of}
-use Rattle.c_senses.specs.Conversions.{promotion, conversion, place_width, width_in, typed}
+use Rattle.c_senses.specs.Conversions.{promotion, conversion, place_width, width_in, typed, is_list, is_scalar}
 use Rattle.c_senses.specs.Operators.{moved}
 
 -- a string literal, or a function's own name: an array of its bytes and a closing zero
@@ -118,7 +119,7 @@ arrow_row w place at name v (Address to) =
     given_if (is_some (members_of w to)) Operand at (member_row w place at name (over Deref place to v))
 arrow_row w place at name v x = Refuses Operand at
 
--- 6.5.16: a place of scalar type, or of a structure or union that is complete
+-- 6.5.16: a place of scalar type, of a variadic list, or of a structure or union that is complete
 abbrev pub is_assigned : World → OperandSort → Bool
 is_assigned w Whole = true
 is_assigned w (Address to) = true
@@ -127,7 +128,8 @@ is_assigned w Other = false
 
 abbrev pub assign_row : World → Place → ℕ → Core → Core → Given Core
 assign_row w place at p v =
-    given_if (is_place_sort (core_sort p) && is_assigned w (operand_of (ctype_of p))) Operand at
+    given_if
+    (is_place_sort (core_sort p) && (is_assigned w (operand_of (ctype_of p)) || is_list (ctype_of p))) Operand at
     (conversion w false at v (ctype_of p) >>= (λ x. Fits (over_two Assign place (ctype_of p) p x)))
 
 -- the operator of an assignment that computes
@@ -187,6 +189,10 @@ further w at v (Address to) = Fits v
 further w at v (Aggregate tag) = Fits v
 further w at v Other = Refuses Operand at
 
+-- a variadic list as it is
+abbrev pub further_value : World → ℕ → Core → Given Core
+further_value w at v = if is_list (ctype_of v) then Fits v else further w at v (operand_of (ctype_of v))
+
 abbrev pub one_more : Core → Cores → Cores
 one_more c cs = MoreCores c cs
 
@@ -194,7 +200,7 @@ abbrev pub arguments : World → ℕ → Ctypes → List Core → Given Cores
 arguments w at ps [] = Fits NoCores
 arguments w at NoTypes (a ∷ rest) =
     value_of w at a >>=
-    (λ v. further w at v (operand_of (ctype_of v)) >>=
+    (λ v. further_value w at v >>=
     (λ x. arguments w at NoTypes rest >>= (λ more. Fits (one_more x more))))
 arguments w at (MoreTypes t ps) (a ∷ rest) =
     value_of w at a >>=
@@ -245,3 +251,47 @@ named_width w c = None
 
 abbrev pub sized_expression : World → Place → ℕ → Core → Given Core
 sized_expression w place at c = given_if (is_none (named_width w c)) Operand at (size_row w place at (ctype_of c))
+
+-- 7.16: operations on variadic lists, which give nothing but the next argument
+abbrev pub is_list_place : Core → Bool
+is_list_place c = is_place_sort (core_sort c) && is_list (ctype_of c)
+
+abbrev pub dropped : Place → Core → Core
+dropped place c = over Convert place VoidType c
+
+-- 7.16.1.4: a list gets what the function was passed past the parameter that is named, its last one
+abbrev pub started : Place → Core → ℕ → Core
+started place a function =
+    dropped place (over_two Assign place VaListType a (leaf (VarArgs function) place VaListType))
+
+abbrev pub start_named : Place → ℕ → Core → Option ℕ → Given Core
+start_named place at a None = Refuses Operand at
+start_named place at a (Some function) = given_if (is_list_place a) Operand at (Fits (started place a function))
+
+abbrev pub last_named : World → Core → Option ℕ
+last_named w (Of (Named entity) place type NoCores) = w.further entity
+last_named w c = None
+
+abbrev pub start_row : World → Place → ℕ → Core → Core → Given Core
+start_row w place at a n = start_named place at a (last_named w n)
+
+-- 7.16.1.2: a list gets the value of another one
+abbrev pub copied : Place → ℕ → Core → Core → Given Core
+copied place at a v =
+    given_if (is_list (ctype_of v)) Operand at (Fits (dropped place (over_two Assign place VaListType a v)))
+
+abbrev pub copy_row : World → Place → ℕ → Core → Core → Given Core
+copy_row w place at a b =
+    given_if (is_list_place a) Operand at (value_of w at b >>= (λ v. copied place at a v))
+
+-- 7.16.1.1: the next argument, an integer or a pointer
+abbrev pub next_row : Place → ℕ → Core → Ctype → Given Core
+next_row place at a t =
+    typed at t
+    (given_if (is_list_place a && is_scalar (operand_of t)) Operand at (Fits (over NextArg place t a)))
+
+-- 7.16.1.3: the address of a list, given away
+abbrev pub end_row : World → Place → ℕ → Core → Given Core
+end_row w place at a =
+    given_if (is_list_place a) Operand at
+    (address_row w place at a (core_sort a) >>= (λ x. Fits (dropped place x)))

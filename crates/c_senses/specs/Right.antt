@@ -7,6 +7,7 @@ use Rattle.c_scope.specs.passed.pta_base.declared.place.Place.{Place}
 use Rattle.c_inits.specs.passed.c_types.Trees.{Ctype}
 use Rattle.c_inits.specs.passed.c_types.Table.{type_of, members_in}
 use Rattle.c_consts.specs.passed.core_tree.declared.node.NodeKind.{NodeKind}
+use Rattle.c_consts.specs.passed.core_tree.declared.node.NodeKind.TheVariants.{VarArgs}
 use Rattle.c_consts.specs.passed.core_tree.declared.node.NodeKind.TheVariants.{Named, Literal, FunctionName, Block}
 use Rattle.c_consts.specs.passed.core_tree.declared.node.NodeKind.TheVariants.{For, Initialise}
 use Rattle.c_consts.specs.passed.core_tree.declared.node.Node.{Node}
@@ -54,6 +55,7 @@ abbrev pub SameKind : Numbering → NodeKind → NodeKind → Type 0
 SameKind n (Named d) (Named e) = n d ≡ Some e
 SameKind n (FunctionName d) (FunctionName e) = n d ≡ Some e
 SameKind n (Literal d) (Literal e) = n d ≡ Some e
+SameKind n (VarArgs d) (VarArgs e) = n d ≡ Some e
 SameKind n (Initialise d paths) (Initialise e others) = (n d ≡ Some e) × (paths ≡ others)
 SameKind n (Block ds) (Block es) = SameEntities n ds es
 SameKind n (For ds c a) (For es d b) = SameEntities n ds es × (c ≡ d) × (a ≡ b)

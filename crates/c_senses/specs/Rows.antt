@@ -1,5 +1,5 @@
 -- One row for each production, over what the nodes before stand for.
-use Rattle.std.specs.Prelude.{ℕ, ◌==◌, ◌&&◌, ◌||◌, not, nat_le, List, [], length, take, Option, Some, option_map}
+use Rattle.std.specs.Prelude.{ℕ, ◌==◌, ◌&&◌, ◌||◌, not, nat_le, List, [], length, take, Option, Some, None, option_map}
 use Rattle.std.specs.Prelude.{slice_get, ◌≡◌, ◌≤◌, if◌then◌else◌}
 use Rattle.c_scope.specs.passed.pta_base.declared.kind.Kind.{Kind}
 use Rattle.c_inits.specs.passed.c_types.Trees.{Ctype}
@@ -21,14 +21,14 @@ use Rattle.c_senses.specs.Declarators.{base_type, derived, adjusted}
 use Rattle.c_senses.specs.Tags.{struct_row, enum_row, members_row, member_declaration, field_row, enumerator_row}
 use Rattle.c_senses.specs.Tags.{completed_from, members_under, look_of, tags_below}
 use Rattle.c_senses.specs.Entities.{meaning_at, storage_of, is_automatic_storage, is_in_static, function_around}
-use Rattle.c_senses.specs.Entities.{by_place}
+use Rattle.c_senses.specs.Entities.{by_place, further_of}
 use Rattle.c_senses.specs.Initialised.{designator_row, init_row, items_row}
 use Rattle.c_senses.specs.Statements.{rest_row, declaration_row, assert_row, block_row, statement_row}
 use Rattle.c_senses.specs.Sense.{Sense, Nothing, IsDeclarator, sense_in}
 
--- what the declarations before node i give
-abbrev pub world_over : Source → List Sense → (ℕ → Sense) → List TagParts → ℕ → World
-world_over s senses sense completed i = record {
+-- what the declarations before node i give, but which parameter is the last one of a variadic function
+abbrev pub names_over : Source → List Sense → (ℕ → Sense) → List TagParts → ℕ → World
+names_over s senses sense completed i = record {
   meaning = meaning_at s sense;
   members = members_under completed;
   look = look_of completed;
@@ -37,7 +37,13 @@ world_over s senses sense completed i = record {
   may_name = λ e. not (is_in_static s sense i && is_automatic_storage s sense (storage_of s sense e));
   may_call = not (is_in_static s sense i);
   own_name = option_map (spelling_at s) (function_around s sense i);
+  further = λ leaf. None;
 }
+
+-- what the declarations before node i give
+abbrev pub world_over : Source → List Sense → (ℕ → Sense) → List TagParts → ℕ → World
+world_over s senses sense completed i =
+    let names = names_over s senses sense completed i in record names { further = further_of names s sense }
 
 abbrev pub world_at : Source → List Sense → ℕ → World
 world_at s senses i = world_over s senses (sense_in senses) (completed_from s senses (sense_in senses) 0) i

@@ -22,7 +22,8 @@ pub data Meaning : Type 0 where
 
 -- what each use means, by its leaf; the members of each complete tag, what they take, and what can be initialised
 -- in them; how many tags there are at most; which entities may be named here, and whether a function may be called;
--- and the name of the function whose body is read
+-- the name of the function whose body is read; and of the last parameter of a variadic function that function's
+-- entity
 pub record World : Type 0 where
   pub meaning : ℕ → Option Meaning
   pub members : ℕ → Option (List Part)
@@ -32,6 +33,7 @@ pub record World : Type 0 where
   pub may_name : ℕ → Bool
   pub may_call : Bool
   pub own_name : Option (List ℕ)
+  pub further : ℕ → Option ℕ
 
 -- what a type takes
 abbrev pub extent : World → Ctype → Option Extent

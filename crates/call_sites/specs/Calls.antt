@@ -1,6 +1,6 @@
 -- The calls of a program in order of node (C11 6.5.2.2).
 use Rattle.std.specs.Prelude.{◌≡◌, ℕ, ◌+◌, ◌==◌, ◌||◌, Bool, true, false, if◌then◌else◌, List, [], ◌∷◌, Option}
-use Rattle.std.specs.Prelude.{Some, None, length, map, slice_get, option_and_then}
+use Rattle.std.specs.Prelude.{Some, None, ◌++◌, zero, suc, length, map, take, slice_get, option_and_then}
 use Rattle.std.specs.List.{filter_map, enumerate_from, range_with_len, list_any, AllZip}
 use Rattle.std.specs.Option.{is_some, option_map, option_map_or}
 use Rattle.pta_base.specs.declared.effect.Effect.{Effect}
@@ -8,7 +8,8 @@ use Rattle.pta_base.specs.declared.effect.Effect.TheVariants.{GivesNew, GivesObj
 use Rattle.c_types.specs.declared.key.ObjectKey.{ObjectKey}
 use Rattle.c_types.specs.declared.key.ObjectKey.TheVariants.{Call as CallKey, Library, Star, Function}
 use Rattle.c_types.specs.declared.term.TypeId.{TypeId}
-use Rattle.c_types.specs.Trees.{trees_at}
+use Rattle.c_types.specs.declared.term.Form.TheVariants.{Variadic}
+use Rattle.c_types.specs.Trees.{Ctype, Ctypes, NoTypes, MoreTypes, PointerTo, FunctionFrom, trees_at}
 use Rattle.c_types.specs.Table.{types_of}
 use Rattle.core_tree.specs.declared.node.Node.{Node}
 use Rattle.core_tree.specs.declared.node.NodeKind.{NodeKind}
@@ -19,7 +20,7 @@ use Rattle.obj_space.specs.View.{SpaceView}
 use Rattle.lib_summaries.specs.Table.{effects_of}
 use Rattle.row_numbers.specs.Objects.{library_number}
 use Rattle.row_numbers.specs.Functions.{functions_of, number_of}
-use Rattle.row_numbers.specs.Setting.{Setting, row, value_rows}
+use Rattle.row_numbers.specs.Setting.{Setting, row, rest_row, value_rows}
 use Rattle.call_sites.specs.Signatures.{IsSignature, calling_type}
 
 abbrev pub is_call : NodeKind → Bool
@@ -127,6 +128,24 @@ IsCallSignature w callee arguments signature =
     (trees_at (types_of w.trees.types) (ids_of w.trees.nodes arguments)))
     signature
 
+abbrev pub count_of : Ctypes → ℕ
+count_of NoTypes = 0
+count_of (MoreTypes t rest) = suc (count_of rest)
+
+-- how many parameters a pointer to a variadic function has
+abbrev pub variadic_count : Ctype → Option ℕ
+variadic_count (PointerTo (FunctionFrom result parameters Variadic)) = Some (count_of parameters)
+variadic_count t = None
+
+-- the rows of each argument, and where the callee is variadic one row for all arguments past its parameters
+abbrev pub rows_past : CoreTrees → SpaceView → ℕ → Option ℕ → List ℕ → List (List ℕ)
+rows_past u s n None arguments = map (value_rows u s) arguments
+rows_past u s n (Some count) arguments =
+    map (value_rows u s) (take count arguments) ++ (rest_row u s n ∷ []) ∷ []
+
+abbrev pub argument_rows : CoreTrees → SpaceView → ℕ → ℕ → List ℕ → List (List ℕ)
+argument_rows u s n callee arguments = rows_past u s n (variadic_count (type_at u callee)) arguments
+
 -- the call at node n
 pub record IsCallSite (w : Setting) (n : ℕ) (node : Node) (site : CallSite) : Type 0 where
   pub caller : site.caller ≡ caller_by w (slice_get w.owners n)
@@ -134,7 +153,8 @@ pub record IsCallSite (w : Setting) (n : ℕ) (node : Node) (site : CallSite) : 
   pub signature : IsCallSignature w (head_of node.children) (rest_of node.children) site.signature
   pub direct : site.direct ≡ is_some (named_callee w.trees node)
   pub place : site.place ≡ node.place
-  pub arguments : site.arguments ≡ map (value_rows w.trees w.space) (rest_of node.children)
+  pub arguments : site.arguments
+      ≡ argument_rows w.trees w.space n (head_of node.children) (rest_of node.children)
   pub result : site.result ≡ value_rows w.trees w.space n
   pub fresh : site.fresh ≡ fresh_of w.trees w.space n (named_library w.trees node)
 

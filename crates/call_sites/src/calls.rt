@@ -1,18 +1,21 @@
 // The parts of a call.
 
-ghost use Rattle.std.specs.Prelude.{◌≡◌, ℕ, ◌+◌, ◌<◌, ◌^◌, ◌∷◌, IfOk, All, List, length, slice_get, map, filter, Some};
+ghost use Rattle.std.specs.Prelude.{◌≡◌, ℕ, ◌+◌, ◌<◌, ◌^◌, ◌∷◌, [], ◌++◌, IfOk, OnOk, All, List, length, slice_get, map, filter, Some};
 ghost use Rattle.std.specs.List.{filter_map, enumerate_from, list_any};
 ghost use Rattle.std.specs.Option.{option_and_then, option_map};
+ghost use Rattle.c_types.specs.Table.{type_of};
 ghost use Rattle.core_tree.specs.Typed.{trees_in};
 ghost use Rattle.obj_space.specs.View.{view_of};
 ghost use Rattle.pta_base.specs.declared.effect.Effect.{Effect};
 ghost use Rattle.lib_summaries.specs.Table.{effects_of};
 ghost use Rattle.row_numbers.specs.Objects.{library_number};
-ghost use Rattle.row_numbers.specs.Setting.{value_rows};
-ghost use Rattle.call_sites.specs.Calls.{is_call, head_of, rest_of, name_of, name_at, under_decay, decayed_at, named_callee, named_library, is_giving, is_giver, library_of, giver_in, givers_in, is_named, object_by, fresh_by, fresh_in, caller_by};
+ghost use Rattle.row_numbers.specs.Setting.{value_rows, rest_row};
+ghost use Rattle.call_sites.specs.Calls.{variadic_count, argument_rows, is_call, head_of, rest_of, name_of, name_at, under_decay, decayed_at, named_callee, named_library, is_giving, is_giver, library_of, giver_in, givers_in, is_named, object_by, fresh_by, fresh_in, caller_by};
 ghost use Rattle.row_numbers.specs.Frame.{IsFrame, IsNodeIn, setting_in};
 
 use c_types::key::ObjectKey;
+use c_types::table::TypeTable;
+use c_types::term::{Form, Term, TypeId};
 use core_tree::{Entity, Node, NodeKind};
 use lib_summaries::effects;
 use obj_space::Space;
@@ -166,6 +169,70 @@ pub(crate) fn all_rows(
     Ok(lists)
 }
 
+/// How many parameters a pointer to a variadic function has; None exactly where a type is no such pointer.
+pub fn variadic_count(types: &TypeTable, pointer: TypeId) -> Option<usize>
+    requires { pointer.0 < length types.now.terms }
+    ensures { result ≡ variadic_count (type_of types.now pointer.0) }
+{
+    match types.term(pointer) {
+        Term::Pointer(to) => match types.term(*to) {
+            Term::Function {
+                parameters,
+                form,
+                ..
+            } => match form {
+                Form::Variadic => Some(parameters.as_slice().len()),
+                Form::Fixed | Form::Unspecified => None,
+            },
+            _ => None,
+        },
+        _ => None,
+    }
+}
+
+// The row of all arguments past the parameters, as those of one argument.
+fn push_rest(
+    alloc: Global,
+    frame: &Frame<'_>,
+    n: u32,
+    lists: &mut Listing<Listing<u32>>,
+) -> Result<(), OutOfMemory>
+    requires frame { IsFrame frame.now }
+    requires node { n < length frame.now.program.now.nodes.items }
+    ensures { OnOk result (lists.new ≡ lists.old ++ (rest_row (setting_in frame.now).trees (setting_in frame.now).space n ∷ []) ∷ []) }
+{
+    let mut rest = Listing::new(alloc);
+    rest.push(frame.rest_row(n))?;
+    lists.push(rest)?;
+    Ok(())
+}
+
+/// The rows of the arguments of a call: those of each, and where the callee is variadic one for all past the parameters.
+pub(crate) fn argument_rows(
+    alloc: Global,
+    frame: &Frame<'_>,
+    n: u32,
+    callee: u32,
+    arguments: &[u32],
+) -> Result<Listing<Listing<u32>>, OutOfMemory>
+    requires frame { IsFrame frame.now }
+    requires node { n < length frame.now.program.now.nodes.items }
+    requires callee { callee < length frame.now.program.now.nodes.items }
+    requires arguments { All (IsNodeIn frame.now) arguments.now }
+    ensures { IfOk result (λ lists. lists
+        ≡ argument_rows (setting_in frame.now).trees (setting_in frame.now).space n callee arguments.now) }
+{
+    match variadic_count(&frame.program.types, type_at(frame, callee)) {
+        Some(count) => {
+            let own = &arguments[..count.min(arguments.len())];
+            let mut lists = all_rows(alloc, frame, own)?;
+            push_rest(alloc, frame, n, &mut lists)?;
+            Ok(lists)
+        }
+        None => all_rows(alloc, frame, arguments),
+    }
+}
+
 // Whether an effect gives an object.
 fn is_giving(effect: Effect) -> bool
     ensures { result ≡ is_giving effect }
@@ -187,7 +254,7 @@ fn is_giver(key: ObjectKey) -> bool
     match key {
         ObjectKey::Function(k) => some_gives(effects(k)),
         ObjectKey::Entity(_) | ObjectKey::Text(_) | ObjectKey::Call(_) => false,
-        ObjectKey::Library(_) | ObjectKey::Star(_) => false,
+        ObjectKey::Library(_) | ObjectKey::Star(_) | ObjectKey::Varargs(_) => false,
     }
 }
 
@@ -198,7 +265,7 @@ fn library_of(key: ObjectKey) -> u32
     match key {
         ObjectKey::Function(k) => k,
         ObjectKey::Entity(_) | ObjectKey::Text(_) | ObjectKey::Call(_) => 0,
-        ObjectKey::Library(_) | ObjectKey::Star(_) => 0,
+        ObjectKey::Library(_) | ObjectKey::Star(_) | ObjectKey::Varargs(_) => 0,
     }
 }
 

@@ -8,7 +8,7 @@ ghost use Rattle.call_sites.specs.Calls.{ids_of, givers_in, IsCallSignature, IsS
 ghost use Rattle.row_numbers.specs.Frame.{IsFrame, IsNodeIn, setting_in};
 
 use crate::calls::{
-    all_rows, caller, fresh, givers, head_of, is_call, library_at, named_callee, rest_of,
+    argument_rows, caller, fresh, givers, head_of, is_call, library_at, named_callee, rest_of,
     value_rows,
 };
 use crate::signatures::calling_signature;
@@ -86,7 +86,7 @@ fn site(
         signature: signature(alloc, frame, callee, arguments)?,
         direct: named.is_some(),
         place: node.place,
-        arguments: all_rows(alloc, frame, arguments)?,
+        arguments: argument_rows(alloc, frame, n, callee, arguments)?,
         result: value_rows(alloc, frame, n)?,
         fresh: Listing::of(fresh(alloc, frame.space, n, library, givers)?),
     })

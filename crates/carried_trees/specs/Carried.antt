@@ -3,6 +3,7 @@ use Rattle.std.specs.Prelude.{ℕ, Bool, true, false, ◌&&◌, Option, is_some,
 use Rattle.c_types.specs.Trees.{Ctype}
 use Rattle.core_tree.specs.declared.node.NodeKind.{NodeKind}
 use Rattle.core_tree.specs.declared.node.NodeKind.TheVariants.{Named, Literal, FunctionName, Block, For, Initialise}
+use Rattle.core_tree.specs.declared.node.NodeKind.TheVariants.{VarArgs}
 use Rattle.c_consts.specs.Core.{Core, Cores, Of, NoCores, MoreCores}
 use Rattle.carried_trees.specs.carried_types.Types.{carried_type, is_given_type}
 
@@ -11,6 +12,7 @@ use Rattle.carried_trees.specs.carried_types.Types.{carried_type, is_given_type}
 abbrev pub carried_kind : (ℕ → Option ℕ) → (ℕ → Option ℕ) → NodeKind → NodeKind
 carried_kind entity own (Named e) = Named (unwrap_or (entity e) 0)
 carried_kind entity own (FunctionName e) = FunctionName (unwrap_or (entity e) 0)
+carried_kind entity own (VarArgs e) = VarArgs (unwrap_or (entity e) 0)
 carried_kind entity own (Literal e) = Literal (unwrap_or (own e) 0)
 carried_kind entity own (Initialise e paths) = Initialise (unwrap_or (own e) 0) paths
 carried_kind entity own kind = kind
@@ -20,6 +22,7 @@ carried_kind entity own kind = kind
 abbrev pub is_given_kind : (ℕ → Option ℕ) → (ℕ → Bool) → NodeKind → Bool
 is_given_kind entity own (Named e) = is_some (entity e)
 is_given_kind entity own (FunctionName e) = is_some (entity e)
+is_given_kind entity own (VarArgs e) = is_some (entity e)
 is_given_kind entity own (Literal e) = own e
 is_given_kind entity own (Initialise e paths) = own e
 is_given_kind entity own (Block es) = false

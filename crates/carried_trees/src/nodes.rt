@@ -35,6 +35,7 @@ fn carried_kind(entities: &LeafMap, own: &LeafMap, kind: NodeKind) -> NodeKind
     match kind {
         NodeKind::Named(leaf) => NodeKind::Named(entity_at(entities, leaf)),
         NodeKind::FunctionName(leaf) => NodeKind::FunctionName(entity_at(entities, leaf)),
+        NodeKind::VarArgs(leaf) => NodeKind::VarArgs(entity_at(entities, leaf)),
         NodeKind::Literal(leaf) => NodeKind::Literal(entity_at(own, leaf)),
         NodeKind::Initialise { entity, paths } => NodeKind::Initialise {
             entity: entity_at(own, entity),
@@ -50,6 +51,7 @@ fn is_given_kind(entities: &LeafMap, own: &LeafMap, kind: &NodeKind) -> bool
 {
     match kind {
         NodeKind::Named(leaf) | NodeKind::FunctionName(leaf) => entities.get(*leaf).is_some(),
+        NodeKind::VarArgs(leaf) => entities.get(*leaf).is_some(),
         NodeKind::Literal(leaf) => own.get(*leaf).is_some(),
         NodeKind::Initialise { entity, .. } => own.get(*entity).is_some(),
         NodeKind::Block(_) | NodeKind::For { .. } => false,

@@ -1,6 +1,6 @@
 // What is known of functions.
 
-ghost use Rattle.std.specs.Prelude.{◌≡◌, ℕ, ◌+◌, ◌<◌, ◌≤◌, ◌^◌, IfOk, IfSome, OnOk, All, List, length, map, filter, unwrap_or, slice_get, Some};
+ghost use Rattle.std.specs.Prelude.{◌≡◌, ℕ, ◌+◌, ◌<◌, ◌≤◌, ◌^◌, ◌++◌, IfOk, IfSome, OnOk, All, List, length, map, filter, unwrap_or, slice_get, Some};
 ghost use Rattle.c_types.specs.Table.{type_of};
 ghost use Rattle.c_types.specs.declared.key.ObjectKey.{ObjectKey};
 ghost use Rattle.core_tree.specs.Typed.{trees_in};
@@ -9,10 +9,11 @@ ghost use Rattle.obj_space.specs.View.{view_of};
 ghost use Rattle.row_numbers.specs.Kept.{nodes_of};
 ghost use Rattle.row_numbers.specs.Kept.{row_list};
 ghost use Rattle.constraints.specs.Owned.{AreOwned};
-ghost use Rattle.row_numbers.specs.Setting.{none_row, result_nodes};
+ghost use Rattle.row_numbers.specs.Setting.{none_row, result_nodes, takes_further};
 ghost use Rattle.row_numbers.specs.Frame.{IsNumbered};
+ghost use Rattle.row_numbers.specs.Functions.{key_type};
 ghost use Rattle.row_numbers.specs.Results.{AreResults};
-ghost use Rattle.normal_form.specs.Facts.{cell_list, parameter_rows, parameters_by, effects_by, library_by, IsFunctionFact, AreFunctions};
+ghost use Rattle.normal_form.specs.Facts.{further_rows, cell_list, parameter_rows, parameters_by, effects_by, library_by, IsFunctionFact, AreFunctions};
 
 use crate::owned::Owned;
 use c_types::key::ObjectKey;
@@ -24,7 +25,7 @@ use lib_summaries::effects;
 use obj_space::Space;
 use pta_base::{Effect, Listing, OutOfMemory};
 use row_numbers::kept::{has_row, node_count, row_list};
-use row_numbers::numbering::{key_id, result_id};
+use row_numbers::numbering::{key_id, result_id, takes_further};
 use row_numbers::results::Results;
 use sol_model::Function;
 use std::alloc::Global;
@@ -92,6 +93,37 @@ fn all_parameter_rows(
     Ok(lists)
 }
 
+// Whether the type of a function is variadic.
+fn takes_further_by(program: &Program, f: u32) -> bool
+    requires { All (λ entity. entity.ty.0 < length program.now.types.terms) program.now.entities.items }
+    ensures { result ≡ takes_further (key_type (trees_in program.now) (ObjectKey.Entity f)) }
+{
+    match key_id(program, ObjectKey::Entity(f)) {
+        Some(id) => takes_further(&program.types, id),
+        None => false,
+    }
+}
+
+// The row of all arguments past the parameters of a variadic function.
+fn push_further(
+    alloc: Global,
+    program: &Program,
+    space: &Space,
+    f: u32,
+    lists: &mut Listing<Listing<u32>>,
+) -> Result<(), OutOfMemory>
+    requires { All (λ entity. entity.ty.0 < length program.now.types.terms) program.now.entities.items }
+    ensures { OnOk result (lists.new ≡ lists.old ++ further_rows (trees_in program.now) (view_of space.now) f) }
+{
+    if !takes_further_by(program, f) {
+        return Ok(());
+    }
+    let mut rest = Listing::new(alloc);
+    rest.push(space.first(ObjectKey::Varargs(f)).unwrap_or(0))?;
+    lists.push(rest)?;
+    Ok(())
+}
+
 // What a function of the library does to sets.
 fn effects_by(alloc: Global, key: ObjectKey) -> Result<Listing<Effect>, OutOfMemory>
     ensures { IfOk result (λ list. list ≡ effects_by key) }
@@ -100,6 +132,7 @@ fn effects_by(alloc: Global, key: ObjectKey) -> Result<Listing<Effect>, OutOfMem
         ObjectKey::Function(k) => Ok(Listing::of(Vec::from_slice(alloc, effects(k))?)),
         ObjectKey::Entity(_) | ObjectKey::Text(_) | ObjectKey::Call(_) => Ok(Listing::new(alloc)),
         ObjectKey::Library(_) | ObjectKey::Star(_) => Ok(Listing::new(alloc)),
+        ObjectKey::Varargs(_) => Ok(Listing::new(alloc)),
     }
 }
 
@@ -110,7 +143,7 @@ fn library_by(key: ObjectKey) -> Option<u32>
     match key {
         ObjectKey::Function(k) => Some(k),
         ObjectKey::Entity(_) | ObjectKey::Text(_) | ObjectKey::Call(_) => None,
-        ObjectKey::Library(_) | ObjectKey::Star(_) => None,
+        ObjectKey::Library(_) | ObjectKey::Star(_) | ObjectKey::Varargs(_) => None,
     }
 }
 
@@ -148,9 +181,14 @@ fn parameters_by(
     ensures { IfOk result (λ lists. lists ≡ parameters_by (trees_in program.now) (view_of space.now) key) }
 {
     match key {
-        ObjectKey::Entity(f) => all_parameter_rows(alloc, program, space, owned.of(f), none),
+        ObjectKey::Entity(f) => {
+            let mut lists = all_parameter_rows(alloc, program, space, owned.of(f), none)?;
+            push_further(alloc, program, space, f, &mut lists)?;
+            Ok(lists)
+        }
         ObjectKey::Function(_) | ObjectKey::Text(_) | ObjectKey::Call(_) => Ok(Listing::new(alloc)),
         ObjectKey::Library(_) | ObjectKey::Star(_) => Ok(Listing::new(alloc)),
+        ObjectKey::Varargs(_) => Ok(Listing::new(alloc)),
     }
 }
 

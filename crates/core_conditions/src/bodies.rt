@@ -65,7 +65,8 @@ fn in_owner_of(trees: &Trees<'_>, e: u32, n: usize) -> bool
     !is_local(entity.storage) || in_owners_body(trees, entity.owner, n)
 }
 
-/// Whether the name or literal of a local stands in its owner's body.
+/// Whether the name or literal of a local stands in its owner's body, and the list of what a function was passed past its parameters in
+/// that function's.
 pub fn is_in_owner(trees: &Trees<'_>, n: usize, kind: &NodeKind) -> bool
     requires range { InRange (core_of trees.now) }
     requires once { ChildOnce (core_of trees.now) }
@@ -75,6 +76,7 @@ pub fn is_in_owner(trees: &Trees<'_>, n: usize, kind: &NodeKind) -> bool
     match kind {
         NodeKind::Named(e) => in_owner_of(trees, *e, n),
         NodeKind::Literal(e) => in_owner_of(trees, *e, n),
+        NodeKind::VarArgs(e) => in_body(trees, *e, n),
         _ => true,
     }
 }

@@ -4,7 +4,7 @@ ghost use Rattle.c_types.specs.Trees.{PointerTo};
 ghost use Rattle.c_types.specs.Table.{type_of};
 ghost use Rattle.core_tree.specs.Typed.{decayed};
 ghost use Rattle.c_senses.specs.World.{World, same_type, has_size};
-ghost use Rattle.c_senses.specs.Conversions.{operand_of, is_scalar, is_fetched};
+ghost use Rattle.c_senses.specs.Conversions.{operand_of, is_scalar, is_fetched, is_list};
 ghost use Rattle.core_nodes.specs.Sorts.{sort_seen, IsWithin, DecaysTo};
 ghost use Rattle.core_nodes.specs.Standing.{Knows};
 
@@ -57,6 +57,17 @@ pub fn is_fetched(unit: &Unit, sort: Operand) -> bool
         Operand::Address(_) => true,
         Operand::Aggregate(tag) => unit.types.members(tag).is_some(),
         Operand::Other => false,
+    }
+}
+
+/// Whether a type is that of variadic lists (C11 7.16p3).
+pub fn is_list(types: &TypeTable, ty: TypeId) -> bool
+    requires { ty.0 < length types.now.terms }
+    ensures { result ≡ is_list (type_of types.now ty.0) }
+{
+    match types.term(ty) {
+        Term::VaList => true,
+        _ => false,
     }
 }
 

@@ -11,7 +11,7 @@ ghost use Rattle.core_nodes.specs.Standing.{core_at, IsReady, Builds, Made, Type
 
 use crate::CheckFault;
 use crate::reads::{is_place, is_value, place_of_node, type_of_node};
-use crate::sorts::{decayed, is_fetched, operand_of, same_types};
+use crate::sorts::{decayed, is_fetched, is_list, operand_of, same_types};
 use crate::trees::{add_type, int_type, pointer_type, push_over};
 use c_types::table::TypeTable;
 use c_types::term::{Term, TypeId};
@@ -57,7 +57,7 @@ fn place_value(alloc: Global, unit: &mut Unit, at: u32, node: u32) -> Result<u32
             push_over(alloc, unit, NodeKind::Decay, place, pointer, node)
         }
         None => {
-            if !is_fetched(unit, operand_of(&unit.types, ty)) {
+            if !is_fetched(unit, operand_of(&unit.types, ty)) && !is_list(&unit.types, ty) {
                 return Err(CheckFault::BadOperand(at));
             }
             push_over(alloc, unit, NodeKind::Fetch, place, ty, node)

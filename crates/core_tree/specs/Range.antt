@@ -3,7 +3,8 @@ use Rattle.std.specs.Prelude.{ℕ, ◌≡◌, ◌<◌, List, [], Option, Some, N
 use Rattle.core_tree.specs.declared.node.Node.{Node}
 use Rattle.core_tree.specs.declared.node.Entity.{Entity}
 use Rattle.core_tree.specs.declared.node.NodeKind.{NodeKind}
-use Rattle.core_tree.specs.declared.node.NodeKind.TheVariants.{Named, FunctionName, Literal, Block, For, Initialise}
+use Rattle.core_tree.specs.declared.node.NodeKind.TheVariants.{Named, FunctionName, Literal, VarArgs, Block, For}
+use Rattle.core_tree.specs.declared.node.NodeKind.TheVariants.{Initialise}
 use Rattle.core_tree.specs.Typed.{CoreTrees}
 pub use Rattle.core_tree.specs.Rows.{Has}
 
@@ -50,6 +51,7 @@ abbrev pub named_by : NodeKind → Option ℕ
 named_by (Named e) = Some e
 named_by (FunctionName e) = Some e
 named_by (Literal e) = Some e
+named_by (VarArgs e) = Some e
 named_by (Initialise e paths) = Some e
 named_by kind = None
 

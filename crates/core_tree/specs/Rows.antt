@@ -20,10 +20,10 @@ use Rattle.core_tree.specs.declared.node.NodeKind.TheVariants.{PointerAdd, Conve
 use Rattle.core_tree.specs.declared.node.NodeKind.TheVariants.{Sequence, CallNode, MemberOfValue, Arith, Expression}
 use Rattle.core_tree.specs.declared.node.NodeKind.TheVariants.{Block, If, While, DoWhile, For, Switch, Case}
 use Rattle.core_tree.specs.declared.node.NodeKind.TheVariants.{Default, Label, Goto, Break, Continue, Return}
-use Rattle.core_tree.specs.declared.node.NodeKind.TheVariants.{Initialise, Skip}
+use Rattle.core_tree.specs.declared.node.NodeKind.TheVariants.{Initialise, Skip, VarArgs, NextArg}
 use Rattle.core_tree.specs.Typed.{CoreTrees, PlaceNode, ValueNode, sort_at, type_at, IsPlace, IsValue, IsStatement}
 use Rattle.core_tree.specs.Typed.{IsInteger, IsPointer, IsScalar, IsStored, decayed, Holds, IsPromoted, IsPassed}
-use Rattle.core_tree.specs.Typed.{LacksLength}
+use Rattle.core_tree.specs.Typed.{LacksLength, IsList, IsVariadic}
 use Rattle.type_rules.specs.Members.{IsMemberOf, width_of}
 use Rattle.type_rules.specs.Sizes.{PointsToObject}
 use Rattle.type_rules.specs.Conversions.{IsFirstOf}
@@ -60,6 +60,10 @@ IsEntityOf u e t = IsEntityIn u (slice_get u.entities e) t
 -- a value of integer type
 abbrev pub IsNumeral : CoreTrees → ℕ → Type 0
 IsNumeral u n = (sort_at u n ≡ ValueNode) × IsInteger (type_at u n)
+
+-- a place of a variadic list
+abbrev pub IsListPlace : CoreTrees → ℕ → Type 0
+IsListPlace u n = (sort_at u n ≡ PlaceNode) × IsList (type_at u n)
 
 -- what is tested by a condition
 abbrev pub IsCondition : CoreTrees → ℕ → Type 0
@@ -293,6 +297,20 @@ ArithRow u op t (a ∷ []) = (sort_at u a ≡ ValueNode) × Unary op (type_at u 
 ArithRow u op t (a ∷ b ∷ []) = IsOverTwo u op t a b
 ArithRow u op t children = ⊥
 
+abbrev pub IsVariadicIn : CoreTrees → Option Entity → Type 0
+IsVariadicIn u None = ⊥
+IsVariadicIn u (Some entity) = IsVariadic (type_of u.types entity.ty.0)
+
+-- the list of what a variadic function was passed past its parameters (7.16.1.4)
+abbrev pub VarArgsRow : CoreTrees → ℕ → Ctype → List ℕ → Type 0
+VarArgsRow u e t [] = IsList t × IsVariadicIn u (slice_get u.entities e)
+VarArgsRow u e t children = ⊥
+
+-- the next argument of a list (7.16.1.1)
+abbrev pub NextArgRow : CoreTrees → Ctype → List ℕ → Type 0
+NextArgRow u t (p ∷ []) = IsListPlace u p × IsScalar t
+NextArgRow u t children = ⊥
+
 -- statements
 
 abbrev pub ExpressionRow : CoreTrees → List ℕ → Type 0
@@ -378,6 +396,8 @@ RowOf u Sequence t children = SequenceRow u t children
 RowOf u CallNode t children = CallRow u t children
 RowOf u (MemberOfValue k) t children = MemberOfValueRow u k t children
 RowOf u (Arith op) t children = ArithRow u op t children
+RowOf u (VarArgs e) t children = VarArgsRow u e t children
+RowOf u NextArg t children = NextArgRow u t children
 RowOf u Expression t children = ExpressionRow u children
 RowOf u (Block entities) t children = BlockRow u children
 RowOf u If t children = IfRow u children

@@ -4,7 +4,7 @@ use Rattle.c_types.specs.Trees.{Ctype, VoidType}
 use Rattle.c_types.specs.Table.{Table, type_of}
 use Rattle.type_rules.specs.Sizes.{IsObject}
 pub use Rattle.type_rules.specs.Kinds.{IsInteger, IsPointer, IsScalar, IsAggregate, IsStored, IsPromoted, IsPassed}
-pub use Rattle.type_rules.specs.Kinds.{LacksLength}
+pub use Rattle.type_rules.specs.Kinds.{LacksLength, IsList, IsVariadic}
 pub use Rattle.type_rules.specs.Conversions.{decayed}
 pub use Rattle.type_rules.specs.Numbers.{half_of, InSigned, InUnsigned, Holds}
 use Rattle.core_tree.specs.declared.node.Unit.{Unit}

@@ -14,7 +14,7 @@ use Rattle.core_tree.specs.declared.node.Storage.TheVariants.{Static, Automatic,
 use Rattle.core_tree.specs.declared.node.NodeKind.{NodeKind}
 use Rattle.core_tree.specs.declared.node.NodeKind.TheVariants.{Named, Text, Literal, FunctionName, Deref, Member}
 use Rattle.core_tree.specs.declared.node.NodeKind.TheVariants.{Number, NullValue, AddressOf, Decay, PointerAdd}
-use Rattle.core_tree.specs.declared.node.NodeKind.TheVariants.{Convert, Upcast, Choose, CallNode, Arith, Block}
+use Rattle.core_tree.specs.declared.node.NodeKind.TheVariants.{Convert, Upcast, Choose, CallNode, Arith, VarArgs, Block}
 use Rattle.core_tree.specs.declared.node.NodeKind.TheVariants.{While, DoWhile, For, Switch, Case, Default, Label}
 use Rattle.core_tree.specs.declared.node.NodeKind.TheVariants.{Goto, Break, Continue, Return, Initialise}
 use Rattle.core_tree.specs.Typed.{CoreTrees, trees_of, trees_in, LacksLength, ValueNode, sort_of, type_at}
@@ -116,10 +116,12 @@ abbrev pub InOwnerIn : CoreTrees → Option Entity → ℕ → Type 0
 InOwnerIn u None n = ⊤
 InOwnerIn u (Some entity) n = IsLocal entity.storage → InOwnersBody u entity.owner n
 
--- the names and literals of locals stand in their owner's body
+-- the names and literals of locals stand in their owner's body, and the list of what a function was passed past its
+-- parameters in that function's
 abbrev pub IsInOwner : CoreTrees → ℕ → NodeKind → Type 0
 IsInOwner u n (Named e) = InOwnerIn u (entity_at u e) n
 IsInOwner u n (Literal e) = InOwnerIn u (entity_at u e) n
+IsInOwner u n (VarArgs e) = InBody u e n
 IsInOwner u n kind = ⊤
 
 abbrev pub InOwner : CoreTrees → Type 0

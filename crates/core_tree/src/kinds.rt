@@ -4,13 +4,13 @@ ghost use Rattle.std.specs.Prelude.{◌≡◌, ℕ, ◌<◌, ◌↔◌, IsTrue, 
 ghost use Rattle.c_types.specs.Table.{type_of};
 ghost use Rattle.core_tree.specs.Seen.{core_of};
 ghost use Rattle.core_tree.specs.Typed.{sort_of, sort_at, PlaceNode, ValueNode, StatementNode, IsPlace, IsValue, IsStatement};
-ghost use Rattle.core_tree.specs.Rows.{IsNumeral, IsCondition, InitialisesEntity};
+ghost use Rattle.core_tree.specs.Rows.{IsNumeral, IsCondition, IsListPlace, InitialisesEntity};
 ghost use Rattle.core_tree.specs.Range.{InRange};
 
 use crate::node::NodeKind;
 use crate::trees::Trees;
 use c_types::term::TypeId;
-use type_rules::kinds::{is_integer, is_scalar};
+use type_rules::kinds::{is_integer, is_list, is_scalar};
 
 /// Whether a kind is a place (C11 6.3.2.1p1).
 pub fn is_place_kind(kind: &NodeKind) -> bool
@@ -38,6 +38,7 @@ pub fn is_value_kind(kind: &NodeKind) -> bool
         NodeKind::Update { .. } | NodeKind::Choose | NodeKind::Sequence | NodeKind::CallNode =>
             true,
         NodeKind::MemberOfValue(_) | NodeKind::Arith(_) => true,
+        NodeKind::VarArgs(_) | NodeKind::NextArg => true,
         _ => false,
     }
 }
@@ -60,6 +61,16 @@ pub fn is_place(trees: &Trees<'_>, node: u32, ty: TypeId) -> bool
 {
     let there = &trees.nodes[node as usize];
     is_place_kind(&there.kind) && trees.types.same(there.ty, ty)
+}
+
+/// Whether a node is a place of a variadic list.
+pub fn is_list_place(trees: &Trees<'_>, node: u32) -> bool
+    requires range { InRange (core_of trees.now) }
+    requires node { node < length trees.now.nodes.now }
+    ensures { IsTrue result ↔ IsListPlace (core_of trees.now) node }
+{
+    let there = &trees.nodes[node as usize];
+    is_place_kind(&there.kind) && is_list(trees.types, there.ty)
 }
 
 /// Whether a node is a value.

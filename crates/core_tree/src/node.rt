@@ -47,7 +47,8 @@ pub enum Op {
     Not,
 }
 
-/// What a node is: places first, then values, then statements. Numbers name entities and members.
+/// What a node is: places first, then values, then statements. Numbers name entities and members. `VarArgs` is the list
+/// of what the function around it was passed past its parameters, and `NextArg` takes the next one of a list (C11 7.16).
 #[derive(Drop)]
 pub enum NodeKind {
     Named(u32),
@@ -76,6 +77,8 @@ pub enum NodeKind {
     CallNode,
     MemberOfValue(u32),
     Arith(Op),
+    VarArgs(u32),
+    NextArg,
     Expression,
     Block(HeldList<u32>),
     If,

@@ -18,8 +18,8 @@ use crate::statements::{
 use crate::trees::Trees;
 use crate::values::{
     address_row, arith_row, assign_row, choose_row, convert_row, decay_row, fetch_row,
-    member_of_value_row, null_row, number_row, pointer_add_row, sequence_row, upcast_row,
-    update_row,
+    member_of_value_row, next_arg_row, null_row, number_row, pointer_add_row, sequence_row,
+    upcast_row, update_row, var_args_row,
 };
 pub use type_rules::kinds::{is_integer, is_stored, is_void, points_to};
 pub use type_rules::numbers::holds;
@@ -69,6 +69,7 @@ fn value_row(trees: &Trees<'_>, node: &Node) -> bool
     requires range { InRange (core_of trees.now) }
     requires ty { node.now.ty.0 < length trees.now.types.now.terms }
     requires children { All (λ c. c < length trees.now.nodes.now) node.now.children }
+    requires entity { IfSome (named_by node.now.kind) (λ e. e < length trees.now.entities.now) }
     requires sort { sort_of node.now.kind ≡ ValueNode }
     ensures { IsTrue result
         ↔ RowOf (core_of trees.now) node.now.kind (type_of trees.now.types.now node.now.ty.0) node.now.children }
@@ -90,6 +91,8 @@ fn value_row(trees: &Trees<'_>, node: &Node) -> bool
         NodeKind::CallNode => call_row(trees, node.ty, children),
         NodeKind::MemberOfValue(k) => member_of_value_row(trees, *k, node.ty, children),
         NodeKind::Arith(op) => arith_row(trees, *op, node.ty, children),
+        NodeKind::VarArgs(e) => var_args_row(trees, *e, node.ty, children),
+        NodeKind::NextArg => next_arg_row(trees, node.ty, children),
         _ => false,
     }
 }

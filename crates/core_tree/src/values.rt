@@ -3,11 +3,12 @@
 ghost use Rattle.std.specs.Prelude.{◌≡◌, ℕ, ◌<◌, ◌↔◌, IsTrue, All, length};
 ghost use Rattle.c_types.specs.Table.{type_of};
 ghost use Rattle.core_tree.specs.Seen.{core_of};
-ghost use Rattle.core_tree.specs.Rows.{NumberRow, NullRow, FetchRow, AddressRow, DecayRow, PointerAddRow, ConvertRow, UpcastRow, AssignRow, UpdateRow, ChooseRow, SequenceRow, MemberOfValueRow, ArithRow, IsOverTwo};
+ghost use Rattle.core_tree.specs.Rows.{NumberRow, NullRow, FetchRow, AddressRow, DecayRow, PointerAddRow, ConvertRow, UpcastRow, AssignRow, UpdateRow, ChooseRow, SequenceRow, MemberOfValueRow, ArithRow, IsOverTwo, VarArgsRow, NextArgRow};
 ghost use Rattle.core_tree.specs.Range.{InRange};
 
 use crate::kinds::{
-    is_any_value, is_condition, is_numeral, is_place, is_place_kind, is_value, is_value_kind,
+    is_any_value, is_condition, is_list_place, is_numeral, is_place, is_place_kind, is_value,
+    is_value_kind,
 };
 use crate::node::Op;
 use crate::operators::{binary, unary, updates};
@@ -15,7 +16,9 @@ use crate::places::place_width;
 use crate::trees::Trees;
 use c_types::term::TypeId;
 use type_rules::conversions::{converts, decays_to, is_first_of};
-use type_rules::kinds::{is_array, is_pointer, is_stored, points_to};
+use type_rules::kinds::{
+    is_array, is_list, is_pointer, is_scalar, is_stored, is_variadic, points_to,
+};
 use type_rules::members::is_member;
 use type_rules::numbers::holds;
 use type_rules::sizes::points_to_object;
@@ -227,6 +230,35 @@ pub fn arith_row(trees: &Trees<'_>, op: Op, ty: TypeId, children: &[u32]) -> boo
             is_value_kind(&there.kind) && unary(trees.types, op, there.ty, ty)
         },
         [a, b] => over_two(trees, op, ty, *a, *b),
+        _ => false,
+    }
+}
+
+/// Whether the list of what a variadic function was passed past its parameters stands alone (C11 7.16.1.4): that type is
+/// the list's, and the entity's is that of a variadic function.
+pub fn var_args_row(trees: &Trees<'_>, e: u32, ty: TypeId, children: &[u32]) -> bool
+    requires range { InRange (core_of trees.now) }
+    requires entity { e < length trees.now.entities.now }
+    requires ty { ty.0 < length trees.now.types.now.terms }
+    ensures { IsTrue result ↔ VarArgsRow (core_of trees.now) e (type_of trees.now.types.now ty.0) children.now }
+{
+    match children {
+        [] => {
+            is_list(trees.types, ty) && is_variadic(trees.types, trees.entities[e as usize].ty)
+        },
+        _ => false,
+    }
+}
+
+/// Whether the next argument of a list, an integer or a pointer, stands over a place of a list (C11 7.16.1.1).
+pub fn next_arg_row(trees: &Trees<'_>, ty: TypeId, children: &[u32]) -> bool
+    requires range { InRange (core_of trees.now) }
+    requires ty { ty.0 < length trees.now.types.now.terms }
+    requires children { All (λ c. c < length trees.now.nodes.now) children.now }
+    ensures { IsTrue result ↔ NextArgRow (core_of trees.now) (type_of trees.now.types.now ty.0) children.now }
+{
+    match children {
+        [p] => is_list_place(trees, *p) && is_scalar(trees.types, ty),
         _ => false,
     }
 }

@@ -27,7 +27,7 @@ fn names_in_range(trees: &Trees<'_>, kind: &NodeKind) -> bool
 {
     match kind {
         NodeKind::Named(e) | NodeKind::FunctionName(e) => (*e as usize) < trees.entities.len(),
-        NodeKind::Literal(e) => (*e as usize) < trees.entities.len(),
+        NodeKind::Literal(e) | NodeKind::VarArgs(e) => (*e as usize) < trees.entities.len(),
         NodeKind::Initialise { entity, .. } => (*entity as usize) < trees.entities.len(),
         _ => true,
     }

@@ -6,7 +6,7 @@ use Rattle.std.proofs.lemmas.Option.{slice_get-get_or}
 use Rattle.c_grammar.specs.declared.trees.SyntaxNode.{SyntaxNode}
 use Rattle.core_tree.specs.declared.node.NodeKind.{NodeKind}
 use Rattle.core_tree.specs.declared.node.NodeKind.TheVariants.{Initialise, Literal}
-use Rattle.c_grammar.specs.Productions.{p_external, p_rest, p_init, p_items, p_item, p_block, p_statement, p_cast, p_unary, p_post, p_primary, p_assignment}
+use Rattle.c_grammar.specs.Productions.{p_external, p_rest, p_init, p_items, p_item, p_block, p_statement, p_cast, p_unary, p_post, p_assignment}
 use Rattle.c_consts.specs.Core.{Of, MoreCores, NoCores}
 use Rattle.c_inits.specs.Syntax.{Init, Items, Value, Braces, NoItems, Item}
 use Rattle.c_senses.specs.Given.{Given, Fits}
@@ -60,11 +60,10 @@ both_in n false false true d x st bl m e h g = omega (arith, g)
 both_in n false false false true x st bl m e h g = cc
 both_in n false false false false x st bl m e h g = omega (arith, g)
 
-summed_no : (a b c d : Bool) → not ((a || (b || c)) || d) ≡ true → (b || c) ≡ false
-summed_no true b c d h = cc
-summed_no false true c d h = cc
-summed_no false false true d h = cc
-summed_no false false false d h = refl
+summed_no : (b c d : Bool) → not ((b || c) || d) ≡ true → (b || c) ≡ false
+summed_no true c d h = cc
+summed_no false true d h = cc
+summed_no false false d h = refl
 
 module _ (n : Count) (s : Source) (senses : List Sense) (bound : ℕ → ℕ) (spanned : Spanned s) (families : Families s) (are : AreSenses s senses) (whole : length senses ≡ length s.nodes) (makes : Makes n s senses bound) where
   abbrev N : ℕ → ℕ
@@ -254,7 +253,7 @@ module _ (n : Count) (s : Source) (senses : List Sense) (bound : ℕ → ℕ) (s
           let d = total_less i rest in
           omega (arith, enough, own, b, d);
       others = λ e.
-          let a = all_less (summed_no (is_a s p_primary i) (is_a s p_unary i) (is_a s p_cast i) ((production_at s i == p_post) || ((production_at s i == p_init) || (production_at s i == p_items))) e) in
+          let a = all_less (summed_no (is_a s p_unary i) (is_a s p_cast i) ((production_at s i == p_post) || ((production_at s i == p_init) || (production_at s i == p_items))) e) in
           let b = total_less i (children_at s i) in
           omega (arith, enough, a, b);
     }

@@ -1,35 +1,56 @@
--- The parameters of a function that a call reaches are covered by the call's arguments.
-use Rattle.std.proofs.Common.{arith, ◌≡◌, ◌∙◌, ℕ, zero, suc, ◌+◌, ◌≤◌, List, [], ◌∷◌, length, Option, Some, None, slice_get, refl, sym, ap, subst}
+-- The objects of a function that a call reaches are covered by the call's arguments.
+use Rattle.std.proofs.Common.{arith, ◌≡◌, ◌∙◌, inl, inr, ℕ, zero, suc, ◌+◌, ◌<◌, ◌≤◌, All, Bool, true, false, List, [], ◌∷◌, ◌++◌, drop, length, Option, Some, None, slice_get, slice_index_or, refl, sym, ap, subst}
+use Rattle.std.specs.Prelude.{if◌then◌else◌}
 use Rattle.std.specs.List.{AllZip}
 use Rattle.std.specs.Option.{option_map}
+use Rattle.std.proofs.lemmas.Bool.{false≢true}
+use Rattle.std.proofs.lemmas.Option.{slice_get_within}
 use Rattle.c_types.specs.declared.key.ObjectKey.{ObjectKey}
-use Rattle.c_types.specs.declared.key.ObjectKey.TheVariants.{Entity as EntityKey}
-use Rattle.c_types.specs.Trees.{Ctype}
-use Rattle.c_types.specs.Table.{type_of}
+use Rattle.c_types.specs.declared.key.ObjectKey.TheVariants.{Entity as EntityKey, Varargs as VarargsKey}
+use Rattle.c_types.specs.declared.term.TypeId.{TypeId}
+use Rattle.c_types.specs.declared.term.Form.TheVariants.{Fixed, Variadic, Unspecified}
+use Rattle.c_types.specs.Trees.{Ctype, Ctypes, NoTypes, MoreTypes, VoidType, IntegerType, VaListType, PointerTo, FunctionFrom, StructureOf, UnionOf, trees_at}
+use Rattle.c_types.specs.Table.{type_of, types_of}
+use Rattle.type_rules.specs.Kinds.{IsStored, IsPassed}
 use Rattle.core_tree.specs.declared.node.Entity.{Entity}
 use Rattle.core_tree.specs.declared.node.Node.{Node}
-use Rattle.core_tree.specs.Typed.{type_at}
+use Rattle.core_tree.specs.declared.node.NodeKind.{NodeKind}
+use Rattle.core_tree.specs.Rows.{RowOf, CallRow, Calls, Arguments, IsFurther}
+use Rattle.core_tree.specs.Typed.{CoreTrees, NoNode, ValueNode, sort_in, sort_at, type_in, type_at}
 use Rattle.sol_model.specs.declared.system.Function.{Function}
+use Rattle.obj_made.specs.declared.object.Content.{Content}
+use Rattle.obj_made.specs.declared.object.Content.TheVariants.{Blob, Elements}
+use Rattle.obj_space.specs.declared.location.Location.{Location}
 use Rattle.obj_space.specs.View.{first_from}
 use Rattle.row_numbers.specs.Functions.{key_type, parameters_of, type_or_void}
-use Rattle.call_sites.specs.Signatures.{called_type}
-use Rattle.call_sites.specs.Calls.{rest_of, calls_upto, IsCallSite, IsSiteAt}
+use Rattle.row_numbers.specs.Setting.{takes_further}
+use Rattle.call_sites.specs.Signatures.{called_type, calling_type}
+use Rattle.call_sites.specs.Calls.{head_of, rest_of, ids_of, count_of, variadic_count, calls_upto, IsCallSite, IsSiteAt}
 use Rattle.normal_form.specs.Facts.{IsFunctionFact}
+use Rattle.ref_cells.specs.declared.cells.Cell.{Cell}
 use Rattle.ref_cells.specs.declared.cells.Value.{Value}
 use Rattle.ref_cells.specs.declared.instance.Instance.{Instance}
-use Rattle.ref_frames.specs.Frames.{parameter_object, parameter_objects}
-use Rattle.covering_laws.specs.covered_types.Calls.{type_from, parameter_types, AreCallsRight}
+use Rattle.ref_cells.specs.Cells.{CellList}
+use Rattle.ref_cells.specs.Wholes.{whole_of}
+use Rattle.ref_mem.specs.Arguments.{under_index, argument_cells, arguments_object}
+use Rattle.ref_frames.specs.Frames.{parameter_object, parameter_objects, further_objects}
+use Rattle.covering_laws.specs.covered_types.Calls.{type_from, parameter_types, call_type, AreCallsRight}
 use Rattle.covering_laws.proofs.covered_types.Calls.{calls_fit}
-use Rattle.covering_laws.specs.covered_memory.Covered.{ValueIn, InstanceIn}
+use Rattle.covering_laws.specs.covered_memory.Cells.{EachCell}
+use Rattle.covering_laws.specs.covered_memory.Covered.{CellIn, ValueIn, HasShape, InstanceIn}
 use Rattle.covering_laws.specs.covered_memory.Demands.{IsWhole}
-use Rattle.covering_laws.specs.covered_rows.Nodes.{HeldIn}
+use Rattle.covering_laws.proofs.covered_memory.Cells.{each_append}
+use Rattle.covering_laws.specs.covered_rows.Nodes.{HeldIn, IsWithin}
 use Rattle.covering_laws.proofs.covered_rows.Calls.{parameter_in}
+use Rattle.covering_laws.proofs.covered_rows.Further.{further_in}
 use Rattle.covering_laws.proofs.covered_rows.Targets.{function_there}
+use Rattle.covering_laws.specs.covered_state.Awaited.{IsBare}
 use Rattle.covering_laws.specs.covered_state.World.{World, trees_of, view_in, sets_of, setting_in}
 use Rattle.covering_laws.specs.covered_state.Items.{Each, ArgumentsIn}
+use Rattle.covering_laws.proofs.covered_state.Stays.{each_change, each_append as all_append}
 use Rattle.covered_values.specs.Values.{Stands}
 use Rattle.covered_steps.proofs.Made.{parameters_covered}
-use Rattle.covered_calls.specs.Activations.{Reaches, IsParameterOf, HaveTypes, ActivationsCovered}
+use Rattle.covered_calls.specs.Activations.{Reaches, IsParameterOf, HaveTypes, HasFurther, IsMet, ActivationsCovered}
 
 pub none_some : {X : Type 0} → {x : X} → ◌≡◌ {A = Option X} None (Some x) → ⊥
 none_some h = cc
@@ -45,6 +66,99 @@ zip_at R [] ys i x y h a b = absurd (none_some a)
 zip_at R (z ∷ xs) [] i x y h a b = absurd h
 zip_at {A = A} {B = B} R (z ∷ xs) (v ∷ ys) zero x y h a b = subst (λ (q : B). R x q) (some_one b) (subst (λ (q : A). R q v) (some_one a) h.0)
 zip_at R (z ∷ xs) (v ∷ ys) (suc i) x y h a b = zip_at R xs ys i x y h.1 a b
+
+-- a variadic function has as many parameters as the type of its call
+count_from : (ts : Ctypes) (k : ℕ) (t : Ctype) → type_from ts k ≡ Some t → k < count_of ts
+count_from NoTypes k t h = absurd (none_some h)
+count_from (MoreTypes x rest) zero t h = omega arith
+count_from (MoreTypes x rest) (suc k) t h = (let lt = count_from rest k t h in omega (arith, lt))
+
+called_count : (t : Ctype) (arguments : Ctypes) (count : ℕ) → variadic_count t ≡ Some count → count_of (parameter_types (calling_type t arguments)) ≡ count
+called_count (PointerTo (FunctionFrom result parameters Variadic)) arguments count e = some_one e
+called_count t arguments count e = absurd (none_some e)
+
+-- so an argument whose parameter has a type stands in front of all that is passed past the parameters
+pub within_of : (t : Ctype) (arguments : Ctypes) (k : ℕ) (s : Ctype) → type_from (parameter_types (calling_type t arguments)) k ≡ Some s → (count : ℕ) → variadic_count t ≡ Some count → k < count
+within_of t arguments k s is count e =
+    let its = called_count t arguments count e in
+    let lt = count_from (parameter_types (calling_type t arguments)) k s is in
+    omega (arith, its, lt)
+
+none_value : NoNode ≡ ValueNode → ⊥
+none_value h = cc
+
+blob_elements : {id : TypeId} → {c : Content} → c ≡ Blob → c ≡ Elements id → ⊥
+blob_elements a b = cc
+
+variadic_fixed : {a b : Ctype} → {xs ys : Ctypes} → FunctionFrom a xs Variadic ≡ FunctionFrom b ys Fixed → ⊥
+variadic_fixed h = cc
+
+variadic_void : {a : Ctype} → {xs : Ctypes} → FunctionFrom a xs Variadic ≡ VoidType → ⊥
+variadic_void h = cc
+
+pub index_is : (xs : List ℕ) (k a d : ℕ) → slice_get xs k ≡ Some a → slice_index_or xs k d ≡ a
+index_is [] k a d e = absurd (none_some e)
+index_is (x ∷ xs) zero a d e = some_one e
+index_is (x ∷ xs) (suc k) a d e = index_is xs k a d e
+
+-- a variadic function is called through a pointer to one of its type
+variadic_called : (own callee : Ctype) (arguments : Ctypes) → takes_further own ≡ true → called_type own ≡ calling_type callee arguments
+    → (r : Ctype) × (ps : Ctypes) × (own ≡ FunctionFrom r ps Variadic) × (callee ≡ PointerTo (FunctionFrom r ps Variadic))
+variadic_called (FunctionFrom r ps Variadic) callee arguments h e = (r, ps, refl, by callee e)
+  where
+    by : (c : Ctype) → FunctionFrom r ps Variadic ≡ calling_type c arguments → c ≡ PointerTo (FunctionFrom r ps Variadic)
+    by (PointerTo (FunctionFrom a b Unspecified)) e = absurd (variadic_fixed e)
+    by (PointerTo t) e = ap PointerTo (sym e)
+    by c e = absurd (variadic_void e)
+variadic_called own callee arguments h e = absurd (false≢true h)
+
+-- what is passed past the parameters has a type that is stored
+passed_stored : (t : Ctype) → IsPassed t → IsStored t
+passed_stored (IntegerType size rank signed) h = inl (inl tt)
+passed_stored (PointerTo to) h = inl (inr tt)
+passed_stored (StructureOf tag) h = inr (inl tt)
+passed_stored (UnionOf tag) h = inr (inl tt)
+passed_stored VaListType h = inr (inr tt)
+passed_stored t h = absurd h
+
+passed_at : (u : CoreTrees) (ps : Ctypes) (arguments : List ℕ) (k a : ℕ) → Arguments u ps Variadic arguments → count_of ps ≤ k → slice_get arguments k ≡ Some a → IsFurther u a
+passed_at u NoTypes arguments k a h le e = subst (λ (x : ℕ). IsFurther u x) (index_is arguments k a 0 e) (h k 0 (slice_get_within arguments k a e))
+passed_at u (MoreTypes t rest) [] k a h le e = absurd (none_some e)
+passed_at u (MoreTypes t rest) (x ∷ arguments) zero a h le e = absurd (omega (arith, le))
+passed_at u (MoreTypes t rest) (x ∷ arguments) (suc k) a h le e = passed_at u rest arguments k a h.1 (omega (arith, le)) e
+
+passed_in : (u : CoreTrees) (r : Ctype) (ps : Ctypes) (t : Ctype) (children : List ℕ) → CallRow u t children → type_at u (head_of children) ≡ PointerTo (FunctionFrom r ps Variadic) → (k a : ℕ) → count_of ps ≤ k
+    → slice_get (rest_of children) k ≡ Some a → IsFurther u a
+passed_in u r ps t [] row callee k a le e = absurd (none_some e)
+passed_in u r ps t (c ∷ arguments) row callee k a le e = passed_at u ps arguments k a (subst (λ (s : Ctype). Calls u s t arguments) callee row.1).1 le e
+
+-- a fact of the cells of values, whatever their paths
+module _ (P : Cell → Type 0) where
+  each_indexed : (i : ℕ) (xs : CellList) → EachCell (λ path c. P c) xs → EachCell (λ path c. P c) (under_index i xs)
+  each_indexed i [] h = tt
+  each_indexed i (e ∷ xs) h = (h.0, each_indexed i xs h.1)
+
+  arguments_each : (i : ℕ) (values : List Value) → Each (λ v. EachCell (λ path c. P c) v.cells) values → EachCell (λ path c. P c) (argument_cells i values)
+  arguments_each i [] h = tt
+  arguments_each i (v ∷ values) h = each_append (λ path c. P c) (under_index i v.cells) (argument_cells (i + 1) values) (each_indexed i v.cells h.0) (arguments_each (i + 1) values h.1)
+
+module _ (world : World) (stands : Stands world) where
+  -- such an argument has a complete type with few nodes
+  whole_at : (a : ℕ) → IsFurther (trees_of world) a → IsWhole world.program.types (type_at (trees_of world) a)
+  whole_at a h = by (slice_get (trees_of world).nodes a) refl h.0 h.1
+    where
+      by : (o : Option Node) → slice_get (trees_of world).nodes a ≡ o → sort_in o ≡ ValueNode → IsPassed (type_in world.program.types (slice_get (trees_of world).nodes a)) → IsWhole world.program.types (type_in world.program.types (slice_get (trees_of world).nodes a))
+      by None is sort passed = absurd (none_value sort)
+      by (Some x) is sort passed =
+          subst (λ (o : Option Node). IsWhole world.program.types (type_in world.program.types o)) (sym is)
+          (stands.whole.stored a x is sort (passed_stored (type_of world.program.types x.ty.0) (subst (λ (o : Option Node). IsPassed (type_in world.program.types o)) is passed)))
+
+  -- the object of what is passed past the parameters has no type, but none waits for one either
+  further_bare : (f : ℕ) (arguments : List Value) → HasFurther world f → IsBare world (arguments_object (VarargsKey f) arguments) → ⊥
+  further_bare f arguments own b =
+      let first : b.first ≡ own.first = some_one (sym b.first_is ∙ own.first_is) in
+      let location : b.location ≡ own.location = some_one (sym b.location_is ∙ (ap (slice_get world.space) first ∙ own.location_is)) in
+      blob_elements (ap (λ (l : Location). l.content) location ∙ own.content_is) b.content_is
 
 module _ (world : World) (stands : Stands world) (n : ℕ) (node : Node) (f : ℕ) (reaches : Reaches world n node f) where
   -- the call of the system
@@ -72,7 +186,7 @@ module _ (world : World) (stands : Stands world) (n : ℕ) (node : Node) (f : �
         (parameters_covered world memory own.e v own.place
         (subst (λ (s : Ctype). ValueIn (sets_of world) memory (λ i. own.place.first + i) s v) (sym own_type)
         (parameter_in world.program world.space world.system world.is_system world.family stands.closed stands.grounds reaches.target.call n node reaches.target.target.0 reaches.target.target.2 of_call
-        reaches.target.function reaches.target.target.1 reaches.target.target.3 fact.library f k a own.place.first key t fact.parameters a_is key_is own.type type_is
+        reaches.target.function reaches.target.target.1 reaches.target.target.3 fact.library f k a own.place.first key t within fact.parameters a_is key_is own.type type_is
         (ap (first_from 0 world.space) own.key_is ∙ own.place.first_is) whole memory v h)))
       where
         entity_type : key_type (trees_of world) (EntityKey own.e) ≡ type_of world.program.types own.place.entity.ty.0
@@ -83,6 +197,11 @@ module _ (world : World) (stands : Stands world) (n : ℕ) (node : Node) (f : �
 
         whole : IsWhole world.program.types t
         whole = subst (IsWhole world.program.types) own_type (record { complete = own.place.complete; few = stands.few own.place.entity.ty.0 })
+
+        within : IsWithin (trees_of world) (head_of node.children) k
+        within =
+            within_of (type_at (trees_of world) (head_of node.children)) (trees_at (types_of world.program.types) (ids_of (trees_of world).nodes (rest_of node.children))) k t
+            (subst (λ (s : Ctype). type_from (parameter_types s) k ≡ Some t) reaches.fits t_is)
 
         type_is : type_at (trees_of world) a ≡ t
         type_is = ((right.reached n node (key_type (trees_of world) (EntityKey f)) reaches.there reaches.kind reaches.fits).arguments k a t a_is t_is).1
@@ -118,13 +237,92 @@ module _ (world : World) (stands : Stands world) (n : ℕ) (node : Node) (f : �
           all_in types (suc k) keys nodes values (next k (parameters_of (trees_of world) (view_in world) f) key keys keys_at) (next k (rest_of node.children) a nodes nodes_at) h.1 (omega arith),
         )
 
+    -- what is passed past the parameters
+    module _ (further : takes_further (key_type (trees_of world) (EntityKey f)) ≡ true) (count_is : length (parameters_of (trees_of world) (view_in world) f) ≡ count_of (parameter_types (called_type (key_type (trees_of world) (EntityKey f)))))
+        (own : HasFurther world f) where
+      abbrev count : ℕ
+      count = length (parameters_of (trees_of world) (view_in world) f)
+
+      abbrev IsPast : Value → Type 0
+      IsPast v = EachCell (λ path c. CellIn (sets_of world) memory (Some own.first) c) v.cells
+
+      form : (r : Ctype) × (ps : Ctypes) × (key_type (trees_of world) (EntityKey f) ≡ FunctionFrom r ps Variadic) × (type_at (trees_of world) (head_of node.children) ≡ PointerTo (FunctionFrom r ps Variadic))
+      form =
+          variadic_called (key_type (trees_of world) (EntityKey f)) (type_at (trees_of world) (head_of node.children)) (trees_at (types_of world.program.types) (ids_of (trees_of world).nodes (rest_of node.children))) further reaches.fits
+
+      many : count ≡ count_of form.1
+      many = count_is ∙ ap (λ (t : Ctype). count_of (parameter_types (called_type t))) form.2
+
+      variadic : variadic_count (type_at (trees_of world) (head_of node.children)) ≡ Some count
+      variadic = ap variadic_count form.3 ∙ ap (λ (c : ℕ). Some c) (sym many)
+
+      row : CallRow (trees_of world) (type_of world.program.types node.ty.0) node.children
+      row = subst (λ (k : NodeKind). RowOf (trees_of world) k (type_of world.program.types node.ty.0) node.children) reaches.kind (stands.rows n node reaches.there)
+
+      one_past : (k a : ℕ) (v : Value) → count ≤ k → slice_get (rest_of node.children) k ≡ Some a → HeldIn (sets_of world) (setting_in world) memory a v → IsPast v
+      one_past k a v le a_is h =
+          further_in world.program world.space world.system world.is_system world.family stands.closed stands.grounds reaches.target.call n node reaches.target.target.0 reaches.target.target.2 of_call reaches.target.function reaches.target.target.1
+          reaches.target.target.3 fact.library reaches.there reaches.kind f count k a own.first variadic further fact.parameters refl own.first_is le a_is
+          (whole_at world stands a (passed_in (trees_of world) form.0 form.1 (type_of world.program.types node.ty.0) node.children row form.3 k a (subst (λ (c : ℕ). c ≤ k) many le) a_is)) memory v h
+
+      all_past : (k : ℕ) (nodes : List ℕ) (values : List Value) → count ≤ k → Behind k (rest_of node.children) nodes → ArgumentsIn world memory nodes values → length values ≤ length nodes → Each IsPast values
+      all_past k nodes [] le nodes_at h short = tt
+      all_past k [] (v ∷ values) le nodes_at h short = absurd (omega (arith, short))
+      all_past k (a ∷ nodes) (v ∷ values) le nodes_at h short = (
+        one_past k a v le (here k (rest_of node.children) a nodes nodes_at) h.0,
+        all_past (suc k) nodes values (omega (arith, le)) (next k (rest_of node.children) a nodes nodes_at) h.1 (omega (arith, short)),
+      )
+
+      past : (d k : ℕ) (nodes : List ℕ) (values : List Value) → count ≤ k + d → Behind k (rest_of node.children) nodes → ArgumentsIn world memory nodes values → length values ≤ length nodes → Each IsPast (drop d values)
+      past zero k nodes values le nodes_at h short = all_past k nodes values (omega (arith, le)) nodes_at h short
+      past (suc d) k nodes [] le nodes_at h short = tt
+      past (suc d) k [] (v ∷ values) le nodes_at h short = absurd (omega (arith, short))
+      past (suc d) k (a ∷ nodes) (v ∷ values) le nodes_at h short = past d (suc k) nodes values (omega (arith, le)) (next k (rest_of node.children) a nodes nodes_at) h.1 (omega (arith, short))
+
+      object_in : (values : List Value) → Each IsPast values → InstanceIn (sets_of world) memory (arguments_object (VarargsKey f) values)
+      object_in values h = record {
+        first = own.first;
+        location = own.location;
+        first_is = own.first_is;
+        location_is = own.location_is;
+        shape = subst (λ (c : Content). HasShape world.program.types c (whole_of world.program.types (arguments_object (VarargsKey f) values))) (sym own.content_is) (inl refl);
+        untyped = λ none. inr tt;
+        further = λ is. (refl, own.content_is);
+        cells = arguments_each (CellIn (sets_of world) memory (Some own.first)) 0 values h;
+      }
+
+    abbrev IsDone : Instance → Type 0
+    IsDone inst = InstanceIn (sets_of world) memory inst × (IsBare world inst → ⊥)
+
+    further_made : (met : IsMet world f) (arguments : List Value) → ArgumentsIn world memory (rest_of node.children) arguments → length arguments ≤ length (rest_of node.children)
+        → Each IsDone (further_objects (key_type (trees_of world) (EntityKey f)) f (drop (length (parameters_of (trees_of world) (view_in world) f)) arguments))
+    further_made met arguments h short = by (takes_further (key_type (trees_of world) (EntityKey f))) refl
+      where
+        by : (b : Bool) → takes_further (key_type (trees_of world) (EntityKey f)) ≡ b → Each IsDone (if b then arguments_object (VarargsKey f) (drop (length (parameters_of (trees_of world) (view_in world) f)) arguments) ∷ [] else [])
+        by false is = tt
+        by true is =
+            let own = met.further is in (
+              (
+                object_in is met.count own (drop (length (parameters_of (trees_of world) (view_in world) f)) arguments)
+                    (past is met.count own (length (parameters_of (trees_of world) (view_in world) f)) 0 (rest_of node.children) arguments (omega arith)
+                    (λ j x e. (let same : 0 + j ≡ j = omega arith in ap (slice_get (rest_of node.children)) same ∙ e)) h short),
+                further_bare world stands f (drop (length (parameters_of (trees_of world) (view_in world) f)) arguments) own,
+              ),
+              tt,
+            )
+
 each_first : {X : Type 0} (P Q : X → Type 0) (xs : List X) → Each (λ x. P x × Q x) xs → Each P xs × Each Q xs
 each_first P Q [] h = (tt, tt)
 each_first P Q (x ∷ rest) h = let r = each_first P Q rest h.1 in ((h.0.0, r.0), (h.0.1, r.1))
 
 pub activations_covered : ActivationsCovered
-activations_covered world memory n node f arguments stands reaches types h short =
-    each_first (InstanceIn (sets_of world) memory) (λ inst. inst.ty ≡ None → ⊥) (parameter_objects (trees_of world) (parameters_of (trees_of world) (view_in world) f) arguments)
-    (all_in world stands n node f reaches memory types 0 (parameters_of (trees_of world) (view_in world) f) (rest_of node.children) arguments
-    (λ j x e. (let same : 0 + j ≡ j = omega arith in ap (slice_get (parameters_of (trees_of world) (view_in world) f)) same ∙ e))
-    (λ j x e. (let same : 0 + j ≡ j = omega arith in ap (slice_get (rest_of node.children)) same ∙ e)) h short)
+activations_covered world memory n node f arguments stands reaches met h short =
+    let keys : List ObjectKey = parameters_of (trees_of world) (view_in world) f in
+    let own : List Instance = parameter_objects (trees_of world) keys arguments in
+    let further : List Instance = further_objects (key_type (trees_of world) (EntityKey f)) f (drop (length keys) arguments) in
+    let made : Each (λ inst. InstanceIn (sets_of world) memory inst × (IsBare world inst → ⊥)) own =
+    each_change (λ inst. InstanceIn (sets_of world) memory inst × (inst.ty ≡ None → ⊥)) (λ inst. InstanceIn (sets_of world) memory inst × (IsBare world inst → ⊥)) (λ inst x. (x.0, λ b. x.1 b.untyped)) own
+    (all_in world stands n node f reaches memory met.typed 0 keys (rest_of node.children) arguments (λ j x e. (let same : 0 + j ≡ j = omega arith in ap (slice_get keys) same ∙ e))
+    (λ j x e. (let same : 0 + j ≡ j = omega arith in ap (slice_get (rest_of node.children)) same ∙ e)) h short) in
+    each_first (InstanceIn (sets_of world) memory) (λ inst. IsBare world inst → ⊥) (own ++ further)
+    (all_append (λ inst. InstanceIn (sets_of world) memory inst × (IsBare world inst → ⊥)) own further made (further_made world stands n node f reaches memory met arguments h short))

@@ -1,5 +1,5 @@
 -- A call enters a function with a body.
-use Rattle.std.proofs.Common.{arith, ◌≡◌, ◌∙◌, ℕ, zero, suc, ◌+◌, ◌≤◌, All, List, [], ◌∷◌, ◌++◌, length, map, Some, None, slice_get, slice_index_or, refl, sym, ap, subst}
+use Rattle.std.proofs.Common.{arith, ◌≡◌, ◌∙◌, ℕ, zero, suc, ◌+◌, ◌≤◌, All, List, [], ◌∷◌, ◌++◌, length, map, Some, None, slice_get, refl, sym, ap, subst}
 use Rattle.std.proofs.lemmas.Option.{slice_get_within}
 use Rattle.c_types.specs.declared.key.ObjectKey.TheVariants.{Entity as EntityKey}
 use Rattle.c_types.specs.declared.term.Form.{Form}
@@ -13,20 +13,21 @@ use Rattle.core_tree.specs.Rows.{RowOf, CallRow, Calls, Arguments, IsFurther}
 use Rattle.core_tree.specs.Typed.{CoreTrees, ValueNode, sort_at, type_in, type_at}
 use Rattle.obj_space.proofs.Preorder.{get_behind}
 use Rattle.type_rules.specs.Conversions.{result_of}
-use Rattle.row_numbers.specs.Functions.{key_type, parameters_of}
+use Rattle.row_numbers.specs.Functions.{key_type}
 use Rattle.call_sites.specs.Calls.{rest_of}
 use Rattle.ref_cells.specs.declared.cells.Value.{Value}
 use Rattle.ref_cells.specs.declared.instance.Instance.{Instance}
 use Rattle.ref_elements.specs.Outcomes.{pointers_in}
 use Rattle.ref_state.specs.declared.items.Item.TheVariants.{Wait}
 use Rattle.ref_state.specs.Values.{value_in}
-use Rattle.ref_frames.specs.Frames.{parameter_objects, pointers_from, frame_over}
+use Rattle.ref_frames.specs.Frames.{pointers_from, frame_over}
 use Rattle.covering_laws.specs.covered_memory.Covered.{InstanceIn, Extends, Leaves}
 use Rattle.covering_laws.specs.covered_library.Calls.{StoresIn}
 use Rattle.covering_laws.proofs.covered_library.Stores.{stores_append, own_stored}
 use Rattle.covering_laws.proofs.covered_types.Calls.{calls_fit}
-use Rattle.covering_laws.specs.covered_state.World.{World, trees_of, view_in, sets_of}
+use Rattle.covering_laws.specs.covered_state.World.{World, trees_of, sets_of}
 use Rattle.covering_laws.specs.covered_state.Items.{Each, NodeIn, ArgumentsIn}
+use Rattle.covering_laws.specs.covered_state.Awaited.{IsBare}
 use Rattle.covered_values.specs.Values.{Stands}
 use Rattle.covered_values.proofs.Operands.{value_held}
 use Rattle.covered_steps.proofs.Made.{made_so}
@@ -34,18 +35,14 @@ use Rattle.covered_steps.proofs.Steps.{own_items}
 use Rattle.covered_steps.proofs.Frames.{steps_entered}
 use Rattle.covered_steps.specs.Frames.{IsOther}
 use Rattle.covered_calls.specs.Entering.{ArgumentsHeld, StepsCalled}
-use Rattle.covered_calls.proofs.Activations.{none_some, some_one, activations_covered}
+use Rattle.covered_calls.specs.Activations.{Reaches, objects_entered}
+use Rattle.covered_calls.proofs.Activations.{none_some, some_one, index_is, activations_covered}
 
 call_convert : CallNode ≡ Convert → ⊥
 call_convert h = cc
 
 wait_node : {n m : ℕ} → {left other : List ℕ} → {values more : List (ℕ × Value)} → Wait n left values ≡ Wait m other more → n ≡ m
 wait_node h = cc
-
-index_is : (xs : List ℕ) (k a d : ℕ) → slice_get xs k ≡ Some a → slice_index_or xs k d ≡ a
-index_is [] k a d e = absurd (none_some e)
-index_is (x ∷ xs) zero a d e = some_one e
-index_is (x ∷ xs) (suc k) a d e = index_is xs k a d e
 
 module _ (u : CoreTrees) where
   -- the arguments of a call are values
@@ -98,30 +95,26 @@ module _ (world : World) (stands : Stands world) (memory fresh : List Instance) 
       (own_stored (sets_of world) world.system stands.grounds memory x h.0 (memory ++ fresh) extends i x ((let same : i ≡ i + 0 = omega arith in ap (slice_get (memory ++ fresh)) same) ∙ there 0 x refl) refl)
       (fresh_stored (i + 1) rest (λ j y e. (let same : (i + 1) + j ≡ i + suc j = omega arith in ap (slice_get (memory ++ fresh)) same) ∙ there (suc j) y e) h.1)
 
+-- the call gives what the function gives
+agrees_so : (world : World) (stands : Stands world) (n : ℕ) (node : Node) (g : ℕ) (reaches : Reaches world n node g) → result_of (key_type (trees_of world) (EntityKey g)) ≡ type_at (trees_of world) n
+agrees_so world stands n node g reaches =
+    ((calls_fit world.program stands.rows).reached n node (key_type (trees_of world) (EntityKey g)) reaches.there reaches.kind reaches.fits).result
+    ∙ sym (ap (type_in world.program.types) reaches.there)
+
+-- a call is no conversion
+other_so : (world : World) (n : ℕ) (node : Node) (g : ℕ) (values : List (ℕ × Value)) (reaches : Reaches world n node g) → IsOther world (Wait n [] values)
+other_so world n node g values reaches m vs x same at kind =
+    call_convert (sym reaches.kind ∙ (ap (λ (y : Node). y.kind) (some_one (sym reaches.there ∙ (ap (slice_get (trees_of world).nodes) (wait_node same) ∙ at))) ∙ kind))
+
 pub steps_called : StepsCalled
-steps_called world state f rest n node g body values items target stands covered frames_are items_are reaches types owned noted =
-    steps_entered world state f rest (Wait n [] values) items (parameter_objects (trees_of world) (parameters_of (trees_of world) (view_in world) g) (map (value_in values) (rest_of node.children))) (frame_over (record { function = g; call = Some n; by = None }) (length state.memory) body (parameter_objects (trees_of world) (parameters_of (trees_of world) (view_in world) g) (map (value_in values) (rest_of node.children))))
-    (record { target = target; stores = pointers_from (length state.memory) (parameter_objects (trees_of world) (parameters_of (trees_of world) (view_in world) g) (map (value_in values) (rest_of node.children))) }) covered frames_are items_are other made.0 made.1
-    (record { called = (reaches.target, agrees); back = tt; items = (owned, tt) })
-    (record { target = noted; stores = fresh_stored world stands state.memory (parameter_objects (trees_of world) (parameters_of (trees_of world) (view_in world) g) (map (value_in values) (rest_of node.children))) more.extends (length state.memory) (parameter_objects (trees_of world) (parameters_of (trees_of world) (view_in world) g) (map (value_in values) (rest_of node.children))) (λ j x e. get_behind state.memory (parameter_objects (trees_of world) (parameters_of (trees_of world) (view_in world) g) (map (value_in values) (rest_of node.children))) (length state.memory + j) j refl ∙ e) made.0 })
-  where
-    held : Each (λ v. NodeIn world state.memory v.0 v.1) values
-    held = (own_items world state f rest covered frames_are (Wait n [] values) items items_are).0.2
-
-    made : Each (InstanceIn (sets_of world) state.memory) (parameter_objects (trees_of world) (parameters_of (trees_of world) (view_in world) g) (map (value_in values) (rest_of node.children)))
-        × Each (λ inst. inst.ty ≡ None → ⊥) (parameter_objects (trees_of world) (parameters_of (trees_of world) (view_in world) g) (map (value_in values) (rest_of node.children)))
-    made =
-        activations_covered world state.memory n node g (map (value_in values) (rest_of node.children)) stands reaches types (arguments_held world state.memory n node g values stands reaches held)
-        (map_length (value_in values) (rest_of node.children))
-
-    more : Leaves (sets_of world) state.memory (state.memory ++ parameter_objects (trees_of world) (parameters_of (trees_of world) (view_in world) g) (map (value_in values) (rest_of node.children)))
-    more = made_so (sets_of world) state.memory (parameter_objects (trees_of world) (parameters_of (trees_of world) (view_in world) g) (map (value_in values) (rest_of node.children))) covered.memory made.0
-
-    agrees : result_of (key_type (trees_of world) (EntityKey g)) ≡ type_at (trees_of world) n
-    agrees =
-        ((calls_fit world.program stands.rows).reached n node (key_type (trees_of world) (EntityKey g)) reaches.there reaches.kind reaches.fits).result
-        ∙ sym (ap (type_in world.program.types) reaches.there)
-
-    other : IsOther world (Wait n [] values)
-    other m vs x same at kind =
-        call_convert (sym reaches.kind ∙ (ap (λ (y : Node). y.kind) (some_one (sym reaches.there ∙ (ap (slice_get (trees_of world).nodes) (wait_node same) ∙ at))) ∙ kind))
+steps_called world state f rest n node g body values items target stands covered frames_are items_are reaches met owned noted =
+    let arguments : List Value = map (value_in values) (rest_of node.children) in
+    let fresh : List Instance = objects_entered world g arguments in
+    let held : Each (λ v. NodeIn world state.memory v.0 v.1) values = (own_items world state f rest covered frames_are (Wait n [] values) items items_are).0.2 in
+    let made : Each (InstanceIn (sets_of world) state.memory) fresh × Each (λ inst. IsBare world inst → ⊥) fresh =
+    activations_covered world state.memory n node g arguments stands reaches met (arguments_held world state.memory n node g values stands reaches held) (map_length (value_in values) (rest_of node.children)) in
+    let more : Leaves (sets_of world) state.memory (state.memory ++ fresh) = made_so (sets_of world) state.memory fresh covered.memory made.0 in
+    steps_entered world state f rest (Wait n [] values) items fresh (frame_over (record { function = g; call = Some n; by = None }) (length state.memory) body fresh)
+    (record { target = target; stores = pointers_from (length state.memory) fresh }) covered frames_are items_are (other_so world n node g values reaches) made.0 made.1
+    (record { called = (reaches.target, agrees_so world stands n node g reaches); back = tt; items = (owned, tt) })
+    (record { target = noted; stores = fresh_stored world stands state.memory fresh more.extends (length state.memory) fresh (λ j x e. get_behind state.memory fresh (length state.memory + j) j refl ∙ e) made.0 })

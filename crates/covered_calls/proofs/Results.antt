@@ -6,6 +6,7 @@ use Rattle.std.proofs.lemmas.Bool.{false≢true}
 use Rattle.std.proofs.lemmas.Bool.Decides.{eqb_tells}
 use Rattle.c_types.specs.declared.key.ObjectKey.{ObjectKey}
 use Rattle.c_types.specs.declared.key.ObjectKey.TheVariants.{Entity as EntityKey, Text as TextKey, Call as CallKey, Library as LibraryKey, Star as StarKey, Function as FunctionKey}
+use Rattle.c_types.specs.declared.key.ObjectKey.TheVariants.{Varargs as VarargsKey}
 use Rattle.c_types.specs.Trees.{Ctype}
 use Rattle.type_rules.specs.Conversions.{result_of}
 use Rattle.core_tree.specs.declared.node.Node.{Node}
@@ -155,6 +156,7 @@ steps_given world state f rest n node value stands covered frames_are call there
     returned (CallKey m) c h = absurd h
     returned (LibraryKey m) c h = absurd h
     returned (StarKey m) c h = absurd h
+    returned (VarargsKey m) c h = absurd h
     returned (FunctionKey m) c h = absurd h
 
     own : ((f.items ≡ []) × (value ≡ no_value)) ⊎ ((items : List Item) × (f.items ≡ Returned value ∷ items)) → NodeIn world state.memory n value

@@ -3,8 +3,6 @@ use Rattle.std.specs.Prelude.{◌≡◌, ℕ, List, [], ◌∷◌, None, Some, O
 use Rattle.c_types.specs.declared.key.ObjectKey.{ObjectKey}
 use Rattle.c_types.specs.declared.key.ObjectKey.TheVariants.{Entity as EntityKey}
 use Rattle.core_tree.specs.declared.node.Node.{Node}
-use Rattle.row_numbers.specs.Functions.{key_type, parameters_of}
-use Rattle.call_sites.specs.Signatures.{called_type}
 use Rattle.call_sites.specs.Calls.{rest_of}
 use Rattle.ref_cells.specs.declared.cells.Value.{Value}
 use Rattle.ref_cells.specs.declared.instance.Instance.{Instance}
@@ -14,14 +12,13 @@ use Rattle.ref_state.specs.declared.frames.Frame.{Frame}
 use Rattle.ref_state.specs.declared.state.State.{State}
 use Rattle.ref_state.specs.Values.{value_in}
 use Rattle.ref_frames.specs.declared.entering.Activation.{Activation}
-use Rattle.ref_frames.specs.Frames.{parameter_objects, activation}
+use Rattle.ref_frames.specs.Frames.{activation}
 use Rattle.ref_frames.specs.OnTop.{on_top}
-use Rattle.covering_laws.specs.covered_types.Calls.{parameter_types}
-use Rattle.covering_laws.specs.covered_state.World.{World, trees_of, view_in}
+use Rattle.covering_laws.specs.covered_state.World.{World}
 use Rattle.covering_laws.specs.covered_state.Items.{Each, IsOwned, NodeIn, ArgumentsIn}
 use Rattle.covering_laws.specs.covered_state.State.{TargetNoted, Covered}
 use Rattle.covered_values.specs.Values.{Stands}
-use Rattle.covered_calls.specs.Activations.{Reaches, HaveTypes}
+use Rattle.covered_calls.specs.Activations.{Reaches, IsMet, objects_entered}
 
 -- the values of a call's operands are covered as its arguments
 abbrev pub ArgumentsHeld : Type 0
@@ -36,8 +33,7 @@ ArgumentsHeld =
 abbrev pub made_by : World → State → ℕ → ℕ → ℕ → Node → List (ℕ × Value) → Activation
 made_by world state n f body node values =
     activation (record { function = f; call = Some n; by = None }) (length state.memory) body
-    (parameter_objects (trees_of world) (parameters_of (trees_of world) (view_in world) f)
-    (map (value_in values) (rest_of node.children)))
+    (objects_entered world f (map (value_in values) (rest_of node.children)))
 
 -- the step in which a call, whose operands are all there, enters a function that it reaches
 abbrev pub StepsCalled : Type 0
@@ -49,8 +45,7 @@ StepsCalled =
     → state.frames ≡ f ∷ rest
     → f.items ≡ Wait n [] values ∷ items
     → Reaches world n node g
-    → HaveTypes world (parameters_of (trees_of world) (view_in world) g)
-    (parameter_types (called_type (key_type (trees_of world) (EntityKey g))))
+    → IsMet world g
     → IsOwned world (EntityKey g) body
     → TargetNoted world target
     → Covered world

@@ -3,8 +3,8 @@ ghost use Rattle.covered_calls.specs.Activations.{ActivationsCovered};
 ghost use Rattle.covered_calls.specs.Entering.{ArgumentsHeld, StepsCalled};
 ghost use Rattle.covered_calls.specs.Results.{ResultsGiven, StepsGiven};
 
-/// The objects of a function's parameters, with the arguments of a call that reaches it, are covered beside the memory, and each has its
-/// type.
+/// The objects of a function's parameters and of what it is passed past these, with the arguments of a call that reaches it, are covered
+/// beside the memory, and none waits for its type (C11 6.5.2.2, 7.16).
 pub fn activations_covered()
     ensures { ActivationsCovered }
 {}

@@ -1,6 +1,6 @@
 -- The effect of a pending call leaves the state covered.
-use Rattle.std.proofs.Common.{arith, ◌≡◌, ◌∙◌, ◌⊎◌, inl, inr, ℕ, zero, suc, ◌+◌, ◌<◌, ◌&&◌, ◌||◌, not, ℤ, Bool, true, false, cond, nat_eq, List, [], ◌∷◌, ◌++◌, length, length-set, filter_map, Option, Some, None, Result, Ok, Err, slice_get, Contains, refl, sym, ap, subst}
-use Rattle.std.specs.Prelude.{IsSome, unwrap_or}
+use Rattle.std.proofs.Common.{arith, ◌≡◌, ◌∙◌, ◌⊎◌, inl, inr, ℕ, zero, suc, ◌+◌, ◌<◌, ◌&&◌, ◌||◌, not, ℤ, Bool, true, false, cond, nat_eq, List, [], ◌∷◌, ◌++◌, drop, length, length-set, append-nil, filter_map, Option, Some, None, Result, Ok, Err, slice_get, Contains, refl, sym, ap, subst}
+use Rattle.std.specs.Prelude.{IsSome, unwrap_or, if◌then◌else◌}
 use Rattle.std.specs.List.{cons_option, range_with_len}
 use Rattle.std.specs.Option.{option_map}
 use Rattle.std.proofs.lemmas.Bool.{false≢true}
@@ -10,7 +10,9 @@ use Rattle.pta_base.specs.declared.effect.Effect.{Effect as SetEffect}
 use Rattle.pta_base.specs.declared.effect.Effect.TheVariants.{CallsBack}
 use Rattle.c_types.specs.declared.key.ObjectKey.{ObjectKey}
 use Rattle.c_types.specs.declared.key.ObjectKey.TheVariants.{Entity as EntityKey, Text as TextKey, Call as CallKey, Library as LibraryKey, Star as StarKey, Function as FunctionKey}
+use Rattle.c_types.specs.declared.key.ObjectKey.TheVariants.{Varargs as VarargsKey}
 use Rattle.c_types.specs.declared.term.PathStep.TheVariants.{Index}
+use Rattle.c_types.specs.declared.term.Form.TheVariants.{Fixed, Variadic, Unspecified}
 use Rattle.c_types.specs.declared.term.TypeId.{TypeId}
 use Rattle.c_types.specs.Trees.{Ctype, NoTypes, MoreTypes, VoidType, PointerTo, BoolType, IntegerType, FloatingType, VaListType, ArrayOf, FunctionFrom, StructureOf, UnionOf}
 use Rattle.c_types.specs.Table.{Table, type_of, extent_in}
@@ -34,6 +36,7 @@ use Rattle.obj_space.specs.View.{first_from, view_of}
 use Rattle.obj_space.proofs.Preorder.{get_behind}
 use Rattle.row_numbers.specs.Functions.{number_at, key_id, type_or_void, key_type, parameters_of}
 use Rattle.row_numbers.specs.Objects.{library_id}
+use Rattle.row_numbers.specs.Setting.{takes_further}
 use Rattle.call_sites.specs.Signatures.{comparison, at_end, IsSignature, compares, ends, known, unknown, called_type}
 use Rattle.call_sites.specs.Calls.{is_call, call_if, named_library, is_named}
 use Rattle.ref_cells.specs.declared.cells.Reason.{Reason}
@@ -43,6 +46,7 @@ use Rattle.ref_cells.specs.declared.cells.Cell.TheVariants.{Unset, Number, Null,
 use Rattle.ref_cells.specs.declared.cells.Value.{Value}
 use Rattle.ref_cells.specs.declared.instance.Instance.{Instance}
 use Rattle.ref_cells.specs.Wholes.{typed_whole}
+use Rattle.ref_mem.specs.Arguments.{arguments_object}
 use Rattle.ref_mem.specs.Reads.{one_cell}
 use Rattle.ref_mem.specs.Writes.{changed}
 use Rattle.ref_elements.specs.declared.outcome.Next.{Next}
@@ -65,7 +69,7 @@ use Rattle.ref_state.specs.Items.{settled}
 use Rattle.ref_frames.specs.Running.{Running, element_type}
 use Rattle.ref_frames.specs.declared.entering.Entry.{Entry}
 use Rattle.ref_frames.specs.declared.entering.Activation.{Activation}
-use Rattle.ref_frames.specs.Frames.{parameter_object, parameter_objects, pointers_from, frame_over, activation, list_of, is_typed, have_types, called_list, activation_by, activation_of, entered, all_ended, kept_after, finished}
+use Rattle.ref_frames.specs.Frames.{parameter_object, parameter_objects, further_objects, entered_objects, pointers_from, frame_over, activation, list_of, is_typed, have_types, called_list, activation_by, activation_of, entered, all_ended, kept_after, finished}
 use Rattle.ref_frames.specs.OnTop.{only, on_top}
 use Rattle.ref_calls.specs.Library.{result_in, term_in, object_of, performed_as, performed, comparison_of, back_by, kept_of, goes_by, with_top, library_row}
 use Rattle.ref_calls.specs.Calls.{is_function, signature_of}
@@ -335,6 +339,13 @@ two_keys u (a ∷ b ∷ c ∷ keys) s t e =
     let rest = second_true (is_typed u.types (key_id u a) s) (is_typed u.types (key_id u b) t && false) e in
     absurd (false≢true (second_true (is_typed u.types (key_id u b) t) false rest))
 
+-- the type by which a function is called is variadic where its own is
+further_called : (t : Ctype) → takes_further (called_type t) ≡ takes_further t
+further_called (FunctionFrom result parameters Unspecified) = refl
+further_called (FunctionFrom result parameters Fixed) = refl
+further_called (FunctionFrom result parameters Variadic) = refl
+further_called t = refl
+
 -- what is entered
 pub record IsEnteredAs (w : Running) (count : ℕ) (entry : Entry) (arguments : List Value) (made : Activation) : Type 0 where
   pub entity : Entity
@@ -342,24 +353,34 @@ pub record IsEnteredAs (w : Running) (count : ℕ) (entry : Entry) (arguments : 
   pub body : ℕ
   pub body_is : entity.body ≡ Some body
   pub types : have_types w.trees (parameters_of w.trees (view_of w.space) entry.function) (called_list w.trees entity) ≡ true
-  pub made_is : activation entry count body (parameter_objects w.trees (parameters_of w.trees (view_of w.space) entry.function) arguments) ≡ made
+  pub made_is : activation entry count body (entered_objects w.trees (type_of w.trees.types entity.ty.0) entry.function (parameters_of w.trees (view_of w.space) entry.function) arguments) ≡ made
 
 pub entered_as : (w : Running) (count : ℕ) (entry : Entry) (arguments : List Value) (made : Activation) → entered w count entry arguments ≡ Ok made → IsEnteredAs w count entry arguments made
 unfolding entered
 entered_as w count entry arguments made e = by_entity (slice_get w.trees.entities entry.function) refl e
   where
     by_types : (entity : Entity) → slice_get w.trees.entities entry.function ≡ Some entity → (body : ℕ) → entity.body ≡ Some body → (b : Bool) → have_types w.trees (parameters_of w.trees (view_of w.space) entry.function) (called_list w.trees entity) ≡ b
-        → (let r : Result Activation Reason = cond b (Ok (activation entry count body (parameter_objects w.trees (parameters_of w.trees (view_of w.space) entry.function) arguments))) (Err Mismatch) in r) ≡ Ok made → IsEnteredAs w count entry arguments made
+        → (let r : Result Activation Reason = cond b (Ok (activation entry count body (entered_objects w.trees (type_of w.trees.types entity.ty.0) entry.function (parameters_of w.trees (view_of w.space) entry.function) arguments))) (Err Mismatch) in r) ≡ Ok made → IsEnteredAs w count entry arguments made
     by_types entity there body body_is true is g = record { entity = entity; there = there; body = body; body_is = body_is; types = is; made_is = ok_one g }
     by_types entity there body body_is false is g = absurd (err_ok g)
 
-    by_body : (entity : Entity) → slice_get w.trees.entities entry.function ≡ Some entity → (o : Option ℕ) → entity.body ≡ o → activation_by w count entry arguments (called_list w.trees entity) o ≡ Ok made → IsEnteredAs w count entry arguments made
+    by_body : (entity : Entity) → slice_get w.trees.entities entry.function ≡ Some entity → (o : Option ℕ) → entity.body ≡ o → activation_by w count entry arguments (type_of w.trees.types entity.ty.0) o ≡ Ok made → IsEnteredAs w count entry arguments made
     by_body entity there (Some body) is g = by_types entity there body is (have_types w.trees (parameters_of w.trees (view_of w.space) entry.function) (called_list w.trees entity)) refl g
     by_body entity there None is g = absurd (err_ok g)
 
     by_entity : (o : Option Entity) → slice_get w.trees.entities entry.function ≡ o → activation_of w count entry arguments o ≡ Ok made → IsEnteredAs w count entry arguments made
     by_entity (Some entity) is g = by_body entity is entity.body refl g
     by_entity None is g = absurd (err_ok g)
+
+-- a function that isn't variadic has objects of its parameters alone
+pub entered_plain : (w : Running) (count : ℕ) (entry : Entry) (arguments : List Value) (made : Activation) (x : IsEnteredAs w count entry arguments made) → takes_further (called_type (type_of w.trees.types x.entity.ty.0)) ≡ false
+    → activation entry count x.body (parameter_objects w.trees (parameters_of w.trees (view_of w.space) entry.function) arguments) ≡ made
+entered_plain w count entry arguments made x plain =
+    let keys : List ObjectKey = parameters_of w.trees (view_of w.space) entry.function in
+    let own : List Instance = parameter_objects w.trees keys arguments in
+    let none : further_objects (type_of w.trees.types x.entity.ty.0) entry.function (drop (length keys) arguments) ≡ [] =
+    ap (λ (b : Bool). if b then arguments_object (VarargsKey entry.function) (drop (length keys) arguments) ∷ [] else []) (sym (further_called (type_of w.trees.types x.entity.ty.0)) ∙ plain) in
+    ap (activation entry count x.body) (sym (append-nil own) ∙ ap (λ (objects : List Instance). own ++ objects) (sym none)) ∙ x.made_is
 
 -- what an effect leaves: a memory beside the one before, and where it calls a function of the library back, that is one
 -- of those that it calls back
@@ -782,7 +803,8 @@ module _ (world : World) (stands : Stands world) (characters : TypeId) (served :
 
     body_at : (callee : Cell) (given : List Value) → e.outcome.next ≡ Calls callee given → (other : ℕ) → comparison_of (trees_of world) callee ≡ Ok (EntityKey other) → (made : Activation)
         → entered (running_in world characters) (length state.memory) (record { function = other; call = None; by = Some k }) given ≡ Ok made → Covered world (on_top state (f ∷ rest) (only made.stores) made)
-    body_at callee given next other is_comparison made is_entered = by made x.made_is
+    body_at callee given next other is_comparison made is_entered =
+        by made (entered_plain (running_in world characters) (length state.memory) (record { function = other; call = None; by = Some k }) given made x (ap takes_further own_type))
       where
         two : (callee ≡ FunctionCell (EntityKey other)) × (signature_of (trees_of world) (EntityKey other) ≡ comparison)
         two = is_compared (trees_of world) callee (EntityKey other) is_comparison
@@ -834,8 +856,8 @@ module _ (world : World) (stands : Stands world) (characters : TypeId) (served :
         fresh_in : Each (InstanceIn g state.memory) (parameter_objects (trees_of world) (parameters_of (trees_of world) (view_in world) other) given)
         fresh_in = subst (Each (InstanceIn g state.memory)) (sym fresh_is) (one.0, (other_one.0, tt))
 
-        fresh_typed : Each (λ inst. inst.ty ≡ None → ⊥) (parameter_objects (trees_of world) (parameters_of (trees_of world) (view_in world) other) given)
-        fresh_typed = subst (Each (λ inst. inst.ty ≡ None → ⊥)) (sym fresh_is) (one.1, (other_one.1, tt))
+        fresh_bare : Each (λ inst. IsBare world inst → ⊥) (parameter_objects (trees_of world) (parameters_of (trees_of world) (view_in world) other) given)
+        fresh_bare = subst (Each (λ inst. IsBare world inst → ⊥)) (sym fresh_is) ((λ b. one.1 b.untyped), ((λ b. other_one.1 b.untyped), tt))
 
         more : Leaves g state.memory (state.memory ++ (parameter_objects (trees_of world) (parameters_of (trees_of world) (view_in world) other) given))
         more = made_so g state.memory (parameter_objects (trees_of world) (parameters_of (trees_of world) (view_in world) other) given) covered.memory fresh_in
@@ -844,7 +866,7 @@ module _ (world : World) (stands : Stands world) (characters : TypeId) (served :
         by made is =
             subst (λ (m : Activation). Covered world (on_top state (f ∷ rest) (only m.stores) m)) is
             (steps_entered world state f rest (Library n k arguments) items (parameter_objects (trees_of world) (parameters_of (trees_of world) (view_in world) other) given) (frame_over (record { function = other; call = None; by = Some k }) (length state.memory) x.body (parameter_objects (trees_of world) (parameters_of (trees_of world) (view_in world) other) given))
-            (only (pointers_from (length state.memory) (parameter_objects (trees_of world) (parameters_of (trees_of world) (view_in world) other) given))) covered frames_are items_are (λ m values node same there kind. wait_library m values same) fresh_in fresh_typed
+            (only (pointers_from (length state.memory) (parameter_objects (trees_of world) (parameters_of (trees_of world) (view_in world) other) given))) covered frames_are items_are (λ m values node same there kind. wait_library m values same) fresh_in fresh_bare
             (record {
               called = tt;
               back = record { caller = pending.target.function; caller_is = pending.target.function_is; callee = c.number; callee_is = c.function_at; edge = inr c.edge };
@@ -886,6 +908,7 @@ module _ (world : World) (stands : Stands world) (characters : TypeId) (served :
         by (CallKey m) is_comparison g' = absurd (err_ok g')
         by (LibraryKey m) is_comparison g' = absurd (err_ok g')
         by (StarKey m) is_comparison g' = absurd (err_ok g')
+        by (VarargsKey m) is_comparison g' = absurd (err_ok g')
 
   performed_so : (e : Effected) → performed (running_in world characters) state.memory n k arguments word ≡ Ok e → (result : TypeId) × (effect world.program.types state.memory k key fixed result arguments word ≡ Ok e)
   unfolding performed

@@ -1,13 +1,17 @@
 -- At the program's end the functions that are kept are called.
-use Rattle.std.proofs.Common.{◌≡◌, ◌∙◌, inr, ℕ, zero, suc, ◌-◌, Bool, true, false, cond, List, [], ◌∷◌, ◌++◌, length, take, append-nil, Some, Result, Ok, Err, slice_get, refl, sym, ap, subst}
+use Rattle.std.proofs.Common.{◌≡◌, ◌∙◌, inr, ℕ, zero, suc, ◌-◌, Bool, true, false, cond, List, [], ◌∷◌, ◌++◌, length, take, append-nil, Option, Some, Result, Ok, Err, slice_get, refl, sym, ap, subst}
+use Rattle.std.specs.Option.{option_map}
 use Rattle.c_types.specs.declared.key.ObjectKey.{ObjectKey}
 use Rattle.c_types.specs.declared.key.ObjectKey.TheVariants.{Entity as EntityKey, Text as TextKey, Call as CallKey, Library as LibraryKey, Star as StarKey, Function as FunctionKey}
+use Rattle.c_types.specs.declared.key.ObjectKey.TheVariants.{Varargs as VarargsKey}
 use Rattle.c_types.specs.declared.term.TypeId.{TypeId}
 use Rattle.c_types.specs.Trees.{Ctype}
 use Rattle.c_types.specs.Table.{Table}
+use Rattle.core_tree.specs.declared.node.Entity.{Entity}
 use Rattle.core_tree.specs.Typed.{CoreTrees}
 use Rattle.sol_model.specs.Targets.{CallsBackIn}
-use Rattle.row_numbers.specs.Functions.{number_at, key_type, parameters_of}
+use Rattle.row_numbers.specs.Functions.{number_at, type_or_void, key_type, parameters_of}
+use Rattle.row_numbers.specs.Setting.{takes_further}
 use Rattle.call_sites.specs.Signatures.{comparison, at_end, IsSignature, compares, ends, known, unknown, called_type}
 use Rattle.ref_cells.specs.declared.cells.Reason.{Reason}
 use Rattle.ref_cells.specs.declared.cells.Reason.TheVariants.{BadCall}
@@ -32,7 +36,7 @@ use Rattle.covered_steps.specs.Steps.{NoneBare}
 use Rattle.covered_steps.proofs.Steps.{each_at}
 use Rattle.covered_effects.specs.Served.{running_in, IsServed}
 use Rattle.covered_effects.specs.Steps.{IsKeptFound, StaysCovered, StepsKept}
-use Rattle.covered_effects.proofs.Effects.{entered_as}
+use Rattle.covered_effects.proofs.Effects.{entered_as, entered_plain}
 
 nil_cons : {x : Frame} → {xs : List Frame} → ◌≡◌ {A = List Frame} [] (x ∷ xs) → ⊥
 nil_cons h = cc
@@ -118,7 +122,9 @@ module _ (world : World) (stands : Stands world) (characters : TypeId) (served :
       → StaysCovered world (on_top (record state { kept = but_last state.kept }) state.frames (only []) made)
   body_so e is signature c made is_entered =
       let x = entered_as (running_in world characters) (length state.memory) (entry_of e (Some 24)) [] made is_entered in
-      subst (λ (m : Activation). StaysCovered world (on_top (record state { kept = but_last state.kept }) state.frames (only []) m)) x.made_is
+      subst (λ (m : Activation). StaysCovered world (on_top (record state { kept = but_last state.kept }) state.frames (only []) m))
+      (entered_plain (running_in world characters) (length state.memory) (entry_of e (Some 24)) [] made x
+      (ap takes_further (ap (λ (o : Option Entity). called_type (type_or_void world.program.types (option_map (λ (y : Entity). y.ty) o))) (sym x.there) ∙ (sym (ap (signature_of (trees_of world)) is) ∙ signature))))
       (subst (λ (fresh : List Instance). StaysCovered world (on_top (record state { kept = but_last state.kept }) state.frames (only []) (activation (entry_of e (Some 24)) (length state.memory) x.body fresh)))
       (sym (no_objects (trees_of world) (parameters_of (trees_of world) (view_in world) e)))
       (record {
@@ -149,6 +155,7 @@ module _ (world : World) (stands : Stands world) (characters : TypeId) (served :
   entered_so signature (CallKey m) is h = absurd (err_ok h)
   entered_so signature (LibraryKey m) is h = absurd (err_ok h)
   entered_so signature (StarKey m) is h = absurd (err_ok h)
+  entered_so signature (VarargsKey m) is h = absurd (err_ok h)
 
   called_so : (b : Bool) → same_type (signature_of (trees_of world) key) at_end ≡ b
       → (let r : Result State Reason = cond b (kept_entered (running_in world characters) (record state { kept = but_last state.kept }) key n) (Err BadCall) in r) ≡ Ok next → StaysCovered world next

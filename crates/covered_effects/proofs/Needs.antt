@@ -51,7 +51,7 @@ use Rattle.ref_calls.specs.Library.{named_by, object_of}
 use Rattle.covering_laws.specs.covered_types.Calls.{type_from, parameter_types, call_type, AreCallsRight, IsCallOf}
 use Rattle.covering_laws.proofs.covered_types.Calls.{calls_fit}
 use Rattle.covering_laws.specs.covered_memory.Covered.{HasShape as HasContentShape, MemoryIn}
-use Rattle.covering_laws.specs.covered_rows.Nodes.{HeldIn}
+use Rattle.covering_laws.specs.covered_rows.Nodes.{IsArgument, HeldIn}
 use Rattle.covering_laws.proofs.covered_rows.Targets.{function_there}
 use Rattle.covering_laws.specs.covered_library.Calls.{IsFresh, IsScalars, Calling, IsGiven, HasArgument, IsFreshHere, IsFixedHere, TakesAny, IsTextHere, Needs}
 use Rattle.covering_laws.specs.covered_library.Laws.{IsLibraryCall, calling, MeetsNeeds}
@@ -64,7 +64,7 @@ use Rattle.covering_laws.specs.covered_state.Items.{ArgumentsIn}
 use Rattle.covering_laws.specs.covered_state.Awaited.{AwaitedIn}
 use Rattle.covering_laws.proofs.covered_state.Awaited.{takes_any}
 use Rattle.covered_values.specs.Values.{Stands}
-use Rattle.covered_calls.proofs.Activations.{none_some, some_one, zip_at}
+use Rattle.covered_calls.proofs.Activations.{none_some, some_one, zip_at, within_of}
 use Rattle.covered_calls.proofs.Results.{kept_at_place}
 use Rattle.covered_effects.specs.Served.{solved, running_in, IsOfShape, IsStarObject, IsServed, Reaches}
 use Rattle.covered_effects.proofs.Told.{TakesPointer, GivesPointer, Told, row_told}
@@ -271,10 +271,11 @@ module _ (world : World) (stands : Stands world) (characters : TypeId) (served :
         let from : type_from (parameter_types (call_type (trees_of world) reaches.node)) i ≡ Some (PointerTo p.0) = ap (λ (t : Ctype). type_from (parameter_types t) i) (sym reaches.type ∙ same) ∙ p.1 in
         let a = child_there (trees_of world) (type_of world.program.types reaches.node.ty.0) reaches.node.children call_row i (PointerTo p.0) from in
         let typed = call_is.arguments i a.0 (PointerTo p.0) a.1 (ap (λ (t : Ctype). type_from (parameter_types t) i) same ∙ p.1) in
-        by (slice_get arguments i) refl a.0 p.0 a.1 typed.1
+        let within = within_of (type_at (trees_of world) (head_of reaches.node.children)) (trees_at (types_of world.program.types) (ids_of (trees_of world).nodes (rest_of reaches.node.children))) i (PointerTo p.0) from in
+        by (slice_get arguments i) refl a.0 p.0 (a.1, within) typed.1
       where
-        by : (o : Option Value) → slice_get arguments i ≡ o → (a : ℕ) (t : Ctype) → slice_get (rest_of reaches.node.children) i ≡ Some a → type_at (trees_of world) a ≡ PointerTo t → HasArgument here i
-        by (Some v) is a t at ty = argument_met here i a t v at is ty (arguments_at world state.memory (rest_of reaches.node.children) arguments i a v arguments_in at is)
+        by : (o : Option Value) → slice_get arguments i ≡ o → (a : ℕ) (t : Ctype) → IsArgument (trees_of world) reaches.node i a → type_at (trees_of world) a ≡ PointerTo t → HasArgument here i
+        by (Some v) is a t at ty = argument_met here i a t v at is ty (arguments_at world state.memory (rest_of reaches.node.children) arguments i a v arguments_in at.0 is)
         by None is a t at ty = (a, t, at, ty, subst (λ (o : Option Value). HeldIn (sets_of world) (setting_in world) state.memory a (one_cell (scalar_of o))) (sym is) (tt, tt))
 
     takes : TakesAny here

@@ -25,8 +25,9 @@ use Rattle.ref_state.specs.ref_types.Types.{id}
 use Rattle.ref_start.specs.Objects.{cells_from, numbers, text_object}
 use Rattle.ref_start.specs.Begin.{argument_pointers}
 use Rattle.covering_laws.specs.covered_memory.Cells.{EachCell}
-use Rattle.covering_laws.specs.covered_memory.Spots.{spot_at, spot_from, whole_part, IsInTree}
+use Rattle.covering_laws.specs.covered_memory.Spots.{spot_at, spot_from, whole_part, room, IsInTree}
 use Rattle.covering_laws.specs.covered_memory.Covered.{CellIn, pointer_row, object_row, HasShape, InstanceIn, MemoryIn}
+use Rattle.covering_laws.proofs.covered_memory.Access.{with_cells}
 use Rattle.covering_laws.proofs.covered_memory.Changes.{change_law}
 use Rattle.covering_laws.proofs.covered_memory.Firsts.{is_first}
 use Rattle.covered_start.specs.Objects.{machine_table, machine_sets, IsSolved}
@@ -62,6 +63,7 @@ texts_covered p system family memory text l s first =
       shape = subst (λ (c : Content). HasShape (machine_table p) c (whole_of (machine_table p) (text_object (LibraryKey 10) (id (length p.types.terms + 1)) text))) (sym content)
           (scalars_shape (machine_table p) (text_object (LibraryKey 10) (id (length p.types.terms + 1)) text) (LibraryKey 10) (id (length p.types.terms + 1)) (IntegerType 1 1 true) 8 0 made refl (argument_type p s.made s.named) (inl tt) refl);
       untyped = λ e. absurd (none_some (sym e));
+      further = λ f. absurd f;
       cells = plain_in p s.made s.named family memory (object_row here.0.content l) (whole_part (whole_of (machine_table p) (text_object (LibraryKey 10) (id (length p.types.terms + 1)) text))) (cells_from 0 (numbers text)) (numbers_plain 0 text);
     }
 
@@ -98,7 +100,7 @@ module _ (p : Program) (system : System) (family : Family) (s : IsSolved p syste
         record {
           inst = y;
           inst_is = at;
-          in_tree = subst (λ (w : Option Ctype). IsInTree (machine_table p) w (Index 0 ∷ [])) (sym form.2) refl;
+          in_tree = subst (λ (w : Option Ctype). IsInTree (machine_table p) w (room y) (Index 0 ∷ [])) (sym form.2) refl;
           lands = record {
             at = object_row inside.location.content inside.first 0;
             location = there.first;
@@ -130,5 +132,5 @@ lists_covered p system family memory list first count s all found texts =
     let own = here p system family s memory 9 list all found in
     let key : x.key ≡ LibraryKey 9 = ap (λ (y : Instance). y.key) (some_one (sym at ∙ own.there)) ∙ own.key_is in (
       record { key = refl; in_tree = λ path y. y; whole = λ t y. y },
-      record { first = inside.first; location = inside.location; first_is = inside.first_is; location_is = inside.location_is; shape = inside.shape; untyped = inside.untyped; cells = list_in p system family s memory all x key inside 0 first count texts },
+      with_cells (machine_sets p family) system (grown p system family s) memory x inside (cells_from 0 (argument_pointers first count)) (list_in p system family s memory all x key inside 0 first count texts),
     ))

@@ -24,6 +24,7 @@ use Rattle.obj_space.specs.Spots.{reached, part_at, node_in}
 use Rattle.obj_space.specs.View.{first_from}
 use Rattle.obj_space.proofs.Preorder.{get_behind}
 use Rattle.row_numbers.specs.Functions.{type_or_void, key_type, parameters_of}
+use Rattle.row_numbers.specs.Setting.{takes_further}
 use Rattle.ref_cells.specs.declared.cells.Cell.TheVariants.{Number}
 use Rattle.ref_cells.specs.declared.cells.Value.{Value}
 use Rattle.ref_cells.specs.declared.instance.Instance.{Instance}
@@ -39,11 +40,11 @@ use Rattle.ref_state.specs.declared.state.State.{State}
 use Rattle.ref_state.specs.ref_types.Types.{id}
 use Rattle.ref_frames.specs.declared.entering.Activation.{Activation}
 use Rattle.ref_frames.specs.Running.{Running}
-use Rattle.ref_frames.specs.Frames.{parameter_object, parameter_objects, frame_over, called_list, have_types, entered}
+use Rattle.ref_frames.specs.Frames.{parameter_object, parameter_objects, frame_over, activation, called_list, have_types, entered}
 use Rattle.ref_frames.specs.OnTop.{only, on_top}
 use Rattle.ref_start.specs.Objects.{cells_from, text_object}
 use Rattle.ref_start.specs.Begin.{main_in, argument_pointers, main_entry, with_texts, main_made, begun, begins_at, begins_with, begins, begin}
-use Rattle.covering_laws.specs.covered_memory.Spots.{spot_at, spot_from, IsInTree}
+use Rattle.covering_laws.specs.covered_memory.Spots.{spot_at, spot_from, room, IsInTree}
 use Rattle.covering_laws.specs.covered_memory.Covered.{CellIn, pointer_row, ValueIn, HasShape, InstanceIn, MemoryIn, Leaves}
 use Rattle.covering_laws.proofs.covered_memory.Stays.{cell_stays}
 use Rattle.covering_laws.specs.covered_state.World.{World, trees_of, view_in}
@@ -58,7 +59,7 @@ use Rattle.covered_calls.specs.Activations.{IsParameterOf}
 use Rattle.covering_laws.specs.covered_types.Calls.{type_from}
 use Rattle.covered_statements.specs.Runnable.{IsRunnable, Steady}
 use Rattle.covered_statements.specs.Rows.{running_in}
-use Rattle.covered_statements.proofs.Calling.{IsEntered, entered_inv, body_owned, body_stands, parameters_met}
+use Rattle.covered_statements.proofs.Calling.{IsEntered, entered_inv, plain_objects, body_owned, body_stands, parameters_met}
 use Rattle.covered_start.specs.Objects.{machine_table, machine_sets, IsSolved}
 use Rattle.covered_start.specs.Arguments.{AreTexts, with_list}
 use Rattle.covered_start.specs.Start.{machine_world, StartsRight, BeginSteady}
@@ -66,7 +67,7 @@ use Rattle.covered_start.proofs.Types.{longer}
 use Rattle.covered_start.proofs.Pointed.{IsHere, here, content_at}
 use Rattle.covered_start.proofs.Arguments.{list_content, texts_covered, lists_covered}
 use Rattle.covered_start.proofs.Filled.{bare_back, changed_back}
-use Rattle.covered_start.proofs.Mains.{IsStarting, starting, has_some, second_pointer, argument_first, list_given}
+use Rattle.covered_start.proofs.Mains.{IsStarting, starting, main_plain, has_some, second_pointer, argument_first, list_given}
 
 some_one : {X : Type 0} → {x y : X} → ◌≡◌ {A = Option X} (Some x) (Some y) → x ≡ y
 some_one h = cc
@@ -137,7 +138,7 @@ module _ (p : Program) (system : System) (family : Family) (s : IsSolved p syste
       record {
         inst = h.inst;
         inst_is = h.there;
-        in_tree = subst (λ (w : Option Ctype). IsInTree (machine_table p) w (Index 0 ∷ [])) (sym shape.2) refl;
+        in_tree = subst (λ (w : Option Ctype). IsInTree (machine_table p) w (room h.inst) (Index 0 ∷ [])) (sym shape.2) refl;
         lands = record {
           at = row;
           location = h.inside.first;
@@ -176,16 +177,25 @@ module _ (p : Program) (system : System) (family : Family) (s : IsSolved p syste
     on_frames : (memory : List Instance) (f : Frame) → Steady W (record state { memory = memory; frames = f ∷ []; notes = only [] }) → Steady W (record state { memory = memory; frames = f ∷ state.frames; notes = only [] })
     on_frames memory f h = subst (λ (frames : List Frame). Steady W (record state { memory = memory; frames = f ∷ frames; notes = only [] })) (sym outside) h
 
+    -- main has objects of its parameters alone, since nothing is passed past these
+    own_objects : (main : ℕ) (m : IsStarting p.entities.items main) → IsMainType (type_of p.types m.entity.ty.0) → (count : ℕ) (arguments : List Value) (made : Activation) → (inv : IsEntered W count (main_entry main) arguments made)
+        → activation (main_entry main) count inv.body (parameter_objects (trees_of W) (parameters_of (trees_of W) (view_in W) main) arguments) ≡ made
+    own_objects main m right count arguments made inv =
+        let plain : takes_further (key_type (trees_of W) (EntityKey main)) ≡ false =
+        ap (λ (o : Option Entity). takes_further (type_or_void (machine_table p) (option_map (λ (x : Entity). x.ty) o))) m.there
+        ∙ main_plain (type_of (machine_table p) m.entity.ty.0) (subst IsMainType (sym (own_type m.entity.ty.0 right)) right) in
+        ap (activation (main_entry main) count inv.body) (sym (plain_objects W main arguments plain)) ∙ inv.made_is
+
     -- main without parameters has no objects of its own
     no_objects : (keys : List ObjectKey) → parameter_objects (trees_of W) keys [] ≡ []
     no_objects [] = refl
     no_objects (key ∷ rest) = refl
 
-    begins_plain : (main : ℕ) → IsStarting p.entities.items main → (made : Activation) → entered (running_in W (id (length p.types.terms))) (length state.memory) (main_entry main) [] ≡ Ok made → Steady W (on_top state state.frames (only []) made)
-    begins_plain main m made e =
+    begins_plain : (main : ℕ) → (m : IsStarting p.entities.items main) → IsMainType (type_of p.types m.entity.ty.0) → (made : Activation) → entered (running_in W (id (length p.types.terms))) (length state.memory) (main_entry main) [] ≡ Ok made → Steady W (on_top state state.frames (only []) made)
+    begins_plain main m right made e =
         let inv = entered_inv W (id (length p.types.terms)) (length state.memory) (main_entry main) [] made e in
         let none = no_objects (parameters_of (trees_of W) (view_in W) main) in
-        subst (λ (a : Activation). Steady W (on_top state state.frames (only []) a)) inv.made_is
+        subst (λ (a : Activation). Steady W (on_top state state.frames (only []) a)) (own_objects main m right (length state.memory) [] made inv)
         (on_frames (state.memory ++ parameter_objects (trees_of W) (parameters_of (trees_of W) (view_in W) main) []) (frame_over (main_entry main) (length state.memory) inv.body (parameter_objects (trees_of W) (parameters_of (trees_of W) (view_in W) main) []))
         (framed (state.memory ++ parameter_objects (trees_of W) (parameters_of (trees_of W) (view_in W) main) []) (parameter_objects (trees_of W) (parameters_of (trees_of W) (view_in W) main) [])
         (subst (λ (list : List Instance). MemoryIn (machine_sets p family) (state.memory ++ list)) (sym none) (made_so (machine_sets p family) state.memory [] steady.covered.memory tt).covered)
@@ -289,7 +299,8 @@ module _ (p : Program) (system : System) (family : Family) (s : IsSolved p syste
 
         begins_listed : Steady W (begun state argv (with_texts (running_in W (id (length p.types.terms))) (length state.memory) count word made))
         begins_listed =
-            subst (λ (a : Activation). Steady W (begun state argv (with_texts (running_in W (id (length p.types.terms))) (length state.memory) count word a))) inv.made_is
+            subst (λ (a : Activation). Steady W (begun state argv (with_texts (running_in W (id (length p.types.terms))) (length state.memory) count word a)))
+            (own_objects main m right (length state.memory + count) (one_cell (Number (pos count)) ∷ one_cell (start_of argv) ∷ []) made inv)
             (subst (λ (memory : List Instance). Steady W (record state { memory = memory; frames = frame_over (main_entry main) (length state.memory + count) inv.body objects ∷ state.frames; notes = only [] })) same_memory entered_steady)
 
     -- the step, by main's parameters
@@ -330,7 +341,7 @@ module _ (p : Program) (system : System) (family : Family) (s : IsSolved p syste
         by_keys : (keys : List ObjectKey) → parameters_of (trees_of W) (view_in W) main ≡ keys → begins_with w state main word keys ≡ Ok next → Steady W next
         by_keys [] keys e =
             let r = went (entered w (length state.memory) (main_entry main) []) (λ made. Ok (on_top state state.frames (only []) made)) next e in
-            subst (Steady W) (ok_one r.2) (begins_plain main m r.0 r.1)
+            subst (Steady W) (ok_one r.2) (begins_plain main m main_right r.0 r.1)
         by_keys (key ∷ rest) keys e = by_list key rest keys (object_from 9 0 state.memory) refl e
 
       by_main : (o : Option ℕ) → main_in p.entities.items ≡ o → begins w state word o ≡ Ok next → Steady W next

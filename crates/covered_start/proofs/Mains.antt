@@ -33,6 +33,7 @@ use Rattle.obj_space.specs.Space.{locations_of, locations_in}
 use Rattle.obj_space.specs.View.{SpaceView, first_from, view_of}
 use Rattle.row_numbers.specs.declared.functions.Role.TheVariants.{Main}
 use Rattle.row_numbers.specs.Functions.{has_body, is_external, plays, key_if, keys_in, parameters_of}
+use Rattle.row_numbers.specs.Setting.{takes_further}
 use Rattle.call_sites.specs.Signatures.{called_type}
 use Rattle.ref_frames.specs.Frames.{list_of, have_types}
 use Rattle.ref_start.specs.Begin.{number_of, main_in as main_number}
@@ -139,6 +140,14 @@ starting entities main e =
     }
 
 -- A function of main's types with parameters takes a pointer second.
+
+-- main isn't variadic
+pub main_plain : (t : Ctype) → IsMainType t → takes_further t ≡ false
+main_plain (FunctionFrom r NoTypes Variadic) h = absurd h.1
+main_plain (FunctionFrom r (MoreTypes c ts) Variadic) h = absurd h.1
+main_plain (FunctionFrom r ps Fixed) h = refl
+main_plain (FunctionFrom r ps Unspecified) h = refl
+main_plain t h = absurd h
 
 pub has_some : (u : CoreTrees) (t : Ctype) → IsMainType t → (key : ObjectKey) (keys : List ObjectKey) → have_types u (key ∷ keys) (list_of (called_type t)) ≡ true → has_parameters t ≡ true
 has_some u (FunctionFrom r NoTypes Fixed) h key keys e = absurd (false≢true e)

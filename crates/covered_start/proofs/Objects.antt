@@ -4,7 +4,9 @@ use Rattle.std.specs.List.{cons_option}
 use Rattle.std.proofs.lemmas.Bool.{false≢true}
 use Rattle.c_types.specs.declared.key.ObjectKey.{ObjectKey}
 use Rattle.c_types.specs.declared.key.ObjectKey.TheVariants.{Entity as EntityKey, Text as TextKey, Call as CallKey, Library as LibraryKey, Star as StarKey, Function as FunctionKey}
+use Rattle.c_types.specs.declared.key.ObjectKey.TheVariants.{Varargs as VarargsKey}
 use Rattle.c_types.specs.declared.term.TypeId.{TypeId}
+use Rattle.c_types.specs.declared.term.PathStep.{PathStep}
 use Rattle.c_types.specs.Trees.{Ctype, IntegerType, PointerTo, ArrayOf}
 use Rattle.c_types.specs.Table.{Table, type_of}
 use Rattle.c_types.specs.Made.{IsMade, AreNamed}
@@ -36,8 +38,8 @@ use Rattle.ref_state.specs.declared.ref_types.types.LibraryTypes.{LibraryTypes}
 use Rattle.ref_state.specs.ref_types.Types.{id, type_in, library_ids}
 use Rattle.ref_start.specs.Objects.{object_types, object_with, cells_from, numbers, characters, is_static, entity_object, literal_by, literal_object, object_of, is_new, object_at, objects_after}
 use Rattle.covering_laws.specs.covered_memory.Cells.{EachCell}
-use Rattle.covering_laws.specs.covered_memory.Spots.{whole_part}
-use Rattle.covering_laws.specs.covered_memory.Covered.{CellIn, pointer_row, CellsIn, object_row, HasShape, InstanceIn, MemoryIn}
+use Rattle.covering_laws.specs.covered_memory.Spots.{IsFurther}
+use Rattle.covering_laws.specs.covered_memory.Covered.{CellIn, pointer_row, CellsIn, cell_row, HasShape, InstanceIn, MemoryIn}
 use Rattle.covering_laws.specs.object_contents.Contents.{IsMadeOf, IsMadeWhole}
 use Rattle.covering_laws.proofs.covered_memory.Cells.{each_change}
 use Rattle.covering_laws.proofs.covered_memory.Firsts.{is_first}
@@ -138,6 +140,7 @@ pub record IsShaped (p : Program) (inst : Instance) (key : ObjectKey) : Type 0 w
   pub key_is : inst.key ≡ key
   pub plain : EachCell (λ path cell. IsNumber cell) inst.cells
   pub untyped : inst.ty ≡ None → IsTrue (is_allocated key)
+  pub further : IsFurther key → ⊥
   pub shape : (content : Content) → IsMadeOf p key content → IsMadeWhole p.types content → HasShape (machine_table p) content (whole_of (machine_table p) inst)
 
 module _ (p : Program) (made : IsMade p.types) (named : AreNamed p.types) where
@@ -158,6 +161,7 @@ module _ (p : Program) (made : IsMade p.types) (named : AreNamed p.types) where
         key_is = o.key_is;
         plain = o.plain;
         untyped = λ none. absurd (typed_never inst one.0.ty o.type_is none);
+        further = λ f. f;
         shape = λ content of whole.
             let same : of.0 ≡ one.0 = some_one (sym of.1 ∙ one.1) in
             let is : content ≡ Typed one.0.ty = of.2 ∙ (ap (λ (x : Entity). entity_content x.storage x.ty) same ∙ static_content one.0.storage one.0.ty one.2) in
@@ -172,6 +176,7 @@ module _ (p : Program) (made : IsMade p.types) (named : AreNamed p.types) where
         key_is = o.key_is;
         plain = o.plain;
         untyped = λ none. absurd (typed_never inst one.0.ty o.type_is none);
+        further = λ f. f;
         shape = λ content of whole.
             let same : of.0 ≡ one.0 = some_one (sym of.1 ∙ one.1) in
             typed_shape inst (TextKey n) one.0.ty content o refl (of.2 ∙ ap (λ (x : Node). Typed x.ty) same) whole;
@@ -234,10 +239,12 @@ module _ (p : Program) (made : IsMade p.types) (named : AreNamed p.types) where
         key_is = one.1.key_is;
         plain = one.1.plain;
         untyped = library_untyped k inst of.0 one.0 of.1 one.1;
+        further = λ f. f;
         shape = λ other is whole. subst (λ (c : Content). HasShape (machine_table p) c (whole_of (machine_table p) inst)) (sym is.2) (library_shape k inst one.0 one.1 is.0 is.1);
       }
   shaped (CallKey n) inst content h of = absurd (none_some h)
   shaped (StarKey k) inst content h of = absurd (none_some h)
+  shaped (VarargsKey k) inst content h of = absurd (none_some h)
   shaped (FunctionKey k) inst content h of = absurd (none_some h)
 
   module _ (family : Family) where
@@ -248,10 +255,12 @@ module _ (p : Program) (made : IsMade p.types) (named : AreNamed p.types) where
     number_in memory row (Pointer i path past) h = absurd h
     number_in memory row (FunctionCell key) h = absurd h
 
+    numbers_in : (memory : List Instance) (row : List PathStep → Option ℕ) (cells : CellList) → EachCell (λ path cell. IsNumber cell) cells → EachCell (λ path cell. CellIn (machine_sets p family) memory (row path) cell) cells
+    numbers_in memory row cells h =
+        each_change (λ path cell. IsNumber cell) (λ path cell. CellIn (machine_sets p family) memory (row path) cell) cells (λ path cell x. number_in memory (row path) cell x) h
+
     pub plain_in : (memory : List Instance) (row : ℕ → ℕ) (whole : Option Reached) (cells : CellList) → EachCell (λ path cell. IsNumber cell) cells → CellsIn (machine_sets p family) memory row whole cells
-    plain_in memory row whole cells h =
-        each_change (λ path cell. IsNumber cell) (λ path cell. CellIn (machine_sets p family) memory (pointer_row row (part_at (machine_table p) whole path)) cell) cells
-        (λ path cell x. number_in memory (pointer_row row (part_at (machine_table p) whole path)) cell x) h
+    plain_in memory row whole cells h = numbers_in memory (λ path. pointer_row row (part_at (machine_table p) whole path)) cells h
 
     object_in : (memory : List Instance) (l : ℕ) (x : Location) (inst : Instance) → slice_get (locations_in p) l ≡ Some x → object_of (machine_trees p) (library_ids (length p.types.terms)) x.key ≡ Some inst → InstanceIn (machine_sets p family) memory inst
     object_in memory l x inst at h =
@@ -266,8 +275,9 @@ module _ (p : Program) (made : IsMade p.types) (named : AreNamed p.types) where
           first_is = ap (first_from 0 (locations_in p)) s.key_is ∙ first.1;
           location_is = here.1;
           shape = s.shape here.0.content (subst (λ (k : ObjectKey). IsMadeOf p k here.0.content) here.2 facts.0) facts.1;
-          untyped = λ none. subst (λ (k : ObjectKey). IsTrue (is_allocated k)) (sym s.key_is) (s.untyped none);
-          cells = plain_in memory (object_row here.0.content first.0) (whole_part (whole_of (machine_table p) inst)) inst.cells s.plain;
+          untyped = λ none. inl (subst (λ (k : ObjectKey). IsTrue (is_allocated k)) (sym s.key_is) (s.untyped none));
+          further = λ f. absurd (s.further (subst IsFurther s.key_is f));
+          cells = numbers_in memory (cell_row (machine_table p) inst here.0.content first.0) inst.cells s.plain;
         }
 
     -- each object before anything points from one to another

@@ -24,10 +24,11 @@ use Rattle.ref_cells.specs.Wholes.{whole_of}
 use Rattle.ref_elements.specs.Objects.{object_from}
 use Rattle.ref_start.specs.Objects.{points_to, pointed, library_pointed, objects_after, static_objects}
 use Rattle.normal_form.specs.SystemOf.{held_by, library_pair, library_constraints, by_library}
-use Rattle.covering_laws.specs.covered_memory.Spots.{spot_at, spot_from, spot, whole_part, IsInTree}
+use Rattle.covering_laws.specs.covered_memory.Spots.{spot_at, spot_from, spot, whole_part, room, IsInTree}
 use Rattle.covering_laws.specs.covered_memory.Covered.{CellIn, pointer_row, object_row, HasShape, InstanceIn, MemoryIn, Leaves}
 use Rattle.covering_laws.specs.covered_memory.Demands.{Grounds}
 use Rattle.covering_laws.specs.grown_programs.Grown.{with_types}
+use Rattle.covering_laws.proofs.covered_memory.Access.{with_cells}
 use Rattle.covering_laws.proofs.covered_memory.Changes.{change_law}
 use Rattle.covering_laws.proofs.covered_memory.Firsts.{is_first}
 use Rattle.covering_laws.proofs.covered_memory.Stays.{same_memory}
@@ -118,7 +119,7 @@ module _ (p : Program) (system : System) (family : Family) (s : IsSolved p syste
 
   -- the location of an element, whose instance has it in its tree
   abbrev pub Stands : ℕ → ℕ → Type 0
-  Stands k i = (memory : List Instance) (b : ℕ) → MemoryIn (machine_sets p family) memory → object_from k 0 memory ≡ Some b → (inst : Instance) × (l : ℕ) × (slice_get memory b ≡ Some inst) × IsInTree (machine_table p) (whole_of (machine_table p) inst) (Index i ∷ [])
+  Stands k i = (memory : List Instance) (b : ℕ) → MemoryIn (machine_sets p family) memory → object_from k 0 memory ≡ Some b → (inst : Instance) × (l : ℕ) × (slice_get memory b ≡ Some inst) × IsInTree (machine_table p) (whole_of (machine_table p) inst) (room inst) (Index i ∷ [])
       × (spot (machine_table p) (locations_in p) inst.key (Index i ∷ []) ≡ Some l) × (first_from 0 (locations_in p) (LibraryKey k) ≡ Some l)
 
   stream_stands : Stands 2 0
@@ -135,7 +136,7 @@ module _ (p : Program) (system : System) (family : Family) (s : IsSolved p syste
         h.inst,
         h.inside.first,
         h.there,
-        subst (λ (w : Option Ctype). IsInTree (machine_table p) w (Index 128 ∷ [])) (sym shape.2) refl,
+        subst (λ (w : Option Ctype). IsInTree (machine_table p) w (room h.inst) (Index 128 ∷ [])) (sym shape.2) refl,
         ap (λ (f : Option ℕ). spot_from (machine_table p) (locations_in p) f (Index 128 ∷ [])) h.inside.first_is
             ∙ (ap (λ (x : Option Location). spot_at (machine_table p) h.inside.first x (Index 128 ∷ [])) h.inside.location_is
             ∙ (ap (λ (c : Content). option_map (λ (n : ℕ). h.inside.first + n) (node_in (machine_table p) c (Index 128 ∷ []))) content ∙ ap (λ (n : ℕ). Some n) (let z : h.inside.first + 0 ≡ h.inside.first = omega arith in z))),
@@ -220,7 +221,7 @@ module _ (p : Program) (system : System) (family : Family) (s : IsSolved p syste
         change_law (machine_sets p family) system grown memory a (λ inst. record inst { cells = ([], Pointer b (Index i ∷ []) false) ∷ [] }) all
         (λ x at h. (
           record { key = refl; in_tree = λ path y. y; whole = λ t y. y },
-          record { first = h.first; location = h.location; first_is = h.first_is; location_is = h.location_is; shape = h.shape; untyped = h.untyped; cells = (cell_in a b x ea eb at h, tt) },
+          with_cells (machine_sets p family) system grown memory x h (([], Pointer b (Index i ∷ []) false) ∷ []) (cell_in a b x ea eb at h, tt),
         ))
     by (Some a) ea None eb = nothing
     by None ea (Some b) eb = nothing

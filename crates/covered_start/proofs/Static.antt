@@ -1,8 +1,9 @@
 -- Only the stream among the objects of the start is without a type.
-use Rattle.std.proofs.Common.{◌≡◌, ◌∙◌, ℕ, zero, suc, ◌==◌, eqb-true, false, List, [], ◌∷◌, set, length, Option, Some, None, IsTrue, slice_get, refl, sym, ap, subst}
+use Rattle.std.proofs.Common.{◌≡◌, ◌∙◌, inl, inr, ◌⊎◌, ℕ, zero, suc, ◌==◌, eqb-true, false, List, [], ◌∷◌, set, length, Option, Some, None, IsTrue, slice_get, refl, sym, ap, subst}
 use Rattle.std.proofs.lemmas.Bool.{false≢true}
 use Rattle.c_types.specs.declared.key.ObjectKey.{ObjectKey}
 use Rattle.c_types.specs.declared.key.ObjectKey.TheVariants.{Entity as EntityKey, Text as TextKey, Call as CallKey, Library as LibraryKey, Star as StarKey, Function as FunctionKey}
+use Rattle.c_types.specs.declared.key.ObjectKey.TheVariants.{Varargs as VarargsKey}
 use Rattle.c_types.specs.declared.term.TypeId.{TypeId}
 use Rattle.c_types.specs.Table.{Table}
 use Rattle.c_types.specs.Made.{IsMade}
@@ -22,6 +23,7 @@ use Rattle.ref_elements.specs.Objects.{object_from}
 use Rattle.ref_state.specs.declared.ref_types.types.LibraryTypes.{LibraryTypes}
 use Rattle.ref_state.specs.ref_types.Types.{type_in, library_ids}
 use Rattle.ref_start.specs.Objects.{object_types, object_of, objects_after, points_to, pointed, library_pointed, static_objects}
+use Rattle.covering_laws.specs.covered_memory.Spots.{IsFurther}
 use Rattle.covering_laws.specs.covered_library.Calls.{Takes}
 use Rattle.covering_laws.proofs.covered_memory.Firsts.{is_first}
 use Rattle.covering_laws.proofs.covered_needs.Named.{library_made}
@@ -51,6 +53,7 @@ static_key u ids (TextKey n) inst h = subst IsStaticKey (sym (text_one (TextKey 
 static_key u ids (LibraryKey k) inst h = subst IsStaticKey (sym (library_one k (type_in (slice_get (object_types ids) k)) inst (k == 10) h).1.key_is) tt
 static_key u ids (CallKey n) inst h = absurd (none_some h)
 static_key u ids (StarKey k) inst h = absurd (none_some h)
+static_key u ids (VarargsKey k) inst h = absurd (none_some h)
 static_key u ids (FunctionKey k) inst h = absurd (none_some h)
 
 set_static : (xs : List Instance) (i : ℕ) (v : Instance) → IsStaticKey v.key → AllStatic xs → AllStatic (set xs i v)
@@ -86,14 +89,20 @@ unfolding static_objects
 start_static p =
     library_static (objects_after (machine_trees p) (library_ids (length p.types.terms)) None (locations_in p)) (objects_static (machine_trees p) (library_ids (length p.types.terms)) (locations_in p))
 
--- the stream is the one that is allocated
-pub allocated_stream : (key : ObjectKey) → IsStaticKey key → IsTrue (is_allocated key) → key ≡ LibraryKey 2
-allocated_stream (LibraryKey k) s h = ap (λ (j : ℕ). LibraryKey j) (eqb-true k 2 h)
-allocated_stream (EntityKey e) s h = absurd (false≢true h)
-allocated_stream (TextKey n) s h = absurd (false≢true h)
-allocated_stream (CallKey n) s h = absurd s
-allocated_stream (StarKey k) s h = absurd s
-allocated_stream (FunctionKey k) s h = absurd s
+-- the stream is the one that is allocated, and nothing is passed past parameters yet
+by_allocated : (key : ObjectKey) → IsStaticKey key → IsTrue (is_allocated key) → key ≡ LibraryKey 2
+by_allocated (LibraryKey k) s h = ap (λ (j : ℕ). LibraryKey j) (eqb-true k 2 h)
+by_allocated (EntityKey e) s h = absurd (false≢true h)
+by_allocated (TextKey n) s h = absurd (false≢true h)
+by_allocated (CallKey n) s h = absurd s
+by_allocated (StarKey k) s h = absurd s
+by_allocated (VarargsKey k) s h = absurd s
+by_allocated (FunctionKey k) s h = absurd s
+
+pub allocated_stream : (key : ObjectKey) → IsStaticKey key → IsTrue (is_allocated key) ⊎ IsFurther key → key ≡ LibraryKey 2
+allocated_stream key s (inl h) = by_allocated key s h
+allocated_stream (VarargsKey k) s (inr h) = absurd s
+allocated_stream key s (inr h) = absurd h
 
 pub blob_takes : (table : Table) (id : TypeId) (content : Content) → content ≡ Blob → Takes table id content
 blob_takes table id content is = subst (Takes table id) (sym is) tt

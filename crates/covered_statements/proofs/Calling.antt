@@ -1,11 +1,11 @@
 -- A call that enters a function with a body keeps the state covered and stacked.
-use Rattle.std.proofs.Common.{◌≡◌, ◌∙◌, ℕ, zero, suc, ◌<◌, ◌&&◌, Bool, true, false, cond, List, [], ◌∷◌, ◌++◌, map, length, Option, Some, None, Result, Ok, Err, IsSome, slice_get, refl, sym, ap, subst}
-use Rattle.std.specs.Prelude.{IfSome}
+use Rattle.std.proofs.Common.{◌≡◌, ◌∙◌, ℕ, zero, suc, ◌<◌, ◌&&◌, Bool, true, false, cond, List, [], ◌∷◌, ◌++◌, drop, map, length, append-nil, Option, Some, None, Result, Ok, Err, IsSome, slice_get, refl, sym, ap, subst}
+use Rattle.std.specs.Prelude.{IfSome, if◌then◌else◌}
 use Rattle.std.specs.Option.{option_map}
 use Rattle.std.proofs.lemmas.Bool.{false≢true}
 use Rattle.std.proofs.lemmas.Option.{slice_get_within}
 use Rattle.c_types.specs.declared.key.ObjectKey.{ObjectKey}
-use Rattle.c_types.specs.declared.key.ObjectKey.TheVariants.{Entity as EntityKey}
+use Rattle.c_types.specs.declared.key.ObjectKey.TheVariants.{Entity as EntityKey, Varargs as VarargsKey}
 use Rattle.c_types.specs.declared.term.TypeId.{TypeId}
 use Rattle.c_types.specs.Trees.{Ctype, VoidType, BoolType, IntegerType, FloatingType, VaListType, PointerTo, ArrayOf, FunctionFrom, StructureOf, UnionOf, Ctypes, NoTypes, MoreTypes}
 use Rattle.c_types.specs.Table.{Table, type_of, extent_in}
@@ -24,19 +24,21 @@ use Rattle.obj_space.specs.declared.location.Location.{Location}
 use Rattle.obj_space.specs.View.{first_from}
 use Rattle.row_numbers.specs.Objects.{entity_key}
 use Rattle.row_numbers.specs.Functions.{key_id, type_or_void, key_type, parameters_of}
+use Rattle.row_numbers.specs.Setting.{takes_further}
 use Rattle.call_sites.specs.Signatures.{called_type}
-use Rattle.call_sites.specs.Calls.{rest_of}
+use Rattle.call_sites.specs.Calls.{rest_of, count_of}
 use Rattle.ref_cells.specs.declared.cells.Reason.{Reason}
 use Rattle.ref_cells.specs.declared.cells.Reason.TheVariants.{Mismatch}
 use Rattle.ref_cells.specs.declared.cells.Value.{Value}
 use Rattle.ref_cells.specs.declared.instance.Instance.{Instance}
+use Rattle.ref_mem.specs.Arguments.{arguments_object}
 use Rattle.ref_elements.proofs.SameTypes.{type_true}
 use Rattle.ref_state.specs.declared.items.Item.TheVariants.{Do}
 use Rattle.ref_state.specs.Values.{value_in}
 use Rattle.ref_blocks.specs.Ways.{kind_in}
 use Rattle.ref_frames.specs.declared.entering.Activation.{Activation}
 use Rattle.ref_frames.specs.declared.entering.Entry.{Entry}
-use Rattle.ref_frames.specs.Frames.{parameter_objects, activation, list_of, is_typed, have_types, called_list, activation_by, activation_of, entered}
+use Rattle.ref_frames.specs.Frames.{parameter_objects, entered_objects, activation, list_of, is_typed, have_types, called_list, activation_by, activation_of, entered}
 use Rattle.ref_frames.specs.OnTop.{on_top}
 use Rattle.covering_laws.specs.covered_types.Calls.{type_from, parameter_types}
 use Rattle.covering_laws.specs.covered_memory.Covered.{Extends}
@@ -47,7 +49,7 @@ use Rattle.covered_values.proofs.Above.{get_before}
 use Rattle.covered_values.proofs.Operands.{ok_one, err_ok}
 use Rattle.covered_steps.specs.Made.{HasPlace}
 use Rattle.covered_steps.proofs.Owned.{owned_under}
-use Rattle.covered_calls.specs.Activations.{HaveTypes}
+use Rattle.covered_calls.specs.Activations.{HaveTypes, IsMet, objects_entered}
 use Rattle.covered_calls.proofs.Entering.{steps_called}
 use Rattle.covered_statements.specs.Stacked.{PendingOn, top_node, Stacked, FramesStand}
 use Rattle.covered_statements.specs.Runnable.{IsRunnable, Steady}
@@ -84,6 +86,13 @@ types_met u (x ∷ keys) (MoreTypes t types) h zero key at =
     (t, refl, subst (λ (y : ObjectKey). key_type u y ≡ t) (some_one at) (typed_key u.types (key_id u x) t (and_both (is_typed u.types (key_id u x) t) (have_types u keys types) h).0))
 types_met u (x ∷ keys) (MoreTypes t types) h (suc k) key at =
     types_met u keys types (and_both (is_typed u.types (key_id u x) t) (have_types u keys types) h).1 k key at
+
+-- they are as many as these
+types_count : (u : CoreTrees) (keys : List ObjectKey) (types : Ctypes) → have_types u keys types ≡ true → length keys ≡ count_of types
+types_count u [] NoTypes h = refl
+types_count u [] (MoreTypes t types) h = absurd (false≢true h)
+types_count u (x ∷ keys) NoTypes h = absurd (false≢true h)
+types_count u (x ∷ keys) (MoreTypes t types) h = ap (λ (n : ℕ). suc n) (types_count u keys types (and_both (is_typed u.types (key_id u x) t) (have_types u keys types) h).1)
 
 list_same : (t : Ctype) → list_of t ≡ parameter_types t
 list_same VoidType = refl
@@ -173,20 +182,32 @@ pub record IsEntered (world : World) (count : ℕ) (entry : Entry) (arguments : 
   pub body : ℕ
   pub body_is : entity.body ≡ Some body
   pub types : have_types (trees_of world) (parameters_of (trees_of world) (view_in world) entry.function) (called_list (trees_of world) entity) ≡ true
-  pub made_is : activation entry count body (parameter_objects (trees_of world) (parameters_of (trees_of world) (view_in world) entry.function) arguments) ≡ made
+  pub made_is : activation entry count body (objects_entered world entry.function arguments) ≡ made
+
+-- the type of an entity's function
+entity_type : (world : World) (e : ℕ) (x : Entity) → slice_get (trees_of world).entities e ≡ Some x → key_type (trees_of world) (EntityKey e) ≡ type_of (trees_of world).types x.ty.0
+entity_type world e x there = ap (λ (o : Option Entity). type_or_void world.program.types (option_map (λ (y : Entity). y.ty) o)) there
 
 pub entered_inv : (world : World) (characters : TypeId) (count : ℕ) (entry : Entry) (arguments : List Value) (made : Activation) → entered (running_in world characters) count entry arguments ≡ Ok made → IsEntered world count entry arguments made
 unfolding entered
 entered_inv world characters count entry arguments made h = of_entity (slice_get (trees_of world).entities entry.function) refl h
   where
     over : (x : Entity) → slice_get (trees_of world).entities entry.function ≡ Some x → (b : ℕ) → x.body ≡ Some b → (t : Bool) → have_types (trees_of world) (parameters_of (trees_of world) (view_in world) entry.function) (called_list (trees_of world) x) ≡ t
-        → (let r : Result Activation Reason = cond t (Ok (activation entry count b (parameter_objects (trees_of world) (parameters_of (trees_of world) (view_in world) entry.function) arguments))) (Err Mismatch) in r) ≡ Ok made
+        → (let r : Result Activation Reason = cond t (Ok (activation entry count b (entered_objects (trees_of world) (type_of (trees_of world).types x.ty.0) entry.function (parameters_of (trees_of world) (view_in world) entry.function) arguments))) (Err Mismatch) in r) ≡ Ok made
         → IsEntered world count entry arguments made
-    over x there b body true is e = record { entity = x; there = there; body = b; body_is = body; types = is; made_is = ok_one e }
+    over x there b body true is e =
+        record {
+          entity = x;
+          there = there;
+          body = b;
+          body_is = body;
+          types = is;
+          made_is = ap (λ (t : Ctype). activation entry count b (entered_objects (trees_of world) t entry.function (parameters_of (trees_of world) (view_in world) entry.function) arguments)) (entity_type world entry.function x there) ∙ ok_one e;
+        }
     over x there b body false is e = absurd (err_ok e)
 
     of_body : (x : Entity) → slice_get (trees_of world).entities entry.function ≡ Some x → (o : Option ℕ) → x.body ≡ o
-        → activation_by (running_in world characters) count entry arguments (called_list (trees_of world) x) o ≡ Ok made → IsEntered world count entry arguments made
+        → activation_by (running_in world characters) count entry arguments (type_of (trees_of world).types x.ty.0) o ≡ Ok made → IsEntered world count entry arguments made
     of_body x there None is e = absurd (err_ok e)
     of_body x there (Some b) is e = over x there b is (have_types (trees_of world) (parameters_of (trees_of world) (view_in world) entry.function) (called_list (trees_of world) x)) refl e
 
@@ -194,16 +215,23 @@ entered_inv world characters count entry arguments made h = of_entity (slice_get
     of_entity None is e = absurd (err_ok e)
     of_entity (Some x) is e = of_body x is x.body refl e
 
+-- a function that isn't variadic has objects of its parameters alone
+pub plain_objects : (world : World) (f : ℕ) (arguments : List Value) → takes_further (key_type (trees_of world) (EntityKey f)) ≡ false → objects_entered world f arguments ≡ parameter_objects (trees_of world) (parameters_of (trees_of world) (view_in world) f) arguments
+plain_objects world f arguments plain =
+    let keys : List ObjectKey = parameters_of (trees_of world) (view_in world) f in
+    let own : List Instance = parameter_objects (trees_of world) keys arguments in
+    ap (λ (b : Bool). own ++ (if b then arguments_object (VarargsKey f) (drop (length keys) arguments) ∷ [] else [])) plain ∙ append-nil own
+
 pub calls_steady : CallsSteady
 calls_steady world state f rest n node g values items target characters made runs steady frames_are items_are reaches e noted =
     subst (λ (a : Activation). Steady world (on_top state (f ∷ rest) (record { target = target; stores = a.stores }) a)) inv.made_is
     (record {
-      covered = steps_called world state f rest n node g inv.body values items target runs.stands steady.covered frames_are items_are reaches types (body_owned world runs g inv.body inv.entity inv.there storage inv.body_is) noted;
+      covered = steps_called world state f rest n node g inv.body values items target runs.stands steady.covered frames_are items_are reaches met (body_owned world runs g inv.body inv.entity inv.there storage inv.body_is) noted;
       stacked = (
-        body_stands world runs g inv.body inv.entity inv.there storage inv.body_is (state.memory ++ parameter_objects (trees_of world) (parameters_of (trees_of world) (view_in world) g) (map (value_in values) (rest_of node.children))),
+        body_stands world runs g inv.body inv.entity inv.there storage inv.body_is (state.memory ++ objects_entered world g (map (value_in values) (rest_of node.children))),
         ap top_node items_are,
-        frames_stacked world state.memory (state.memory ++ parameter_objects (trees_of world) (parameters_of (trees_of world) (view_in world) g) (map (value_in values) (rest_of node.children)))
-            (more_extends world state.memory (parameter_objects (trees_of world) (parameters_of (trees_of world) (view_in world) g) (map (value_in values) (rest_of node.children)))) (f ∷ rest) (subst (FramesStand world state.memory) frames_are steady.stacked),
+        frames_stacked world state.memory (state.memory ++ objects_entered world g (map (value_in values) (rest_of node.children)))
+            (more_extends world state.memory (objects_entered world g (map (value_in values) (rest_of node.children)))) (f ∷ rest) (subst (FramesStand world state.memory) frames_are steady.stacked),
       );
     })
   where
@@ -217,9 +245,11 @@ calls_steady world state f rest n node g values items target characters made run
     storage = ap (λ (x : Entity). x.storage) (some_one (sym inv.there ∙ own.1)) ∙ own.2
 
     list_is : called_list (trees_of world) inv.entity ≡ parameter_types (called_type (key_type (trees_of world) (EntityKey g)))
-    list_is =
-        list_same (called_type (type_of world.program.types inv.entity.ty.0))
-        ∙ sym (ap (λ (o : Option Entity). parameter_types (called_type (type_or_void world.program.types (option_map (λ (x : Entity). x.ty) o)))) inv.there)
+    list_is = list_same (called_type (type_of world.program.types inv.entity.ty.0)) ∙ ap (λ (t : Ctype). parameter_types (called_type t)) (sym (entity_type world g inv.entity inv.there))
 
-    types : HaveTypes world (parameters_of (trees_of world) (view_in world) g) (parameter_types (called_type (key_type (trees_of world) (EntityKey g))))
-    types = subst (HaveTypes world (parameters_of (trees_of world) (view_in world) g)) list_is (parameters_met world runs g (called_list (trees_of world) inv.entity) inv.types)
+    met : IsMet world g
+    met = record {
+      typed = subst (HaveTypes world (parameters_of (trees_of world) (view_in world) g)) list_is (parameters_met world runs g (called_list (trees_of world) inv.entity) inv.types);
+      count = types_count (trees_of world) (parameters_of (trees_of world) (view_in world) g) (called_list (trees_of world) inv.entity) inv.types ∙ ap count_of list_is;
+      further = λ is. runs.further g inv.entity inv.there storage (ap takes_further (sym (entity_type world g inv.entity inv.there)) ∙ is);
+    }

@@ -5,7 +5,7 @@ use Rattle.std.specs.List.{list_all, filter_map, cons_option, enumerate_from}
 use Rattle.std.proofs.lemmas.Bool.{false≢true}
 use Rattle.std.proofs.lemmas.List.Elements.{All-head, All-tail}
 use Rattle.c_types.specs.declared.key.ObjectKey.{ObjectKey}
-use Rattle.c_types.specs.declared.key.ObjectKey.TheVariants.{Entity as EntityKey}
+use Rattle.c_types.specs.declared.key.ObjectKey.TheVariants.{Entity as EntityKey, Varargs as VarargsKey}
 use Rattle.c_types.specs.declared.term.Term.{Term}
 use Rattle.c_types.specs.declared.term.TypeId.{TypeId}
 use Rattle.c_types.specs.declared.term.Term.TheVariants.{Union}
@@ -35,6 +35,7 @@ use Rattle.obj_space.specs.Spots.{type_made}
 use Rattle.obj_space.specs.View.{first_from}
 use Rattle.row_numbers.specs.Functions.{type_or_void}
 use Rattle.row_numbers.specs.Objects.{is_open}
+use Rattle.row_numbers.specs.Setting.{takes_further}
 use Rattle.normal_form.specs.Assignments.{given_type}
 use Rattle.ref_blocks.specs.declared.block.Block.{Block}
 use Rattle.ref_blocks.specs.declared.block.Block.TheVariants.{Own, Part}
@@ -63,8 +64,9 @@ use Rattle.covered_steps.specs.Made.{HasPlace}
 use Rattle.covered_steps.specs.Owned.{AreTops, AreSingle}
 use Rattle.covered_steps.proofs.Placed.{entities_placed}
 use Rattle.covered_steps.proofs.Owned.{owner_is}
-use Rattle.covered_statements.specs.Runnable.{ReturnsFit, ResultsHeld, ObjectsOwn, BodiesBlocks}
+use Rattle.covered_statements.specs.Runnable.{ReturnsFit, ResultsHeld, ObjectsOwn, FurtherPlaced, BodiesBlocks}
 use Rattle.covered_statements.specs.Founded.{AutomaticObjects, RunnableMet}
+use Rattle.covered_statements.proofs.Further.{further_placed}
 
 some_one : {X : Type 0} → {x y : X} → ◌≡◌ {A = Option X} (Some x) (Some y) → x ≡ y
 some_one h = cc
@@ -339,6 +341,19 @@ module _ (p : Program) (more : List Term) (world : World) (valid : ValidProgram 
             ((contents_known p l x made at_p).1 own.0.ty (ap type_made own.2 ∙ made_typed own.0.storage own.0.ty object)),
       )
 
+  further_met : FurtherPlaced world
+  further_met f function at storage further =
+      let own = entity_of_p f function at in
+      let type = type_kept function.ty.0 (entities_known p more valid made named fit follow f function own) in
+      let h = further_placed p f function made own storage (ap takes_further (sym type) ∙ further) in
+      record {
+        first = h.first;
+        location = h.location;
+        first_is = subst (λ (ls : List Location). first_from 0 ls (VarargsKey f) ≡ Some h.first) (sym over.space) h.first_is;
+        location_is = subst (λ (ls : List Location). slice_get ls h.first ≡ Some h.location) (sym over.space) h.location_is;
+        content_is = h.content_is;
+      }
+
   blocks_met : BodiesBlocks world
   blocks_met f function at b storage body =
       subst (λ (ns : List Node). IsBlockIn (slice_get ns b)) (sym nodes_are)
@@ -356,6 +371,7 @@ runnable_met p more world valid made named fit follow over grounds closed found 
   results = results_met p more world valid made named fit follow over objects_only;
   places = places_met p more world valid made named fit follow over objects_only;
   objects = objects_met p more world valid made named fit follow over objects_only;
+  further = further_met p more world valid made named fit follow over objects_only;
   blocks = blocks_met p more world valid made named fit follow over objects_only;
   fit = subst (λ (q : Program). (tag : ℕ) → ((i : ℕ) → slice_get q.types.terms i ≡ Some (Union tag) → ⊥) → IsFew q.types (StructureOf tag)) (sym over.program)
       (structures_few (with_terms p.types more) (kept p more valid made named fit follow).made (kept p more valid made named fit follow).named

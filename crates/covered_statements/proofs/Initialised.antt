@@ -31,7 +31,7 @@ use Rattle.ref_cells.specs.Cells.{CellList}
 use Rattle.ref_cells.specs.Places.{is_out, walk}
 use Rattle.ref_cells.specs.Wholes.{whole_of}
 use Rattle.ref_mem.specs.declared.writes.Initial.{Initial}
-use Rattle.ref_mem.specs.Writes.{width_along, put_all, changed, kept_parts, initialised}
+use Rattle.ref_mem.specs.Writes.{width_along, changed, kept_parts, initialised}
 use Rattle.ref_elements.specs.Outcomes.{pointers_in}
 use Rattle.ref_state.specs.declared.frames.Frame.{Frame}
 use Rattle.ref_state.specs.Items.{replaced}
@@ -49,8 +49,8 @@ use Rattle.covering_laws.proofs.covered_memory.Cells.{each_change}
 use Rattle.covering_laws.proofs.covered_memory.Puts.{part_along}
 use Rattle.covering_laws.proofs.covered_memory.Stays.{same_memory}
 use Rattle.covering_laws.proofs.covered_memory.Walks.{Walked, walk_part}
-use Rattle.covering_laws.proofs.covered_memory.Access.{Target, cell_written, kept_in, with_cells}
-use Rattle.covering_laws.proofs.covered_memory.Changes.{PartsIn, puts_in, change_law}
+use Rattle.covering_laws.proofs.covered_memory.Access.{Target, cell_written, kept_in}
+use Rattle.covering_laws.proofs.covered_memory.Changes.{PartsIn, parts_own, change_law}
 use Rattle.covering_laws.specs.covered_library.Calls.{StoresIn}
 use Rattle.covering_laws.proofs.covered_library.Stores.{own_stored}
 use Rattle.covering_laws.specs.covered_rows.Nodes.{IsNode, HeldIn}
@@ -205,18 +205,23 @@ module _ (world : World) (runs : IsRunnable world) (memory : List Instance) (n :
     pub initialised_in : (clear : Bool) → GoesOn g a (initialised table clear (parts (trees_of world) paths node.children values) a) × InstanceIn g memory (initialised table clear (parts (trees_of world) paths node.children values) a)
     initialised_in true = (
       record { key = refl; in_tree = λ p x. x; whole = λ t x. x },
-      with_cells g world.system runs.stands.grounds memory (record a { zero = true; cells = [] }) cleared_in (put_all table true (whole_of table a) (kept_parts table (whole_of table a) (parts (trees_of world) paths node.children values)) [])
-          (puts_in g world.system runs.stands.grounds memory (object_row inside.location.content inside.first) (whole_part (whole_of table a)) true (whole_of table a)
-          (kept_parts table (whole_of table a) (parts (trees_of world) paths node.children values)) [] own_parts tt),
+      parts_own g world.system runs.stands.grounds memory (record a { zero = true; cells = [] }) cleared_in (kept_parts table (whole_of table a) (parts (trees_of world) paths node.children values)) own_parts,
     )
       where
         cleared_in : InstanceIn g memory (record a { zero = true; cells = [] })
-        cleared_in = record { first = inside.first; location = inside.location; first_is = inside.first_is; location_is = inside.location_is; shape = inside.shape; untyped = inside.untyped; cells = tt }
+        cleared_in = record {
+          first = inside.first;
+          location = inside.location;
+          first_is = inside.first_is;
+          location_is = inside.location_is;
+          shape = inside.shape;
+          untyped = inside.untyped;
+          further = inside.further;
+          cells = tt;
+        }
     initialised_in false = (
       record { key = refl; in_tree = λ p x. x; whole = λ t x. x },
-      with_cells g world.system runs.stands.grounds memory a inside (put_all table a.zero (whole_of table a) (kept_parts table (whole_of table a) (parts (trees_of world) paths node.children values)) a.cells)
-          (puts_in g world.system runs.stands.grounds memory (object_row inside.location.content inside.first) (whole_part (whole_of table a)) a.zero (whole_of table a)
-          (kept_parts table (whole_of table a) (parts (trees_of world) paths node.children values)) a.cells own_parts inside.cells),
+      parts_own g world.system runs.stands.grounds memory a inside (kept_parts table (whole_of table a) (parts (trees_of world) paths node.children values)) own_parts,
     )
 
   same_type : (clear : Bool) (list : List Initial) (a : Instance) → (initialised table clear list a).ty ≡ None → a.ty ≡ None

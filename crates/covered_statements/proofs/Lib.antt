@@ -8,6 +8,7 @@ pub mod Statements
 pub mod Initialised
 pub mod Nodes
 pub mod Leaving
+pub mod Further
 pub mod Founded
 pub mod Keys
 pub mod Calling

@@ -22,6 +22,7 @@ use Rattle.ref_state.specs.Values.{cell_of, value_in, cell_in}
 use Rattle.ref_values.specs.Values.{is_true, computed}
 use Rattle.ref_blocks.specs.declared.block.Block.TheVariants.{Part}
 use Rattle.ref_blocks.specs.Ways.{kind_in, kind_at, children_in, children_at}
+use Rattle.ref_frames.specs.OnTop.{only}
 use Rattle.ref_statements.specs.declared.forms.Form.{Form}
 use Rattle.ref_statements.specs.Forms.{form_of, goto_name, branches, part_before}
 use Rattle.ref_statements.specs.Rows.{Next, Move, goes_on, changes, computes}
@@ -342,6 +343,21 @@ module _ (world : World) (runs : IsRunnable world) (state : State) (f : Frame) (
                 (end_here (λ convert. choose_convert (sym kind ∙ convert))).bare;
             stacked = (settled_stacked (Wait n [] values) items_are end_stands v, frames_stand.1, frames_stand.2);
           })
+
+      -- an effect of another step gives its value to the item below
+      pub settles_steady : (e : Effected) → IsComputed world state.memory n e → (node.kind ≡ Convert → ⊥)
+          → Steady world (record state { memory = e.memory; frames = record f { items = settled n e.outcome.value f.items } ∷ rest; notes = only e.outcome.stores })
+      settles_steady e done other = record {
+        covered = steps_moved world state f rest e.memory f.instances (settled n e.outcome.value f.items) (record { target = None; stores = e.outcome.stores }) steady.covered frames_are done.leaves
+            (settled_in world e.memory f.function n e.outcome.value f.items done.value
+            (items_stay world state.memory e.memory done.leaves.extends f.function f.items (own_frames world state f rest steady.covered frames_are).0.items))
+            (record { target = tt; stores = done.stores }) (back_bare world state.memory e.memory done.leaves done.before (end_here other).bare);
+        stacked = (
+          stacked_stays world state.memory e.memory done.leaves.extends (settled n e.outcome.value f.items) (settled_stacked (Wait n [] values) items_are end_stands e.outcome.value),
+          frames_stand.1,
+          frames_stacked world state.memory e.memory done.leaves.extends rest frames_stand.2,
+        );
+      }
 
       finish_so : (form : Form) (next : Next) → form_of node.kind ≡ form → finish_row (trees_of world) state.memory f n node form values word ≡ Ok next → Steady world (placed state rest next)
       finish_so Form.Value next is e = computed_steady (Wait n [] values) items_are end_stands values next (inr refl) e

@@ -9,7 +9,7 @@ use Rattle.c_types.specs.Trees.{Ctype, PointerTo, FunctionFrom, Ctypes, NoTypes,
 use Rattle.c_types.specs.Table.{type_of}
 use Rattle.core_tree.specs.declared.node.Node.{Node}
 use Rattle.core_tree.specs.declared.node.NodeKind.{NodeKind}
-use Rattle.core_tree.specs.declared.node.NodeKind.TheVariants.{Named, Text, Literal, FunctionName, Deref, Member, Number, NullValue, Fetch, AddressOf, Decay, PointerAdd, Convert, Upcast, Assign, Update, Choose, Sequence, CallNode, MemberOfValue, Arith, Expression, Block, If, While, DoWhile, For, Switch, Case, Default, Label, Goto, Break, Continue, Return, Initialise, Skip}
+use Rattle.core_tree.specs.declared.node.NodeKind.TheVariants.{Named, Text, Literal, FunctionName, Deref, Member, Number, NullValue, Fetch, AddressOf, Decay, PointerAdd, Convert, Upcast, Assign, Update, Choose, Sequence, CallNode, MemberOfValue, VarArgs, NextArg, Arith, Expression, Block, If, While, DoWhile, For, Switch, Case, Default, Label, Goto, Break, Continue, Return, Initialise, Skip}
 use Rattle.core_tree.specs.Rows.{Has, RowOf, IsFurther, Arguments, Calls, InitialValues, InitialisesEntity, InitialisesIn, Initialises}
 use Rattle.core_tree.specs.Typed.{CoreTrees, NoNode, PlaceNode, ValueNode, StatementNode, sort_of, sort_in, sort_at, type_at}
 use Rattle.core_tree.specs.Valid.{InRows}
@@ -172,6 +172,10 @@ module _ (u : CoreTrees) where
   children_each (Arith op) t (a ∷ []) row other = (value_child a row.0, tt)
   children_each (Arith op) t (a ∷ b ∷ []) row other = (value_child a row.0, (value_child b row.1, tt))
   children_each (Arith op) t cs row other = absurd row
+  children_each (VarArgs e) t [] row other = tt
+  children_each (VarArgs e) t (c ∷ cs) row other = absurd row
+  children_each NextArg t (p ∷ []) row other = (place_child p row.0.0, tt)
+  children_each NextArg t cs row other = absurd row
   children_each (Initialise e paths) t cs row other = initial_each _ paths cs row
   children_each kind t cs row other = absurd (false≢true (sym other))
 

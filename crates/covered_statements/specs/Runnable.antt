@@ -1,5 +1,5 @@
 -- What steps stand on in a program, and what they keep.
-use Rattle.std.specs.Prelude.{◌≡◌, ℕ, IsSome, [], ◌∷◌, Some, slice_get}
+use Rattle.std.specs.Prelude.{◌≡◌, ℕ, true, IsSome, [], ◌∷◌, Some, slice_get}
 use Rattle.c_types.specs.declared.key.ObjectKey.TheVariants.{Entity as EntityKey}
 use Rattle.c_types.specs.Trees.{StructureOf}
 use Rattle.c_types.specs.declared.term.Term.TheVariants.{Union}
@@ -15,6 +15,7 @@ use Rattle.obj_made.specs.Made.{entity_content}
 use Rattle.obj_space.specs.declared.location.Location.{Location}
 use Rattle.obj_space.specs.View.{first_from}
 use Rattle.row_numbers.specs.Objects.{entity_key}
+use Rattle.row_numbers.specs.Setting.{takes_further}
 use Rattle.normal_form.specs.Assignments.{given_type}
 use Rattle.ref_state.specs.declared.state.State.{State}
 use Rattle.ref_blocks.specs.declared.block.Block.{Block}
@@ -27,6 +28,7 @@ use Rattle.covered_values.specs.Values.{Stands}
 use Rattle.covered_values.specs.Passed.{AreTypedAbove}
 use Rattle.covered_steps.specs.Made.{HasPlace}
 use Rattle.covered_steps.specs.Owned.{AreTops, AreSingle}
+use Rattle.covered_calls.specs.Activations.{HasFurther}
 use Rattle.covered_statements.specs.Stacked.{FramesStand}
 
 -- what a function returns is of its result type
@@ -55,6 +57,12 @@ ObjectsOwn world =
     × ((entity.storage ≡ FunctionBody → ⊥)
     → IsSome (extent_in world.program.types (type_of world.program.types entity.ty.0)))
 
+-- a variadic function with a body has an object of what it is passed past its parameters
+abbrev pub FurtherPlaced : World → Type 0
+FurtherPlaced world =
+    EachEntity (trees_of world) (λ f function. function.storage ≡ FunctionBody
+    → takes_further (type_of world.program.types function.ty.0) ≡ true → HasFurther world f)
+
 -- a function's body is a block
 abbrev pub BodiesBlocks : World → Type 0
 BodiesBlocks world =
@@ -73,6 +81,7 @@ pub record IsRunnable (world : World) : Type 0 where
   pub results : ResultsHeld world
   pub places : (b : Block) → Each (HasPlace world) (objects_of (trees_of world) b)
   pub objects : ObjectsOwn world
+  pub further : FurtherPlaced world
   pub blocks : BodiesBlocks world
   pub fit : (tag : ℕ)
       → ((i : ℕ) → slice_get world.program.types.terms i ≡ Some (Union tag) → ⊥)

@@ -76,7 +76,7 @@ steps_entered world state f rest top items fresh frame notes covered frames_are 
     bare : NoneBare world (state.memory ++ fresh)
     bare i inst at b = elim (get_either state.memory fresh i inst at) [
       | inl before ↦ none_bare world state f rest covered frames_are top items items_are other i inst before b
-      | inr new ↦ each_at (λ x. x.ty ≡ None → ⊥) fresh new.0 inst new.1 typed b.untyped
+      | inr new ↦ each_at (λ x. IsBare world x → ⊥) fresh new.0 inst new.1 typed b
     ]
 
 -- ended instances go back to what they were

@@ -13,9 +13,9 @@ use Rattle.ref_cells.specs.Wholes.{typed_whole, whole_of}
 use Rattle.ref_state.specs.Changes.{ended_one, ended_all}
 use Rattle.ref_blocks.specs.Blocks.{id_in, unset_object}
 use Rattle.ref_frames.specs.Frames.{parameter_object}
-use Rattle.covering_laws.specs.covered_memory.Spots.{whole_part}
+use Rattle.covering_laws.specs.covered_memory.Spots.{whole_part, IsFurther}
 use Rattle.covering_laws.specs.covered_memory.Covered.{Sets, CellsIn, object_row, HasShape, InstanceIn, MemoryIn, Leaves}
-use Rattle.covering_laws.proofs.covered_memory.Stays.{same_memory, then_extends, instance_stays, one_more}
+use Rattle.covering_laws.proofs.covered_memory.Stays.{same_memory, then_extends, instance_stays, cells_in, one_more}
 use Rattle.covering_laws.proofs.covered_memory.Changes.{end_law}
 use Rattle.covering_laws.specs.covered_state.World.{World, trees_of, sets_of}
 use Rattle.covering_laws.specs.covered_state.Items.{Each}
@@ -53,6 +53,9 @@ module _ (world : World) (memory : List Instance) (e : ℕ) (h : HasPlace world 
       keyed : typed_whole world.program.types inst (Some h.entity.ty) ≡ Some (type_of world.program.types h.entity.ty.0)
       keyed = ap (λ (k : ObjectKey). typed_whole world.program.types (record inst { key = k }) (Some h.entity.ty)) key
 
+  plain : IsFurther inst.key → ⊥
+  plain f = subst IsFurther key f
+
   object_in : InstanceIn (sets_of world) memory inst
   object_in = record {
     first = h.first;
@@ -61,8 +64,10 @@ module _ (world : World) (memory : List Instance) (e : ℕ) (h : HasPlace world 
     location_is = h.location_is;
     shape = subst (λ (c : Content). HasShape world.program.types c (whole_of world.program.types inst)) (sym h.content_is) (whole_is, h.complete);
     untyped = λ none. absurd (some_none (sym ty ∙ none));
-    cells = subst (λ (c : Content). CellsIn (sets_of world) memory (object_row c h.first) (whole_part (whole_of world.program.types inst)) inst.cells) (sym h.content_is)
-        (subst (λ (o : Option Ctype). CellsIn (sets_of world) memory (λ i. h.first + i) (whole_part o) inst.cells) (sym whole_is) cells);
+    further = λ f. absurd (plain f);
+    cells = cells_in (sets_of world) memory inst h.location.content h.first (λ f. absurd (plain f)) inst.cells
+        (subst (λ (c : Content). CellsIn (sets_of world) memory (object_row c h.first) (whole_part (whole_of world.program.types inst)) inst.cells) (sym h.content_is)
+        (subst (λ (o : Option Ctype). CellsIn (sets_of world) memory (λ i. h.first + i) (whole_part o) inst.cells) (sym whole_is) cells));
   }
 
 pub unset_covered : UnsetCovered

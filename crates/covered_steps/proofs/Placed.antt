@@ -13,7 +13,7 @@ use Rattle.core_tree.specs.declared.node.Storage.{Storage}
 use Rattle.core_tree.specs.declared.node.Storage.TheVariants.{Static, Automatic, FunctionBody, Parameter, Declared}
 use Rattle.obj_made.specs.declared.object.Content.TheVariants.{Typed}
 use Rattle.obj_made.specs.declared.object.Object.{Object}
-use Rattle.obj_made.specs.Made.{Made, spot_at, in_order, made_at, entity_content, object_unless_declared, entity_object, entity_made, entities_made, node_object, node_made, nodes_made, made_in_order}
+use Rattle.obj_made.specs.Made.{Made, spot_at, in_order, made_at, entity_content, object_unless_declared, entity_object, entity_made, entities_made, node_object, node_made, nodes_made, varargs_object, varargs_spot, varargs_made, made_of_names, made_in_order}
 use Rattle.obj_made.specs.Spelling.{entity_name}
 use Rattle.obj_made.specs.Uses.{is_literal}
 use Rattle.obj_made.proofs.Ordered.{in_order-append}
@@ -58,10 +58,18 @@ module _ (p : Program) (e : ℕ) (own : Object) where
       subst (HasAt e own) (sym (in_order-append done (node_made p k x) (nodes_made p (k + 1) rest)))
       (nodes_after lt (in_order done (node_made p k x)) (k + 1) rest (keep_at e own (spot_at x.place (length p.entities.items + k)) (node_object p k x) done (λ same. omega arith) h))
 
+  -- nor does what functions are passed past their parameters take its place
+  further_after : e < length p.entities.items → (done : Made) (k : ℕ) (xs : List Entity) → HasAt e own done → HasAt e own (in_order done (varargs_made p k xs))
+  further_after lt done k [] h = h
+  further_after lt done k (x ∷ rest) h =
+      subst (HasAt e own) (sym (in_order-append done (made_at (varargs_spot p k x) (varargs_object p k x)) (varargs_made p (k + 1) rest)))
+      (further_after lt (in_order done (made_at (varargs_spot p k x) (varargs_object p k x))) (k + 1) rest (keep_at e own (varargs_spot p k x) (varargs_object p k x) done (λ same. omega arith) h))
+
   among : (x : Entity) → slice_get p.entities.items e ≡ Some x → entity_object p e x ≡ Some own → HasAt e own (made_in_order p)
   among x at object =
-      nodes_after (slice_get_within p.entities.items e x at) (in_order [] (entities_made p 0 p.entities.items)) 0 p.nodes.items
-      (entities_at [] 0 p.entities.items e x at (omega arith) object)
+      let lt = slice_get_within p.entities.items e x at in
+      further_after lt (made_of_names p) 0 p.entities.items
+      (nodes_after lt (in_order [] (entities_made p 0 p.entities.items)) 0 p.nodes.items (entities_at [] 0 p.entities.items e x at (omega arith) object))
 
 -- what isn't only declared is an object
 object_is : (s : Storage) (o : Object) → (s ≡ Declared → ⊥) → object_unless_declared s o ≡ Some o

@@ -1,5 +1,5 @@
 -- Steps that enter and leave functions and blocks leave the state covered.
-use Rattle.std.specs.Prelude.{◌≡◌, ◌⊎◌, ℕ, List, [], ◌∷◌, ◌++◌, None, Some, slice_get}
+use Rattle.std.specs.Prelude.{◌≡◌, ◌⊎◌, ℕ, List, [], ◌∷◌, ◌++◌, Some, slice_get}
 use Rattle.core_tree.specs.declared.node.Node.{Node}
 use Rattle.core_tree.specs.declared.node.NodeKind.TheVariants.{Convert}
 use Rattle.ref_cells.specs.declared.cells.Value.{Value}
@@ -17,6 +17,7 @@ use Rattle.covering_laws.specs.covered_memory.Covered.{InstanceIn, MemoryIn, Lea
 use Rattle.covering_laws.specs.covered_memory.Demands.{Grounds}
 use Rattle.covering_laws.specs.covered_state.World.{World, trees_of, sets_of}
 use Rattle.covering_laws.specs.covered_state.Items.{Each, NodeIn}
+use Rattle.covering_laws.specs.covered_state.Awaited.{IsBare}
 use Rattle.covering_laws.specs.covered_state.State.{FrameIn, NotesIn, Covered}
 use Rattle.covered_steps.specs.Made.{HasPlace}
 use Rattle.covered_steps.specs.Steps.{nothing}
@@ -45,7 +46,7 @@ IsOther world top =
     → node.kind ≡ Convert
     → ⊥
 
--- a function's frame comes on top, with the instances of its parameters behind the memory
+-- a function's frame comes on top, with its instances behind the memory, none of which waits for its type
 abbrev pub StepsEntered : Type 0
 StepsEntered =
     (world : World) (state : State) (f : Frame) (rest : List Frame) (top : Item) (items : List Item)
@@ -55,7 +56,7 @@ StepsEntered =
     → f.items ≡ top ∷ items
     → IsOther world top
     → Each (InstanceIn (sets_of world) state.memory) fresh
-    → Each (λ inst. inst.ty ≡ None → ⊥) fresh
+    → Each (λ inst. IsBare world inst → ⊥) fresh
     → FrameIn world (state.memory ++ fresh) frame
     → NotesIn world (state.memory ++ fresh) notes
     → Covered world

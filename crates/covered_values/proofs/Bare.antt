@@ -1,5 +1,5 @@
 -- Once a node has computed, each object that a conversion types has its type.
-use Rattle.std.proofs.Common.{◌≡◌, ◌∙◌, inl, inr, ◌⊎◌, ℕ, zero, suc, Bool, true, false, cond, is_some, ◌&&◌, List, [], ◌∷◌, Option, Some, None, IsSome, Result, Ok, Err, set, slice_get, refl, sym, ap, subst}
+use Rattle.std.proofs.Common.{◌≡◌, ◌∙◌, inl, inr, ◌⊎◌, ℕ, zero, suc, Bool, true, false, cond, is_some, not, ◌&&◌, ◌||◌, List, [], ◌∷◌, Option, Some, None, IsSome, Result, Ok, Err, set, slice_get, refl, sym, ap, subst}
 use Rattle.c_types.specs.declared.key.ObjectKey.TheVariants.{Call as CallKey}
 use Rattle.c_types.specs.declared.term.PathStep.TheVariants.{Index}
 use Rattle.c_types.specs.declared.term.Term.{Term}
@@ -23,7 +23,7 @@ use Rattle.ref_cells.specs.declared.cells.Cell.{Cell}
 use Rattle.ref_cells.specs.declared.cells.Cell.TheVariants.{Pointer}
 use Rattle.ref_cells.specs.declared.cells.Value.{Value}
 use Rattle.ref_cells.specs.declared.instance.Instance.{Instance}
-use Rattle.ref_cells.specs.Wholes.{whole_of}
+use Rattle.ref_cells.specs.Wholes.{is_allocated, whole_of}
 use Rattle.ref_mem.specs.Reads.{one_cell}
 use Rattle.ref_elements.specs.Outcomes.{Effect, Effected, gives}
 use Rattle.ref_state.specs.declared.items.Item.{Item}
@@ -65,7 +65,7 @@ pointed_term None id e = absurd (none_some e)
 pointed_term (Some (PointerTerm to)) id e = ap (λ (x : TypeId). Some (PointerTerm x)) (some_one e)
 pointed_term (Some t) id e = absurd (none_some e)
 
-module _ (table : Table) (named : AreNamed table) (memory : List Instance) (i : ℕ) (a : Instance) (at : slice_get memory i ≡ Some a) (bare : a.ty ≡ None) (ty id : TypeId) (points : pointee (slice_get table.terms ty.0) ≡ Some id)
+module _ (table : Table) (named : AreNamed table) (memory : List Instance) (i : ℕ) (a : Instance) (at : slice_get memory i ≡ Some a) (bare : a.ty ≡ None) (heap : is_allocated a.key ≡ true) (ty id : TypeId) (points : pointee (slice_get table.terms ty.0) ≡ Some id)
     (complete : IsSome (extent_in table (type_of table id.0))) (word : ℕ) (e : Effected) where
   abbrev place : Cell
   place = Pointer i (Index 0 ∷ []) false
@@ -77,7 +77,9 @@ module _ (table : Table) (named : AreNamed table) (memory : List Instance) (i : 
   typed_is =
       ap (λ (o : Option TypeId). type_given memory i (complete_only table o) (slice_get memory i)) points
       ∙ (ap (λ (b : Bool). type_given memory i (cond b (Some id) None) (slice_get memory i)) complete
-      ∙ (ap (type_given memory i (Some id)) at ∙ ap (λ (o : Option TypeId). cond (is_some o) memory (set memory i (record a { ty = Some id }))) bare))
+      ∙ (ap (type_given memory i (Some id)) at
+      ∙ (ap (λ (o : Option TypeId). cond (is_some o || not (is_allocated a.key)) memory (set memory i (record a { ty = Some id }))) bare
+      ∙ ap (λ (b : Bool). cond (not b) memory (set memory i (record a { ty = Some id }))) heap)))
 
   after_is : e.memory ≡ typed_by table memory (Pointer i (Index 0 ∷ []) false) ty → (inst : Instance) → slice_get e.memory i ≡ Some inst → inst.ty ≡ None → ⊥
   after_is same inst now none =
@@ -178,4 +180,4 @@ nothing_bare world state f rest own n node values top items word e stands typed 
         let points = typed bare.first bare.location w.call bare.id n node bare.location_is named bare.content_is there kind children in
         let run = converted_so world state.memory own n node w.call (Pointer i (Index 0 ∷ []) false) word e kind children
         (subst (λ (vs : List (ℕ × Value)). computed (trees_of world) state.memory own n node vs word ≡ Ok e) (wait_values same) is) in
-        never_bare world.program.types stands.grounds.named state.memory i a.0 a.1 (a.2 bare.untyped) node.ty bare.id points complete word e (type_at (trees_of world) w.call) run inst at bare.untyped
+        never_bare world.program.types stands.grounds.named state.memory i a.0 a.1 (a.2 bare.untyped) (ap is_allocated w.key) node.ty bare.id points complete word e (type_at (trees_of world) w.call) run inst at bare.untyped

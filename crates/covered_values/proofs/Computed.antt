@@ -2,14 +2,14 @@
 use Rattle.std.proofs.Common.{◌≡◌, ◌∙◌, inl, inr, ◌⊎◌, ℕ, ℤ, Bool, true, false, cond, ◌&&◌, List, [], ◌∷◌, Option, Some, Result, Ok, Err, slice_get, refl, sym, ap, subst}
 use Rattle.std.proofs.lemmas.List.Elements.{Contains-append_left}
 use Rattle.c_types.specs.declared.key.ObjectKey.TheVariants.{Entity as EntityKey, Text as TextKey}
-use Rattle.c_types.specs.Trees.{Ctype, PointerTo, StructureOf}
+use Rattle.c_types.specs.Trees.{Ctype, VaListType, PointerTo, StructureOf}
 use Rattle.c_types.specs.Table.{Table, type_of}
-use Rattle.type_rules.specs.Kinds.{IsInteger, IsPointer}
+use Rattle.type_rules.specs.Kinds.{IsInteger, IsPointer, IsList}
 use Rattle.type_rules.specs.Sizes.{PointsToObject}
 use Rattle.core_tree.specs.declared.node.Node.{Node}
 use Rattle.core_tree.specs.declared.node.Op.{Op}
 use Rattle.core_tree.specs.declared.node.NodeKind.{NodeKind}
-use Rattle.core_tree.specs.declared.node.NodeKind.TheVariants.{Named, Text, Literal, FunctionName, Deref, Member, Number, NullValue, Fetch, AddressOf, Decay, PointerAdd, Convert, Upcast, Assign, Update, Sequence, MemberOfValue, Arith}
+use Rattle.core_tree.specs.declared.node.NodeKind.TheVariants.{Named, Text, Literal, FunctionName, Deref, Member, Number, NullValue, Fetch, AddressOf, Decay, PointerAdd, Convert, Upcast, Assign, Update, Sequence, MemberOfValue, VarArgs, Arith}
 use Rattle.core_tree.specs.declared.node.Program.{Program}
 use Rattle.core_tree.specs.Rows.{RowOf, Updates, place_bits}
 use Rattle.core_tree.specs.Typed.{CoreTrees, NoNode, PlaceNode, ValueNode, sort_of, sort_at, type_in, type_at}
@@ -31,11 +31,12 @@ use Rattle.ref_mem.specs.Reads.{read, one_cell}
 use Rattle.ref_mem.specs.Writes.{write}
 use Rattle.ref_elements.specs.Outcomes.{Effect, Effected, gives, stores_and_gives}
 use Rattle.ref_state.specs.Values.{cell_of, value_in, cell_in}
-use Rattle.ref_places.specs.Places.{named_row, decay_row, upcast_row}
+use Rattle.ref_places.specs.Places.{named_row, varargs_row, decay_row, upcast_row}
 use Rattle.ref_values.specs.Memory.{stores_at, is_minus, pointer_moved, cell_updated, update_row}
 use Rattle.ref_values.specs.Values.{cell_given, number_given, one_row, two_row, lacks, uses_all, gives_cell, cell_computed, one_computed, two_computed, value_computed, one_of, computed_by, computed}
 use Rattle.normal_form.specs.Assignments.{row_in, copies, stores}
 use Rattle.covering_laws.specs.covered_types.Whole.{IsHeld, HasValue}
+use Rattle.covering_laws.specs.covered_memory.Spots.{IsFurther}
 use Rattle.covering_laws.specs.covered_memory.Covered.{Sets, CellIn, MemoryIn, Leaves}
 use Rattle.covering_laws.proofs.covered_memory.Stays.{value_stays}
 use Rattle.covering_laws.specs.covered_library.Calls.{StoresIn}
@@ -43,11 +44,12 @@ use Rattle.covering_laws.specs.covered_rows.Nodes.{IsNode, node_row, PlaceIn, He
 use Rattle.covering_laws.proofs.covered_rows.Demanded.{by_value, stores_say}
 use Rattle.covering_laws.proofs.covered_rows.Values.{of_held, fetch_in, assign_in, sequence_in, update_in}
 use Rattle.covering_laws.proofs.covered_rows.Places.{held_cell, cell_held, named_in, literal_in, text_in, function_in, deref_in, address_in, add_in}
+use Rattle.covering_laws.proofs.covered_rows.Nexts.{varargs_in}
 use Rattle.covering_laws.specs.covered_state.World.{World, trees_of, sets_of, setting_in}
 use Rattle.covering_laws.specs.covered_state.Items.{Each, NodeIn}
 use Rattle.covered_values.specs.Values.{Stands, IsFound, MayType, GoesBack, IsComputed, ValuesCovered}
 use Rattle.covered_values.proofs.Operands.{ok_one, err_ok, went, place_held, value_held, value_held_by, place_node, value_node, given_so, cell_so}
-use Rattle.covered_values.proofs.Places.{named_inv, entity_free, lasting_key, deref_inv, node_there, typed_one}
+use Rattle.covered_values.proofs.Places.{named_inv, varargs_inv, entity_free, entity_plain, lasting_key, deref_inv, node_there, typed_one}
 use Rattle.covered_values.proofs.Pointers.{pointer_in}
 use Rattle.covered_values.proofs.Fetched.{integer_out, read_one, write_back, written, integer_written, pointer_written}
 use Rattle.covered_values.proofs.Converts.{convert_node}
@@ -66,6 +68,10 @@ points_inv table t h = absurd h
 pointer_inv : (t : Ctype) → IsPointer t → (to : Ctype) × (t ≡ PointerTo to)
 pointer_inv (PointerTo to) h = (to, refl)
 pointer_inv t h = absurd h
+
+list_inv : (t : Ctype) → IsList t → t ≡ VaListType
+list_inv VaListType h = refl
+list_inv t h = absurd h
 
 -- a number that is put there is no pointer
 no_stores : (g : Sets) (after : List Instance) (place : Cell) (k : ℤ) → StoresIn g after (stores_at place (([], NumberCell k) ∷ []))
@@ -113,7 +119,8 @@ module _ (world : World) (stands : Stands world) (memory : List Instance) (all :
       at cell f =
           let inv = named_inv memory own (entity_key i (slice_get u.entities i)) cell f in
           let inside = all inv.i inv.there.inst inv.there.inst_is in
-          let typed = typed_one world stands memory all inv.there.inst inside (ap is_allocated inv.there.key_is ∙ entity_free i (slice_get u.entities i)) in
+          let typed = typed_one world stands memory all inv.there.inst inside (ap is_allocated inv.there.key_is ∙ entity_free i (slice_get u.entities i))
+          (λ f. entity_plain i (slice_get u.entities i) (subst IsFurther inv.there.key_is f)) in
           subst (PlaceIn g w memory n) inv.cell_is
           (named_in p world.space world.system world.is_system world.family stands.closed stands.grounds n i t children (is_node (Named i) k children c) memory inv.i inv.there.inst typed.0 inv.there.inst_is inside inv.there.key_is typed.1)
 
@@ -124,7 +131,7 @@ module _ (world : World) (stands : Stands world) (memory : List Instance) (all :
       at cell f =
           let inv = named_inv memory own (EntityKey i) cell f in
           let inside = all inv.i inv.there.inst inv.there.inst_is in
-          let typed = typed_one world stands memory all inv.there.inst inside (ap is_allocated inv.there.key_is) in
+          let typed = typed_one world stands memory all inv.there.inst inside (ap is_allocated inv.there.key_is) (λ f. subst IsFurther inv.there.key_is f) in
           subst (PlaceIn g w memory n) inv.cell_is
           (literal_in p world.space world.system world.is_system world.family stands.closed stands.grounds n i t children (is_node (Literal i) k children c) memory inv.i inv.there.inst typed.0 inv.there.inst_is inside
           (inv.there.key_is ∙ sym (lasting_key i (slice_get u.entities i) lit.0)) typed.1)
@@ -136,10 +143,22 @@ module _ (world : World) (stands : Stands world) (memory : List Instance) (all :
       at cell f =
           let inv = named_inv memory own (TextKey n) cell f in
           let inside = all inv.i inv.there.inst inv.there.inst_is in
-          let typed = typed_one world stands memory all inv.there.inst inside (ap is_allocated inv.there.key_is) in
+          let typed = typed_one world stands memory all inv.there.inst inside (ap is_allocated inv.there.key_is) (λ f. subst IsFurther inv.there.key_is f) in
           subst (PlaceIn g w memory n) inv.cell_is
           (text_in p world.space world.system world.is_system world.family stands.closed stands.grounds n bytes t children (is_node (Text bytes) k children c) memory inv.i inv.there.inst typed.0 inv.there.inst_is inside
           inv.there.key_is typed.1)
+
+  -- the list of what a function is passed past its parameters
+  varargs_so : (i : ℕ) → node.kind ≡ VarArgs i → (children : List ℕ) → node.children ≡ children → IsList (type_of p.types node.ty.0) → IsHeld p.types (type_of p.types node.ty.0)
+      → computed_by u memory own n node.ty (VarArgs i) children values word ≡ Ok e → IsComputed world memory n e
+  varargs_so i k children c list held x = cell_so world memory all n (varargs_row memory own i) e x (λ cell f. one_so (VarArgs i) k refl held cell (at cell f))
+    where
+      at : (cell : Cell) → varargs_row memory own i ≡ Ok cell → HeldIn g w memory n (one_cell cell)
+      at cell f =
+          let inv = varargs_inv memory own i cell f in
+          subst (λ (y : Cell). HeldIn g w memory n (one_cell y)) inv.2
+          (varargs_in p world.space world.system world.is_system world.family stands.closed stands.grounds n i t children (is_node (VarArgs i) k children c) (own_type ∙ list_inv t list) memory inv.0 inv.1.inst inv.1.inst_is
+          (all inv.0 inv.1.inst inv.1.inst_is) inv.1.key_is)
 
   function_so : (i : ℕ) → node.kind ≡ FunctionName i → (children : List ℕ) → node.children ≡ children → IsFound world (FunctionName i) → computed_by u memory own n node.ty (FunctionName i) children values word ≡ Ok e
       → IsComputed world memory n e
@@ -307,7 +326,7 @@ module _ (world : World) (stands : Stands world) (memory : List Instance) (all :
       let write_is : write p.types memory place (PointerTo to) (one_cell up.new) ≡ Ok up.after = subst (λ (s : Ctype). write p.types memory place s (one_cell up.new) ≡ Ok up.after) is up.after_is in
       let moved_is : pointer_moved p.types memory old (is_minus op) (cell_in values v) ≡ Ok up.new =
       subst (λ (s : Ctype). cell_updated p.types memory s op (place_bits u (slice_get u.nodes q)) old (type_at u v) (cell_in values v) ≡ Ok up.new) is up.new_is in
-      let one = read_one g world.system stands.grounds memory place to up.old read_is in
+      let one = read_one g world.system stands.grounds memory place (PointerTo to) tt up.old read_is in
       let ty : type_at u n ≡ PointerTo to = own_type ∙ is in
       let node_is : IsNode u n (Update op post) (PointerTo to) (q ∷ v ∷ []) = record { node = node; there = there; kind_is = k; type_is = is; children_are = c } in
       let before : HeldIn g w memory n (one_cell old) = subst (HeldIn g w memory n) one
@@ -316,7 +335,7 @@ module _ (world : World) (stands : Stands world) (memory : List Instance) (all :
       let behind : HeldIn g w memory n (one_cell up.new) =
       cell_held p world.space world.system world.is_system world.family stands.closed stands.grounds n to memory up.new ty
       (moves (Some (row_in w n)) (held_cell p world.space world.system world.is_system world.family stands.closed stands.grounds n to memory old ty before)) in
-      let left = pointer_written g world.system stands.grounds memory place to old up.new up.after (row_in w q) all at moves
+      let left = pointer_written g world.system stands.grounds memory place (PointerTo to) tt old up.new up.after (row_in w q) all at moves
       (subst (λ (v : Value). read p.types memory place (PointerTo to) ≡ Ok v) one read_is) write_is in
       let stay : (c : Cell) → HeldIn g w memory n (one_cell c) → HeldIn g w up.after n (one_cell c) = λ c h. value_stays g memory up.after left.0.extends (node_row w n) (type_at u n) (one_cell c) h in
       stored_so (Update op post) k refl held up.after (cond post (one_cell old) (one_cell up.new)) (stores_at place (([], up.new) ∷ [])) up.given left.0
@@ -378,6 +397,8 @@ module _ (world : World) (stands : Stands world) (memory : List Instance) (all :
   case_of may NullValue k [] c row v lit found x =
       cell_so world memory all n (Ok Null) e x (λ cell f. one_so NullValue k refl (v refl) cell (subst (λ (y : Cell). HeldIn g w memory n (one_cell y)) (ok_one f) (tt, tt)))
   case_of may NullValue k (a ∷ children) c row v lit found x = absurd row
+  case_of may (VarArgs i) k [] c row v lit found x = varargs_so i k [] c row.0 (v refl) x
+  case_of may (VarArgs i) k (a ∷ children) c row v lit found x = absurd row
   case_of may Fetch k (a ∷ []) c row v lit found x = fetch_so a k c row x
   case_of may Fetch k children c row v lit found x = absurd row
   case_of may AddressOf k (a ∷ []) c row v lit found x = address_so a k c row (v refl) x

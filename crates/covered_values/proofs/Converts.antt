@@ -1,5 +1,5 @@
 -- Conversions: a pointer stays in its rows, and an object without a type gets the one that it may have.
-use Rattle.std.proofs.Common.{◌≡◌, ◌∙◌, inl, inr, ℕ, pos, Bool, true, false, cond, List, [], ◌∷◌, Option, Some, None, IsSome, is_some, Ok, slice_get, refl, sym, ap, subst}
+use Rattle.std.proofs.Common.{◌≡◌, ◌∙◌, inl, inr, ℕ, pos, Bool, true, false, cond, not, ◌||◌, List, [], ◌∷◌, Option, Some, None, IsSome, IsTrue, is_some, Ok, slice_get, refl, sym, ap, subst}
 use Rattle.c_types.specs.declared.term.PathStep.{PathStep}
 use Rattle.c_types.specs.declared.term.TypeId.{TypeId}
 use Rattle.c_types.specs.Trees.{Ctype, VoidType, BoolType, IntegerType, FloatingType, VaListType, PointerTo, ArrayOf, FunctionFrom, StructureOf, UnionOf}
@@ -14,6 +14,7 @@ use Rattle.ref_cells.specs.declared.cells.Cell.{Cell}
 use Rattle.ref_cells.specs.declared.cells.Cell.TheVariants.{Unset, Number, Null, Pointer, Function}
 use Rattle.ref_cells.specs.declared.instance.Instance.{Instance}
 use Rattle.ref_cells.specs.Numbers.{converted}
+use Rattle.ref_cells.specs.Wholes.{is_allocated}
 use Rattle.ref_mem.specs.Reads.{one_cell}
 use Rattle.ref_mem.specs.Writes.{changed}
 use Rattle.ref_elements.specs.Outcomes.{Effected, gives, no_value}
@@ -57,15 +58,15 @@ module _ (world : World) (stands : Stands world) (memory : List Instance) (all :
   module _ (i : ℕ) (path : List PathStep) (past : Bool) (ty : TypeId) (may : MayType world memory (Pointer i path past) ty) where
     given_one : (id : TypeId) → pointee (slice_get p.types.terms ty.0) ≡ Some id → IsSome (extent_in p.types (type_of p.types id.0)) → (o : Option Instance) → slice_get memory i ≡ o → IsLeft (type_given memory i (Some id) o)
     given_one id points complete None is = stays
-    given_one id points complete (Some inst) is = by inst.ty refl
+    given_one id points complete (Some inst) is = by inst.ty refl (is_allocated inst.key) refl
       where
         one : (x : Instance) → slice_get memory i ≡ Some x → inst ≡ x
         one x at = some_one (sym is ∙ at)
 
-        typed : inst.ty ≡ None → IsLeft (changed memory i (Some inst) (λ inst. record inst { ty = Some id }))
-        typed none = (
+        typed : inst.ty ≡ None → is_allocated inst.key ≡ true → IsLeft (changed memory i (Some inst) (λ inst. record inst { ty = Some id }))
+        typed none heap = (
           subst (λ (o : Option Instance). Leaves g memory (changed memory i o (λ inst. record inst { ty = Some id }))) is
-              (type_law g world.system stands.grounds memory i id all complete (λ x at. subst (λ (y : Instance). y.ty ≡ None) (one x at) none)
+              (type_law g world.system stands.grounds memory i id all complete (λ x at. subst (λ (y : Instance). (y.ty ≡ None) × IsTrue (is_allocated y.key)) (one x at) (none, heap))
               (λ x at h. takes x at (subst (λ (y : Instance). y.ty ≡ None) (one x at) none) h)),
           set_back memory i inst (record inst { ty = Some id }) is (λ bare. absurd (some_none bare)),
         )
@@ -73,9 +74,10 @@ module _ (world : World) (stands : Stands world) (memory : List Instance) (all :
             takes : (x : Instance) → slice_get memory i ≡ Some x → x.ty ≡ None → (h : InstanceIn g memory x) → Takes p.types id h.location.content
             takes x at none h = may x id at none points h
 
-        by : (o : Option TypeId) → inst.ty ≡ o → IsLeft (cond (is_some o) memory (changed memory i (Some inst) (λ inst. record inst { ty = Some id })))
-        by None none = typed none
-        by (Some other) some = stays
+        by : (o : Option TypeId) → inst.ty ≡ o → (b : Bool) → is_allocated inst.key ≡ b → IsLeft (cond (is_some o || not b) memory (changed memory i (Some inst) (λ inst. record inst { ty = Some id })))
+        by None none true heap = typed none heap
+        by None none false other = stays
+        by (Some other) some b is = stays
 
     complete_given : (o : Option TypeId) → pointee (slice_get p.types.terms ty.0) ≡ o → IsLeft (type_given memory i (complete_only p.types o) (slice_get memory i))
     complete_given None points = none (slice_get memory i)

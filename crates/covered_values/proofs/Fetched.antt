@@ -35,7 +35,8 @@ use Rattle.covering_laws.proofs.covered_memory.Cells.{each_change}
 use Rattle.covering_laws.proofs.covered_memory.Puts.{part_along}
 use Rattle.covering_laws.proofs.covered_memory.Walks.{Reaches, reach_inv, Alike}
 use Rattle.covering_laws.proofs.covered_memory.Anchors.{from_own}
-use Rattle.covering_laws.proofs.covered_memory.Access.{Target, own_row, cell_written, found_at, read_inv, read_at_law, write_inv, write_law, update_law, sub_is}
+use Rattle.covering_laws.proofs.covered_memory.Parts.{MayPoint}
+use Rattle.covering_laws.proofs.covered_memory.Access.{Target, own_row, cell_written, found_at, read_inv, read_at_law, write_inv, write_law, update_law, sub_is, point_few, zero_kept, may_row}
 use Rattle.covering_laws.specs.covered_library.Calls.{StoresIn}
 use Rattle.covering_laws.proofs.covered_library.Stores.{parts_stored}
 use Rattle.covered_values.specs.Values.{GoesBack}
@@ -107,19 +108,35 @@ integer_few table BoolType h = omega arith
 integer_few table (IntegerType size rank signed) h = omega arith
 integer_few table t h = absurd h
 
+-- so is what is read of a list's
+list_one : (table : Table) (marked : Bool) (found : Ctype) (cells : CellList) (v : Value) → is_alike found VaListType ≡ true → value_of table marked found VaListType cells ≡ Ok v → v ≡ one_cell (cell_of v)
+list_one table marked VaListType cells v alike e = scalar_one VaListType (cell_in marked VaListType cells) v e
+list_one table marked (PointerTo a) cells v alike e = absurd (false≢true alike)
+list_one table marked VoidType cells v alike e = absurd (false≢true alike)
+list_one table marked BoolType cells v alike e = absurd (false≢true alike)
+list_one table marked (IntegerType size rank signed) cells v alike e = absurd (false≢true alike)
+list_one table marked FloatingType cells v alike e = absurd (false≢true alike)
+list_one table marked (ArrayOf of n) cells v alike e = absurd (false≢true alike)
+list_one table marked (FunctionFrom r ps f) cells v alike e = absurd (false≢true alike)
+list_one table marked (StructureOf tag) cells v alike e = absurd (false≢true alike)
+list_one table marked (UnionOf tag) cells v alike e = absurd (false≢true alike)
+
 module _ (g : Sets) (system : System) (grounds : Grounds g.table g.space system) where
-  pub read_one : (memory : List Instance) (place : Cell) (to : Ctype) (v : Value) → read g.table memory place (PointerTo to) ≡ Ok v → v ≡ one_cell (cell_of v)
-  read_one memory place to v e =
-      let inv = read_inv g system grounds memory place (PointerTo to) v e in
-      let r = reach_inv g.table memory place (PointerTo to) inv.found inv.found_is in
-      let at : read_found g.table memory (Pointer r.i r.path r.past) (PointerTo to) (Ok inv.found) ≡ Ok v = ap (λ (c : Cell). read_found g.table memory c (PointerTo to) (Ok inv.found)) (sym r.place_is) ∙ inv.value_is in
-      let in_inst : opened_value g.table r.inst.zero inv.found (PointerTo to) (opened g.table (whole_of g.table r.inst) r.path r.inst.cells) ≡ Ok v =
-      ap (λ (o : Option Instance). read_in g.table o r.path inv.found (PointerTo to)) (sym r.inst_is) ∙ at in
-      by (opened g.table (whole_of g.table r.inst) r.path r.inst.cells) inv.found r.inst.zero r.alike in_inst
+  pub read_one : (memory : List Instance) (place : Cell) (s : Ctype) → MayPoint s → (v : Value) → read g.table memory place s ≡ Ok v → v ≡ one_cell (cell_of v)
+  read_one memory place s may v e =
+      let inv = read_inv g system grounds memory place s v e in
+      let r = reach_inv g.table memory place s inv.found inv.found_is in
+      let at : read_found g.table memory (Pointer r.i r.path r.past) s (Ok inv.found) ≡ Ok v = ap (λ (c : Cell). read_found g.table memory c s (Ok inv.found)) (sym r.place_is) ∙ inv.value_is in
+      let in_inst : opened_value g.table r.inst.zero inv.found s (opened g.table (whole_of g.table r.inst) r.path r.inst.cells) ≡ Ok v =
+      ap (λ (o : Option Instance). read_in g.table o r.path inv.found s) (sym r.inst_is) ∙ at in
+      by s may (opened g.table (whole_of g.table r.inst) r.path r.inst.cells) inv.found r.inst.zero r.alike in_inst
     where
-      by : (o : Option CellList) (found : Ctype) (marked : Bool) → is_alike found (PointerTo to) ≡ true → opened_value g.table marked found (PointerTo to) o ≡ Ok v → v ≡ one_cell (cell_of v)
-      by None found marked alike k = absurd (err_ok k)
-      by (Some cells) found marked alike k = pointer_one g.table marked found to cells v alike k
+      by : (s : Ctype) → MayPoint s → (o : Option CellList) (found : Ctype) (marked : Bool) → is_alike found s ≡ true → opened_value g.table marked found s o ≡ Ok v → v ≡ one_cell (cell_of v)
+      by (PointerTo to) may None found marked alike k = absurd (err_ok k)
+      by (PointerTo to) may (Some cells) found marked alike k = pointer_one g.table marked found to cells v alike k
+      by VaListType may None found marked alike k = absurd (err_ok k)
+      by VaListType may (Some cells) found marked alike k = list_one g.table marked found cells v alike k
+      by t may o found marked alike k = absurd may
 
   -- a write changes cells alone
   pub write_back : (memory : List Instance) (place : Cell) (t : Ctype) (v : Value) (after : List Instance) → write g.table memory place t v ≡ Ok after → GoesBack memory after
@@ -180,32 +197,29 @@ module _ (g : Sets) (system : System) (grounds : Grounds g.table g.space system)
       let same : t.part ≡ f.0 = some_one f.1.whole_is in
       sub_is g system grounds memory IsAt inst path t [] (reached t.part.ty 0 false) f.0 f.1 ∙ ap (λ (q : Reached). Some (own_row g system grounds t q.node)) (sym same)
 
-  zero_kept : (to : Ctype) (i : ℕ) → kept_at (slice_get (nodes_of g.table (PointerTo to)) i) ≡ true → i ≡ 0
-  zero_kept to zero h = refl
-  zero_kept to (suc i) h = absurd (false≢true h)
-
-  -- a pointer that is read, moved and written back
-  pub pointer_written : (memory : List Instance) (place : Cell) (to : Ctype) (old new : Cell) (after : List Instance) (through : ℕ) → MemoryIn g memory → CellIn g memory (Some through) place
-      → ((row : Option ℕ) → CellIn g memory row old → CellIn g memory row new) → read g.table memory place (PointerTo to) ≡ Ok (one_cell old)
-      → write g.table memory place (PointerTo to) (one_cell new) ≡ Ok after → Leaves g memory after × StoresIn g after (stores_at place (([], new) ∷ []))
-  pointer_written memory place to old new after through all h moves e k =
-      let left = update_law g system grounds memory place to old new after through all h moves e k in
-      let inv = read_inv g system grounds memory place (PointerTo to) (one_cell old) e in
-      let f = found_at g system grounds memory through place (PointerTo to) inv.found all h inv.found_is in
+  -- a pointer or list that is read, moved and written back
+  pub pointer_written : (memory : List Instance) (place : Cell) (s : Ctype) → MayPoint s → (old new : Cell) (after : List Instance) (through : ℕ) → MemoryIn g memory → CellIn g memory (Some through) place
+      → ((row : Option ℕ) → CellIn g memory row old → CellIn g memory row new) → read g.table memory place s ≡ Ok (one_cell old)
+      → write g.table memory place s (one_cell new) ≡ Ok after → Leaves g memory after × StoresIn g after (stores_at place (([], new) ∷ []))
+  pointer_written memory place s may old new after through all h moves e k =
+      let left = update_law g system grounds memory place s may old new after through all h moves e k in
+      let inv = read_inv g system grounds memory place s (one_cell old) e in
+      let f = found_at g system grounds memory through place s inv.found all h inv.found_is in
       (left, stored f.reaches f.target f.ty f.alike inv.value_is left)
     where
-      stored : {found : Ctype} → (r : Reaches g.table memory place (PointerTo to) found) (t : Target g system grounds memory (Has g.family through) r.inst r.path) → t.part.ty ≡ found → Alike g.table found (PointerTo to)
-          → read_found g.table memory place (PointerTo to) (Ok found) ≡ Ok (one_cell old) → Leaves g memory after → StoresIn g after (stores_at place (([], new) ∷ []))
+      stored : {found : Ctype} → (r : Reaches g.table memory place s found) (t : Target g system grounds memory (Has g.family through) r.inst r.path) → t.part.ty ≡ found → Alike g.table found s
+          → read_found g.table memory place s (Ok found) ≡ Ok (one_cell old) → Leaves g memory after → StoresIn g after (stores_at place (([], new) ∷ []))
       stored {found = found} r t ty alike value left =
           let at = own_row g system grounds t t.part.node in
           let target : Target g system grounds memory (λ l. l ≡ at) r.inst r.path = record { inside = t.inside; whole = t.whole; whole_is = t.whole_is; part = t.part; part_is = t.part_is; has = refl } in
-          let sub : (m : ℕ) → sub_of system at (type_number (PointerTo to)) 0 ≡ Some m → at ≡ m =
+          let sub : (m : ℕ) → sub_of system at (type_number s) 0 ≡ Some m → at ≡ m =
           λ m x. some_one (sym (own_sub memory r.inst r.path (λ l. l ≡ at) target) ∙ (ap (λ (n : ℕ). sub_of system at n 0) (ap type_number ty ∙ alike.number) ∙ x)) in
-          let here : (i l m : ℕ) → kept_at (slice_get (nodes_of g.table (PointerTo to)) i) ≡ true → l ≡ at → sub_of system l (type_number (PointerTo to)) i ≡ Some m → at ≡ m =
-          λ i l m kept is x. sub m (ap (λ (j : ℕ). sub_of system at (type_number (PointerTo to)) j) (sym (zero_kept to i kept)) ∙ (ap (λ (j : ℕ). sub_of system j (type_number (PointerTo to)) i) (sym is) ∙ x)) in
-          let loads : LoadsAt g.table system g.family (λ l. l ≡ at) (λ i. at) (PointerTo to) = λ i kept l m is x a b. subst (λ (j : ℕ). Has g.family j a) (sym (here i l m kept is x)) b in
-          let own : ValueIn g memory (λ i. at) (PointerTo to) (one_cell old) = read_at_law g system grounds memory (λ l. l ≡ at) place (PointerTo to) found (λ i. at) (one_cell old) r target ty (omega arith) loads value in
+          let here : (i l m : ℕ) → kept_at (slice_get (nodes_of g.table s) i) ≡ true → l ≡ at → sub_of system l (type_number s) i ≡ Some m → at ≡ m =
+          λ i l m kept is x. sub m (ap (λ (j : ℕ). sub_of system at (type_number s) j) (sym (zero_kept g system grounds s may i kept)) ∙ (ap (λ (j : ℕ). sub_of system j (type_number s) i) (sym is) ∙ x)) in
+          let loads : LoadsAt g.table system g.family (λ l. l ≡ at) (λ i. at) s = λ i kept l m is x a b. subst (λ (j : ℕ). Has g.family j a) (sym (here i l m kept is x)) b in
+          let own : ValueIn g memory (λ i. at) s (one_cell old) =
+          read_at_law g system grounds memory (λ l. l ≡ at) place s found (λ i. at) (one_cell old) r target ty (point_few g system grounds s may) loads value in
           let row_is : pointer_row (own_row g system grounds t) (part_at g.table (Some (reached t.whole 0 false)) r.path) ≡ Some at =
-          ap (pointer_row (own_row g system grounds t)) t.part_is ∙ (ap (λ (s : Ctype). row_by s at) ty ∙ alike.parts (λ i. at) []) in
-          part_stored memory place (PointerTo to) found r (Has g.family through) t (([], new) ∷ [])
-          (subst (λ (o : Option ℕ). CellIn g memory o new) (sym row_is) (moves (Some at) own.0), tt) after left
+          ap (pointer_row (own_row g system grounds t)) t.part_is ∙ (ap (λ (c : Ctype). row_by c at) ty ∙ (alike.parts (λ i. at) [] ∙ may_row g system grounds s may at)) in
+          part_stored memory place s found r (Has g.family through) t (([], new) ∷ [])
+          (subst (λ (o : Option ℕ). CellIn g memory o new) (sym row_is) (moves (Some at) (subst (λ (o : Option ℕ). CellIn g memory o old) (may_row g system grounds s may at) own.0)), tt) after left

@@ -5,6 +5,7 @@ pub mod Pointers
 pub mod Fetched
 pub mod Converts
 pub mod Members
+pub mod Nexts
 pub mod Computed
 pub mod Passed
 pub mod Awaited

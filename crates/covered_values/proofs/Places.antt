@@ -4,8 +4,9 @@ use Rattle.std.specs.Option.{option_map, option_map_or}
 use Rattle.std.proofs.lemmas.Bool.{false≢true}
 use Rattle.std.proofs.lemmas.Bool.Decides.{nat_tests}
 use Rattle.c_types.specs.declared.key.ObjectKey.{ObjectKey}
-use Rattle.c_types.specs.declared.key.ObjectKey.TheVariants.{Entity as EntityKey, Library as LibraryKey, Function as FunctionKey}
+use Rattle.c_types.specs.declared.key.ObjectKey.TheVariants.{Entity as EntityKey, Library as LibraryKey, Function as FunctionKey, Varargs as VarargsKey}
 use Rattle.c_types.specs.declared.term.PathStep.{PathStep}
+use Rattle.c_types.specs.declared.term.PathStep.TheVariants.{Index}
 use Rattle.c_types.specs.declared.term.TypeId.{TypeId}
 use Rattle.c_types.specs.Trees.{Ctype}
 use Rattle.lib_summaries.specs.Table.{summary_of}
@@ -26,8 +27,8 @@ use Rattle.ref_cells.specs.declared.cells.Cell.TheVariants.{Unset, Number, Null,
 use Rattle.ref_cells.specs.declared.instance.Instance.{Instance}
 use Rattle.ref_cells.specs.Wholes.{is_allocated, typed_whole, whole_of}
 use Rattle.ref_places.specs.Parts.{along, whole_in, type_there}
-use Rattle.ref_places.specs.Places.{has_key, own_instance, first_instance, either_instance, instance_of, whole_place, named_row, deref_row, stepped}
-use Rattle.covering_laws.specs.covered_memory.Spots.{IsInTree}
+use Rattle.ref_places.specs.Places.{has_key, own_instance, first_instance, either_instance, instance_of, whole_place, first_place, named_row, varargs_row, deref_row, stepped}
+use Rattle.covering_laws.specs.covered_memory.Spots.{IsFurther, room, IsInTree}
 use Rattle.covering_laws.specs.covered_memory.Covered.{CellIn, InstanceIn, MemoryIn}
 use Rattle.covering_laws.proofs.covered_memory.Fields.{PointsTo, points_to}
 use Rattle.covering_laws.specs.covered_state.World.{World, trees_of, sets_of}
@@ -109,6 +110,28 @@ entity_free e (Some entity) = by (library_number entity)
     by None = refl
     by (Some k) = far_key k (nat_lt k 55) refl
 
+-- nor is it what a variadic function is passed past its parameters
+far_plain : (k : ℕ) (b : Bool) → IsFurther (cond b (FunctionKey k) (LibraryKey (k - 52))) → ⊥
+far_plain k true f = f
+far_plain k false f = f
+
+pub entity_plain : (e : ℕ) (o : Option Entity) → IsFurther (entity_key e o) → ⊥
+entity_plain e None f = f
+entity_plain e (Some entity) f = by (library_number entity) f
+  where
+    by : (o : Option ℕ) → IsFurther (option_map_or library_key o (EntityKey e)) → ⊥
+    by None f = f
+    by (Some k) f = far_plain k (nat_lt k 55) f
+
+-- the first place of an object of further arguments
+pub varargs_inv : (memory : List Instance) (own : List ℕ) (e : ℕ) (c : Cell) → varargs_row memory own e ≡ Ok c → (i : ℕ) × IsThere memory (VarargsKey e) i × (Pointer i (Index 0 ∷ []) false ≡ c)
+unfolding varargs_row
+varargs_inv memory own e c f = by (instance_of memory own (VarargsKey e)) refl f
+  where
+    by : (o : Option ℕ) → instance_of memory own (VarargsKey e) ≡ o → first_place o ≡ Ok c → (i : ℕ) × IsThere memory (VarargsKey e) i × (Pointer i (Index 0 ∷ []) false ≡ c)
+    by None is g = absurd (err_ok g)
+    by (Some i) is g = (i, instance_there memory own (VarargsKey e) i is, ok_one g)
+
 open_static : (l : Linkage) → is_open l Static ≡ false
 open_static External = refl
 open_static Internal = refl
@@ -145,11 +168,11 @@ node_there world q h = by (slice_get (trees_of world).nodes q) refl
     by (Some x) is = (x, is)
 
 module _ (world : World) (stands : Stands world) (memory : List Instance) (all : MemoryIn (sets_of world) memory) where
-  pub typed_one : (inst : Instance) → InstanceIn (sets_of world) memory inst → is_allocated inst.key ≡ false → (whole : Ctype) × (whole_of world.program.types inst ≡ Some whole)
-  typed_one inst h free = by inst.ty refl
+  pub typed_one : (inst : Instance) → InstanceIn (sets_of world) memory inst → is_allocated inst.key ≡ false → (IsFurther inst.key → ⊥) → (whole : Ctype) × (whole_of world.program.types inst ≡ Some whole)
+  typed_one inst h free plain = by inst.ty refl
     where
       by : (o : Option TypeId) → inst.ty ≡ o → (whole : Ctype) × (whole_of world.program.types inst ≡ Some whole)
-      by None is = absurd (false≢true (sym free ∙ h.untyped is))
+      by None is = elim (h.untyped is) [ inl heap ↦ absurd (false≢true (sym free ∙ heap)) | inr further ↦ absurd (plain further) ]
       by (Some id) is = (_, ap (typed_whole world.program.types inst) is)
 
   -- a covered place of which the type passes a test is a part of an instance, of such a type
@@ -176,7 +199,7 @@ module _ (world : World) (stands : Stands world) (memory : List Instance) (all :
             points = points_to (sets_of world) world.system stands.grounds memory through i path past h.inst whole part all h h.inst_is is at;
           }
 
-      by : (o : Option Ctype) → whole_of world.program.types h.inst ≡ o → IsInTree world.program.types o path → IsPart through i path test
+      by : (o : Option Ctype) → whole_of world.program.types h.inst ≡ o → IsInTree world.program.types o (room h.inst) path → IsPart through i path test
       by None is tree = absurd (false≢true (sym none ∙ (ap test (sym (ap (λ (o : Option Ctype). along world.program.types o path) is) ∙ found) ∙ e)))
       by (Some whole) is tree = in_part whole is (part_at world.program.types (Some (reached whole 0 false)) path) refl tree
 

@@ -1,5 +1,5 @@
 -- A pointer that is moved stays in the same rows.
-use Rattle.std.proofs.Common.{arith, ◌≡◌, ◌∙◌, ℕ, zero, suc, ◌-◌, ℤ, pos, negsuc, ◌+ℤ◌, int_le, unsigned_abs, int_eq, leb, Bool, true, false, cond, ◌&&◌, List, [], ◌∷◌, ◌++◌, take, length, Option, Some, None, Result, Ok, Err, slice_get, refl, sym, ap, subst}
+use Rattle.std.proofs.Common.{arith, ◌≡◌, ◌∙◌, ℕ, zero, suc, ◌-◌, ◌≤◌, ℤ, pos, negsuc, ◌+ℤ◌, int_le, unsigned_abs, int_eq, leb, Bool, true, false, cond, ◌&&◌, List, [], ◌∷◌, ◌++◌, take, length, Option, Some, None, Result, Ok, Err, slice_get, refl, sym, ap, subst}
 use Rattle.std.specs.Prelude.{◌-ℤ◌}
 use Rattle.std.proofs.lemmas.Bool.{false≢true}
 use Rattle.std.proofs.lemmas.Bool.Decides.{nat_tests}
@@ -15,7 +15,6 @@ use Rattle.ref_cells.specs.Wholes.{whole_of}
 use Rattle.ref_places.specs.Parts.{along, whole_in}
 use Rattle.ref_places.specs.Pointers.{index_in, last_index, front, count_of, elements_at, index_moved, with_index, mark_moved, place_moved, moved, signed_by}
 use Rattle.ref_values.specs.Memory.{pointer_moved}
-use Rattle.covering_laws.specs.covered_memory.Spots.{IsInTree}
 use Rattle.covering_laws.specs.covered_memory.Covered.{Sets, CellIn}
 use Rattle.covering_laws.proofs.covered_memory.Fields.{moved_law}
 use Rattle.covered_values.proofs.Types.{none_some, some_one}
@@ -71,9 +70,8 @@ module _ (g : Sets) (memory : List Instance) (row : Option ℕ) where
         first false false f = on (int_eq k (pos 1)) f
 
     -- another index
-    none_there : (a b : ℕ) (k : ℤ) → path ≡ front path ++ Index a ∷ [] → index_moved (elements_at g.table (slice_get memory i) path) a k ≡ Ok b
-        → (inst : Instance) → slice_get memory i ≡ Some inst → whole_of g.table inst ≡ None → a ≡ b
-    none_there a b k is e inst at none = by ((int_le (pos 0) (pos a +ℤ k)) && int_le (pos a +ℤ k) (pos 0)) refl e'
+    none_there : (a b : ℕ) (k : ℤ) → index_moved (elements_at g.table (slice_get memory i) path) a k ≡ Ok b → (inst : Instance) → slice_get memory i ≡ Some inst → whole_of g.table inst ≡ None → b ≤ a
+    none_there a b k e inst at none = by ((int_le (pos 0) (pos a +ℤ k)) && int_le (pos a +ℤ k) (pos 0)) refl e'
       where
         count : elements_at g.table (slice_get memory i) path ≡ 0
         count = ap (λ (o : Option Instance). count_of (along g.table (whole_in g.table o) (front path))) at ∙ ap (λ (o : Option Ctype). count_of (along g.table o (front path))) none
@@ -81,30 +79,11 @@ module _ (g : Sets) (memory : List Instance) (row : Option ℕ) where
         e' : index_moved 0 a k ≡ Ok b
         e' = sym (ap (λ (n : ℕ). index_moved n a k) count) ∙ e
 
-        same : h.inst ≡ inst
-        same = some_one (sym h.inst_is ∙ at)
-
-        tree : path ≡ Index 0 ∷ []
-        tree = subst (λ (o : Option Ctype). IsInTree g.table o path) (ap (whole_of g.table) same ∙ none) h.in_tree
-
-        first : a ≡ 0
-        first = zero_last (front path) a (sym is ∙ tree)
-          where
-            zero_last : (xs : List PathStep) (a : ℕ) → xs ++ Index a ∷ [] ≡ Index 0 ∷ [] → a ≡ 0
-            zero_last [] a f = index_one (head_one f)
-              where
-                head_one : {x y : PathStep} → {ys zs : List PathStep} → ◌≡◌ {A = List PathStep} (x ∷ ys) (y ∷ zs) → x ≡ y
-                head_one q = cc
-
-                index_one : {m l : ℕ} → Index m ≡ Index l → m ≡ l
-                index_one q = cc
-            zero_last (x ∷ []) a f = absurd (let bad : ◌≡◌ {A = List PathStep} (x ∷ Index a ∷ []) (Index 0 ∷ []) = f in cc)
-            zero_last (x ∷ y ∷ xs) a f = absurd (let bad : ◌≡◌ {A = List PathStep} (x ∷ y ∷ (xs ++ Index a ∷ [])) (Index 0 ∷ []) = f in cc)
-
-        by : (t : Bool) → (int_le (pos 0) (pos a +ℤ k) && int_le (pos a +ℤ k) (pos 0)) ≡ t → cond t (Ok (unsigned_abs (pos a +ℤ k))) (Err OutOfRange) ≡ Ok b → a ≡ b
+        by : (t : Bool) → (int_le (pos 0) (pos a +ℤ k) && int_le (pos a +ℤ k) (pos 0)) ≡ t → cond t (Ok (unsigned_abs (pos a +ℤ k))) (Err OutOfRange) ≡ Ok b → b ≤ a
         by true is f =
             let r = both_true (int_le (pos 0) (pos a +ℤ k)) (int_le (pos a +ℤ k) (pos 0)) is in
-            first ∙ (sym (zero_only (pos a +ℤ k) r.0 r.1) ∙ ok_one f)
+            let zero : b ≡ 0 = sym (ok_one f) ∙ zero_only (pos a +ℤ k) r.0 r.1 in
+            omega arith
         by false is f = absurd (err_ok f)
 
     indexed : (a : ℕ) (k : ℤ) (c : Cell) → last_index path ≡ Some a → with_index i path past (index_moved (elements_at g.table (slice_get memory i) path) a k) ≡ Ok c → CellIn g memory row c
@@ -117,7 +96,7 @@ module _ (g : Sets) (memory : List Instance) (row : Option ℕ) where
         by (Err reason) r_is f = absurd (err_ok f)
         by (Ok b) r_is f =
             subst (CellIn g memory row) (ok_one f)
-            (moved_law g memory row i (front path) a b past past (none_there a b k is r_is) (subst (λ (q : List PathStep). CellIn g memory row (Pointer i q past)) is h))
+            (moved_law g memory row i (front path) a b past past (none_there a b k r_is) (subst (λ (q : List PathStep). CellIn g memory row (Pointer i q past)) is h))
 
     placed : (k : ℤ) (c : Cell) → place_moved g.table memory i path past k (last_index path) ≡ Ok c → CellIn g memory row c
     placed k c e = by (last_index path) refl e

@@ -11,15 +11,15 @@ use Rattle.c_types.specs.Layout.{Extent}
 use Rattle.c_types.specs.Table.{Table, extent_in, members_in}
 use Rattle.c_types.specs.Made.{IsMade}
 use Rattle.type_rules.specs.Conversions.{Agree, Converts, IsFirstOf, decayed}
-use Rattle.type_rules.specs.Kinds.{IsScalar, IsInteger, IsPassed}
+use Rattle.type_rules.specs.Kinds.{IsScalar, IsInteger, IsList, IsVariadic, IsPassed}
 use Rattle.type_rules.specs.Members.{IsMemberOf, tag_of, in_list, member_at, width_of}
 use Rattle.type_rules.specs.Sizes.{PointsToObject}
 use Rattle.core_tree.specs.declared.node.Entity.{Entity}
 use Rattle.core_tree.specs.declared.node.Node.{Node}
 use Rattle.core_tree.specs.declared.node.NodeKind.{NodeKind}
-use Rattle.core_tree.specs.declared.node.NodeKind.TheVariants.{Named, Literal, FunctionName, Deref, Member, Fetch, AddressOf, Decay, PointerAdd, Convert, Upcast, Assign, Update, Choose, Sequence, CallNode, MemberOfValue, Arith, If, While, DoWhile, For, Switch, Initialise}
+use Rattle.core_tree.specs.declared.node.NodeKind.TheVariants.{Named, Literal, FunctionName, Deref, Member, Fetch, AddressOf, Decay, PointerAdd, Convert, Upcast, Assign, Update, Choose, Sequence, CallNode, MemberOfValue, VarArgs, NextArg, Arith, If, While, DoWhile, For, Switch, Initialise}
 use Rattle.core_tree.specs.declared.node.Program.{Program}
-use Rattle.core_tree.specs.Rows.{RowOf, width_at, place_bits, entity_type, IsEntityIn, IsFurther, Arguments, Calls, Unary, Binary, InitialValues, ForCondition, ForAfter, ForParts}
+use Rattle.core_tree.specs.Rows.{RowOf, width_at, place_bits, entity_type, IsEntityIn, IsVariadicIn, IsFurther, Arguments, Calls, Unary, Binary, InitialValues, ForCondition, ForAfter, ForParts}
 use Rattle.core_tree.specs.Typed.{CoreTrees, type_at, IsValue, trees_in}
 use Rattle.obj_space.specs.Parts.{nodes_of as tree_nodes}
 use Rattle.covering_laws.specs.covered_types.Whole.{IsGivenBy, IsWhole, IsHeld, HasValue}
@@ -100,6 +100,10 @@ module _ (p : Program) (more : List Term) (made : IsMade p.types) (follow : MayF
   entity_same e None is = refl
   entity_same e (Some x) is = ap (λ (t : Ctype). Some t) (kept.types x.ty.0 (entities_known e x is))
 
+  variadic_same : (e : ℕ) (o : Option Entity) → slice_get p.entities.items e ≡ o → IsVariadicIn u o → IsVariadicIn u' o
+  variadic_same e None is h = absurd h
+  variadic_same e (Some x) is h = subst IsVariadic (sym (kept.types x.ty.0 (entities_known e x is))) h
+
   -- the widths of places
   width_same : (kind : NodeKind) (children : List ℕ) → width_at u' kind children ≡ width_at u kind children
   width_same (Member k) (q ∷ rest) = ap (λ (s : Ctype). width_of (member_at p.types (tag_of s) k)) (ty q)
@@ -179,6 +183,8 @@ module _ (p : Program) (more : List Term) (made : IsMade p.types) (follow : MayF
   row_same Sequence t (a ∷ b ∷ []) h = (h.0, value b t h.1)
   row_same CallNode t (c ∷ args) h = (h.0, at (λ s. Calls u' s t args) c (calls_by (type_at u c) t args h.1))
   row_same (MemberOfValue k) t (v ∷ []) h = (h.0, at (λ s. IsMemberOf new s k t) v (member_same (type_at u v) k t h.1), h.2)
+  row_same (VarArgs e) t [] h = (h.0, variadic_same e (slice_get p.entities.items e) refl h.1)
+  row_same NextArg t (q ∷ []) h = ((h.0.0, at IsList q h.0.1), h.1)
   row_same (Arith op) t (a ∷ []) h = (h.0, at (λ s. Unary op s t) a h.1)
   row_same (Arith op) t (a ∷ b ∷ []) h = (h.0, h.1, at (λ s. Binary op s (type_at u' b) t) a (at (λ s. Binary op (type_at u a) s t) b h.2))
   row_same If t (c ∷ s ∷ []) h = ((h.0.0, at IsScalar c h.0.1), h.1)

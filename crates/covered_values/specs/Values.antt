@@ -1,27 +1,37 @@
 -- That what a node computes is covered.
-use Rattle.std.specs.Prelude.{◌≡◌, ℕ, ⊤, List, [], ◌∷◌, Some, None, Ok, slice_get}
+use Rattle.std.specs.Prelude.{◌≡◌, ◌⊎◌, ℕ, ◌+◌, ◌<◌, ⊤, false, List, [], ◌∷◌, Some, None, Ok, slice_get}
+use Rattle.c_types.specs.declared.key.ObjectKey.TheVariants.{Varargs as VarargsKey}
+use Rattle.c_types.specs.declared.term.PathStep.TheVariants.{Index}
 use Rattle.c_types.specs.declared.term.TypeId.{TypeId}
+use Rattle.c_types.specs.Trees.{Ctype}
+use Rattle.c_types.specs.Table.{type_of}
+use Rattle.type_rules.specs.Kinds.{IsPointer}
 use Rattle.core_tree.specs.declared.node.Node.{Node}
 use Rattle.core_tree.specs.declared.node.NodeKind.{NodeKind}
-use Rattle.core_tree.specs.declared.node.NodeKind.TheVariants.{FunctionName, Convert}
+use Rattle.core_tree.specs.declared.node.NodeKind.TheVariants.{FunctionName, Convert, NextArg}
+use Rattle.core_tree.specs.Typed.{type_at}
 use Rattle.core_tree.specs.Range.{EachNode}
 use Rattle.core_tree.specs.Valid.{InRows, Literals}
 use Rattle.sol_model.specs.Solutions.{IsClosed}
 use Rattle.obj_space.specs.View.{first_from}
 use Rattle.row_numbers.specs.Objects.{entity_key}
 use Rattle.ref_cells.specs.declared.cells.Cell.{Cell}
-use Rattle.ref_cells.specs.declared.cells.Cell.TheVariants.{Pointer}
+use Rattle.ref_cells.specs.declared.cells.Cell.TheVariants.{Pointer, Function}
 use Rattle.ref_cells.specs.declared.cells.Value.{Value}
 use Rattle.ref_cells.specs.declared.instance.Instance.{Instance}
-use Rattle.ref_elements.specs.Outcomes.{Effected}
-use Rattle.ref_state.specs.Values.{cell_in}
-use Rattle.ref_values.specs.Memory.{pointee}
+use Rattle.ref_cells.specs.Cells.{under}
+use Rattle.ref_mem.specs.Reads.{read, one_cell, converted_cell}
+use Rattle.ref_mem.specs.Writes.{write}
+use Rattle.ref_elements.specs.Outcomes.{Effected, stores_and_gives}
+use Rattle.ref_state.specs.Values.{cell_of, cell_in, first_cell}
+use Rattle.ref_values.specs.Memory.{pointee, stores_at}
 use Rattle.ref_values.specs.Values.{computed}
 use Rattle.covering_laws.specs.covered_types.Whole.{AreWhole, HasFew}
 use Rattle.covering_laws.specs.covered_memory.Covered.{InstanceIn, MemoryIn, Leaves}
 use Rattle.covering_laws.specs.covered_memory.Demands.{Grounds}
 use Rattle.covering_laws.specs.covered_library.Calls.{Takes, StoresIn}
-use Rattle.covering_laws.specs.covered_state.World.{World, trees_of, sets_of}
+use Rattle.covering_laws.specs.covered_rows.Nodes.{PlaceIn}
+use Rattle.covering_laws.specs.covered_state.World.{World, trees_of, sets_of, setting_in}
 use Rattle.covering_laws.specs.covered_state.Items.{Each, NodeIn}
 
 -- a function that is named has a location
@@ -76,4 +86,49 @@ ValuesCovered =
     → Each (λ v. NodeIn world memory v.0 v.1) values
     → ((v : ℕ) → node.kind ≡ Convert → node.children ≡ v ∷ [] → MayType world memory (cell_in values v) node.ty)
     → computed (trees_of world) memory own n node values word ≡ Ok e
+    → IsComputed world memory n e
+
+-- a cell that doesn't point
+abbrev pub IsPlain : Cell → Type 0
+IsPlain (Pointer i path past) = ⊥
+IsPlain (Function key) = ⊥
+IsPlain cell = ⊤
+
+-- the value of a type that a cell gives; only a pointer's points
+pub record IsCellOf (t : Ctype) (c : Cell) (value : Value) : Type 0 where
+  pub value_is : value ≡ one_cell (converted_cell t c)
+  pub points : IsPointer t ⊎ IsPlain c
+
+-- what a list at a covered place gives: argument k of what an instance was passed past its parameters; and the list
+-- behind it, which is put back at the place
+pub record IsNext (world : World) (memory : List Instance) (p : ℕ) (place : Cell) (t : Ctype) (value : Value)
+    (after : List Instance) : Type 0 where
+  pub list : Value
+  pub list_is : read world.program.types memory place (type_at (trees_of world) p) ≡ Ok list
+  pub i : ℕ
+  pub k : ℕ
+  pub points : cell_of list ≡ Pointer i (Index k ∷ []) false
+  pub inst : Instance
+  pub inst_is : slice_get memory i ≡ Some inst
+  pub e : ℕ
+  pub key : inst.key ≡ VarargsKey e
+  pub within : k < inst.bytes
+  pub value_is : IsCellOf t (first_cell (under (Index k) inst.cells)) value
+  pub after_is : write world.program.types memory place (type_at (trees_of world) p)
+      (one_cell (Pointer i (Index (k + 1) ∷ []) false))
+      ≡ Ok after
+
+-- the next argument of a list at a covered place is covered, and so is the list behind it (C11 7.16.1.1)
+abbrev pub NextsCovered : Type 0
+NextsCovered =
+    (world : World) (memory after : List Instance) (n p : ℕ) (node : Node) (place : Cell) (value : Value)
+    (e : Effected)
+    → Stands world
+    → MemoryIn (sets_of world) memory
+    → slice_get (trees_of world).nodes n ≡ Some node
+    → node.kind ≡ NextArg
+    → node.children ≡ p ∷ []
+    → PlaceIn (sets_of world) (setting_in world) memory p place
+    → (next : IsNext world memory p place (type_of world.program.types node.ty.0) value after)
+    → stores_and_gives after value (stores_at place (([], Pointer next.i (Index (next.k + 1) ∷ []) false) ∷ [])) ≡ Ok e
     → IsComputed world memory n e

@@ -2,13 +2,18 @@
 ghost use Rattle.covered_values.specs.Bare.{NothingBare};
 ghost use Rattle.covered_values.specs.Met.{AboveMet, StandsMet};
 ghost use Rattle.covered_values.specs.Passed.{ChoicesCovered, ReturnsPassed, TypesAwaited};
-ghost use Rattle.covered_values.specs.Values.{ValuesCovered};
+ghost use Rattle.covered_values.specs.Values.{NextsCovered, ValuesCovered};
 
 /// What a place or a value computes from covered operands in a covered memory is covered at its node, leaves the memory covered, and the
 /// pointers that
 /// it puts into cells are covered there.
 pub fn values_covered()
     ensures { ValuesCovered }
+{}
+
+/// The next argument of a list at a covered place is covered at its node, and so is the list behind it at the place (7.16.1.1).
+pub fn nexts_covered()
+    ensures { NextsCovered }
 {}
 
 /// The value of the branch that is taken is covered at its choice (6.5.15).

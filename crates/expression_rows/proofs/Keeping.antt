@@ -1,5 +1,6 @@
 -- Rows keep the rows of constants.
-use Rattle.std.proofs.Common.{◌≡◌, ◌^◌, ℕ, ℤ, nat_lt, Bool, true, List, [], ◌∷◌, Option, Some, None, map, refl, subst}
+use Rattle.std.proofs.Common.{◌≡◌, ◌^◌, ℕ, ℤ, nat_lt, Bool, true, not, List, [], ◌∷◌, Option, Some, None, map, refl, subst}
+use Rattle.std.specs.Option.{option_copied}
 use Rattle.std.proofs.lemmas.Bool.{ltb-true}
 use Rattle.pta_base.specs.declared.kind.Kind.TheVariants.{NotBuilt}
 use Rattle.c_lexer.specs.declared.TokenKind.{TokenKind}
@@ -11,12 +12,12 @@ use Rattle.core_tree.specs.declared.node.Unit.{Unit}
 use Rattle.core_tree.specs.Typed.{Holds}
 use Rattle.core_tree.specs.Rows.{int}
 use Rattle.c_senses.specs.Given.{Fits}
-use Rattle.c_senses.specs.Tree.{Source, place_at, spelling_at, kind_at}
+use Rattle.c_senses.specs.Tree.{Source, place_at, spelling_at, kind_at, is_leaf, all_where}
 use Rattle.c_senses.specs.World.{World, Meaning}
 use Rattle.c_senses.specs.World as world
 use Rattle.c_senses.specs.Literals.{value_of_integer}
 use Rattle.c_senses.specs.Objects.{name_row, text_core}
-use Rattle.c_senses.specs.Sense.{Sense}
+use Rattle.c_senses.specs.Sense.{Sense, IsCore}
 use Rattle.c_senses.specs.Expressions.{string_bytes}
 use Rattle.core_nodes.specs.Standing.{parts_in, Knows}
 use Rattle.c_conversions.specs.Constants.{HasRows}
@@ -25,12 +26,15 @@ use Rattle.expression_rows.specs.declared.c_rows.names.Named.TheVariants.{Undecl
 use Rattle.expression_rows.specs.c_rows.Literals.{integer_core, are_bytes, built_integer, built_text}
 use Rattle.expression_rows.specs.c_rows.Built.{built_primary, built_primary_of}
 use Rattle.expression_rows.specs.c_rows.Named.{IsNamed, IsNamedWithin, NameFits}
+use Rattle.expression_rows.specs.c_rows.Lists.{LeafFits, NamesLast, SecondFits, named_leaf}
+use Rattle.expression_rows.specs.declared.around.Around.{Around}
+use Rattle.expression_rows.specs.Fitting.{IdentifierFits}
 use Rattle.sense_laws.specs.Sound.{Gives}
 use Rattle.sense_laws.proofs.Giving.{if_given}
 use Rattle.sense_laws.proofs.Literals.{integer_holds, character_holds}
 use Rattle.sense_laws.specs.row_trees.Trees.{SenseHasRows, ValuesFit}
 use Rattle.sense_laws.proofs.row_trees.Objects.{text_rows, name_rows}
-use Rattle.sense_laws.proofs.row_trees.Expressions.{as_sense_rows}
+use Rattle.sense_laws.proofs.row_trees.Expressions.{as_sense_rows, list_row_rows}
 
 named_meaning : Unit → Named → Option Meaning
 named_meaning u Undeclared = None
@@ -44,8 +48,8 @@ named_allowed (Object entity ty allowed) = allowed
 named_allowed named = true
 
 -- a unit's members and layouts, where each name means the same
-pub named_world : Unit → Named → Bool → Option (List ℕ) → World
-named_world u named may name = record {
+pub named_world : Unit → Named → Bool → Option (List ℕ) → Option ℕ → World
+named_world u named may name further = record {
   meaning = λ i. named_meaning u named;
   members = λ tag. parts_in u.types (members_in u.types tag);
   look = look_in u.types;
@@ -54,18 +58,19 @@ named_world u named may name = record {
   may_name = λ e. named_allowed named;
   may_call = may;
   own_name = name;
+  further = λ e. further;
 }
 
-module _ (u : Unit) (may : Bool) (name : Option (List ℕ)) where
-  pub named_knows : (named : Named) → Knows (named_world u named may name) u
+module _ (u : Unit) (may : Bool) (name : Option (List ℕ)) (further : Option ℕ) where
+  pub named_knows : (named : Named) → Knows (named_world u named may name further) u
   unfolding named_world
   named_knows named = record { members = λ tag. refl; extents = λ t. refl; tags = refl }
 
-  pub named_calls : (named : Named) → (named_world u named may name).may_call ≡ may
+  pub named_calls : (named : Named) → (named_world u named may name further).may_call ≡ may
   unfolding named_world
   named_calls named = refl
 
-  pub named_fits : (named : Named) (i : ℕ) → NameFits (named_world u named may name) u named name ((named_world u named may name).meaning i)
+  pub named_fits : (named : Named) (i : ℕ) → NameFits (named_world u named may name further) u named name ((named_world u named may name further).meaning i)
   unfolding named_world named_meaning named_allowed
   named_fits Undeclared i = record { meant = refl; own = λ e. refl }
   named_fits (Object entity ty allowed) i = record { meant = (refl, refl); own = λ e. refl }
@@ -81,14 +86,38 @@ module _ (u : Unit) (may : Bool) (name : Option (List ℕ)) where
   value_held (Value k) h n e = let same : k ≡ n = cc in subst (Holds int) same h
   value_held NoValue h n e = cc
 
-  pub named_values : (named : Named) → IsNamedWithin u named → ValuesFit (named_world u named may name)
+  pub named_values : (named : Named) → IsNamedWithin u named → ValuesFit (named_world u named may name further)
   unfolding named_world
   named_values named h = λ leaf n e. value_held named h n e
+
+  -- whatever is looked up for an operation on lists
+  leaf_fits : (named : Named) (o : Option ℕ) → LeafFits (named_world u named may name further) o further
+  unfolding named_world
+  leaf_fits named None = tt
+  leaf_fits named (Some leaf) = refl
+
+  names_fits : (named : Named) (x : Sense) → NamesLast (named_world u named may name further) x further
+  names_fits named (IsCore c) = leaf_fits named (named_leaf c)
+  names_fits named x = tt
+
+  pub second_fits : (named : Named) (sense : ℕ → Sense) (parts : List ℕ) → SecondFits (named_world u named may name further) sense parts further
+  second_fits named sense [] = tt
+  second_fits named sense (a ∷ []) = tt
+  second_fits named sense (a ∷ b ∷ []) = names_fits named (sense b)
+  second_fits named sense (a ∷ b ∷ c ∷ parts) = tt
+
+-- a world that fits whatever is looked up for a name
+pub identifier_fits : (u : Unit) (s : Source) (sense : ℕ → Sense) (first : ℕ) (rest : List ℕ) (around : Around)
+    → IdentifierFits (named_world u around.first around.may_call (option_copied around.own_name) around.further) u s sense first rest around
+identifier_fits u s sense first [] around = named_fits u around.may_call (option_copied around.own_name) around.further around.first first
+identifier_fits u s sense first (c ∷ rest) around =
+    second_fits u around.may_call (option_copied around.own_name) around.further around.first sense (all_where (λ i. not (is_leaf s i)) (c ∷ rest))
 
 -- primaries
 module _ (w : World) (s : Source) (sense : ℕ → Sense) (sound : (i : ℕ) → SenseHasRows (sense i)) where
   kind_rows : ValuesFit w → (at first : ℕ) (rest : List ℕ) (kind : TokenKind) → Gives SenseHasRows (built_primary_of w s sense at first rest kind)
-  kind_rows values at first rest Identifier = as_sense_rows w (name_row w (place_at s first) at (w.meaning first)) (name_rows w values (place_at s first) at first (w.meaning first) refl)
+  kind_rows values at first [] Identifier = as_sense_rows w (name_row w (place_at s first) at (w.meaning first)) (name_rows w values (place_at s first) at first (w.meaning first) refl)
+  kind_rows values at first (c ∷ rest) Identifier = list_row_rows w s sense sound at first (c ∷ rest)
   kind_rows values at first rest Integer =
       as_sense_rows w (built_integer at (place_at s first) (spelling_at s first))
       (if_given HasRows (nat_lt (value_of_integer (spelling_at s first)) (2 ^ 64)) NotBuilt at (Fits (integer_core (place_at s first) (spelling_at s first)))

@@ -1,12 +1,10 @@
 -- Rows by their productions.
-use Rattle.std.proofs.Common.{arith, ◌≡◌, ◌≢◌, ◌<◌, ◌≤◌, ℕ, ◌==◌, Bool, true, false, cond, List, [], ◌∷◌, length, get_or, inl, inr, eqb, refl, ap, ◌∙◌}
+use Rattle.std.proofs.Common.{arith, ◌≡◌, ◌≢◌, ◌<◌, ◌≤◌, ℕ, ◌==◌, Bool, true, false, cond, List, [], ◌∷◌, length, get_or, drop, inl, inr, eqb, refl, ap, ◌∙◌}
 use Rattle.std.proofs.lemmas.Bool.Decides.{eqb_tells}
-use Rattle.std.specs.Option.{option_copied}
 use Rattle.c_lexer.specs.declared.TokenKind.TheVariants.{Identifier}
 use Rattle.core_tree.specs.declared.node.Unit.{Unit}
-use Rattle.expression_rows.specs.c_rows.Named.{NameFits}
 use Rattle.expression_rows.specs.declared.around.Around.{Around}
-use Rattle.expression_rows.specs.Fitting.{FirstFits}
+use Rattle.expression_rows.specs.Fitting.{FirstFits, IdentifierFits}
 use Rattle.pta_base.specs.declared.kind.Kind.TheVariants.{Operand}
 use Rattle.c_senses.specs.Given.{Given, Refuses}
 use Rattle.c_senses.specs.Operators.{between}
@@ -42,6 +40,6 @@ module _ (w : World) (s : Source) (sense : ℕ → Sense) (production at : ℕ) 
     other_row e = by_chains ∙ ap (λ (t : Bool). cond t (binary_row w s sense (between w) at xs) (Refuses Operand at)) e
 
 -- the first of some children that are there
-pub first_fits : (w : World) (u : Unit) (s : Source) (around : Around) (xs : List ℕ) → FirstFits w u s xs around → 0 < length xs → kind_at s (get_or xs 0 0) ≡ Identifier → NameFits w u around.first (option_copied around.own_name) (w.meaning (get_or xs 0 0))
-first_fits w u s around [] h some kind = absurd (omega arith)
-first_fits w u s around (first ∷ rest) h some kind = h kind
+pub first_fits : (w : World) (u : Unit) (s : Source) (sense : ℕ → Sense) (around : Around) (xs : List ℕ) → FirstFits w u s sense xs around → 0 < length xs → kind_at s (get_or xs 0 0) ≡ Identifier → IdentifierFits w u s sense (get_or xs 0 0) (drop 1 xs) around
+first_fits w u s sense around [] h some kind = absurd (omega arith)
+first_fits w u s sense around (first ∷ rest) h some kind = h kind

@@ -1,3 +1,4 @@
 pub mod Bytes
 pub mod Cores
 pub mod Steps
+pub mod Inner

@@ -4,3 +4,4 @@ pub mod Named
 pub mod Parts
 pub mod Postfix
 pub mod Built
+pub mod Lists

@@ -2,6 +2,7 @@
 //! nodes before it.
 #![tactic(auto, using(core_nodes::proofs::IntegerTypes::integers))]
 
+pub(crate) mod lists;
 mod literals;
 mod names;
 pub mod parts;

@@ -9,5 +9,6 @@ mod rows;
 pub mod whole_rows;
 
 pub use crate::c_rows::Named;
+pub use crate::c_rows::lists::{ListParts, list_parts, name_of};
 pub use around::Around;
 pub use rows::row;

@@ -73,21 +73,12 @@ fn by_production(
     ensures built { (w : World) →
         let s = source_read syntax.now in
         Knows w unit.old →
-        FitsAround w unit.old s production children.now around.now →
         let sense = sense_in (senses_made unit.old results.now) in
+        FitsAround w unit.old s sense production children.now around.now →
         Rowed unit.new result (built_row w s sense production at children.now) }
 {
     if production == P_PRIMARY {
-        return primary_row(
-            alloc,
-            unit,
-            syntax,
-            results,
-            at,
-            children,
-            around.first,
-            around.own_name,
-        );
+        return primary_row(alloc, unit, syntax, results, at, children, around);
     }
     if production == P_POST {
         return post_row(alloc, unit, syntax, results, at, children, around.may_call);
@@ -133,15 +124,15 @@ pub fn row(
     ensures built { (w : World) (uses : List (ℕ × ℕ)) →
         let s = source_in syntax.now uses in
         Knows w unit.old →
-        FitsAround w unit.old s (production_at s at) (children_at s at) around.now →
         let sense = sense_in (senses_made unit.old results.now) in
+        FitsAround w unit.old s sense (production_at s at) (children_at s at) around.now →
         Rowed unit.new result (built_row w s sense (production_at s at) at (children_at s at)) }
     ensures row { (w : World) (uses : List (ℕ × ℕ)) →
         let s = source_in syntax.now uses in
         Knows w unit.old →
-        FitsAround w unit.old s (production_at s at) (children_at s at) around.now →
-        IsReadable s at →
         let sense = sense_in (senses_made unit.old results.now) in
+        FitsAround w unit.old s sense (production_at s at) (children_at s at) around.now →
+        IsReadable s at →
         Rowed unit.new result (expressions.expression_row w s sense (production_at s at) at (children_at s at)) }
 {
     let production = production_of(syntax, at);

@@ -26,7 +26,7 @@ module _ (S T : System) (new : ℕ → ℕ) (is : IsRenumbered S T new) (G : Fam
   members_same : (space : List Location) → length space ≡ location_count S → member_count space T G ≡ member_count space S (over G new)
   members_same space count =
       sum_same (λ (location : ℕ). length (members_in T G location)) (λ (location : ℕ). length (members_in S (over G new) location)) (has_set space) (range_with_len 0 (length space))
-      (λ location has. (let found = found_or (λ (known : Location). known.collapsed || (known.ty == 4)) (slice_get space location) has in
+      (λ location has. (let found = found_or (λ (known : Location). known.collapsed || (known.ty == 4) || (known.ty == 7)) (slice_get space location) has in
       let within : location < length space = slice_get_within space location found.0 found.1 in
       ap (λ (held : List ℕ). length held) (members_fixed S T new is G location (omega arith))))
 

@@ -13,13 +13,13 @@ use pta_base::OutOfMemory;
 use sol_model::{Rows, System};
 use std::alloc::{AllocError, Global};
 
-/// Whether a report prints the set of a location: that of one of pointer class, or of a collapsed one.
+/// Whether a report prints the set of a location: that of one of pointer class or of list class, or of a collapsed one.
 fn is_printed(space: &Space, location: u32) -> bool
     requires { location < length space.now }
     ensures { result ≡ has_set space.now location }
 {
     let known = space.location(location);
-    known.collapsed || known.ty == 4
+    known.collapsed || known.ty == 4 || known.ty == 7
 }
 
 /// How many members the set of a location has where a report prints it; else none.

@@ -163,7 +163,6 @@ fn refused_type(types: &TypeTable, ty: TypeId) -> Option<Kind>
 {
     match types.term(ty) {
         Term::Floating => Some(Kind::Floating),
-        Term::VaList => Some(Kind::Builtin),
         _ => None,
     }
 }

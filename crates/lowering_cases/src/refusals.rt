@@ -265,9 +265,6 @@ malformed 7
 int f(int a,int a);
 redeclared 17
 
-int f(int a,...){return 0;}
-variadic-definition 5
-
 inline int f(void){return 0;}
 inline-definition 12
 
@@ -581,8 +578,39 @@ operand 10
 double d;double e=d;
 floating 19
 
-__builtin_va_list a;void f(void){__builtin_va_list b=a;}
-builtin 54
+// lists: a start names the last parameter, in a variadic function
+void f(int n,...){__builtin_va_list a;__builtin_va_start(a,a);}
+operand 39
+
+void f(int n){__builtin_va_list a;__builtin_va_start(a,n);}
+operand 35
+
+void f(int n,int m,...){__builtin_va_list a;__builtin_va_start(a,n);}
+operand 45
+
+void f(double d,...){__builtin_va_list a;__builtin_va_start(a,d);}
+floating 63
+
+void f(int n,...){__builtin_va_list a;__builtin_va_arg(a,double);}
+floating 39
+
+struct s{int x;};void f(int n,...){__builtin_va_list a;__builtin_va_arg(a,struct s);}
+operand 56
+
+void f(int n,...){__builtin_va_arg(n,int);}
+operand 19
+
+void f(int n){__builtin_va_list a;__builtin_va_copy(a,n);}
+operand 35
+
+void f(int n){__builtin_va_end(n);}
+operand 15
+
+void f(void){__builtin_va_end;}
+malformed 30
+
+void f(void){__builtin_expect(1,2);}
+builtin 14
 
 int x;unsigned long u=(unsigned long)&x;
 operand 23

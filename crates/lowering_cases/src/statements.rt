@@ -7,6 +7,14 @@ int x;int f(void){x;x=1;return x;}
 x#5 ES i used 19
 f#11 EF ()i = block[](expr(get(x:i)) expr(set(x:i 1:i)) return(get(x:i)))
 
+// operations on variadic lists, whose own names aren't uses; the parameter's name leaves no node
+int*f(int n,...){__builtin_va_list a,b;__builtin_va_start(a,(n));__builtin_va_copy(b,a);__builtin_va_end(a);return __builtin_va_arg(b,int*);}
+f#5 EF (i,...)*i = block[a,b](expr(conv:v(set(a:V further f))) expr(conv:v(set(b:V get(a:V)))) expr(conv:v(addr(a:V)))
+  return(next:*i(b:V)))
+n#11 LP i in f
+a#36 LA V used 59 in f
+b#38 LA V used 84 in f
+
 // the else goes with the nearer if
 int a,b,x;int f(void){if(a)if(b)x=1;else x=2;return 0;}
 a#5 ES i used 26

@@ -147,6 +147,8 @@ fn value_word(kind: &NodeKind) -> &'static str {
         NodeKind::Sequence => "then",
         NodeKind::CallNode => "call",
         NodeKind::MemberOfValue(_) => "!",
+        NodeKind::VarArgs(_) => "further ",
+        NodeKind::NextArg => "next",
         _ => "",
     }
 }
@@ -158,7 +160,7 @@ fn write_value(shown: Shown<'_>, out: &mut Page, kind: &NodeKind) {
         NodeKind::Named(entity) => write_entity(shown, out, *entity),
         NodeKind::FunctionName(entity) => write_entity(shown, out, *entity),
         NodeKind::Text(bytes) => write_bytes(out, bytes.as_slice()),
-        NodeKind::Literal(entity) => write_entity(shown, out, *entity),
+        NodeKind::Literal(entity) | NodeKind::VarArgs(entity) => write_entity(shown, out, *entity),
         NodeKind::Member(member) => out.number(alloc, i128::from(*member)),
         NodeKind::Number(number) => out.number(alloc, number.get()),
         NodeKind::PointerAdd { minus } => out.say(if *minus { "back" } else { "move" }),
@@ -229,6 +231,7 @@ fn is_typed(kind: &NodeKind) -> bool {
             | NodeKind::Choose
             | NodeKind::Arith(_)
             | NodeKind::CallNode
+            | NodeKind::NextArg
     )
 }
 

@@ -15,7 +15,7 @@ use Rattle.obj_space.specs.declared.location.Location.{Location}
 use Rattle.obj_space.specs.View.{SpaceView, first_from, view_of}
 use Rattle.row_numbers.specs.Kept.{kept_count}
 use Rattle.row_numbers.specs.Functions.{object_at, function_keys, functions_below, functions_of, number_of}
-use Rattle.row_numbers.specs.Setting.{width, widths, result_nodes, result_widths, result_row, row, start_at}
+use Rattle.row_numbers.specs.Setting.{width, widths, result_nodes, result_widths, result_row, start_at}
 use Rattle.normal_form.specs.Facts.{IsFunctionFact, number_if, location_fact}
 use Rattle.covering_laws.proofs.covered_memory.Firsts.{is_first}
 use Rattle.covering_laws.specs.covered_state.World.{World, trees_of, view_in}
@@ -89,9 +89,9 @@ module _ (world : World) where
           ap (numbered world.system) e ∙ (before l (omega arith) ∙ sym (ap (λ (o : Option ℕ). option_map_or (λ (k : ℕ). length (functions_below u' (view_in world) k)) o 0) e))
 
   pub start_same : (f : ℕ) → result_start u' world.space world.system (numbered world.system (first_from 0 world.space (EntityKey f))) ≡ result_row u' (view_in world) (number_of u' (view_in world) f)
-  unfolding row result_row
+  unfolding result_row
   start_same f =
-      let long = length-map u'.nodes (width u'.types) in
+      let long = length-map u'.nodes (width u') in
       let all : take (length u'.nodes) (widths u') ≡ widths u' = take_all (length u'.nodes) (widths u') (omega arith) in
       ap (λ (ws : List ℕ). start_at (length world.space + sum ws) (map (width_of u' world.space) world.system.functions) (numbered world.system (first_from 0 world.space (EntityKey f)))) all
       ∙ (ap (λ (ws : List ℕ). start_at (length world.space + sum (widths u')) ws (numbered world.system (first_from 0 world.space (EntityKey f)))) (widths_along u' world.space 0 (functions_of u' (view_in world)) world.system.functions world.is_system.functions (λ i key e. function_first u' (view_in world) i key e))

@@ -5,5 +5,6 @@ pub mod Counted
 pub mod Aims
 pub mod Given
 pub mod Waiting
+pub mod Behind
 pub mod Whole
 pub mod Runs

@@ -183,7 +183,8 @@ module _ (world : World) (i : ℕ) (key : ObjectKey) where
   tops_of n left (entry ∷ other ∷ values) rest empty h l = absurd h
 
   tops_to : (items : List Item) → ItemsAwait (sight_in world) i key items → Tops items
-  tops_to [] h = absurd h
+  unfolding ItemsAwait
+  tops_to [] h = absurd h.0
   tops_to (Wait n left values ∷ rest) h = tops_of n left values rest h.0.0 h.0.1 h.1
   tops_to (Do n ∷ rest) h = absurd h.0
   tops_to (Library n function arguments ∷ rest) h = absurd h.0
@@ -220,6 +221,7 @@ module _ (world : World) (i : ℕ) (inst : Instance) (memory : List Instance) wh
       }
 
   awaited_from : (frames : List Frame) → IsAwaited world i inst memory frames → FramesAwait (sight_in world) i inst.key (reverse frames) × All (λ other. InstanceLeaves i other) memory
+  unfolding ItemsAwait
   awaited_from frames a =
       let t = turned a.top a.rest in
       let conversion : ConversionOf a.call (slice_get (trees_of world).nodes a.convert) = subst (ConversionOf a.call) (sym a.there) (a.kind, a.child) in

@@ -1,6 +1,6 @@
 -- Objects that wait for the type of a conversion, as the code decides it.
 use Rattle.std.specs.Prelude.{◌≡◌, ◌⊎◌, ℕ, ◌-◌, ◌<◌, ⊤, false, List, [], ◌∷◌, Option, Some, None, All, length, take}
-use Rattle.std.specs.Prelude.{slice_get}
+use Rattle.std.specs.Prelude.{drop, slice_get}
 use Rattle.c_types.specs.declared.key.ObjectKey.{ObjectKey}
 use Rattle.c_types.specs.declared.key.ObjectKey.TheVariants.{Call as CallKey}
 use Rattle.c_types.specs.declared.term.PathStep.TheVariants.{Index}
@@ -59,6 +59,11 @@ ItemLeaves i (Result v) = ValueApart i v
 abbrev pub ItemsLeave : ℕ → List Item → Type 0
 ItemsLeave i items = All (λ item. ItemLeaves i item) items
 
+-- the item at that place, behind so many at the top, where there is one
+abbrev pub LeavesAt : ℕ → ℕ → ℕ → Option Item → Type 0
+LeavesAt i off k None = ⊤
+LeavesAt i off k (Some item) = (k < off) ⊎ ItemLeaves i item
+
 abbrev pub FrameLeaves : ℕ → Frame → Type 0
 FrameLeaves i f = ItemsLeave i f.items
 
@@ -92,9 +97,12 @@ ConvertsBy scene i key (Wait n left values) = (left ≡ []) × OperandsBy scene 
 ConvertsBy scene i key item = ⊥
 
 -- the top item is that, and no other one points to the instance
-abbrev pub ItemsAwait : Sight → ℕ → ObjectKey → List Item → Type 0
-ItemsAwait scene i key [] = ⊥
-ItemsAwait scene i key (item ∷ rest) = ConvertsBy scene i key item × ItemsLeave i rest
+abbrev pub TopConverts : Sight → ℕ → ObjectKey → Option Item → Type 0
+TopConverts scene i key None = ⊥
+TopConverts scene i key (Some item) = ConvertsBy scene i key item
+
+unfoldable pub ItemsAwait : Sight → ℕ → ObjectKey → List Item → Type 0
+ItemsAwait scene i key items = TopConverts scene i key (slice_get items 0) × ItemsLeave i (drop 1 items)
 
 abbrev pub TopAwaits : Sight → ℕ → ObjectKey → Option Frame → Type 0
 TopAwaits scene i key None = ⊥

@@ -16,7 +16,7 @@ use Rattle.obj_space.specs.Spots.{reached}
 use Rattle.obj_space.specs.View.{first_from, view_of}
 use Rattle.row_numbers.specs.Kept.{nodes_of, kept_count, kept_row}
 use Rattle.row_numbers.specs.Functions.{key_type}
-use Rattle.row_numbers.specs.Setting.{result_nodes, start_at, row}
+use Rattle.row_numbers.specs.Setting.{result_nodes, start_at, widths}
 use Rattle.call_sites.specs.Calls.{rest_of}
 use Rattle.ref_cells.specs.declared.cells.Cell.{Cell}
 use Rattle.ref_cells.specs.declared.cells.Cell.TheVariants.{Pointer}
@@ -28,7 +28,7 @@ use Rattle.ref_state.specs.declared.items.Item.{Item}
 use Rattle.ref_state.specs.declared.items.Item.TheVariants.{Do, Wait, Library, Result}
 use Rattle.ref_state.specs.declared.frames.Frame.{Frame}
 use Rattle.ref_state.specs.declared.notes.Notes.{Notes}
-use Rattle.covering_laws.specs.covered_memory.Spots.{IsInTree}
+use Rattle.covering_laws.specs.covered_memory.Spots.{room, IsInTree}
 use Rattle.covering_laws.specs.covered_memory.Covered.{Sets}
 use Rattle.covering_laws.specs.covered_library.Calls.{place_row}
 use Rattle.row_covers.specs.Cells.{CellBy, AreIn}
@@ -56,7 +56,7 @@ width_at u space (Some function) = width_of u space function
 -- the first row of the result of the function of that number
 abbrev pub result_start : CoreTrees → List Location → System → ℕ → ℕ
 result_start u space system number =
-    start_at (row u (view_of space) (length u.nodes)) (map (width_of u space) system.functions) number
+    start_at (start_at (length space) (widths u) (length u.nodes)) (map (width_of u space) system.functions) number
 
 -- what the function of a key gives
 abbrev pub given_by : CoreTrees → ObjectKey → Ctype
@@ -128,7 +128,7 @@ PendingAt scene memory n function arguments (Some node) =
 -- an instance is there, and a path in its tree
 abbrev pub ThereBy : Sets → List PathStep → Option Instance → Type 0
 ThereBy g path None = ⊥
-ThereBy g path (Some inst) = IsInTree g.table (whole_of g.table inst) path
+ThereBy g path (Some inst) = IsInTree g.table (whole_of g.table inst) (room inst) path
 
 abbrev pub ExistsBy : Sets → List Instance → Cell → Type 0
 ExistsBy g memory (Pointer i path past) = ThereBy g path (slice_get memory i)
@@ -163,6 +163,11 @@ CalledBy scene key (Some n) = TargetAt scene n key
 abbrev pub UnderBy : Sight → ObjectKey → Option ℕ → Type 0
 UnderBy scene key None = ⊤
 UnderBy scene key (Some library) = GraphAt scene library key
+
+-- the item at a place, where there is one
+abbrev pub ItemAt : Sight → List Instance → ObjectKey → Option Item → Type 0
+ItemAt scene memory key None = ⊤
+ItemAt scene memory key (Some item) = ItemBy scene memory key item
 
 abbrev pub FrameBy : Sight → List Instance → Frame → Type 0
 FrameBy scene memory f =

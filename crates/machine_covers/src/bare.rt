@@ -1,11 +1,11 @@
 // Whether each object without a type that the conversion above its call is to type is pointed to by that conversion's operand alone.
 
-ghost use Rattle.std.specs.Prelude.{◌≡◌, ◌↔◌, [], ◌∷◌, false, ℕ, Some, IsTrue, All, slice_get};
+ghost use Rattle.std.specs.Prelude.{◌≡◌, ◌↔◌, [], ◌∷◌, false, ℕ, Some, IsTrue, All, drop, slice_get};
 ghost use Rattle.c_types.specs.declared.term.PathStep.{PathStep as Step};
 ghost use Rattle.ref_cells.specs.declared.cells.Cell.{Cell as CellSeen};
 ghost use Rattle.covering_laws.specs.covered_state.Awaited.{IsApart};
 ghost use Rattle.row_covers.specs.Scene.{sight_of};
-ghost use Rattle.machine_covers.specs.Bare.{IsElements, BareBy, EntryApart, CellsApart, ValueApart, PairApart, ItemLeaves, ItemsLeave, FrameLeaves, InstanceLeaves, StartEntry, StartOf, ConversionOf, OperandBy, OperandsBy, ConvertsBy, ItemsAwait, TopAwaits, FramesAwait, AwaitedBy, AwaitedAll};
+ghost use Rattle.machine_covers.specs.Bare.{IsElements, BareBy, EntryApart, CellsApart, ValueApart, PairApart, ItemLeaves, ItemsLeave, LeavesAt, FrameLeaves, InstanceLeaves, StartEntry, StartOf, ConversionOf, OperandBy, OperandsBy, ConvertsBy, TopConverts, ItemsAwait, TopAwaits, FramesAwait, AwaitedBy, AwaitedAll};
 
 use c_types::key::ObjectKey;
 use core_tree::NodeKind;
@@ -13,7 +13,7 @@ use obj_space::Content;
 use ref_cells::cells::{Cell, Path, Value};
 use ref_cells::instance::Instance;
 use ref_state::frames::Frame;
-use ref_state::items::Item;
+use ref_state::items::{Item, Items};
 use row_covers::cells::is_first;
 use row_covers::scene::Scene;
 
@@ -106,18 +106,33 @@ fn item_leaves(i: usize, item: &Item) -> bool
     }
 }
 
-// Whether no item of a list points to an instance.
-fn items_leave(i: usize, items: &[Item]) -> bool
-    ensures { IsTrue result ↔ ItemsLeave i items.now }
+// Whether the item at a place, behind so many at the top, doesn't point to an instance.
+fn leaves_at(i: usize, off: usize, items: &Items, k: usize) -> bool
+    ensures { IsTrue result ↔ LeavesAt i off k (slice_get items.now k) }
 {
-    items.iter().all(|item| item_leaves(i, item))
+    match items.from_top(k) {
+        Some(item) => k < off || item_leaves(i, item),
+        None => true,
+    }
+}
+
+// Whether no item behind so many at the top points to an instance.
+fn items_leave(i: usize, off: usize, items: &Items) -> bool
+    ensures { IsTrue result ↔ ItemsLeave i (drop off items.now) }
+{
+    for k in 0..items.len() {
+        if !leaves_at(i, off, items, k) {
+            return false;
+        }
+    }
+    true
 }
 
 // Whether a frame points to an instance nowhere.
 fn frame_leaves(i: usize, frame: &Frame) -> bool
     ensures { IsTrue result ↔ FrameLeaves i frame.now }
 {
-    items_leave(i, frame.items.as_slice())
+    items_leave(i, 0, &frame.items)
 }
 
 // Whether the cells of an instance don't point to an instance.
@@ -217,14 +232,22 @@ fn converts(scene: &Scene<'_>, i: usize, key: ObjectKey, item: &Item) -> bool
     }
 }
 
+// Whether the top item is that.
+fn top_converts(scene: &Scene<'_>, i: usize, key: ObjectKey, items: &Items) -> bool
+    ensures { IsTrue result ↔ TopConverts (sight_of scene.now) i key (slice_get items.now 0) }
+{
+    match items.top() {
+        Some(item) => converts(scene, i, key, item),
+        None => false,
+    }
+}
+
 // Whether the top item is that, and no other one points to the instance.
-fn items_await(scene: &Scene<'_>, i: usize, key: ObjectKey, items: &[Item]) -> bool
+#[tactic(auto, unfolding(crate::specs::Bare::ItemsAwait))]
+fn items_await(scene: &Scene<'_>, i: usize, key: ObjectKey, items: &Items) -> bool
     ensures { IsTrue result ↔ ItemsAwait (sight_of scene.now) i key items.now }
 {
-    match items {
-        [item, rest @ ..] => converts(scene, i, key, item) && items_leave(i, rest),
-        [] => false,
-    }
+    top_converts(scene, i, key, items) && items_leave(i, 1, items)
 }
 
 // Whether the top frame awaits an instance; the others don't point to it.
@@ -234,7 +257,7 @@ fn frames_await(scene: &Scene<'_>, i: usize, key: ObjectKey, frames: &[Frame]) -
     let below = frames.len().saturating_sub(1);
     match frames.get(below) {
         Some(top) => {
-            items_await(scene, i, key, top.items.as_slice())
+            items_await(scene, i, key, &top.items)
                 && frames
                     .iter()
                     .take(below)

@@ -11,7 +11,7 @@ ghost use Rattle.row_covers.specs.Cells.{SameRow};
 ghost use Rattle.call_sites.specs.Calls.{rest_of};
 ghost use Rattle.covering_laws.specs.covered_memory.Spots.{spot};
 ghost use Rattle.covering_laws.specs.covered_library.Calls.{instance_row, place_row};
-ghost use Rattle.machine_covers.specs.Frames.{numbered, width_of, width_at, result_start, GivenBy, ReturnedBy, ValueBy, ArgumentBy, ArgumentAt, ArgumentsBy, PendingAt, ThereBy, EntryExists, ValueExists, PendingBackBy, LibraryBy, ItemBy, CalledBy, UnderBy, FrameBy, EndAt, KeptBy, StoreBy, NotedBy, NotesBy, FramesBy, KeptAll, first_of};
+ghost use Rattle.machine_covers.specs.Frames.{numbered, width_of, width_at, result_start, GivenBy, ReturnedBy, ValueBy, ArgumentBy, ArgumentAt, ArgumentsBy, PendingAt, ThereBy, EntryExists, ValueExists, PendingBackBy, LibraryBy, ItemBy, ItemAt, CalledBy, UnderBy, FrameBy, EndAt, KeptBy, StoreBy, NotedBy, NotesBy, FramesBy, KeptAll, first_of};
 
 use c_types::key::ObjectKey;
 use c_types::term::{PathStep, TypeId};
@@ -19,12 +19,12 @@ use ref_cells::cells::{Cell, Path, Value};
 use ref_cells::instance::Instance;
 use ref_cells::wholes::Whole;
 use ref_state::frames::Frame;
-use ref_state::items::Item;
+use ref_state::items::{Item, Items};
 use ref_state::notes::Notes;
 use row_covers::cells::{NodeRows, are_covered, is_covered, stands};
 use row_covers::scene::Scene;
 use row_covers::targets::{function_at, is_called_back_at, is_in_graph, is_target_at};
-use row_covers::values::{has_row, is_held_covered, is_node_covered, node_row};
+use row_covers::values::{has_row, is_held_covered, is_node_covered, start_row};
 use row_numbers::kept::kept_count;
 use row_numbers::numbering::result_id;
 use row_numbers::objects::library_id;
@@ -43,7 +43,7 @@ fn key_id(scene: &Scene<'_>, key: ObjectKey) -> Option<TypeId>
         },
         ObjectKey::Function(k) => library_id(k, scene.trees.entities),
         ObjectKey::Text(_) | ObjectKey::Call(_) => None,
-        ObjectKey::Library(_) | ObjectKey::Star(_) => None,
+        ObjectKey::Library(_) | ObjectKey::Star(_) | ObjectKey::Varargs(_) => None,
     }
 }
 
@@ -117,7 +117,7 @@ fn result_start(scene: &Scene<'_>, number: usize) -> u64
     ensures value { result ≡ result_start (core_of scene.now.trees) scene.now.space.now scene.now.system.now number }
     ensures small { result ≤ 2 ^ 58 }
 {
-    let mut row = node_row(scene, scene.trees.nodes.len() as u32);
+    let mut row = start_row(scene, scene.trees.nodes.len() as u32);
     for i in 0..number {
         row += u64::from(width_at(scene, i));
     }
@@ -156,7 +156,7 @@ fn is_returned_covered(
     match key {
         ObjectKey::Entity(_) => is_given_covered(scene, memory, key, value),
         ObjectKey::Text(_) | ObjectKey::Call(_) | ObjectKey::Library(_) => false,
-        ObjectKey::Star(_) | ObjectKey::Function(_) => false,
+        ObjectKey::Star(_) | ObjectKey::Function(_) | ObjectKey::Varargs(_) => false,
     }
 }
 
@@ -375,6 +375,38 @@ fn is_under(scene: &Scene<'_>, key: ObjectKey, by: Option<u32>) -> bool
     }
 }
 
+// Whether what the item at a place holds is covered, where there is one.
+fn is_item_at_covered(
+    scene: &Scene<'_>,
+    memory: &[Instance],
+    key: ObjectKey,
+    items: &Items,
+    k: usize,
+) -> bool
+    requires scene { IsScene scene.now }
+    requires known { AreKnown (length scene.now.trees.types.now.terms) memory.now }
+    ensures { IsTrue result ↔ ItemAt (sight_of scene.now) memory.now key (slice_get items.now k) }
+{
+    match items.from_top(k) {
+        Some(item) => is_item_covered(scene, memory, key, item),
+        None => true,
+    }
+}
+
+// Whether what each item of a function's frame holds is covered.
+fn are_items_covered(scene: &Scene<'_>, memory: &[Instance], key: ObjectKey, items: &Items) -> bool
+    requires scene { IsScene scene.now }
+    requires known { AreKnown (length scene.now.trees.types.now.terms) memory.now }
+    ensures { IsTrue result ↔ All (λ item. ItemBy (sight_of scene.now) memory.now key item) items.now }
+{
+    for k in 0..items.len() {
+        if !is_item_at_covered(scene, memory, key, items, k) {
+            return false;
+        }
+    }
+    true
+}
+
 // Whether a frame is covered: the call that entered it, or the function of the library that called it back, and what its items hold.
 fn is_frame_covered(scene: &Scene<'_>, memory: &[Instance], frame: &Frame) -> bool
     requires scene { IsScene scene.now }
@@ -383,12 +415,7 @@ fn is_frame_covered(scene: &Scene<'_>, memory: &[Instance], frame: &Frame) -> bo
 {
     is_called(scene, frame.function, frame.call)
         && is_under(scene, frame.function, frame.by)
-        && frame.items.as_slice().iter().all(|item| is_item_covered(
-            scene,
-            memory,
-            frame.function,
-            item,
-        ))
+        && are_items_covered(scene, memory, frame.function, &frame.items)
 }
 
 // Whether the function of that number stands under atexit, where it is one that is called at the end.

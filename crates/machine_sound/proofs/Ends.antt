@@ -2,7 +2,7 @@
 use Rattle.std.proofs.Common.{◌≡◌, ◌⊎◌, inr, ℕ, Bool, true, false, cond, List, [], ◌∷◌, ◌++◌, length, Option, Some, None, Result, Ok, Err, refl, sym, ap, subst}
 use Rattle.std.proofs.lemmas.Bool.{false≢true}
 use Rattle.c_types.specs.declared.key.ObjectKey.{ObjectKey}
-use Rattle.c_types.specs.declared.key.ObjectKey.TheVariants.{Entity as EntityKey, Text as TextKey, Call as CallKey, Library as LibraryKey, Star as StarKey, Function as FunctionKey}
+use Rattle.c_types.specs.declared.key.ObjectKey.TheVariants.{Entity as EntityKey, Text as TextKey, Call as CallKey, Library as LibraryKey, Star as StarKey, Function as FunctionKey, Varargs as VarargsKey}
 use Rattle.c_types.specs.declared.term.TypeId.{TypeId}
 use Rattle.core_tree.specs.Typed.{CoreTrees}
 use Rattle.obj_space.specs.View.{view_of}
@@ -104,6 +104,7 @@ module _ (world : World) (characters : TypeId) (runs : IsRunnable world) (state 
     by_key (CallKey m) is h = absurd (err_ok h)
     by_key (LibraryKey m) is h = absurd (err_ok h)
     by_key (StarKey m) is h = absurd (err_ok h)
+    by_key (VarargsKey m) is h = absurd (err_ok h)
 
     by_type : (b : Bool) → (let r : Result State Reason = cond b (kept_entered (running_in world characters) fewer key n) (Err BadCall) in r) ≡ Ok next → FramesStand world next.memory next.frames
     by_type true h = by_key key refl h

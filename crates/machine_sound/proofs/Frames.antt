@@ -13,11 +13,11 @@ use Rattle.ref_state.specs.declared.frames.Frame.{Frame}
 use Rattle.ref_state.specs.declared.state.State.{State}
 use Rattle.ref_frames.specs.declared.entering.Activation.{Activation}
 use Rattle.ref_frames.specs.declared.entering.Entry.{Entry}
-use Rattle.ref_frames.specs.Frames.{entered, parameter_objects}
-use Rattle.row_numbers.specs.Functions.{parameters_of}
+use Rattle.ref_frames.specs.Frames.{entered}
 use Rattle.covering_laws.specs.covered_state.World.{World, trees_of, view_in}
 use Rattle.covering_laws.specs.covered_state.Items.{Each}
 use Rattle.covering_laws.specs.covered_state.State.{IsInGraph, BackIn, FrameIn}
+use Rattle.covered_calls.specs.Activations.{objects_entered}
 use Rattle.covered_effects.specs.Steps.{IsKeptFound, StaysCovered, IsNoWait}
 use Rattle.covered_statements.specs.Stacked.{waits_next, FramesStand}
 use Rattle.covered_statements.specs.Runnable.{IsRunnable, Steady}
@@ -68,7 +68,7 @@ module _ (world : World) (runs : IsRunnable world) (characters : TypeId) (memory
   storage = ap (λ (x : Entity). x.storage) (some_one (sym inv.there ∙ own.1)) ∙ own.2
 
   abbrev objects : List Instance
-  objects = parameter_objects (trees_of world) (parameters_of (trees_of world) (view_in world) e) arguments
+  objects = objects_entered world e arguments
 
   pub entered_stands : FramesStand world memory below → FramesStand world (memory ++ made.fresh) (made.frame ∷ below)
   entered_stands h =

@@ -1,4 +1,5 @@
 pub mod Frames
+pub mod Lists
 pub mod Rows
 pub mod Libraries
 pub mod Ends

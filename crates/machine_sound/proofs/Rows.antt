@@ -2,22 +2,23 @@
 use Rattle.std.proofs.Common.{◌≡◌, ◌∙◌, inl, inr, ℕ, Bool, true, false, cond, List, [], ◌∷◌, length, Option, Some, None, Result, Ok, Err, slice_get, refl, sym, ap, subst}
 use Rattle.std.proofs.lemmas.Bool.{false≢true}
 use Rattle.c_types.specs.declared.key.ObjectKey.{ObjectKey}
-use Rattle.c_types.specs.declared.key.ObjectKey.TheVariants.{Entity as EntityKey, Text as TextKey, Call as CallKey, Library as LibraryKey, Star as StarKey, Function as FunctionKey}
+use Rattle.c_types.specs.declared.key.ObjectKey.TheVariants.{Entity as EntityKey, Text as TextKey, Call as CallKey, Library as LibraryKey, Star as StarKey, Function as FunctionKey, Varargs as VarargsKey}
 use Rattle.c_types.specs.declared.term.TypeId.{TypeId}
 use Rattle.core_tree.specs.declared.node.Node.{Node}
 use Rattle.core_tree.specs.declared.node.NodeKind.{NodeKind}
-use Rattle.core_tree.specs.declared.node.NodeKind.TheVariants.{CallNode}
+use Rattle.core_tree.specs.declared.node.NodeKind.TheVariants.{CallNode, Convert, NextArg}
 use Rattle.core_tree.specs.Typed.{CoreTrees, ValueNode, sort_of}
 use Rattle.row_numbers.specs.Functions.{key_type}
 use Rattle.call_sites.specs.Signatures.{called_type}
 use Rattle.call_sites.specs.Calls.{is_call}
 use Rattle.ref_cells.specs.declared.cells.Reason.{Reason}
 use Rattle.ref_cells.specs.declared.cells.Value.{Value}
+use Rattle.ref_elements.specs.Outcomes.{Effected}
 use Rattle.ref_state.specs.declared.items.Item.{Item}
 use Rattle.ref_state.specs.declared.items.Item.TheVariants.{Do, Wait, Library}
 use Rattle.ref_state.specs.declared.frames.Frame.{Frame}
 use Rattle.ref_state.specs.declared.state.State.{State}
-use Rattle.ref_state.specs.Items.{replaced}
+use Rattle.ref_state.specs.Items.{replaced, settled}
 use Rattle.ref_blocks.specs.Ways.{kind_in, kind_at}
 use Rattle.ref_statements.specs.Rows.{Next, Row}
 use Rattle.ref_statements.specs.Nodes.{do_row, wait_row}
@@ -26,9 +27,11 @@ use Rattle.ref_frames.specs.Frames.{entered}
 use Rattle.ref_frames.specs.OnTop.{only, on_top}
 use Rattle.ref_calls.specs.declared.reached.Target.{Target}
 use Rattle.ref_calls.specs.Reached.{reached}
-use Rattle.ref_machine.specs.Step.{placed, is_direct, target_of, noted, called, call_row, is_call_at, calls, waited}
+use Rattle.ref_calls.specs.Lists.{is_next, taken_at, next_row}
+use Rattle.ref_machine.specs.Step.{placed, is_direct, target_of, noted, called, call_row, is_call_at, calls, is_next_at, takes, waited}
 use Rattle.covering_laws.specs.covered_types.Calls.{call_type}
-use Rattle.covering_laws.specs.covered_state.World.{World, trees_of, IsTargetAt}
+use Rattle.covering_laws.specs.covered_memory.Covered.{MemoryIn}
+use Rattle.covering_laws.specs.covered_state.World.{World, trees_of, sets_of, IsTargetAt}
 use Rattle.covering_laws.specs.covered_state.Items.{IsPending}
 use Rattle.covering_laws.specs.covered_state.State.{TargetNoted}
 use Rattle.covered_values.proofs.Operands.{went, ok_one, err_ok}
@@ -43,9 +46,10 @@ use Rattle.covered_statements.specs.Stacked.{PendingOn, Stacked, FramesStand}
 use Rattle.covered_statements.specs.Runnable.{IsRunnable, Steady}
 use Rattle.covered_statements.specs.Rows.{running_in}
 use Rattle.covered_statements.proofs.Stacking.{pended_stacked}
-use Rattle.covered_statements.proofs.Nodes.{begun_steady, waits_steady}
+use Rattle.covered_statements.proofs.Nodes.{begun_steady, waits_steady, settles_steady}
 use Rattle.covered_statements.proofs.Calling.{calls_steady}
 use Rattle.machine_sound.specs.Carried.{Carried}
+use Rattle.machine_sound.proofs.Lists.{next_computed}
 use Rattle.machine_sound.proofs.Frames.{carries}
 
 kind_call : (kind : NodeKind) → is_call kind ≡ true → kind ≡ CallNode
@@ -66,6 +70,33 @@ call_here u n [] e = at (slice_get u.nodes n) refl e
     at None is h = absurd (false≢true h)
     at (Some node) is h = record { none = refl; node = node; there = is; kind = kind_call node.kind h }
 call_here u n (c ∷ operands) e = absurd (false≢true e)
+
+-- a node that takes the next one of a list, whose operand is there
+record IsNext (u : CoreTrees) (n : ℕ) (left : List ℕ) : Type 0 where
+  none : left ≡ []
+  node : Node
+  there : slice_get u.nodes n ≡ Some node
+  kind : node.kind ≡ NextArg
+
+kind_next : (kind : NodeKind) → is_next kind ≡ true → kind ≡ NextArg
+kind_next NextArg e = refl
+kind_next kind e = absurd (false≢true e)
+
+next_here : (u : CoreTrees) (n : ℕ) (left : List ℕ) → takes u n left ≡ true → IsNext u n left
+next_here u n [] e = at (slice_get u.nodes n) refl e
+  where
+    at : (o : Option Node) → slice_get u.nodes n ≡ o → is_next_at o ≡ true → IsNext u n []
+    at None is h = absurd (false≢true h)
+    at (Some node) is h = record { none = refl; node = node; there = is; kind = kind_next node.kind h }
+next_here u n (c ∷ operands) e = absurd (false≢true e)
+
+next_convert : NextArg ≡ Convert → ⊥
+next_convert h = cc
+
+-- what its effect leaves
+abbrev settled_so : State → Frame → List Frame → ℕ → Effected → Result State Reason
+settled_so state f rest n e =
+    Ok (record state { memory = e.memory; frames = record f { items = settled n e.outcome.value f.items } ∷ rest; notes = only e.outcome.stores })
 
 -- what a call notes is a target of it
 target_noted : (world : World) (direct : Bool) (n : ℕ) (key : ObjectKey) → IsTargetAt world n key → TargetNoted world (target_of direct n key)
@@ -157,17 +188,37 @@ module _ (world : World) (characters : TypeId) (runs : IsRunnable world) (served
     reaches_by (CallKey m) is e = absurd (err_ok e)
     reaches_by (LibraryKey m) is e = absurd (err_ok e)
     reaches_by (StarKey m) is e = absurd (err_ok e)
+    reaches_by (VarargsKey m) is e = absurd (err_ok e)
 
   calling : (n : ℕ) (left : List ℕ) (values : List (ℕ × Value)) (items : List Item) → f.items ≡ Wait n left values ∷ items → IsCall (trees_of world) n left → call_row (running_in world characters) state f rest n values ≡ Ok next → Carried world next
   calling n left values items items_are c e =
       let r = went (reached (trees_of world) n values) (λ (target : Target). called (running_in world characters) state f rest n target.key target.arguments) next e in
       reaches_by n values items (items_are ∙ ap (λ (l : List ℕ). Wait n l values ∷ items) c.none) c.node c.there c.kind r.0 r.1 r.0.key refl r.2
 
-  -- a node goes on, or calls
+  -- a node takes the next one of a list
+  nexts : (n : ℕ) (left : List ℕ) (values : List (ℕ × Value)) (items : List Item) → f.items ≡ Wait n left values ∷ items → IsNext (trees_of world) n left → next_row (running_in world characters) state f rest n values ≡ Ok next → Carried world next
+  unfolding next_row
+  nexts n left values items items_are t e =
+      let ends : f.items ≡ Wait n [] values ∷ items = items_are ∙ ap (λ (l : List ℕ). Wait n l values ∷ items) t.none in
+      let r = went (taken_at (running_in world characters) state.memory (f ∷ rest) (slice_get (trees_of world).nodes n) values) (settled_so state f rest n) next e in
+      let done = next_computed world characters runs.stands state.memory (f ∷ rest) n t.node values r.0 steady_memory t.there t.kind (own_items world state f rest carried.steady.covered frames_are (Wait n [] values) items ends).0.2 r.1 in
+      subst (Carried world) (ok_one r.2)
+      (carries world state (record state { memory = r.0.memory; frames = record f { items = settled n r.0.outcome.value f.items } ∷ rest; notes = only r.0.outcome.stores }) carried refl
+      (settles_steady world runs state f rest carried.steady frames_are n word items t.node t.there values ends r.0 done (λ convert. next_convert (sym t.kind ∙ convert))))
+    where
+      steady_memory : MemoryIn (sets_of world) state.memory
+      steady_memory = carried.steady.covered.memory
+
+  -- a node goes on, calls, or takes the next one of a list
   pub waits : (n : ℕ) (left : List ℕ) (values : List (ℕ × Value)) (items : List Item) → f.items ≡ Wait n left values ∷ items → waited (running_in world characters) state f rest n left values word ≡ Ok next → Carried world next
   waits n left values items items_are e = by (calls (trees_of world) n left) refl e
     where
+      takes_by : (b : Bool) → takes (trees_of world) n left ≡ b
+          → (let r : Result State Reason = cond b (next_row (running_in world characters) state f rest n values) (placed state rest (wait_row (trees_of world) state.memory f n left values word)) in r) ≡ Ok next → Carried world next
+      takes_by true is h = nexts n left values items items_are (next_here (trees_of world) n left is) h
+      takes_by false is h = goes_on n left values items items_are h
+
       by : (b : Bool) → calls (trees_of world) n left ≡ b
-          → (let r : Result State Reason = cond b (call_row (running_in world characters) state f rest n values) (placed state rest (wait_row (trees_of world) state.memory f n left values word)) in r) ≡ Ok next → Carried world next
+          → (let r : Result State Reason = cond b (call_row (running_in world characters) state f rest n values) (cond (takes (trees_of world) n left) (next_row (running_in world characters) state f rest n values) (placed state rest (wait_row (trees_of world) state.memory f n left values word))) in r) ≡ Ok next → Carried world next
       by true is h = calling n left values items items_are (call_here (trees_of world) n left is) h
-      by false is h = goes_on n left values items items_are h
+      by false is h = takes_by (takes (trees_of world) n left) refl h

@@ -85,6 +85,18 @@ gains_in_listed {X} xs row Set count old new all gains =
     (λ r l h. (h.2.0, (h.0, h.1, h.2.1)))
     (λ r l h. let i = h.1 in (i.0, i.1, (h.0, i.2)))
 
+-- the locations of one set, of a second and of a third, added to one row
+pub gains_three : (old one two new : Rows) (row : ℕ) (A B C : ℕ → Type 0) → Gains old one (In row A) → Gains one two (In row B) → Gains two new (In row C) → Gains old new (In row (λ l. A l ⊎ (B l ⊎ C l)))
+gains_three old one two new row A B C first second third =
+    gains_then old one new (In row A) (In row (λ l. B l ⊎ C l)) (In row (λ l. A l ⊎ (B l ⊎ C l))) first
+    (gains_then one two new (In row B) (In row C) (In row (λ l. B l ⊎ C l)) second third
+    (λ r l h. (h.0, inl h.1))
+    (λ r l h. (h.0, inr h.1))
+    (λ r l h. elim h.1 [ inl b ↦ inl (h.0, b) | inr c ↦ inr (h.0, c) ]))
+    (λ r l h. (h.0, inl h.1))
+    (λ r l h. (h.0, inr h.1))
+    (λ r l h. elim h.1 [ inl a ↦ inl (h.0, a) | inr more ↦ inr (h.0, more) ])
+
 -- ---- rows of functions
 pub rows_kept : (S : System) (old new : Rows) (Fact : ℕ → ℕ → Type 0) → HasRowsFor S old → Gains old new Fact → HasRowsFor S new
 rows_kept S old new Fact rows gains = record { width = gains.width ∙ rows.width; words = gains.words ∙ rows.words }

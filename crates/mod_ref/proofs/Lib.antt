@@ -1,6 +1,5 @@
 pub mod Gaining
 pub mod Reaching
-pub mod Starts
 pub mod Paths
 pub mod Rising
 pub mod Touching

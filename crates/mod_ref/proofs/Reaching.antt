@@ -135,12 +135,12 @@ match_none (Some n) None_so Some_so h never = absurd (never n refl)
 
 -- the node of number n, added to the row of the function in whose body it stands
 pub own_gains : (w : Setting) (S : System) (F : Family) (access : Access) (n f : ℕ) (old new : Rows) → IsValid S → n < length w.trees.nodes → IsInBody w S f n
-    → ((node : Node) → slice_get w.trees.nodes n ≡ Some node → Gains old new (In f (NodeTouches w S F access node)))
+    → ((node : Node) → slice_get w.trees.nodes n ≡ Some node → Gains old new (In f (NodeTouches w S F access n node)))
     → Gains old new (OwnTouches w S F access n)
 own_gains w S F access n f old new valid lt inside each = elim ((slice_get_cases w.trees.nodes n).1) [
   | inl there ↦
-      gains_as old new (In f (NodeTouches w S F access there.0)) (OwnTouches w S F access n) (each there.0 there.2)
+      gains_as old new (In f (NodeTouches w S F access n there.0)) (OwnTouches w S F access n) (each there.0 there.2)
       (λ g l h. record { node = there.0; there = there.2; inside = subst (λ x. IsInBody w S x n) (sym h.0) inside; touches = h.1 })
-      (λ g l h. (body_one w S n g f valid h.inside inside, subst (λ (node : Node). NodeTouches w S F access node l) (same_Some _ _ (sym h.there ∙ there.2)) h.touches))
+      (λ g l h. (body_one w S n g f valid h.inside inside, subst (λ (node : Node). NodeTouches w S F access n node l) (same_Some _ _ (sym h.there ∙ there.2)) h.touches))
   | inr past ↦ absurd (let le = past.0 in omega arith)
 ]

@@ -25,13 +25,13 @@ use Rattle.obj_space.specs.View.{view_of, first_from}
 use Rattle.c_types.specs.Table.{type_of}
 use Rattle.row_numbers.specs.Numbers.{type_number}
 use Rattle.row_numbers.specs.Around.{AreOwners}
-use Rattle.row_numbers.specs.Setting.{Setting, row}
+use Rattle.row_numbers.specs.Setting.{Setting, row, list_row}
 use Rattle.row_numbers.proofs.FrameLemmas.{node_within}
 use Rattle.core_tree.specs.Range.{InRange}
 use Rattle.normal_form.specs.Facts.{location_fact}
 use Rattle.normal_form.specs.SystemOf.{SystemOf}
 use Rattle.mod_ref.specs.declared.access.Access.{Access}
-use Rattle.mod_ref.specs.Direct.{BodyTouches, CallsTouch, CallTouches, IsOfEntity, NodeTouches, Touches}
+use Rattle.mod_ref.specs.Direct.{BodyTouches, CallsTouch, CallTouches, IsOfEntity, NodeTouches, Touches, accessed}
 use Rattle.mod_ref.specs.Gains.{Gains, HasRowsFor}
 use Rattle.mod_ref.specs.Places.{extent_by, extent_at, IsReached, IsReachedBy, IsUnder}
 use Rattle.mod_ref.specs.Touch.{IsClosedTouch, IsLeastTouch, IsTouch}
@@ -95,11 +95,17 @@ module _ (S : System) (valid : IsValid S) where
     first_known : (key : ObjectKey) (l : ℕ) → w.space.first key ≡ Some l → IsLocation S l
     first_known key l h = let lt = first_within 0 space key l (subst (λ s. s.first key ≡ Some l) view h) in omega arith
 
-    pub touched_known : (f location : ℕ) → Touches w S F access f location → IsLocation S location
-    touched_known f location h = elim h [
+    pub touched_known : ((r l : ℕ) → Has F r l → IsLocation S l) → (f location : ℕ) → Touches w S F access f location → IsLocation S location
+    touched_known known f location h = elim h [
       | inl body ↦ elim (body.1).touches [
-        | inl place ↦ (let at = place.2 in reached_known (Some (type_number (type_of w.trees.types ((body.1).node).ty.0))) at.0 location at.2)
-        | inr filled ↦ (let of = filled.2 in under_known of.0 location of.2)
+        | inl place ↦
+            (let at = place.2 in
+            let node = (body.1).node in
+            reached_known (Some (type_number (accessed node.kind (type_of w.trees.types node.ty.0)))) at.0 location at.2)
+        | inr more ↦ elim more [
+          | inl filled ↦ (let of = filled.2 in under_known of.0 location of.2)
+          | inr taken ↦ known (list_row w.trees w.space body.0) location taken.1
+        ]
       ]
       | inr calls ↦
           (let t = calls.touches in

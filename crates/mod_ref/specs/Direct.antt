@@ -1,10 +1,13 @@
 -- What the nodes and the calls of a function's body themselves read and write.
-use Rattle.std.specs.Prelude.{◌≡◌, ◌⊎◌, ℕ, ⊤, List, Option, Some, None, IsSome, Contains, slice_get}
+use Rattle.std.specs.Prelude.{◌≡◌, ◌⊎◌, ℕ, ⊤, Bool, true, false, IsTrue, List, Option, Some, None, IsSome, Contains}
+use Rattle.std.specs.Prelude.{slice_get}
 use Rattle.c_types.specs.declared.key.ObjectKey.TheVariants.{Entity as EntityKey, Library}
+use Rattle.c_types.specs.Trees.{Ctype, VaListType}
 use Rattle.c_types.specs.Table.{type_of}
 use Rattle.core_tree.specs.declared.node.Node.{Node}
 use Rattle.core_tree.specs.declared.node.NodeKind.{NodeKind}
 use Rattle.core_tree.specs.declared.node.NodeKind.TheVariants.{Fetch, Assign, Update, Literal, Initialise}
+use Rattle.core_tree.specs.declared.node.NodeKind.TheVariants.{NextArg}
 use Rattle.sol_model.specs.declared.system.System.{System}
 use Rattle.sol_model.specs.declared.system.CallSite.{CallSite}
 use Rattle.sol_model.specs.declared.system.Function.{Function}
@@ -13,19 +16,36 @@ use Rattle.sol_model.specs.Rules.{IsTarget}
 use Rattle.obj_space.specs.View.{SpaceView}
 use Rattle.row_numbers.specs.Numbers.{type_number}
 use Rattle.row_numbers.specs.Objects.{entity_key}
-use Rattle.row_numbers.specs.Setting.{Setting, row}
+use Rattle.row_numbers.specs.Setting.{Setting, row, list_row}
 use Rattle.mod_ref.specs.declared.access.Access.{Access}
 use Rattle.mod_ref.specs.declared.access.Access.TheVariants.{Read, Write}
 use Rattle.mod_ref.specs.Places.{IsUnder, IsReachedBy}
 
 -- ---- nodes
 -- the place that a node of a kind reads or writes: the value of a place is read (C11 6.3.2.1p2), an assignment writes
--- one (6.5.16.1), and an increment, a decrement or a compound assignment does both (6.5.2.4, 6.5.3.1, 6.5.16.2)
+-- one (6.5.16.1), and an increment, a decrement or a compound assignment does both (6.5.2.4, 6.5.3.1, 6.5.16.2), as
+-- does with a list what takes its next argument (7.16.1.1)
 abbrev pub place_of : Access → NodeKind → List ℕ → Option ℕ
 place_of Read Fetch children = slice_get children 0
 place_of Write Assign children = slice_get children 0
 place_of access (Update op post) children = slice_get children 0
+place_of access NextArg children = slice_get children 0
 place_of access kind children = None
+
+-- the type at which a node of a kind and a type does so: its own; but a list is read and written as a list
+abbrev pub accessed : NodeKind → Ctype → Ctype
+accessed NextArg t = VaListType
+accessed kind t = t
+
+-- whether a node of a kind reads one of the arguments that its list leads to (7.16.1.1)
+abbrev pub takes_argument : Access → NodeKind → Bool
+takes_argument Read NextArg = true
+takes_argument access kind = false
+
+-- a location of such arguments: one that the row of the list has
+abbrev pub IsTaken : Setting → Family → Access → ℕ → NodeKind → ℕ → Type 0
+IsTaken w F access n kind location =
+    IsTrue (takes_argument access kind) × Has F (list_row w.trees w.space n) location
 
 -- the entity whose object a node of a kind writes whole: an initialiser (6.7.9), and a compound literal (6.5.2.5)
 abbrev pub filled_by : Access → NodeKind → Option ℕ
@@ -39,13 +59,25 @@ IsOfEntity w S e location =
     (first : ℕ) × (w.space.first (entity_key e (slice_get w.trees.entities e)) ≡ Some first)
     × IsUnder S first location
 
--- a core node reads or writes the location: one that its place has, at the node's type, or one of the object that it
--- fills
-abbrev pub NodeTouches : Setting → System → Family → Access → Node → ℕ → Type 0
-NodeTouches w S F access node location =
-    ((p : ℕ) × (place_of access node.kind node.children ≡ Some p)
-    × IsReachedBy S F (Some (type_number (type_of w.trees.types node.ty.0))) (row w.trees w.space p) location)
-    ⊎ ((e : ℕ) × (filled_by access node.kind ≡ Some e) × IsOfEntity w S e location)
+-- a location that the place of a node has, at the type at which the node reads or writes it
+abbrev pub IsAccessed : Setting → System → Family → Access → Node → ℕ → Type 0
+IsAccessed w S F access node location =
+    (p : ℕ) × (place_of access node.kind node.children ≡ Some p)
+    × IsReachedBy S F
+    (Some (type_number (accessed node.kind (type_of w.trees.types node.ty.0))))
+    (row w.trees w.space p)
+    location
+
+-- a location of the object that a node fills
+abbrev pub IsFilled : Setting → System → Access → NodeKind → ℕ → Type 0
+IsFilled w S access kind location = (e : ℕ) × (filled_by access kind ≡ Some e) × IsOfEntity w S e location
+
+-- the core node of number n reads or writes the location: one that its place has, one of the object that it fills, or
+-- one of the arguments that it may take
+abbrev pub NodeTouches : Setting → System → Family → Access → ℕ → Node → ℕ → Type 0
+NodeTouches w S F access n node location =
+    IsAccessed w S F access node location
+    ⊎ (IsFilled w S access node.kind location ⊎ IsTaken w F access n node.kind location)
 
 -- the core node of number n stands in the body of the function of number f, which stands at its entity's location
 pub record IsInBody (w : Setting) (S : System) (f n : ℕ) : Type 0 where
@@ -60,7 +92,7 @@ pub record OwnTouches (w : Setting) (S : System) (F : Family) (access : Access) 
   pub node : Node
   pub there : slice_get w.trees.nodes n ≡ Some node
   pub inside : IsInBody w S f n
-  pub touches : NodeTouches w S F access node location
+  pub touches : NodeTouches w S F access n node location
 
 -- some core node does
 abbrev pub BodyTouches : Setting → System → Family → Access → ℕ → ℕ → Type 0

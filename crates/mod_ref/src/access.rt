@@ -1,6 +1,6 @@
 //! Reads and writes of single core nodes.
 ghost use Rattle.std.specs.Prelude.{◌≡◌, ◌↔◌, IsTrue, slice_get};
-ghost use Rattle.mod_ref.specs.Direct.{IsWrite, filled_by, place_of};
+ghost use Rattle.mod_ref.specs.Direct.{IsWrite, filled_by, place_of, takes_argument};
 
 use core_tree::NodeKind;
 
@@ -39,7 +39,18 @@ pub(crate) fn place_of(access: Access, kind: &NodeKind, children: &[u32]) -> Opt
         (Access::Read, NodeKind::Fetch) => first_of(children),
         (Access::Write, NodeKind::Assign) => first_of(children),
         (_, NodeKind::Update { .. }) => first_of(children),
+        (_, NodeKind::NextArg) => first_of(children),
         _ => None,
+    }
+}
+
+/// Whether a node of a kind reads one of the arguments that its list leads to.
+pub(crate) fn takes_argument(access: Access, kind: &NodeKind) -> bool
+    ensures { result ≡ takes_argument access kind.now }
+{
+    match (access, kind) {
+        (Access::Read, NodeKind::NextArg) => true,
+        _ => false,
     }
 }
 

@@ -1,6 +1,6 @@
 //! Locations that are added to the row of a function.
 ghost use Rattle.std.specs.Prelude.{◌≡◌, ◌↔◌, ◌+◌, ◌≤◌, ◌<◌, ℕ, All, IsFalse, IsTrue, OnOk, Contains, length};
-ghost use Rattle.sol_model.specs.Families.{members};
+ghost use Rattle.sol_model.specs.Families.{Has, members};
 ghost use Rattle.sol_model.specs.Systems.{IsValid, Fits, IsRow, IsLocation, location_count};
 ghost use Rattle.sol_model.specs.Places.{nodes_of};
 ghost use Rattle.mod_ref.specs.Places.{extent_at, IsReached, IsReachedBy, IsUnder};
@@ -117,6 +117,41 @@ fn insert_each(system: &System, touched: &mut Rows, row: u32, ty: Option<u32>, h
     for i in 0..held.len() {
         insert_reached(system, touched, row, ty, held[i]);
     }
+}
+
+/// Adds each of these locations.
+fn insert_all(system: &System, touched: &mut Rows, row: u32, held: &[u32])
+    requires rows { HasRowsFor system.now touched.old }
+    requires row { row < length system.now.functions }
+    requires held { All (IsLocation system.now) held.now }
+    ensures gains { Gains touched.old touched.new (In row (Contains held.now)) }
+    ensures rows { HasRowsFor system.now touched.new }
+{
+    for i in 0..held.len() {
+        insert(system, touched, row, held[i]);
+    }
+}
+
+/// Adds the locations that a row of the solution has.
+pub(crate) fn insert_members(
+    alloc: Global,
+    system: &System,
+    rows: &Rows,
+    touched: &mut Rows,
+    row: u32,
+    from: u32,
+) -> Result<(), OutOfMemory>
+    requires valid { IsValid system.now }
+    requires fits { Fits system.now rows.now }
+    requires rows { HasRowsFor system.now touched.old }
+    requires row { row < length system.now.functions }
+    requires from { IsRow system.now from }
+    ensures gains { OnOk result (Gains touched.old touched.new (In row (Has (members rows.now) from))) }
+    ensures rows { HasRowsFor system.now touched.new }
+{
+    let held = members_of(alloc, system, rows, from)?;
+    insert_all(system, touched, row, held.as_slice());
+    Ok(())
 }
 
 /// Adds what is reached from the locations that a row of the solution has.

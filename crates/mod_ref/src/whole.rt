@@ -76,27 +76,24 @@ fn both(alloc: Global, ground: &Ground<'_>, functions: u32) -> Result<Effects, O
     Ok(Effects { reads, writes })
 }
 
-/// Whether numbers of 32 bits number a program's entities, its types by their tags, and the functions of its system.
+/// Whether numbers of 32 bits number a program's entities, its types by their tags, the functions of its system, and its nodes.
 fn is_numbered(program: &Program, system: &System) -> bool
-    ensures { IsTrue result → (length program.now.entities.items < 2 ^ 32) × (program.now.types.tags + 8 < 2 ^ 32) × (length system.now.functions < 2 ^ 32) }
+    ensures { IsTrue result → (length program.now.entities.items < 2 ^ 32) × (program.now.types.tags + 8 < 2 ^ 32) × (length system.now.functions < 2 ^ 32)
+        × (length program.now.nodes.items < 2 ^ 32) }
 {
     program.entities.len() <= u32::MAX as usize
         && program.types.tag_count() < u32::MAX - 7
         && system.functions.len() <= u32::MAX as usize
-}
-
-/// How many rows a system has.
-fn row_count(system: &System) -> u32
-    ensures { result ≡ system.now.rows }
-{
-    system.rows
+        && program.nodes.len() <= u32::MAX as usize
 }
 
 /// What each function of a program's system may read and write, by the rows that solve it: what its own nodes and its calls of library
-/// functions do, and what all functions do that it calls or has called back. An access at a place reaches the nodes of its type from each
-/// location that the place has, and a library function each node under each location that an argument has, and what it makes. Callees go
-/// first, and functions that call in a ring together, so it takes time by nodes, members of rows, words and calls. The one error is want of
-/// memory: an allocation that failed, or entities, tags or functions past numbers of 32 bits, which take over 2^36 bytes.
+/// functions do, and what all functions do that it calls or has called back. An access at a place reaches the nodes of its type from
+/// each location that the place has, and a library function each node under each location that an argument has, and what it makes.
+/// Taking the next argument of a list reads and writes the list, and reads each location that the list may lead to. Callees go first,
+/// and functions that call in a ring together, so it takes time by nodes, members of rows, words and calls. The one error is want of
+/// memory: an allocation that failed, or nodes, entities, tags or functions past numbers of 32 bits, which take over 2^36 bytes, or
+/// over 2^24 rows, which no valid system of a program with a location has.
 pub fn effects(
     alloc: Global,
     program: &Program,
@@ -113,7 +110,6 @@ pub fn effects(
     if !is_numbered(program, system) {
         return Err(OutOfMemory);
     }
-    let _rows = row_count(system);
     let listed = owners_of(alloc, program)?;
     let owners = listed.as_slice();
     let numbers = first_rows(alloc, program, space)?;

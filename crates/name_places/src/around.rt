@@ -10,16 +10,16 @@ ghost use Rattle.c_senses.specs.World.{World};
 ghost use Rattle.c_senses.specs.Entities as spec;
 ghost use Rattle.c_senses.specs.Statements.{returned_type};
 ghost use Rattle.core_nodes.specs.Standing.{IsReady, Builds};
-ghost use Rattle.c_results.specs.Standing.{senses_made, IsWithin, TypeSeen};
+ghost use Rattle.c_results.specs.Standing.{derivation_seen, derivations_seen, senses_made, IsWithin, TypeSeen};
 ghost use Rattle.tree_reads.specs.Sources.{source_read, source_in};
 ghost use Rattle.name_places.specs.Named.{IsNamedIn};
 
 use crate::levels::{Level, nearest};
-use crate::names::declared_name;
+use crate::names::{declarator_of, declared_name};
 use c_entities::own_type;
-use c_results::Results;
+use c_results::{Derivation, Results};
 use c_types::table::TypeTable;
-use c_types::term::{Term, TypeId};
+use c_types::term::{Form, Term, TypeId};
 use core_nodes::CheckFault;
 use core_tree::node::Unit;
 use std::alloc::Global;
@@ -50,6 +50,56 @@ pub fn function_around(syntax: &Syntax, results: &Results, node: u32) -> Option<
     match nearest(syntax, Level::Definition, node) {
         Some(definition) => defined_name(syntax, results, definition),
         None => None,
+    }
+}
+
+// Whether a step is that of a function that takes arguments past its parameters.
+fn takes_further(step: &Derivation) -> bool
+    ensures { (u : UnitSpec) → result ≡ spec.takes_further (derivation_seen u.types step.now) }
+{
+    match step {
+        Derivation::Returning {
+            form: Form::Variadic,
+            ..
+        } => true,
+        _ => false,
+    }
+}
+
+// Whether a declarator with those steps declares a function that takes arguments past its parameters.
+fn ends_further(steps: &[Derivation]) -> bool
+    ensures { (u : UnitSpec) → result ≡ spec.ends_further (derivations_seen u.types steps.now) }
+{
+    match steps.last() {
+        Some(step) => takes_further(step),
+        None => false,
+    }
+}
+
+// Whether what an external declaration defines takes arguments past its parameters.
+fn is_variadic_definition(syntax: &Syntax, results: &Results, definition: u32) -> bool
+    ensures { (u : UnitSpec) →
+        result ≡ spec.is_variadic_definition (source_read syntax.now) (sense_in (senses_made u results.now)) definition }
+{
+    let Some(node) = child_of(syntax, P_DECLARATOR, definition) else {
+        return false;
+    };
+    match declarator_of(results, node) {
+        Some((_, steps)) => ends_further(steps),
+        None => false,
+    }
+}
+
+/// Whether the function in whose definition a node stands takes arguments past its parameters (C11 6.9.1, 7.16); false outside of
+/// functions. It takes as long as the nesting around the node is deep.
+pub fn is_in_variadic(syntax: &Syntax, results: &Results, node: u32) -> bool
+    requires { node < length syntax.now.tree.now.nodes.items }
+    ensures { (u : UnitSpec) →
+        result ≡ spec.is_in_variadic (source_read syntax.now) (sense_in (senses_made u results.now)) node }
+{
+    match nearest(syntax, Level::Definition, node) {
+        Some(definition) => is_variadic_definition(syntax, results, definition),
+        None => false,
     }
 }
 

@@ -8,8 +8,8 @@ mod lists;
 mod names;
 mod statics;
 
-pub use around::{function_around, own_name, result_of, returned_type};
+pub use around::{function_around, is_in_variadic, own_name, result_of, returned_type};
 pub use declaring::{is_declaring, is_defined_parameter, is_in_for, stands_in_declaration};
-pub use lists::{is_defined_list, is_listed_parameter};
+pub use lists::{closes_list, is_defined_list, is_listed_parameter};
 pub use names::{declared_name, name_in};
 pub use statics::{initialised_by, is_in_static, is_static_object};

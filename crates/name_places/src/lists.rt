@@ -5,7 +5,7 @@ ghost use Rattle.c_senses.specs.World.{World};
 ghost use Rattle.c_senses.specs.Tree.{Source, parent_of};
 ghost use Rattle.c_senses.specs.Sense.{Sense, sense_in};
 ghost use Rattle.c_senses.specs.Declarators as spec;
-ghost use Rattle.c_senses.specs.Entities.{defined_parameter};
+ghost use Rattle.c_senses.specs.Entities.{defined_parameter, is_last_parameter, closes_list};
 ghost use Rattle.c_results.specs.Standing.{derivations_seen, senses_made};
 ghost use Rattle.tree_reads.specs.Sources.{source_read};
 ghost use Rattle.c_entities.specs.PassedOn.{is_definition_of, no_steps};
@@ -13,9 +13,11 @@ ghost use Rattle.c_entities.specs.PassedOn.{is_definition_of, no_steps};
 use crate::levels::is_definition;
 use crate::names::inner;
 use c_results::{Derivation, Results};
-use tree_reads::{Above, Syntax, Test, children_of, first_where, nearest_above};
+use tree_reads::{Above, Syntax, Test, children_of, first_where, last_where, nearest_above};
 
 const P_SUFFIX: u32 = 22;
+
+const P_PARAMETER: u32 = 23;
 
 // Whether there are no derivations.
 fn has_none(steps: &[Derivation]) -> bool
@@ -91,6 +93,31 @@ pub fn is_defined_list(syntax: &Syntax, results: &Results, node: u32) -> bool
         result ≡ spec.is_defined_list w (source_read syntax.now) (sense_in (senses_made u results.now)) node }
 {
     stands_in_definition(syntax, node) && is_next_to_name(syntax, results, node)
+}
+
+// Whether a parameter is the last one of its list.
+fn is_last_parameter(syntax: &Syntax, list: u32, parameter: u32) -> bool
+    ensures { (w : World) (sense : ℕ → Sense) →
+        result ≡ is_last_parameter w (source_read syntax.now) sense list parameter }
+{
+    match last_where(syntax, Test::IsA(P_PARAMETER), children_of(syntax, list)) {
+        Some(last) => last == parameter,
+        None => false,
+    }
+}
+
+/// Whether a parameter is the last one of the list of the function that is defined (C11 6.9.1, 7.16.1.4p4).
+pub fn closes_list(syntax: &Syntax, results: &Results, parameter: u32) -> bool
+    requires { parameter < length syntax.now.tree.now.nodes.items }
+    ensures { (u : UnitSpec) (w : World) →
+        result ≡ closes_list w (source_read syntax.now) (sense_in (senses_made u results.now)) parameter }
+{
+    match syntax.parent_of(parameter) {
+        Some(list) => {
+            is_defined_list(syntax, results, list) && is_last_parameter(syntax, list, parameter)
+        }
+        None => false,
+    }
 }
 
 /// Whether a declarator is that of a parameter in the list of the function that is defined.

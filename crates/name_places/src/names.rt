@@ -61,7 +61,7 @@ fn declarator_made(made: &Made) -> Option<(Option<u32>, &[Derivation])>
 }
 
 // The name and the derivations of the declarator that has been made for a node, if one has been.
-fn declarator_of(results: &Results, node: u32) -> Option<(Option<u32>, &[Derivation])>
+pub(crate) fn declarator_of(results: &Results, node: u32) -> Option<(Option<u32>, &[Derivation])>
     ensures seen { (u : UnitSpec) → DeclaratorSeen u result (declarator_in (sense_in (senses_made u results.now) node)) }
     ensures named { (count : ℕ) →
         All (IsNamedIn count) results.now → IfSome result (λ d. IfSome d.0 (λ leaf. leaf < count)) }

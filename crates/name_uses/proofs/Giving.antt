@@ -19,7 +19,7 @@ use Rattle.c_senses.specs.Conversions.{operand_of}
 use Rattle.c_senses.specs.Operators.{between, number_core, choice_row}
 use Rattle.c_senses.specs.Objects.{name_row, member_row, arrow_row, update_row, call_row, cast_row, size_row, align_row, sized_expression}
 use Rattle.c_senses.specs.Sense.{Sense, IsCore, core_of, value_in, type_of_sense, sense_in, last_of}
-use Rattle.c_senses.specs.Expressions.{as_sense, indexed_core, passed, chained, is_single, binary_row, string_bytes, indexed, dotted, pointed, all_cores, called, counted_after, post_of, post_signed, post_row, prefixed_core, prefixed, sized, aligned, worded, unary_of, unary_row, cast_over, cast_last, cast_of, cast_row_of, conditional_row, assigned_by, assignment_row, is_binary}
+use Rattle.c_senses.specs.Expressions.{as_sense, list_core, indexed_core, passed, chained, is_single, binary_row, string_bytes, indexed, dotted, pointed, all_cores, called, counted_after, post_of, post_signed, post_row, prefixed_core, prefixed, sized, aligned, worded, unary_of, unary_row, cast_over, cast_last, cast_of, cast_row_of, conditional_row, assigned_by, assignment_row, is_binary}
 use Rattle.core_nodes.specs.declared.fault.CheckFault.{CheckFault}
 use Rattle.c_results.specs.declared.made.Made.{Made}
 use Rattle.c_results.specs.Standing.{sense_made, senses_made, Rowed}
@@ -43,7 +43,8 @@ module _ (P : Sense → Type 0) (cores : (c : Core) → P (IsCore c)) where
     passed_gives at (c ∷ rest) = parts c
 
     kind_gives : (at first : ℕ) (rest : List ℕ) (kind : TokenKind) → Gives P (built_primary_of w s sense at first rest kind)
-    kind_gives at first rest Identifier = of_cores (name_row w (place_at s first) at (w.meaning first))
+    kind_gives at first [] Identifier = of_cores (name_row w (place_at s first) at (w.meaning first))
+    kind_gives at first (c ∷ rest) Identifier = of_cores (list_core w s sense at (place_at s first) (spelling_at s first) (all_where (λ i. not (is_leaf s i)) (c ∷ rest)))
     kind_gives at first rest Integer = of_cores (built_integer at (place_at s first) (spelling_at s first))
     kind_gives at first rest (Punctuator p) = passed_gives at rest
     kind_gives at first rest Character = cores (character_core (place_at s first) (spelling_at s first))

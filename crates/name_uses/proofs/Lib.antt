@@ -6,3 +6,4 @@ pub mod Worlds
 pub mod Usual
 pub mod Known
 pub mod PassedOn
+pub mod Further

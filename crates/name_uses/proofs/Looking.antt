@@ -1,5 +1,5 @@
 -- What is looked up, and what a call answers that looks it up.
-use Rattle.std.proofs.Common.{arith, ◌≡◌, ℕ, Bool, true, false, cond, ◌==◌, List, [], ◌∷◌, All, length, get_or, Option, Some, None, Result, Ok, Err, refl, sym, ap, ◌∙◌, subst}
+use Rattle.std.proofs.Common.{arith, ◌≡◌, ℕ, Bool, true, false, cond, ◌==◌, List, [], ◌∷◌, All, length, get_or, drop, ◌<◌, ◌≤◌, Option, Some, None, Result, Ok, Err, refl, sym, ap, ◌∙◌, subst}
 use Rattle.std.specs.Prelude.{◌&&◌}
 use Rattle.std.specs.Option.{option_copied}
 use Rattle.pta_base.specs.declared.kind.Kind.TheVariants.{NotBuilt}
@@ -21,8 +21,9 @@ use Rattle.expression_rows.specs.declared.c_rows.names.Named.{Named}
 use Rattle.expression_rows.specs.c_rows.Named.{NameFits}
 use Rattle.expression_rows.specs.declared.around.Around.{Around}
 use Rattle.expression_rows.specs.Built.{built_row}
-use Rattle.expression_rows.specs.Fitting.{FirstFits, FitsAround}
-use Rattle.name_uses.specs.Built.{is_strange, first_is_strange, names_strangely, named_row}
+use Rattle.expression_rows.specs.c_rows.Lists.{FurtherFits}
+use Rattle.expression_rows.specs.Fitting.{IdentifierFits, FirstFits, FitsAround}
+use Rattle.name_uses.specs.Built.{is_strange, alone_is_strange, first_is_strange, names_strangely, named_row}
 use Rattle.name_uses.specs.Looked.{Looked, NamedUnless}
 
 -- the same of another test, and of what is weaker
@@ -57,26 +58,40 @@ never_refused P u strange at (Unsupported kind node) g e h = let no : true ≡ f
 never_refused P u strange at OutOfMemory g e h = tt
 
 -- a name that stands first in a primary
-pub first_looked : (w : World) (u : Unit) (s : Source) (xs : List ℕ) (at : ℕ) (r : Result Around CheckFault) → false ≡ (length xs == 0) → Identifier ≡ kind_at s (get_or xs 0 0)
+pub first_looked : (w : World) (u : Unit) (s : Source) (sense : ℕ → Sense) (xs : List ℕ) (at : ℕ) (r : Result Around CheckFault) → false ≡ (length xs == 0) → Identifier ≡ kind_at s (get_or xs 0 0)
+    → Looked (IdentifierFits w u s sense (get_or xs 0 0) (drop 1 xs)) (alone_is_strange w s (get_or xs 0 0) (drop 1 xs)) at r
+    → Looked (FirstFits w u s sense xs) (first_is_strange w s xs) at r
+first_looked w u s sense [] at r some kind h = cc
+first_looked w u s sense (x ∷ xs) at r some kind h =
+    looked_on (IdentifierFits w u s sense x xs) (FirstFits w u s sense (x ∷ xs)) (alone_is_strange w s x xs) (first_is_strange w s (x ∷ xs)) at r (λ a fits k. fits)
+    (ap (λ (k : TokenKind). is_identifier k && alone_is_strange w s x xs) kind) h
+
+-- a name alone, and what has parts
+pub alone_looked : (w : World) (u : Unit) (s : Source) (sense : ℕ → Sense) (xs : List ℕ) (at : ℕ) (r : Result Around CheckFault) → 0 < length xs → length xs < 2
     → Looked (λ (a : Around). NameFits w u a.first (option_copied a.own_name) (w.meaning (get_or xs 0 0))) (is_strange (length s.nodes) (w.meaning (get_or xs 0 0))) at r
-    → Looked (FirstFits w u s xs) (first_is_strange w s xs) at r
-first_looked w u s [] at r some kind h = cc
-first_looked w u s (x ∷ xs) at r some kind h =
-    looked_on (λ (a : Around). NameFits w u a.first (option_copied a.own_name) (w.meaning x)) (FirstFits w u s (x ∷ xs)) (is_strange (length s.nodes) (w.meaning x)) (first_is_strange w s (x ∷ xs)) at r (λ a fits k. fits)
-    (ap (λ (k : TokenKind). is_identifier k && is_strange (length s.nodes) (w.meaning x)) kind) h
+    → Looked (IdentifierFits w u s sense (get_or xs 0 0) (drop 1 xs)) (alone_is_strange w s (get_or xs 0 0) (drop 1 xs)) at r
+alone_looked w u s sense [] at r some few h = absurd (omega arith)
+alone_looked w u s sense (x ∷ []) at r some few h = h
+alone_looked w u s sense (x ∷ y ∷ xs) at r some few h = absurd (omega arith)
+
+pub parts_looked : (w : World) (u : Unit) (s : Source) (sense : ℕ → Sense) (xs : List ℕ) (a : Around) → 2 ≤ length xs → FurtherFits w s sense (drop 1 xs) a.further
+    → IdentifierFits w u s sense (get_or xs 0 0) (drop 1 xs) a × (alone_is_strange w s (get_or xs 0 0) (drop 1 xs) ≡ false)
+parts_looked w u s sense [] a more h = absurd (omega arith)
+parts_looked w u s sense (x ∷ []) a more h = absurd (omega arith)
+parts_looked w u s sense (x ∷ y ∷ xs) a more h = (h, refl)
 
 -- what is looked up for a primary, and for what stands behind an operand
-module _ (w : World) (u : Unit) (s : Source) (xs : List ℕ) where
-  by_primary : (at : ℕ) (r : Result Around CheckFault) → Looked (FirstFits w u s xs) (first_is_strange w s xs) at r → Looked (FitsAround w u s p_primary xs) (names_strangely w s p_primary xs) at r
+module _ (w : World) (u : Unit) (s : Source) (sense : ℕ → Sense) (xs : List ℕ) where
+  by_primary : (at : ℕ) (r : Result Around CheckFault) → Looked (FirstFits w u s sense xs) (first_is_strange w s xs) at r → Looked (FitsAround w u s sense p_primary xs) (names_strangely w s p_primary xs) at r
   by_primary at r h =
-      looked_on (FirstFits w u s xs) (FitsAround w u s p_primary xs) (first_is_strange w s xs) (names_strangely w s p_primary xs) at r (λ a fits. record { primary = λ e. fits; post = λ e. absurd (omega (arith, e)) }) refl h
+      looked_on (FirstFits w u s sense xs) (FitsAround w u s sense p_primary xs) (first_is_strange w s xs) (names_strangely w s p_primary xs) at r (λ a fits. record { primary = λ e. fits; post = λ e. absurd (omega (arith, e)) }) refl h
 
-  pub primary_looked : (p at : ℕ) (r : Result Around CheckFault) → p ≡ p_primary → Looked (FirstFits w u s xs) (first_is_strange w s xs) at r → Looked (FitsAround w u s p xs) (names_strangely w s p xs) at r
-  primary_looked p at r e h = subst (λ (q : ℕ). Looked (FitsAround w u s q xs) (names_strangely w s q xs) at r) (sym e) (by_primary at r h)
+  pub primary_looked : (p at : ℕ) (r : Result Around CheckFault) → p ≡ p_primary → Looked (FirstFits w u s sense xs) (first_is_strange w s xs) at r → Looked (FitsAround w u s sense p xs) (names_strangely w s p xs) at r
+  primary_looked p at r e h = subst (λ (q : ℕ). Looked (FitsAround w u s sense q xs) (names_strangely w s q xs) at r) (sym e) (by_primary at r h)
 
-  pub post_looked : (p : ℕ) (a : Around) → p ≡ p_post → w.may_call ≡ a.may_call → FitsAround w u s p xs a × (names_strangely w s p xs ≡ false)
+  pub post_looked : (p : ℕ) (a : Around) → p ≡ p_post → w.may_call ≡ a.may_call → FitsAround w u s sense p xs a × (names_strangely w s p xs ≡ false)
   post_looked p a e calls =
-      subst (λ (q : ℕ). FitsAround w u s q xs a × (names_strangely w s q xs ≡ false)) (sym e) (record { primary = λ e. absurd (omega (arith, e)); post = λ e. calls }, refl)
+      subst (λ (q : ℕ). FitsAround w u s sense q xs a × (names_strangely w s q xs ≡ false)) (sym e) (record { primary = λ e. absurd (omega (arith, e)); post = λ e. calls }, refl)
 
 -- the row over what is looked up
 module _ (w : World) (s : Source) (old mid new : Unit) (rs : List Made) (b : Builds old mid) (all : All (IsWithin old) rs) (p at : ℕ) (xs : List ℕ) (r : Result Made CheckFault) where

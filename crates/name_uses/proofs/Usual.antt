@@ -22,7 +22,7 @@ use Rattle.c_senses.specs.Rows.{world_at, row_of, AreSenses}
 use Rattle.c_senses.specs.Entities.{keep, first_of, last_of, internal_among, is_internal, is_internal_of, entity_of, named_by, has_earlier_length, object_or_function, declared_meaning, is_typedef, own_type, type_behind, enumerated, meaning_of, meaning_at}
 use Rattle.sense_laws.specs.Sound.{Gives}
 use Rattle.sense_laws.proofs.Giving.{if_holds, if_given, then_gives}
-use Rattle.name_uses.specs.Built.{is_int, is_strange, first_is_strange, names_strangely}
+use Rattle.name_uses.specs.Built.{is_int, is_strange, alone_is_strange, first_is_strange, names_strangely}
 
 -- declarations by nodes of a tree of so many
 module _ (n : ℕ) where
@@ -186,7 +186,11 @@ and_false false b e = refl
 -- the name that a primary is
 pub first_usual : (w : World) (s : Source) (children : List ℕ) → ((leaf : ℕ) → is_strange (length s.nodes) (w.meaning leaf) ≡ false) → first_is_strange w s children ≡ false
 first_usual w s [] h = refl
-first_usual w s (first ∷ rest) h = and_false (is_identifier (kind_at s first)) _ (h first)
+first_usual w s (first ∷ rest) h = and_false (is_identifier (kind_at s first)) (alone_is_strange w s first rest) (alone_usual rest)
+  where
+    alone_usual : (rest : List ℕ) → alone_is_strange w s first rest ≡ false
+    alone_usual [] = h first
+    alone_usual (c ∷ rest) = refl
 
 pub names_usual : (w : World) (s : Source) (production : ℕ) (children : List ℕ) → ((leaf : ℕ) → is_strange (length s.nodes) (w.meaning leaf) ≡ false) → names_strangely w s production children ≡ false
 names_usual w s production children h = and_false (production == p_primary) (first_is_strange w s children) (first_usual w s children h)

@@ -4,6 +4,7 @@ use Rattle.c_senses.specs.Tree.{Source, spelling_at}
 use Rattle.c_senses.specs.World.{World}
 use Rattle.c_senses.specs.Sense.{Sense}
 use Rattle.c_senses.specs.Entities.{meaning_at, storage_of, is_automatic_storage, is_in_static, function_around}
+use Rattle.c_senses.specs.Entities.{further_of}
 
 -- in the initialiser of an object that lasts for the whole run no automatic object may be named, and no function
 -- called
@@ -18,3 +19,4 @@ pub record IsWorldAt (w : World) (s : Source) (sense : ℕ → Sense) (i : ℕ) 
   pub may_name : (entity : ℕ) → w.may_name entity ≡ may_name_at s sense i entity
   pub may_call : w.may_call ≡ not (is_in_static s sense i)
   pub own_name : w.own_name ≡ option_map (spelling_at s) (function_around s sense i)
+  pub further : (v : World) (leaf : ℕ) → w.further leaf ≡ further_of v s sense leaf

@@ -21,11 +21,14 @@ is_strange count (Some (Value n)) = not (is_int n)
 is_strange count (Some (Object entity t)) = not (nat_lt entity count)
 is_strange count m = false
 
--- the name that a primary is
+-- the name that a primary is, where nothing stands behind it
+abbrev pub alone_is_strange : World → Source → ℕ → List ℕ → Bool
+alone_is_strange w s first [] = is_strange (length s.nodes) (w.meaning first)
+alone_is_strange w s first (c ∷ rest) = false
+
 abbrev pub first_is_strange : World → Source → List ℕ → Bool
 first_is_strange w s [] = false
-first_is_strange w s (first ∷ rest) =
-    is_identifier (kind_at s first) && is_strange (length s.nodes) (w.meaning first)
+first_is_strange w s (first ∷ rest) = is_identifier (kind_at s first) && alone_is_strange w s first rest
 
 abbrev pub names_strangely : World → Source → ℕ → List ℕ → Bool
 names_strangely w s production children = (production == p_primary) && first_is_strange w s children

@@ -1,6 +1,6 @@
 -- What each kind of node demands: one definition for each row of the table of core nodes.
 use Rattle.std.specs.Prelude.{ℕ, ◌+◌, ◌++◌, ◌&&◌, Bool, true, false, if◌then◌else◌, List, [], ◌∷◌, Option, Some}
-use Rattle.std.specs.Prelude.{None, length, map, slice_get, unwrap_or}
+use Rattle.std.specs.Prelude.{None, length, map, drop, slice_get, unwrap_or}
 use Rattle.c_types.specs.Trees.{Ctype, VoidType, PointerTo, StructureOf, UnionOf}
 use Rattle.c_types.specs.Table.{Table, type_of}
 use Rattle.c_types.specs.Paths.{part_type}
@@ -9,12 +9,14 @@ use Rattle.std.specs.List.{flat_map, range_with_len}
 use Rattle.c_types.specs.declared.term.PathStep.{PathStep}
 use Rattle.c_types.specs.declared.term.PathStep.TheVariants.{Index, Member as MemberStep}
 use Rattle.c_types.specs.declared.key.ObjectKey.TheVariants.{Entity as EntityKey, Text as TextKey}
+use Rattle.c_types.specs.declared.key.ObjectKey.TheVariants.{Varargs as VarargsKey}
 use Rattle.type_rules.specs.Conversions.{result_of}
 use Rattle.core_tree.specs.declared.node.Node.{Node}
 use Rattle.core_tree.specs.declared.node.NodeKind.{NodeKind}
 use Rattle.core_tree.specs.declared.node.NodeKind.TheVariants.{Named, Text, Literal, FunctionName, Deref, Member}
 use Rattle.core_tree.specs.declared.node.NodeKind.TheVariants.{Fetch, AddressOf, Decay, PointerAdd, Convert, Upcast}
 use Rattle.core_tree.specs.declared.node.NodeKind.TheVariants.{Assign, Update, Choose, Sequence, MemberOfValue}
+use Rattle.core_tree.specs.declared.node.NodeKind.TheVariants.{CallNode, VarArgs, NextArg}
 use Rattle.core_tree.specs.declared.node.NodeKind.TheVariants.{Return, Initialise}
 use Rattle.core_tree.specs.Typed.{CoreTrees, type_at}
 use Rattle.obj_space.specs.View.{SpaceView}
@@ -24,7 +26,8 @@ use Rattle.row_numbers.specs.Kept.{nodes_of, member_node, kept, kept_row}
 use Rattle.row_numbers.specs.Numbers.{type_number}
 use Rattle.row_numbers.specs.Objects.{location_of}
 use Rattle.row_numbers.specs.Functions.{number_of, key_id, key_type}
-use Rattle.row_numbers.specs.Setting.{Setting, row, result_row}
+use Rattle.row_numbers.specs.Setting.{Setting, row, list_row, rest_row, result_row}
+use Rattle.call_sites.specs.Calls.{variadic_count}
 
 -- the row of a place or of a pointer, and the first row of any other value
 abbrev pub row_in : Setting → ℕ → ℕ
@@ -138,6 +141,32 @@ abbrev pub member_of_value_row : Setting → ℕ → ℕ → Ctype → List ℕ 
 member_of_value_row w n k t (v ∷ []) = part_of_value w n k t (type_at w.trees v) v
 member_of_value_row w n k t children = []
 
+-- the list of what a function is passed past its parameters (7.16.1.4): its object
+abbrev pub varargs_row : Setting → ℕ → ℕ → List Assignment
+varargs_row w n e = Address (row_in w n) (unwrap_or (w.space.first (VarargsKey e)) 0) ∷ []
+
+-- the next argument of a list (7.16.1.1): the list at the place may be some functions' objects, and a pointer is what
+-- these have
+abbrev pub next_arg_row : Setting → ℕ → Ctype → List ℕ → List Assignment
+next_arg_row w n t (p ∷ []) =
+    Load (list_row w.trees w.space n) (row_in w p) 7 0
+    ∷ loads (type_nodes w t) (row_in w n) (list_row w.trees w.space n) (type_number t)
+next_arg_row w n t children = []
+
+-- a call (6.5.2.2p7): all that is passed past the parameters of a variadic function is in one row
+abbrev pub gathered_row : Setting → ℕ → ℕ → List Assignment
+gathered_row w n v =
+    let nodes = type_nodes w (type_at w.trees v) in
+    map (λ i. Copy (rest_row w.trees w.space n) (kept_row (row_in w v) nodes i)) (kept nodes)
+
+abbrev pub gathered_past : Setting → ℕ → Option ℕ → List ℕ → List Assignment
+gathered_past w n None arguments = []
+gathered_past w n (Some count) arguments = flat_map (gathered_row w n) (drop count arguments)
+
+abbrev pub call_row : Setting → ℕ → List ℕ → List Assignment
+call_row w n (c ∷ arguments) = gathered_past w n (variadic_count (type_at w.trees c)) arguments
+call_row w n [] = []
+
 -- what a function gives
 abbrev pub given_type : Setting → ℕ → Ctype
 given_type w f = result_of (key_type w.trees (EntityKey f))
@@ -216,6 +245,9 @@ value_of_kind w n (Update op post) t children = update_row w n t children
 value_of_kind w n Choose t children = choose_row w n t children
 value_of_kind w n Sequence t children = sequence_row w n t children
 value_of_kind w n (MemberOfValue k) t children = member_of_value_row w n k t children
+value_of_kind w n CallNode t children = call_row w n children
+value_of_kind w n (VarArgs e) t children = varargs_row w n e
+value_of_kind w n NextArg t children = next_arg_row w n t children
 value_of_kind w n kind t children = []
 
 -- the row of each kind of statement

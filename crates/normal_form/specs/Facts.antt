@@ -1,10 +1,11 @@
 -- What a system knows of a program's locations, types and functions.
-use Rattle.std.specs.Prelude.{◌≡◌, ℕ, ◌+◌, ◌==◌, Bool, false, if◌then◌else◌, List, [], ◌++◌, Option, Some, None}
+use Rattle.std.specs.Prelude.{◌≡◌, ℕ, ◌+◌, ◌==◌, Bool, false, if◌then◌else◌, List, [], ◌∷◌, ◌++◌, Option, Some, None}
 use Rattle.std.specs.Prelude.{length, map, replicate, slice_get, unwrap_or}
 use Rattle.std.specs.List.{range_with_len, list_any, AllZip, enumerate_from}
 use Rattle.pta_base.specs.declared.effect.Effect.{Effect}
 use Rattle.c_types.specs.declared.key.ObjectKey.{ObjectKey}
 use Rattle.c_types.specs.declared.key.ObjectKey.TheVariants.{Entity as EntityKey, Function as FunctionKey}
+use Rattle.c_types.specs.declared.key.ObjectKey.TheVariants.{Varargs as VarargsKey}
 use Rattle.c_types.specs.declared.term.Term.{Term}
 use Rattle.c_types.specs.declared.term.Term.TheVariants.{Union}
 use Rattle.c_types.specs.declared.term.MemberTerm.{MemberTerm}
@@ -18,7 +19,7 @@ use Rattle.obj_space.specs.View.{SpaceView}
 use Rattle.row_numbers.specs.Kept.{nodes_of, member_node, kept_at, row_or, row_list}
 use Rattle.lib_summaries.specs.Table.{effects_of}
 use Rattle.row_numbers.specs.Functions.{function_at, number_at, functions_of, key_type, parameters_of}
-use Rattle.row_numbers.specs.Setting.{none_row, result_row, result_nodes}
+use Rattle.row_numbers.specs.Setting.{none_row, result_row, result_nodes, takes_further}
 use Rattle.call_sites.specs.Signatures.{IsSignature, called_type}
 
 -- the number of a function, where there is one
@@ -74,9 +75,14 @@ cell_list none first nodes =
 abbrev pub parameter_rows : CoreTrees → SpaceView → ObjectKey → List ℕ
 parameter_rows u s key = cell_list (none_row u s) (unwrap_or (s.first key) 0) (nodes_of u.types (key_type u key))
 
+-- behind the parameters of a variadic function stands one for all further arguments
+abbrev pub further_rows : CoreTrees → SpaceView → ℕ → List (List ℕ)
+further_rows u s e =
+    if takes_further (key_type u (EntityKey e)) then (unwrap_or (s.first (VarargsKey e)) 0 ∷ []) ∷ [] else []
+
 -- the parameters of a function that the program defines
 abbrev pub parameters_by : CoreTrees → SpaceView → ObjectKey → List (List ℕ)
-parameters_by u s (EntityKey e) = map (parameter_rows u s) (parameters_of u s e)
+parameters_by u s (EntityKey e) = map (parameter_rows u s) (parameters_of u s e) ++ further_rows u s e
 parameters_by u s key = []
 
 abbrev pub library_by : ObjectKey → Option ℕ

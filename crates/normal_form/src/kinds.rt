@@ -1,7 +1,8 @@
 // What each node demands.
 
-ghost use Rattle.std.specs.Prelude.{◌≡◌, ℕ, ◌<◌, ◌^◌, ◌++◌, OnOk, IfOk, All, length, slice_get};
+ghost use Rattle.std.specs.Prelude.{◌≡◌, ℕ, ◌<◌, ◌^◌, ◌++◌, OnOk, IfOk, All, Some, length, slice_get};
 ghost use Rattle.c_types.specs.Table.{type_of};
+ghost use Rattle.core_tree.specs.declared.node.Node.{Node};
 ghost use Rattle.normal_form.specs.Assignments.{place_of_kind, value_of_kind, statement_of_kind, row_of_kind};
 ghost use Rattle.normal_form.specs.Spots.{KindSpotted};
 ghost use Rattle.row_numbers.specs.Frame.{IsFrame, IsNodeIn, setting_in};
@@ -9,8 +10,8 @@ ghost use Rattle.row_numbers.specs.Frame.{IsFrame, IsNodeIn, setting_in};
 use crate::initial::initialised;
 use crate::normal::Assignment;
 use crate::rows::{
-    assigned, chosen, converted, fetched, in_sequence, member, member_of_value, moved, named,
-    passed, returned, text, upcast, updated,
+    assigned, chosen, converted, fetched, further, in_sequence, member, member_of_value, moved,
+    named, next_arg, passed, passed_further, returned, text, upcast, updated,
 };
 use c_types::term::TypeId;
 use core_tree::NodeKind;
@@ -54,6 +55,7 @@ fn value(
 ) -> Result<(), OutOfMemory>
     requires frame { IsFrame frame.now }
     requires node { n < length frame.now.program.now.nodes.items }
+    requires named { (node : Node) × (slice_get frame.now.program.now.nodes.items n ≡ Some node) × (node.kind ≡ kind.now) }
     requires ty { ty.0 < length frame.now.program.now.types.terms }
     requires children { All (IsNodeIn frame.now) children.now }
     ensures { OnOk result (out.new ≡ out.old ++ value_of_kind (setting_in frame.now) n kind.now (type_of frame.now.program.now.types ty.0) children.now) }
@@ -69,6 +71,9 @@ fn value(
         NodeKind::Choose => chosen(alloc, frame, n, ty, children, out),
         NodeKind::Sequence => in_sequence(alloc, frame, n, ty, children, out),
         NodeKind::MemberOfValue(k) => member_of_value(alloc, frame, n, *k, ty, children, out),
+        NodeKind::CallNode => passed_further(alloc, frame, n, children, out),
+        NodeKind::VarArgs(e) => further(frame, n, *e, out),
+        NodeKind::NextArg => next_arg(alloc, frame, n, ty, children, out),
         _ => Ok(()),
     }
 }
@@ -114,6 +119,7 @@ pub(crate) fn demanded(
 ) -> Result<(), OutOfMemory>
     requires frame { IsFrame frame.now }
     requires node { n < length frame.now.program.now.nodes.items }
+    requires named { (node : Node) × (slice_get frame.now.program.now.nodes.items n ≡ Some node) × (node.kind ≡ kind.now) }
     requires ty { ty.0 < length frame.now.program.now.types.terms }
     requires children { All (IsNodeIn frame.now) children.now }
     requires spotted { KindSpotted (setting_in frame.now).trees (setting_in frame.now).space kind.now children.now }

@@ -3,11 +3,13 @@
 ghost use Rattle.std.specs.Prelude.{◌≡◌, ℕ, ◌+◌, ◌<◌, ◌≤◌, ◌^◌, ◌++◌, ◌∷◌, [], Some, OnOk, All, length, slice_get};
 ghost use Rattle.c_types.specs.Table.{type_of};
 ghost use Rattle.core_tree.specs.declared.node.Node.{Node};
+ghost use Rattle.core_tree.specs.declared.node.NodeKind.{NodeKind};
+ghost use Rattle.std.specs.List.{flat_map};
 ghost use Rattle.row_numbers.specs.Numbers.{type_number};
 ghost use Rattle.row_numbers.specs.Kept.{nodes_of};
 ghost use Rattle.normal_form.specs.Each.{made_for, IsSmall};
 ghost use Rattle.row_numbers.specs.Setting.{Setting};
-ghost use Rattle.normal_form.specs.Assignments.{is_pointer, pointed, named_row, text_row, passed_row, moved_row, convert_row, member_row, upcast_row, fetch_row, update_row, assign_row, choose_row, sequence_row, member_of_value_row, is_union_type, part_first, returned_by, return_row};
+ghost use Rattle.normal_form.specs.Assignments.{is_pointer, pointed, named_row, text_row, passed_row, moved_row, convert_row, member_row, upcast_row, fetch_row, update_row, assign_row, choose_row, sequence_row, member_of_value_row, is_union_type, part_first, returned_by, return_row, varargs_row, next_arg_row, gathered_row, call_row};
 ghost use Rattle.row_numbers.specs.Frame.{IsFrame, IsNodeIn, setting_in};
 
 use crate::each::{Each, push_each};
@@ -15,6 +17,7 @@ use crate::normal::Assignment;
 use c_types::key::ObjectKey;
 use c_types::table::TypeTable;
 use c_types::term::{Class, Term, TypeId};
+use call_sites::calls::variadic_count;
 use pta_base::{Listing, OutOfMemory};
 use row_numbers::frame::{Frame, type_at};
 use row_numbers::kept::{kept_before, kept_nodes};
@@ -85,6 +88,148 @@ pub(crate) fn text(
         },
         out,
     )
+}
+
+/// The list of what a function is passed past its parameters (C11 7.16.1.4).
+pub(crate) fn further(
+    frame: &Frame<'_>,
+    n: u32,
+    e: u32,
+    out: &mut Listing<Assignment>,
+) -> Result<(), OutOfMemory>
+    requires frame { IsFrame frame.now }
+    requires node { n < length frame.now.program.now.nodes.items }
+    ensures { OnOk result (out.new ≡ out.old ++ varargs_row (setting_in frame.now) n e) }
+{
+    push_one(
+        Assignment::Address {
+            to: frame.row(n),
+            location: frame.space.first(ObjectKey::Varargs(e)).unwrap_or(0),
+        },
+        out,
+    )
+}
+
+// What a list may be, and what the next argument of it is.
+fn next_of(
+    alloc: Global,
+    frame: &Frame<'_>,
+    n: u32,
+    ty: TypeId,
+    p: u32,
+    out: &mut Listing<Assignment>,
+) -> Result<(), OutOfMemory>
+    requires frame { IsFrame frame.now }
+    requires takes { (node : Node) × (slice_get frame.now.program.now.nodes.items n ≡ Some node) × (node.kind ≡ NodeKind.NextArg) }
+    requires ty { ty.0 < length frame.now.program.now.types.terms }
+    requires place { p < length frame.now.program.now.nodes.items }
+    ensures { OnOk result (out.new
+        ≡ out.old ++ next_arg_row (setting_in frame.now) n (type_of frame.now.program.now.types ty.0) (p ∷ [])) }
+{
+    let list = frame.list_row(n);
+    push_one(
+        Assignment::Load {
+            to: list,
+            pointer: frame.row(p),
+            ty: 7,
+            sub: 0,
+        },
+        out,
+    )?;
+    let each = Each::Loads {
+        to: frame.row(n),
+        pointer: list,
+        ty: type_number(&frame.program.types, ty),
+    };
+    push_kept(alloc, &frame.program.types, ty, each, out)
+}
+
+/// The next argument of a list (C11 7.16.1.1).
+pub(crate) fn next_arg(
+    alloc: Global,
+    frame: &Frame<'_>,
+    n: u32,
+    ty: TypeId,
+    children: &[u32],
+    out: &mut Listing<Assignment>,
+) -> Result<(), OutOfMemory>
+    requires frame { IsFrame frame.now }
+    requires takes { (node : Node) × (slice_get frame.now.program.now.nodes.items n ≡ Some node) × (node.kind ≡ NodeKind.NextArg) }
+    requires ty { ty.0 < length frame.now.program.now.types.terms }
+    requires children { All (IsNodeIn frame.now) children.now }
+    ensures { OnOk result (out.new
+        ≡ out.old ++ next_arg_row (setting_in frame.now) n (type_of frame.now.program.now.types ty.0) children.now) }
+{
+    match children {
+        [p] => next_of(alloc, frame, n, ty, *p, out),
+        _ => Ok(()),
+    }
+}
+
+// All rows of an argument go into one.
+fn gathered(
+    alloc: Global,
+    frame: &Frame<'_>,
+    n: u32,
+    v: u32,
+    out: &mut Listing<Assignment>,
+) -> Result<(), OutOfMemory>
+    requires frame { IsFrame frame.now }
+    requires node { n < length frame.now.program.now.nodes.items }
+    requires value { v < length frame.now.program.now.nodes.items }
+    ensures { OnOk result (out.new ≡ out.old ++ gathered_row (setting_in frame.now) n v) }
+{
+    let each = Each::Gathers {
+        location: frame.rest_row(n),
+        from: frame.row(v),
+    };
+    push_kept(alloc, &frame.program.types, type_at(frame, v), each, out)
+}
+
+// All rows of these arguments go into one.
+fn gathered_all(
+    alloc: Global,
+    frame: &Frame<'_>,
+    n: u32,
+    values: &[u32],
+    out: &mut Listing<Assignment>,
+) -> Result<(), OutOfMemory>
+    requires frame { IsFrame frame.now }
+    requires node { n < length frame.now.program.now.nodes.items }
+    requires values { All (IsNodeIn frame.now) values.now }
+    ensures { OnOk result (out.new ≡ out.old ++ flat_map (gathered_row (setting_in frame.now) n) values.now) }
+{
+    for v in values {
+        gathered(alloc, frame, n, *v, out)?;
+    }
+    Ok(())
+}
+
+/// A call of a variadic function (C11 6.5.2.2p7): what is passed past the parameters is in one row.
+pub(crate) fn passed_further(
+    alloc: Global,
+    frame: &Frame<'_>,
+    n: u32,
+    children: &[u32],
+    out: &mut Listing<Assignment>,
+) -> Result<(), OutOfMemory>
+    requires frame { IsFrame frame.now }
+    requires node { n < length frame.now.program.now.nodes.items }
+    requires children { All (IsNodeIn frame.now) children.now }
+    ensures { OnOk result (out.new ≡ out.old ++ call_row (setting_in frame.now) n children.now) }
+{
+    match children {
+        [callee, arguments @ ..] => {
+            match variadic_count(&frame.program.types, type_at(frame, *callee)) {
+                Some(count) => {
+                    let more = &arguments[count.min(arguments.len())..];
+                    gathered_all(alloc, frame, n, more, out)
+                }
+                None => Ok(()),
+            }
+        }
+        [] => Ok(()),
+    }
 }
 
 // A node that has what another one has.

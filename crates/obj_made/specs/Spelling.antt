@@ -92,6 +92,10 @@ abbrev pub entity_name : List (List ℕ) → List Entity → Bool → Entity →
 entity_name units entities true entity = placed_name units (codes "lit") entity.place
 entity_name units entities false entity = declared_in units entities entity entity.linkage
 
+-- what a variadic function is passed past its parameters, by the function's name
+abbrev pub varargs_name : List (List ℕ) → Entity → List ℕ
+varargs_name units function = linked_name units function ++ codes "/..."
+
 -- what a map says of a function and a name: nothing of no local, else whether there are two
 abbrev pub several : ℕ → Option Bool
 several zero = None

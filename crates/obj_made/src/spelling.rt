@@ -55,6 +55,15 @@ fn linked_name(alloc: Global, units: &[Text], entity: &Entity) -> Result<Text, O
     }
 }
 
+/// The name of what a variadic function is passed past its parameters.
+pub fn varargs_name(alloc: Global, units: &[Text], function: &Entity) -> Result<Text, OutOfMemory>
+    ensures { IfOk result (λ name. name ≡ spec.varargs_name units.now function.now) }
+{
+    let owner = linked_name(alloc, units, function)?;
+    let whole = owner.as_str();
+    Ok(Text::of(format!(in alloc; "{whole}/...")?))
+}
+
 // The name of a local's function.
 fn owner_name(
     alloc: Global,

@@ -5,7 +5,7 @@ use Rattle.std.specs.BTreeMap.{BTreeMap, get_by}
 use Rattle.std.specs.Ordering.{nat_cmp, ordering_then}
 use Rattle.c_types.specs.Index.{number_at}
 use Rattle.c_types.specs.declared.key.ObjectKey.{ObjectKey}
-use Rattle.c_types.specs.declared.key.ObjectKey.TheVariants.{Entity, Text, Call, Library, Star, Function}
+use Rattle.c_types.specs.declared.key.ObjectKey.TheVariants.{Entity, Text, Call, Library, Star, Function, Varargs}
 use Rattle.obj_space.specs.declared.location.Location.{Location}
 use Rattle.obj_space.specs.declared.space.Space.TheInside.{Inside}
 
@@ -46,6 +46,7 @@ kind_of (Call n) = 2
 kind_of (Library k) = 3
 kind_of (Star k) = 4
 kind_of (Function k) = 5
+kind_of (Varargs e) = 6
 
 abbrev pub number_of : ObjectKey → ℕ
 number_of (Entity e) = e
@@ -54,6 +55,7 @@ number_of (Call n) = n
 number_of (Library k) = k
 number_of (Star k) = k
 number_of (Function k) = k
+number_of (Varargs e) = e
 
 abbrev pub same_object : ObjectKey → ObjectKey → Bool
 same_object a b = nat_eq (kind_of a) (kind_of b) && nat_eq (number_of a) (number_of b)

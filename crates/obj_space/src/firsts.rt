@@ -26,6 +26,7 @@ fn pair_of(key: ObjectKey) -> (u32, u32)
         ObjectKey::Library(k) => (3, k),
         ObjectKey::Star(k) => (4, k),
         ObjectKey::Function(k) => (5, k),
+        ObjectKey::Varargs(e) => (6, e),
     }
 }
 

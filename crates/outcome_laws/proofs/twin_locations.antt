@@ -6,6 +6,7 @@ pub mod Calls
 pub mod Library
 pub mod Names
 pub mod Made
+pub mod Further
 pub mod Cells
 pub mod Objects
 pub mod Fixed

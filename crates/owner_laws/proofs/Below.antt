@@ -7,7 +7,7 @@ use Rattle.c_grammar.specs.declared.trees.Tree.{Tree}
 use Rattle.c_grammar.specs.Productions.{p_unit, p_external, p_rest, p_declaration, p_declarator, p_block, p_cast, p_unary, p_enumerator, p_post}
 use Rattle.c_grammar.specs.Words.{sign_left_parenthesis}
 use Rattle.c_types.specs.Trees.{Ctype}
-use Rattle.core_tree.specs.declared.node.NodeKind.TheVariants.{Named, Literal, Block, For}
+use Rattle.core_tree.specs.declared.node.NodeKind.TheVariants.{Named, Literal, VarArgs, Block, For}
 use Rattle.c_consts.specs.Core.{Core, Of}
 use Rattle.c_scope.specs.declared.kinds.Declared.{Declared}
 use Rattle.c_senses.specs.Names.{source_of, numbered, ordinary_at, has_linkage, names_type, typing_declarations}
@@ -19,7 +19,7 @@ use Rattle.c_senses.specs.Entities.{all_together, types_of, type_behind, own_typ
 use Rattle.c_senses.specs.Initialised.{opening}
 use Rattle.c_senses.specs.Statements.{is_automatic_object, automatic_name, objects_among, objects_in_rest, objects_declared, objects_in}
 use Rattle.c_senses.specs.Rows.{AreSenses, world_at}
-use Rattle.core_node_laws.specs.near_nodes.Holding.{MeaningGives, OfSense, RowGives, Closed}
+use Rattle.core_node_laws.specs.near_nodes.Holding.{MeaningGives, OfSense, RowGives, Closed, ListsGive}
 use Rattle.core_node_laws.proofs.near_nodes.Nearness.{AllNear, IfNear, all_near, first_near}
 use Rattle.core_node_laws.proofs.near_nodes.All.{near_kept}
 use Rattle.definition_laws.specs.scope_laws.Beneath.{Beneath, part, deeper}
@@ -27,7 +27,7 @@ use Rattle.definition_laws.specs.scope_laws.Scoped.{IsPart, Rooted, ParametersLi
 use Rattle.definition_laws.proofs.scope_laws.Whole.{uses_stay, names_declared_once}
 use Rattle.definition_laws.specs.passed.built_unit_laws.parameter_bodies.PassedOn.{IsGrown}
 use Rattle.definition_laws.proofs.passed.built_unit_laws.parameter_bodies.PassedOn.{in_list, list_in, child_inside, parent_is}
-use Rattle.owner_laws.specs.Owners.{LeftsStand}
+use Rattle.owner_laws.specs.Owners.{LeftsStand, FurtherKnown}
 use Rattle.owner_laws.proofs.Defined.{is_definition, both}
 use Rattle.owner_laws.proofs.Naming.{clash, own_leaf}
 
@@ -108,10 +108,11 @@ module _ (tokens : Tokens) (tree : Tree) (tag_number : ℕ → ℕ) where
     abbrev pub N : ℕ → Type 0
     N i = Near s grown lefts p i
 
-    -- what has no linkage stands below the definition, and what has is a name
+    -- what has no linkage stands below the definition, and what has is a name; a list is that of the function
     abbrev pub Stands : Core → Type 0
     Stands (Of (Named d) place type under) = is_linked s sense d ≡ false → N d
     Stands (Of (Literal d) place type under) = N d
+    Stands (Of (VarArgs d) place type under) = option_map (entity_of s sense) (defined_name s sense p) ≡ Some d
     Stands (Of (Block ds) place type under) = AllNear N ds
     Stands (Of (For ds c a) place type under) = AllNear N ds
     Stands c = ⊤
@@ -247,8 +248,14 @@ module _ (tokens : Tokens) (tree : Tree) (tag_number : ℕ → ℕ) where
             by true more = both_near (objects_declared w s f c) (objects_in w s f rest) (declared_near c h.0) more
             by false more = more
 
-    row_gives : (n : ℕ) → n < length senses → N n → ((c : ℕ) → N c → OfSense s N Stands (sense_in (take n senses) c)) → RowGives Stands (world_at s (take n senses) n) s (sense_in (take n senses)) n (children_at s n)
-    row_gives n lt near each = record {
+    list_gives : FurtherKnown s senses → (n : ℕ) → n < length senses → ListsGive Stands (world_at s (take n senses) n)
+    list_gives further n lt entity function place at type near e =
+        let known = further n entity function lt e in
+        sym (ap (option_map (entity_of s sense)) (around_is s grown lefts p is sense entity (near known.0))) ∙ known.1
+
+    row_gives : FurtherKnown s senses → (n : ℕ) → n < length senses → N n → ((c : ℕ) → N c → OfSense s N Stands (sense_in (take n senses) c)) → RowGives Stands (world_at s (take n senses) n) s (sense_in (take n senses)) n (children_at s n)
+    row_gives further n lt near each = record {
+      lists = list_gives further n lt;
       names = λ leaf h. use_gives (sense_in (take n senses)) leaf ((closed s grown lefts p).parts n leaf h near);
       objects = λ declarator leaf by named paths values fixed. tt;
       initials = λ q above paths values over fixed. tt;
@@ -259,5 +266,5 @@ module _ (tokens : Tokens) (tree : Tree) (tag_number : ℕ → ℕ) where
     }
 
     -- each tree of a node below the definition
-    pub trees_stand : (i : ℕ) → N i → OfSense s N Stands (sense_in senses i)
-    trees_stand i near = near_kept Stands s senses N are (closed s grown lefts p) row_gives i near
+    pub trees_stand : FurtherKnown s senses → (i : ℕ) → N i → OfSense s N Stands (sense_in senses i)
+    trees_stand further i near = near_kept Stands s senses N are (closed s grown lefts p) (row_gives further) i near

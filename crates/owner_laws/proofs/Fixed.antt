@@ -1,12 +1,12 @@
 -- In the initialiser of a static object no local is named.
-use Rattle.std.proofs.Common.{◌≡◌, ℕ, zero, suc, List, [], ◌∷◌, Option, Some, None, All, slice_get, refl, sym, ap, ◌∙◌, subst, ◌⊎◌, inl, inr}
+use Rattle.std.proofs.Common.{◌≡◌, Bool, true, false, ℕ, zero, suc, List, [], ◌∷◌, Option, Some, None, All, slice_get, refl, sym, ap, ◌∙◌, subst, ◌⊎◌, inl, inr}
 use Rattle.std.proofs.lemmas.List.Elements.{All-head, All-tail}
 use Rattle.c_types.specs.Trees.{Ctype}
 use Rattle.c_types.specs.Table.{type_of}
 use Rattle.core_tree.specs.declared.node.Node.{Node}
 use Rattle.core_tree.specs.declared.node.Entity.{Entity}
 use Rattle.core_tree.specs.declared.node.NodeKind.{NodeKind}
-use Rattle.core_tree.specs.declared.node.NodeKind.TheVariants.{Named, Text, Literal, FunctionName, Deref, Member, Number, NullValue, AddressOf, Decay, PointerAdd, Convert, Upcast, Choose, Arith, Initialise}
+use Rattle.core_tree.specs.declared.node.NodeKind.TheVariants.{Named, Text, Literal, FunctionName, Deref, Member, Number, NullValue, AddressOf, Decay, PointerAdd, Convert, Upcast, Choose, Arith, Initialise, VarArgs, Block, For}
 use Rattle.core_tree.specs.Typed.{CoreTrees}
 use Rattle.core_tree.specs.Rows.{RowOf, Has, Initialises, InitialisesIn, InitialisesEntity}
 use Rattle.core_tree.specs.Range.{EachNode, Under, here, below, IsChild, entity_at, listed_by}
@@ -174,47 +174,69 @@ module _ (u : CoreTrees) (rows : InRows u) (fixed : FixedStatics u) (lasting : E
   pub literal_global : (b n : ℕ) (node : Node) (e : ℕ) (entity : Entity) → Under u b n → Starts b → slice_get u.nodes n ≡ Some node → node.kind ≡ Literal e → entity_at u e ≡ Some entity → IsLocal entity.storage → ⊥
   literal_global b n node e entity under start at is there local = none_local (entity_at u e) (literal_static n node e at is (all_down b n under (inl start))) entity there local
 
-  -- no list stands there
+  -- the kinds of nodes that stand there
 
-  listless : (a b : NodeKind) → a ≡ b → listed_by b ≡ [] → listed_by a ≡ []
-  listless a b e h = ap listed_by e ∙ h
+  fixed_kind : NodeKind → Bool
+  fixed_kind (VarArgs o) = false
+  fixed_kind (Block es) = false
+  fixed_kind (For es c a) = false
+  fixed_kind kind = true
 
-  number_listless : (kind : NodeKind) → IsNumber kind → listed_by kind ≡ []
-  number_listless (Number n) h = refl
-  number_listless kind h = absurd h
+  of_kind : (a b : NodeKind) → a ≡ b → fixed_kind b ≡ true → fixed_kind a ≡ true
+  of_kind a b e h = ap fixed_kind e ∙ h
 
-  makes_listless : (kind : NodeKind) → MakesNumber kind → listed_by kind ≡ []
-  makes_listless (Arith op) h = refl
-  makes_listless Choose h = refl
-  makes_listless Convert h = refl
-  makes_listless kind h = absurd h
+  number_kind : (kind : NodeKind) → IsNumber kind → fixed_kind kind ≡ true
+  unfolding fixed_kind
+  number_kind (Number n) h = refl
+  number_kind kind h = absurd h
 
-  initial_listless : (kind : NodeKind) (e : ℕ) → InitialisesEntity kind e → listed_by kind ≡ []
-  initial_listless (Initialise o paths) e h = refl
-  initial_listless kind e h = absurd h
+  makes_kind : (kind : NodeKind) → MakesNumber kind → fixed_kind kind ≡ true
+  unfolding fixed_kind
+  makes_kind (Arith op) h = refl
+  makes_kind Choose h = refl
+  makes_kind Convert h = refl
+  makes_kind kind h = absurd h
 
-  state_listless : (n : ℕ) (node : Node) → slice_get u.nodes n ≡ Some node → State n → listed_by node.kind ≡ []
-  state_listless n node at (inl (o, init, lives)) = initial_listless node.kind o (subst (λ (x : Option Node). InitialisesIn x o) at init)
-  state_listless n node at (inr (inl (plain {node = other} there number))) = listless node.kind other.kind (kind_clash n node other node.kind other.kind at there refl refl) (number_listless other.kind number)
-  state_listless n node at (inr (inl (made {node = other} there makes whole each))) = listless node.kind other.kind (kind_clash n node other node.kind other.kind at there refl refl) (makes_listless other.kind makes)
-  state_listless n node at (inr (inr (inl h))) = by h
+  initial_kind : (kind : NodeKind) (e : ℕ) → InitialisesEntity kind e → fixed_kind kind ≡ true
+  unfolding fixed_kind
+  initial_kind (Initialise o paths) e h = refl
+  initial_kind kind e h = absurd h
+
+  state_kind : (n : ℕ) (node : Node) → slice_get u.nodes n ≡ Some node → State n → fixed_kind node.kind ≡ true
+  unfolding fixed_kind
+  state_kind n node at (inl (o, init, lives)) = initial_kind node.kind o (subst (λ (x : Option Node). InitialisesIn x o) at init)
+  state_kind n node at (inr (inl (plain {node = other} there number))) = of_kind node.kind other.kind (kind_clash n node other node.kind other.kind at there refl refl) (number_kind other.kind number)
+  state_kind n node at (inr (inl (made {node = other} there makes whole each))) = of_kind node.kind other.kind (kind_clash n node other node.kind other.kind at there refl refl) (makes_kind other.kind makes)
+  state_kind n node at (inr (inr (inl h))) = by h
     where
-      by : FixedPointer u n → listed_by node.kind ≡ []
-      by (null (x, there, kind, children)) = listless node.kind NullValue (kind_clash n node x node.kind NullValue at there refl kind) refl
-      by (address (x, there, kind, children) h) = listless node.kind AddressOf (kind_clash n node x node.kind AddressOf at there refl kind) refl
-      by (decay (x, there, kind, children) h) = listless node.kind Decay (kind_clash n node x node.kind Decay at there refl kind) refl
-      by (upcast (x, there, kind, children) h) = listless node.kind Upcast (kind_clash n node x node.kind Upcast at there refl kind) refl
-      by (converted (x, there, kind, children) p h) = listless node.kind Convert (kind_clash n node x node.kind Convert at there refl kind) refl
-      by (moved {minus = minus} (x, there, kind, children) h k) = listless node.kind (PointerAdd minus) (kind_clash n node x node.kind (PointerAdd minus) at there refl kind) refl
-  state_listless n node at (inr (inr (inr h))) = by h
+      by : FixedPointer u n → fixed_kind node.kind ≡ true
+      by (null (x, there, kind, children)) = of_kind node.kind NullValue (kind_clash n node x node.kind NullValue at there refl kind) refl
+      by (address (x, there, kind, children) h) = of_kind node.kind AddressOf (kind_clash n node x node.kind AddressOf at there refl kind) refl
+      by (decay (x, there, kind, children) h) = of_kind node.kind Decay (kind_clash n node x node.kind Decay at there refl kind) refl
+      by (upcast (x, there, kind, children) h) = of_kind node.kind Upcast (kind_clash n node x node.kind Upcast at there refl kind) refl
+      by (converted (x, there, kind, children) p h) = of_kind node.kind Convert (kind_clash n node x node.kind Convert at there refl kind) refl
+      by (moved {minus = minus} (x, there, kind, children) h k) = of_kind node.kind (PointerAdd minus) (kind_clash n node x node.kind (PointerAdd minus) at there refl kind) refl
+  state_kind n node at (inr (inr (inr h))) = by h
     where
-      by : FixedPlace u n → listed_by node.kind ≡ []
-      by (text {bytes = bytes} (x, there, kind, children)) = listless node.kind (Text bytes) (kind_clash n node x node.kind (Text bytes) at there refl kind) refl
-      by (function {e = o} (x, there, kind, children)) = listless node.kind (FunctionName o) (kind_clash n node x node.kind (FunctionName o) at there refl kind) refl
-      by (object {e = o} (x, there, kind, children) static) = listless node.kind (Named o) (kind_clash n node x node.kind (Named o) at there refl kind) refl
-      by (literal {e = o} (x, there, kind, children) static) = listless node.kind (Literal o) (kind_clash n node x node.kind (Literal o) at there refl kind) refl
-      by (member {k = k} (x, there, kind, children) h) = listless node.kind (Member k) (kind_clash n node x node.kind (Member k) at there refl kind) refl
-      by (target (x, there, kind, children) h) = listless node.kind Deref (kind_clash n node x node.kind Deref at there refl kind) refl
+      by : FixedPlace u n → fixed_kind node.kind ≡ true
+      by (text {bytes = bytes} (x, there, kind, children)) = of_kind node.kind (Text bytes) (kind_clash n node x node.kind (Text bytes) at there refl kind) refl
+      by (function {e = o} (x, there, kind, children)) = of_kind node.kind (FunctionName o) (kind_clash n node x node.kind (FunctionName o) at there refl kind) refl
+      by (object {e = o} (x, there, kind, children) static) = of_kind node.kind (Named o) (kind_clash n node x node.kind (Named o) at there refl kind) refl
+      by (literal {e = o} (x, there, kind, children) static) = of_kind node.kind (Literal o) (kind_clash n node x node.kind (Literal o) at there refl kind) refl
+      by (member {k = k} (x, there, kind, children) h) = of_kind node.kind (Member k) (kind_clash n node x node.kind (Member k) at there refl kind) refl
+      by (target (x, there, kind, children) h) = of_kind node.kind Deref (kind_clash n node x node.kind Deref at there refl kind) refl
+
+  -- so no list of objects, and no list of a function's further arguments
+
+  listless : (kind : NodeKind) → fixed_kind kind ≡ true → listed_by kind ≡ []
+  unfolding fixed_kind
+  listless (Block es) h = cc
+  listless (For es c a) h = cc
+  listless kind h = refl
 
   pub no_list : (b n : ℕ) (node : Node) → Under u b n → Starts b → slice_get u.nodes n ≡ Some node → listed_by node.kind ≡ []
-  no_list b n node under start at = state_listless n node at (all_down b n under (inl start))
+  no_list b n node under start at = listless node.kind (state_kind n node at (all_down b n under (inl start)))
+
+  pub list_global : (b n : ℕ) (node : Node) (e : ℕ) → Under u b n → Starts b → slice_get u.nodes n ≡ Some node → node.kind ≡ VarArgs e → ⊥
+  unfolding fixed_kind
+  list_global b n node e under start at is = let never : false ≡ true = sym (ap fixed_kind is) ∙ state_kind n node at (all_down b n under (inl start)) in cc

@@ -2,7 +2,7 @@
 use Rattle.std.proofs.Common.{◌≡◌, ℕ, zero, suc, List, [], ◌∷◌, Some, slice_get, refl, ◌∙◌, subst}
 use Rattle.core_tree.specs.declared.node.Unit.{Unit}
 use Rattle.core_tree.specs.declared.node.NodeKind.{NodeKind}
-use Rattle.core_tree.specs.declared.node.NodeKind.TheVariants.{Named, FunctionName, Literal, Initialise, Block, For}
+use Rattle.core_tree.specs.declared.node.NodeKind.TheVariants.{Named, FunctionName, Literal, VarArgs, Initialise, Block, For}
 use Rattle.core_tree.specs.Typed.{trees_of}
 use Rattle.core_tree.specs.Range.{Under, here, below, IsChild}
 use Rattle.core_tree.proofs.Climb.{child_has}
@@ -44,6 +44,7 @@ named_is m (Literal d) other e h is = absurd (let f : SameKind m (Literal d) (Na
 named_is m (Initialise d paths) other e h is = absurd (let f : SameKind m (Initialise d paths) (Named e) = subst (λ (k : NodeKind). SameKind m (Initialise d paths) k) is h in cc)
 named_is m (Block ds) other e h is = absurd (let f : SameKind m (Block ds) (Named e) = subst (λ (k : NodeKind). SameKind m (Block ds) k) is h in cc)
 named_is m (For ds c a) other e h is = absurd (let f : SameKind m (For ds c a) (Named e) = subst (λ (k : NodeKind). SameKind m (For ds c a) k) is h in cc)
+named_is m (VarArgs d) other e h is = absurd (let f : SameKind m (VarArgs d) (Named e) = subst (λ (k : NodeKind). SameKind m (VarArgs d) k) is h in cc)
 named_is m kind other e h is = absurd (let f : kind ≡ Named e = h ∙ is in cc)
 
 pub literal_is : (m : Numbering) (kind other : NodeKind) (e : ℕ) → SameKind m kind other → other ≡ Literal e → (d : ℕ) × (kind ≡ Literal d) × (m d ≡ Some e)
@@ -53,4 +54,15 @@ literal_is m (Named d) other e h is = absurd (let f : SameKind m (Named d) (Lite
 literal_is m (Initialise d paths) other e h is = absurd (let f : SameKind m (Initialise d paths) (Literal e) = subst (λ (k : NodeKind). SameKind m (Initialise d paths) k) is h in cc)
 literal_is m (Block ds) other e h is = absurd (let f : SameKind m (Block ds) (Literal e) = subst (λ (k : NodeKind). SameKind m (Block ds) k) is h in cc)
 literal_is m (For ds c a) other e h is = absurd (let f : SameKind m (For ds c a) (Literal e) = subst (λ (k : NodeKind). SameKind m (For ds c a) k) is h in cc)
+literal_is m (VarArgs d) other e h is = absurd (let f : SameKind m (VarArgs d) (Literal e) = subst (λ (k : NodeKind). SameKind m (VarArgs d) k) is h in cc)
 literal_is m kind other e h is = absurd (let f : kind ≡ Literal e = h ∙ is in cc)
+
+pub list_is : (m : Numbering) (kind other : NodeKind) (e : ℕ) → SameKind m kind other → other ≡ VarArgs e → (d : ℕ) × (kind ≡ VarArgs d) × (m d ≡ Some e)
+list_is m (VarArgs d) other e h is = (d, refl, subst (λ (k : NodeKind). SameKind m (VarArgs d) k) is h)
+list_is m (FunctionName d) other e h is = absurd (let f : SameKind m (FunctionName d) (VarArgs e) = subst (λ (k : NodeKind). SameKind m (FunctionName d) k) is h in cc)
+list_is m (Named d) other e h is = absurd (let f : SameKind m (Named d) (VarArgs e) = subst (λ (k : NodeKind). SameKind m (Named d) k) is h in cc)
+list_is m (Literal d) other e h is = absurd (let f : SameKind m (Literal d) (VarArgs e) = subst (λ (k : NodeKind). SameKind m (Literal d) k) is h in cc)
+list_is m (Initialise d paths) other e h is = absurd (let f : SameKind m (Initialise d paths) (VarArgs e) = subst (λ (k : NodeKind). SameKind m (Initialise d paths) k) is h in cc)
+list_is m (Block ds) other e h is = absurd (let f : SameKind m (Block ds) (VarArgs e) = subst (λ (k : NodeKind). SameKind m (Block ds) k) is h in cc)
+list_is m (For ds c a) other e h is = absurd (let f : SameKind m (For ds c a) (VarArgs e) = subst (λ (k : NodeKind). SameKind m (For ds c a) k) is h in cc)
+list_is m kind other e h is = absurd (let f : kind ≡ VarArgs e = h ∙ is in cc)

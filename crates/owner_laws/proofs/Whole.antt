@@ -11,7 +11,7 @@ use Rattle.core_tree.specs.declared.node.Unit.{Unit}
 use Rattle.core_tree.specs.declared.node.Node.{Node}
 use Rattle.core_tree.specs.declared.node.Entity.{Entity}
 use Rattle.core_tree.specs.declared.node.NodeKind.{NodeKind}
-use Rattle.core_tree.specs.declared.node.NodeKind.TheVariants.{Named, Literal}
+use Rattle.core_tree.specs.declared.node.NodeKind.TheVariants.{Named, Literal, VarArgs}
 use Rattle.core_tree.specs.declared.node.Linkage.{Linkage}
 use Rattle.core_tree.specs.declared.node.Linkage.TheVariants.{External, Internal, Local}
 use Rattle.core_tree.specs.declared.node.Storage.{Storage}
@@ -24,7 +24,7 @@ use Rattle.c_consts.specs.Core.{Core, Of}
 use Rattle.c_senses.specs.Names.{source_of, numbered}
 use Rattle.c_senses.specs.Tree.{Source}
 use Rattle.c_senses.specs.Sense.{Sense, IsCore, sense_in}
-use Rattle.c_senses.specs.Entities.{is_internal, is_linked, linkage_of, entity_of, function_around}
+use Rattle.c_senses.specs.Entities.{is_internal, is_linked, linkage_of, entity_of, function_around, defined_name}
 use Rattle.c_senses.specs.Right.{Numbering, Declared as Declares, IsDeclaredAt, SameOwner, declares_entity, entity_type, declared_as, owner_at}
 use Rattle.definition_laws.specs.passed.built_unit_laws.built_units.Built.{IsBuilt}
 use Rattle.sense_laws.proofs.parsed_laws.InOrder.{children_first}
@@ -38,12 +38,12 @@ use Rattle.definition_laws.specs.passed.built_unit_laws.parameter_bodies.PassedO
 use Rattle.definition_laws.proofs.passed.built_unit_laws.parameter_bodies.PassedOn.{Above, above}
 use Rattle.definition_laws.proofs.passed.built_unit_laws.parameter_bodies.Bare.{parameters_bare}
 use Rattle.definition_laws.proofs.passed.built_unit_laws.lasting_literals.Lasting.{literals_last}
-use Rattle.owner_laws.specs.Owners.{LeftsStand, DefinitionsNamed, IsOwnable, OwnersBuilt}
+use Rattle.owner_laws.specs.Owners.{LeftsStand, DefinitionsNamed, FurtherKnown, IsOwnable, OwnersBuilt}
 use Rattle.owner_laws.proofs.Defined.{FunctionTree, function_tree, EntityOf, entity_of_leaf, some_same}
 use Rattle.owner_laws.proofs.Below.{Near, Stands, rooted_of, around_is, trees_stand}
 use Rattle.owner_laws.proofs.Unnamed.{literal_unlinked}
-use Rattle.owner_laws.proofs.Walk.{Stood, stood, under_further, named_is, literal_is}
-use Rattle.owner_laws.proofs.Fixed.{named_global, literal_global}
+use Rattle.owner_laws.proofs.Walk.{Stood, stood, under_further, named_is, literal_is, list_is}
+use Rattle.owner_laws.proofs.Fixed.{named_global, literal_global, list_global}
 
 pub grown_of : (tokens : Tokens) (unit : ℕ) (tree : Tree) (tag_number : ℕ → ℕ) → IsTokens tokens.text.now tokens.list.items → IsUnit tokens unit tree → IsGrown (numbered tag_number (source_of tokens tree))
 grown_of tokens unit tree tag_number cut is = record {
@@ -69,7 +69,7 @@ no_local h = h
 module _
     (tokens : Tokens) (tree : Tree) (tag_number : ℕ → ℕ) (senses : List Sense) (numbering : Numbering) (u : Unit) (grown : IsGrown (numbered tag_number (source_of tokens tree))) (made : IsMade (numbered tag_number (source_of tokens tree)) senses numbering u)
     (once : (c d e : ℕ) → numbering c ≡ Some e → numbering d ≡ Some e → c ≡ d) (listed : ParametersListed tokens tree (numbered tag_number (source_of tokens tree))) (lefts : LeftsStand (numbered tag_number (source_of tokens tree)))
-    (names : DefinitionsNamed (numbered tag_number (source_of tokens tree)) senses) (ownable : IsOwnable u)
+    (names : DefinitionsNamed (numbered tag_number (source_of tokens tree)) senses) (further : FurtherKnown (numbered tag_number (source_of tokens tree)) senses) (ownable : IsOwnable u)
   where
     abbrev pub s : Source
     s = numbered tag_number (source_of tokens tree)
@@ -171,7 +171,7 @@ module _
       A = Stands tokens tree tag_number grown lefts listed senses made.are_senses t.external t.definition
 
       tree_held : OfSense s (Near s grown lefts t.external) A (IsCore t.core)
-      tree_held = subst (λ (x : Sense). OfSense s (Near s grown lefts t.external) A x) t.sensed (trees_stand tokens tree tag_number grown lefts listed senses made.are_senses t.external t.definition t.block (part t.part))
+      tree_held = subst (λ (x : Sense). OfSense s (Near s grown lefts t.external) A x) t.sensed (trees_stand tokens tree tag_number grown lefts listed senses made.are_senses t.external t.definition further t.block (part t.part))
 
       pub node_held : Stood A numbering u n
       node_held = stood A numbering u b n under (t.core, t.stands, tree_held)
@@ -204,6 +204,13 @@ module _
               let told = literal_is numbering kind x.kind e same (ap (λ (y : Node). y.kind) (same_node x own) ∙ is) in
               let near = (subst (λ (k : NodeKind). Holds A (Of k place type children)) told.1 hold).0 in
               owner_in e told.0 told.2 (λ off. near)
+          by (VarArgs e) is (Of kind place type children, (x, own, same, place_is, type_is, under_are), hold) =
+              let told = list_is numbering kind x.kind e same (ap (λ (y : Node). y.kind) (same_node x own) ∙ is) in
+              let named : option_map (entity_of s sense) (defined_name s sense t.external) ≡ Some told.0 = (subst (λ (k : NodeKind). Holds A (Of k place type children)) told.1 hold).0 in
+              let around : function_around s sense t.block ≡ defined_name s sense t.external = around_is s grown lefts t.external t.definition sense t.block (part t.part) in
+              let name : told.0 ≡ t.name = some_same (sym named ∙ (sym (ap (option_map (entity_of s sense)) around) ∙ t.named)) in
+              let one : e ≡ f = some_same (sym told.2 ∙ (ap numbering name ∙ t.numbered)) in
+              subst (λ (k : ℕ). InBody (trees_of u) k n) (sym one) (in_body f b n entity at storage body under)
           by kind is h = tt
 
     -- where a node stands
@@ -275,6 +282,7 @@ module _
         by : (kind : NodeKind) → node.kind ≡ kind → IsInOwner (trees_of u) n kind
         by (Named o) is = name_in o is (entity_at (trees_of u) o) refl
         by (Literal o) is = literal_in o is (entity_at (trees_of u) o) refl
+        by (VarArgs o) is = absurd (list_global (trees_of u) ownable.rows ownable.fixed lasting b n node o under (e, init, lives) there is)
         by kind is = tt
 
     pub in_owner : InOwner (trees_of u)
@@ -285,6 +293,6 @@ module _
         by (in_static e b entity at storage init under) = static_owns n e b entity node there at storage init under
 
 pub owners_built : OwnersBuilt
-owners_built tokens unit tree tag_number name u cut is built listed lefts names ownable =
+owners_built tokens unit tree tag_number name u cut is built listed lefts names further ownable =
     let s : Source = numbered tag_number (source_of tokens tree) in
-    in_owner tokens tree tag_number built.senses built.numbering u (grown_of tokens unit tree tag_number cut is) (made_of s name u built) built.entity_once listed lefts names ownable
+    in_owner tokens tree tag_number built.senses built.numbering u (grown_of tokens unit tree tag_number cut is) (made_of s name u built) built.entity_once listed lefts names further ownable

@@ -1,5 +1,5 @@
 -- Names and literals of locals stand in their owner's body.
-use Rattle.std.specs.Prelude.{ℕ, ◌≡◌, true, List, ◌∷◌, Some, IfSome, option_map}
+use Rattle.std.specs.Prelude.{ℕ, ◌≡◌, ◌<◌, true, false, List, ◌∷◌, length, take, Some, IfSome, option_map}
 use Rattle.c_lexer.specs.declared.Tokens.{Tokens}
 use Rattle.c_lexer.specs.Cut.{IsTokens}
 use Rattle.c_grammar.specs.declared.trees.Tree.{Tree}
@@ -13,8 +13,9 @@ use Rattle.core_tree.specs.Valid.{InRows, Owned, Bodied, FixedStatics, InOwnersB
 use Rattle.link_model.specs.filled_units.Filled.{IsFilled}
 use Rattle.c_senses.specs.Names.{source_of, numbered}
 use Rattle.c_senses.specs.Tree.{Source, is_a, children_at, left_of}
-use Rattle.c_senses.specs.Entities.{entity_of, function_around, is_defined}
+use Rattle.c_senses.specs.Entities.{entity_of, function_around, is_defined, is_linked}
 use Rattle.c_senses.specs.Right.{declares_entity, representative, block_for}
+use Rattle.c_senses.specs.Rows.{world_at}
 use Rattle.c_senses.specs.Sense.{Sense, sense_in}
 use Rattle.definition_laws.specs.scope_laws.Scoped.{IsPart, ParametersListed}
 use Rattle.definition_laws.specs.passed.built_unit_laws.built_units.Built.{IsBuilt}
@@ -36,6 +37,16 @@ DefinitionsNamed s senses =
     → is_defined s (sense_in senses) (representative s senses d) ≡ true
     → block_for s senses (representative s senses d) ≡ Some block
     → option_map (entity_of s (sense_in senses)) (function_around s (sense_in senses) block) ≡ Some d
+
+-- 7.16.1.4: the function that is found for a name as its last parameter is the one around that name, which has no
+-- linkage
+abbrev pub FurtherKnown : Source → List Sense → Type 0
+FurtherKnown s senses =
+    (n leaf function : ℕ)
+    → n < length senses
+    → (world_at s (take n senses) n).further leaf ≡ Some function
+    → (is_linked s (sense_in senses) leaf ≡ false)
+    × (option_map (entity_of s (sense_in senses)) (function_around s (sense_in senses) leaf) ≡ Some function)
 
 -- the initialiser of an automatic object stands in its owner's body
 abbrev pub Forward : CoreTrees → Type 0
@@ -60,5 +71,6 @@ OwnersBuilt =
     → ParametersListed tokens tree (numbered tag_number (source_of tokens tree))
     → LeftsStand (numbered tag_number (source_of tokens tree))
     → DefinitionsNamed (numbered tag_number (source_of tokens tree)) built.senses
+    → FurtherKnown (numbered tag_number (source_of tokens tree)) built.senses
     → IsOwnable u
     → InOwner (trees_of u)

@@ -45,6 +45,76 @@ a.i`a.i`0`int *p; int main(void){return 0;}`pta 1
 set p:
 end
 `~
+a.i`a.i`0`int x,y;
+void f(int n,...){
+__builtin_va_list a;
+__builtin_va_start(a,n);
+int *p=__builtin_va_arg(a,int*);
+__builtin_va_end(a);
+}
+int main(void){
+f(1,&x);
+f(1,&y);
+return 0;}`pta 1
+set f/...: x y
+set f/a: f/...
+set f/p: x y
+edge main f
+end
+`~
+a.i`a.i`4`int x,y;
+void f(int n,...){
+__builtin_va_list a;
+__builtin_va_start(a,a);
+int *p=__builtin_va_arg(a,int*);
+__builtin_va_end(a);
+}
+int main(void){
+f(1,&x);
+f(1,&y);
+return 0;}``a.i:4:1: not accepted operand
+~
+a.i`a.i`0`typedef __builtin_va_list L; int x,y; struct k{L l;int*p;}; L g;
+int*take(L l){return __builtin_va_arg(l,int*);}
+L same(L l){return l;}
+int (*pick(int c,...))(void){L a;__builtin_va_start(a,c);
+L b=a;L d=c?a:b;L e=(0,a);struct k s={a,0};s.l=b;g=a;static L h;h=g;L*q=&a;
+int*p=__builtin_va_arg(*q,int*);L v[2];v[1]=a;p=take(v[1]);p=take(same(s.l));(void)a;e=(L)d;
+unsigned long z=sizeof(L);__builtin_va_end(v[1]);return 0;}
+int main(void){pick(1,&x,&y);return 0;}`pta 1
+set g: pick/...
+set take/l: pick/...
+set same/l: pick/...
+set pick/...: x y
+set pick/a: pick/...
+set pick/b: pick/...
+set pick/d: pick/...
+set pick/e: pick/...
+set pick/s.l: pick/...
+set pick/s.p:
+set pick/h: pick/...
+set pick/q: pick/a
+set pick/p: x y
+set pick/v: pick/...
+edge pick take
+edge pick same
+edge main pick
+end
+`~
+a.i`a.i`0`typedef __builtin_va_list L; int x,y,*s; struct p{int*l;int n;}; void h(L l){s=__builtin_va_arg(l,int*);} void g(int*f,...){L a;L b;__builtin_va_start(a,f);__builtin_va_copy(b,a);h(b);int n=__builtin_va_arg(a,int);} int main(void){struct p q;q.l=&y;void(*w)(int*,...)=g;g(0,&x,1);w(&x,2,q);return 0;}`pta 1
+set s: x y
+set h/l: g/...
+set g/f: x
+set g/...: x y
+set g/a: g/...
+set g/b: g/...
+set main/q.l: y
+set main/w: g
+call a.i:1:282: g
+edge g h
+edge main g
+end
+`~
 a.i`a.i`0`struct i{int*a;int*b;}; struct o{struct i s;int*c[2];}; int x,y,z; struct o m,n; int main(void){m.s.a=&x;m.s.b=&y;m.c[1]=&z;n=m;return 0;}`pta 1
 set m.s.a: x
 set m.s.b: y

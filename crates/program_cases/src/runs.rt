@@ -92,6 +92,41 @@ store malloc@list.i:14:26.word <arg>
 store list.i:head malloc@list.i:14:26
 finished 0
 `~
+--run 1000 a.i`a.i words`0`int x,y;
+void f(int n,...){
+__builtin_va_list a;
+__builtin_va_start(a,n);
+int *p=__builtin_va_arg(a,int*);
+__builtin_va_end(a);
+}
+int main(void){
+f(1,&x);
+f(1,&y);
+return 0;}^`run 1
+store f/... x
+store f/a f/...
+store f/a f/...
+store f/p x
+store f/... y
+store f/a f/...
+store f/a f/...
+store f/p y
+finished 0
+`~
+--run 1000 a.i`a.i words`11`int x,y;
+void f(int n,...){
+__builtin_va_list a;
+__builtin_va_start(a,n);
+int *p=__builtin_va_arg(a,int*);
+__builtin_va_end(a);
+}
+int main(void){
+f(1,2);
+f(1,&y);
+return 0;}^`run 1
+store f/a f/...
+stopped Mismatch a.i:5:8
+`~
 --run 1000001 a.i`a.i words`2`int x,*p; int main(void){p=&x;return 0;}^``usage
 ~
 --run 1 --ask s a.i`a.i s words`2`int x,*p; int main(void){p=&x;return 0;}^^``usage

@@ -126,6 +126,55 @@ a.i b.i c.i`a.i b.i c.i`0`int main(void){return 0;}^void strlen(char*);^void str
 set strlen/s:
 end
 `~
+a.i b.i c.i`a.i b.i c.i`0`int printf(const char *form, ...);
+void say(const char *form, ...);
+static int x;
+int main(int argc, char **argv)
+{
+  int (*out)(const char *, ...) = printf;
+  void (*tell)(const char *, ...) = say;
+  say(\"%\", \"begun\");
+  tell(\"% %\", argv[0], &x);
+  out(\"%p\", (void *)&x);
+  return 0;
+}^typedef __builtin_va_list va_list;
+void vsay(const char *form, va_list rest);
+void say(const char *form, ...)
+{
+  va_list rest;
+  __builtin_va_start(rest, form);
+  vsay(form, rest);
+  __builtin_va_end(rest);
+}^typedef __builtin_va_list va_list;
+static const char *last;
+static void *any;
+void vsay(const char *form, va_list rest)
+{
+  va_list again;
+  __builtin_va_copy(again, rest);
+  last = __builtin_va_arg(rest, const char *);
+  any = __builtin_va_arg(again, void *);
+  __builtin_va_end(again);
+}`pta 1
+set main/argv: <argv>
+set main/out: printf
+set main/tell: say
+set say/form: str@a.i:8:7 str@a.i:9:8
+set say/...: a.i:x str@a.i:8:12 <arg>
+set say/rest: say/...
+set c.i:last: a.i:x str@a.i:8:12 <arg>
+set c.i:any: a.i:x str@a.i:8:12 <arg>
+set vsay/form: str@a.i:8:7 str@a.i:9:8
+set vsay/rest: say/...
+set vsay/again: say/...
+set <argv>: <arg>
+call a.i:9:7: say
+call a.i:10:6: printf
+edge main say
+edge main printf
+edge say vsay
+end
+`~
 --workers 2 a.i b.i`a.i b.i`3`int main(void){^int $;``a.i:1:16: malformed
 ~
 a.i b.i c.i d.i e.i`a.i b.i c.i d.i e.i`0`void f(void); void g(void); int main(void){f();g();return 0;}^static int s; int *p; void f(void){p=&s;}^static int s; extern int *p; int *q; void g(void){q=p;p=&s;}^extern int *q; static int *r; void h(void){r=q;}^static int s; extern int *q; void k(void){q=&s;}`pta 1

@@ -86,7 +86,7 @@ fn rows(rt: HostRuntime) {
     let choice = matches!(item(INIT, 0), Some(Item::Choice(_, ASSIGNMENT)));
     assert!(rt; choice);
     assert!(rt; item(INIT, 1).is_none());
-    assert!(rt; item(252, 0).is_none());
+    assert!(rt; item(258, 0).is_none());
     let notes = Notes::new(rt.alloc());
     assert!(rt; chosen(ASSIGNMENT, INIT, 103, 103, &notes).is_none());
     let refused = refusal(PARAMETER, PLAIN_NAME, 103);

@@ -113,7 +113,7 @@ fn is_shown(alloc: Global, text: &str, wanted: &str) -> Result<bool, Fail> {
 }
 
 // The groups of C11 6.5, written by hand.
-static TREES: [(&str, &str); 23] = [
+static TREES: [(&str, &str); 27] = [
     ("a-b-c", "(a - b - c)"),
     ("-a*b+c", "(((- a) * b) + c)"),
     ("a+b*c<<d", "((a + (b * c)) << d)"),
@@ -138,6 +138,19 @@ static TREES: [(&str, &str); 23] = [
     ("(T){1,2}.m", "(( (T ()) ) { (1 , 2) } (. m))"),
     ("\"x\" \"y\"", "(\"x\" \"y\")"),
     ("(__builtin_va_list)x", "(( (__builtin_va_list ()) ) x)"),
+    (
+        "__builtin_va_arg(a,int)+b",
+        "((__builtin_va_arg ( a , (int ()) )) + b)",
+    ),
+    (
+        "__builtin_va_start(a,(n))",
+        "(__builtin_va_start ( a , (( n )) ))",
+    ),
+    (
+        "__builtin_va_end(a[0])",
+        "(__builtin_va_end ( (a ([ 0 ])) ))",
+    ),
+    ("x.__builtin_va_end", "(x (. __builtin_va_end))"),
     ("!~-+x", "(! (~ (- (+ x))))"),
     (
         "(unsigned long long int)x",
@@ -154,7 +167,7 @@ fn trees(rt: HostRuntime) -> Result<(), Fail> {
 }
 
 // The first token that doesn't fit.
-static FAULTS: [(&str, &str); 19] = [
+static FAULTS: [(&str, &str); 22] = [
     ("a+", "Malformed(2)"),
     ("p=)", "Malformed(2)"),
     ("sizeof )", "Malformed(1)"),
@@ -164,6 +177,9 @@ static FAULTS: [(&str, &str); 19] = [
     ("({1;})", "Unsupported(StatementExpression, 0)"),
     ("__builtin_f(1)", "Unsupported(Builtin, 0)"),
     ("__builtin_va_list", "Unsupported(Builtin, 0)"),
+    ("__builtin_va_start(a)", "Malformed(3)"),
+    ("__builtin_va_end", "Malformed(1)"),
+    ("__builtin_va_arg(a,b)", "Malformed(4)"),
     ("_Generic(1)", "Unsupported(Generic, 0)"),
     ("a=L'a'", "Unsupported(Wide, 2)"),
     ("a='ab'", "Unsupported(Character, 2)"),

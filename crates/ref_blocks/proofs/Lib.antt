@@ -7,3 +7,4 @@ mod Marked
 mod Objects
 mod Ordered
 mod Waits
+mod Counted

@@ -64,6 +64,11 @@ label_target nodes n name =
     (find (λ entry. is_label_named name entry.1.kind && (root_of nodes entry.0 == root_of nodes n))
     (enumerate_from 0 nodes))
 
+-- an item is that of a node that waits
+abbrev pub is_wait_of : ℕ → Item → Bool
+is_wait_of a (Wait n left values) = n == a
+is_wait_of a item = false
+
 -- how many items stand on that one that waits, and it
 abbrev pub items_to : ℕ → List Item → ℕ
 items_to a [] = 0

@@ -5,7 +5,7 @@ ghost use Rattle.core_tree.specs.Seen.{core_of};
 ghost use Rattle.ref_state.specs.declared.items.Item.TheVariants.{Do};
 ghost use Rattle.ref_blocks.specs.Plans.{IsPlan, EndsKnown, blocks_by};
 ghost use Rattle.ref_blocks.specs.Ways.{kind_at, is_label};
-ghost use Rattle.ref_blocks.specs.Jumps.{items_to, is_above, jump, meeting, wait_for, waits_to, blocks_with};
+ghost use Rattle.ref_blocks.specs.Jumps.{is_wait_of, items_to, is_above, jump, meeting, wait_for, waits_to, blocks_with};
 
 use crate::block::Block;
 use crate::blocks::{blocks_around, blocks_on, enter_others, leave_others, push_own};
@@ -22,15 +22,25 @@ use ref_state::items::{Item, Items, wait};
 use ref_state::lists::push;
 use std::alloc::Global;
 
+// Whether an item is that of a node that waits.
+fn is_wait_of(item: &Item, a: u32) -> bool
+    ensures { result ≡ is_wait_of a item.now }
+{
+    match item {
+        Item::Wait { node, .. } => *node == a,
+        Item::Do(_) | Item::Library { .. } | Item::Result(_) => false,
+    }
+}
+
 /// How many items stand on the one of a node that waits, and it.
 pub fn items_to(items: &Items, a: u32) -> usize
     ensures { result ≡ items_to a items.now }
 {
     let mut count = 0;
-    for item in items.as_slice() {
+    for i in 0..items.len() {
         count += 1;
-        if let Item::Wait { node, .. } = item {
-            if *node == a {
+        if let Some(item) = items.from_top(i) {
+            if is_wait_of(item, a) {
                 return count;
             }
         }

@@ -107,9 +107,10 @@ fn enter_kept(
             pend(running.alloc, &mut state.frames, k, n)?;
             Ok(())
         }
-        ObjectKey::Text(_) | ObjectKey::Call(_) | ObjectKey::Library(_) | ObjectKey::Star(_) => {
+        ObjectKey::Text(_) | ObjectKey::Call(_) | ObjectKey::Library(_) => {
             Err(MemFault::Stop(Reason::BadCall))
         }
+        ObjectKey::Star(_) | ObjectKey::Varargs(_) => Err(MemFault::Stop(Reason::BadCall)),
     }
 }
 

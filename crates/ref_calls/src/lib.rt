@@ -4,5 +4,6 @@
 pub mod calls;
 pub mod ending;
 pub mod library;
+pub mod lists;
 pub mod reached;
 pub mod signatures;

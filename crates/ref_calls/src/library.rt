@@ -190,9 +190,10 @@ fn calls_back(
             push(alloc, &mut state.frames, item)?;
             Ok(Notes::none(alloc))
         }
-        ObjectKey::Text(_) | ObjectKey::Call(_) | ObjectKey::Library(_) | ObjectKey::Star(_) => {
+        ObjectKey::Text(_) | ObjectKey::Call(_) | ObjectKey::Library(_) => {
             Err(MemFault::Stop(Reason::BadCall))
         }
+        ObjectKey::Star(_) | ObjectKey::Varargs(_) => Err(MemFault::Stop(Reason::BadCall)),
     }
 }
 

@@ -46,15 +46,15 @@ pub ordered_append : (n : ℕ) (xs ys : CellList) → AllBelow n xs → AllFrom 
 ordered_append n [] ys b f h k = k
 ordered_append n (e ∷ xs) ys b f h k = (before_append e.0 xs ys h.0 (before_from n e.0 ys b.0 f), ordered_append n xs ys b.1 f h.1 k)
 
-prefixed_from : (s : PathStep) (n : ℕ) (xs : CellList) → n ≤ step_key s → AllFrom n (prefixed s xs)
+pub prefixed_from : (s : PathStep) (n : ℕ) (xs : CellList) → n ≤ step_key s → AllFrom n (prefixed s xs)
 prefixed_from s n [] h = tt
 prefixed_from s n (e ∷ xs) h = (h, prefixed_from s n xs h)
 
-prefixed_below : (s : PathStep) (n : ℕ) (xs : CellList) → step_key s < n → AllBelow n (prefixed s xs)
+pub prefixed_below : (s : PathStep) (n : ℕ) (xs : CellList) → step_key s < n → AllBelow n (prefixed s xs)
 prefixed_below s n [] h = tt
 prefixed_below s n (e ∷ xs) h = (h, prefixed_below s n xs h)
 
-below_append : (n : ℕ) (xs ys : CellList) → AllBelow n xs → AllBelow n ys → AllBelow n (xs ++ ys)
+pub below_append : (n : ℕ) (xs ys : CellList) → AllBelow n xs → AllBelow n ys → AllBelow n (xs ++ ys)
 below_append n [] ys h k = k
 below_append n (e ∷ xs) ys h k = (h.0, below_append n xs ys h.1 k)
 
@@ -62,7 +62,7 @@ from_append : (n : ℕ) (xs ys : CellList) → AllFrom n xs → AllFrom n ys →
 from_append n [] ys h k = k
 from_append n (e ∷ xs) ys h k = (h.0, from_append n xs ys h.1 k)
 
-below_more : (m n : ℕ) (xs : CellList) → m ≤ n → AllBelow m xs → AllBelow n xs
+pub below_more : (m n : ℕ) (xs : CellList) → m ≤ n → AllBelow m xs → AllBelow n xs
 below_more m n [] le h = tt
 below_more m n (e ∷ xs) le h = let lt = h.0 in (omega arith, below_more m n xs le h.1)
 

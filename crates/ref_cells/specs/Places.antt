@@ -4,6 +4,7 @@ use Rattle.std.specs.Prelude.{None, Result, Ok, Err, slice_get, All, ⊤, ◌<�
 use Rattle.c_types.specs.declared.term.PathStep.{PathStep}
 use Rattle.c_types.specs.declared.term.PathStep.TheVariants.{Index}
 use Rattle.c_types.specs.declared.term.TypeId.{TypeId}
+use Rattle.c_types.specs.Trees.{VaListType}
 use Rattle.c_types.specs.Trees.{Ctype, BoolType, IntegerType, PointerTo, ArrayOf, StructureOf, UnionOf}
 use Rattle.c_types.specs.Table.{Table}
 use Rattle.c_types.specs.Paths.{part_type}
@@ -44,6 +45,7 @@ is_alike BoolType (IntegerType size rank signed) = size == 1
 is_alike (IntegerType size rank signed) BoolType = size == 1
 is_alike (IntegerType size rank signed) (IntegerType other r g) = size == other
 is_alike (PointerTo a) (PointerTo b) = true
+is_alike VaListType VaListType = true
 is_alike (StructureOf a) (StructureOf b) = a == b
 is_alike (UnionOf a) (UnionOf b) = a == b
 is_alike a b = false

@@ -88,7 +88,7 @@ fn is_integer_of(types: &TypeTable, ty: TypeId, size: u8) -> bool
 }
 
 // Whether two types are scalars of one class, or one structure or union.
-fn is_alike(types: &TypeTable, found: TypeId, ty: TypeId) -> bool
+pub fn is_alike(types: &TypeTable, found: TypeId, ty: TypeId) -> bool
     requires found { found.0 < length types.now.terms }
     requires ty { ty.0 < length types.now.terms }
     ensures { result ≡ is_alike (type_of types.now found.0) (type_of types.now ty.0) }
@@ -101,6 +101,7 @@ fn is_alike(types: &TypeTable, found: TypeId, ty: TypeId) -> bool
         },
         Term::Integer { size, .. } => is_integer_of(types, ty, *size),
         Term::Pointer(_) => matches!(types.term(ty), Term::Pointer(_)),
+        Term::VaList => matches!(types.term(ty), Term::VaList),
         Term::Structure(tag) => match types.term(ty) {
             Term::Structure(other) => *tag == *other,
             _ => false,

@@ -28,7 +28,8 @@ pub fn is_allocated(key: ObjectKey) -> bool
     match key {
         ObjectKey::Call(_) | ObjectKey::Star(_) => true,
         ObjectKey::Library(object) => object == 2,
-        ObjectKey::Entity(_) | ObjectKey::Text(_) | ObjectKey::Function(_) => false,
+        ObjectKey::Entity(_) | ObjectKey::Text(_) => false,
+        ObjectKey::Function(_) | ObjectKey::Varargs(_) => false,
     }
 }
 
@@ -39,7 +40,8 @@ pub fn is_heap(key: ObjectKey) -> bool
     match key {
         ObjectKey::Call(_) | ObjectKey::Star(_) => true,
         ObjectKey::Library(_) => false,
-        ObjectKey::Entity(_) | ObjectKey::Text(_) | ObjectKey::Function(_) => false,
+        ObjectKey::Entity(_) | ObjectKey::Text(_) => false,
+        ObjectKey::Function(_) | ObjectKey::Varargs(_) => false,
     }
 }
 

@@ -44,7 +44,8 @@ fn is_object(position: u32, key: ObjectKey) -> bool
     match key {
         ObjectKey::Library(other) => other == position,
         ObjectKey::Call(_) | ObjectKey::Star(_) => false,
-        ObjectKey::Entity(_) | ObjectKey::Text(_) | ObjectKey::Function(_) => false,
+        ObjectKey::Entity(_) | ObjectKey::Text(_) => false,
+        ObjectKey::Function(_) | ObjectKey::Varargs(_) => false,
     }
 }
 

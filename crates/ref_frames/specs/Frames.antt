@@ -1,9 +1,11 @@
 -- Functions are entered and left, and the program ends (C11 5.1.2.2.3, 6.9.1p10).
 use Rattle.std.specs.Prelude.{ℕ, ◌+◌, ◌&&◌, ℤ, pos, Bool, true, false, if◌then◌else◌, List, [], ◌∷◌, ◌++◌, Option}
-use Rattle.std.specs.Prelude.{Some, None, Result, Ok, Err, length, slice_get}
+use Rattle.std.specs.Prelude.{Some, None, Result, Ok, Err, length, drop, slice_get}
 use Rattle.std.specs.List.{range_with_len}
 use Rattle.c_types.specs.declared.key.ObjectKey.{ObjectKey}
-use Rattle.c_types.specs.declared.key.ObjectKey.TheVariants.{Entity as EntityKey}
+use Rattle.c_types.specs.declared.key.ObjectKey.TheVariants.{Entity as EntityKey, Varargs as VarargsKey}
+use Rattle.row_numbers.specs.Setting.{takes_further}
+use Rattle.ref_mem.specs.Arguments.{arguments_object}
 use Rattle.c_types.specs.declared.term.TypeId.{TypeId}
 use Rattle.c_types.specs.Trees.{Ctype, IntegerType, FunctionFrom, Ctypes, NoTypes, MoreTypes}
 use Rattle.c_types.specs.Table.{Table, type_of}
@@ -44,6 +46,15 @@ abbrev pub parameter_objects : CoreTrees → List ObjectKey → List Value → L
 parameter_objects u (key ∷ keys) (value ∷ values) = parameter_object u key value ∷ parameter_objects u keys values
 parameter_objects u keys values = []
 
+-- and the object of what a variadic function is passed past them
+abbrev pub further_objects : Ctype → ℕ → List Value → List Instance
+further_objects t function arguments =
+    if takes_further t then arguments_object (VarargsKey function) arguments ∷ [] else []
+
+abbrev pub entered_objects : CoreTrees → Ctype → ℕ → List ObjectKey → List Value → List Instance
+entered_objects u t function parameters arguments =
+    parameter_objects u parameters arguments ++ further_objects t function (drop (length parameters) arguments)
+
 -- the pointers that instances hold, the first of them of that number
 abbrev pub pointers_from : ℕ → List Instance → List (Cell × Cell)
 pointers_from i [] = []
@@ -83,20 +94,21 @@ abbrev pub called_list : CoreTrees → Entity → Ctypes
 called_list u entity = list_of (called_type (type_of u.types entity.ty.0))
 
 -- a function whose parameters don't have the types of its own list isn't entered
-abbrev pub activation_over : Running → ℕ → Entry → List Value → Ctypes → List ObjectKey → ℕ → Result Activation Reason
-activation_over w count entry arguments types parameters body =
-    if have_types w.trees parameters types
-    then Ok (activation entry count body (parameter_objects w.trees parameters arguments)) else Err Mismatch
+abbrev pub activation_over : Running → ℕ → Entry → List Value → Ctype → List ObjectKey → ℕ → Result Activation Reason
+activation_over w count entry arguments t parameters body =
+    if have_types w.trees parameters (list_of (called_type t))
+    then Ok (activation entry count body (entered_objects w.trees t entry.function parameters arguments))
+    else Err Mismatch
 
-abbrev pub activation_by : Running → ℕ → Entry → List Value → Ctypes → Option ℕ → Result Activation Reason
-activation_by w count entry arguments types None = Err Mismatch
-activation_by w count entry arguments types (Some body) =
-    activation_over w count entry arguments types (parameters_of w.trees (view_of w.space) entry.function) body
+abbrev pub activation_by : Running → ℕ → Entry → List Value → Ctype → Option ℕ → Result Activation Reason
+activation_by w count entry arguments t None = Err Mismatch
+activation_by w count entry arguments t (Some body) =
+    activation_over w count entry arguments t (parameters_of w.trees (view_of w.space) entry.function) body
 
 abbrev pub activation_of : Running → ℕ → Entry → List Value → Option Entity → Result Activation Reason
 activation_of w count entry arguments None = Err Mismatch
 activation_of w count entry arguments (Some entity) =
-    activation_by w count entry arguments (called_list w.trees entity) entity.body
+    activation_by w count entry arguments (type_of w.trees.types entity.ty.0) entity.body
 
 -- a function that is entered with these arguments, in a memory of so many instances
 unfoldable pub entered : Running → ℕ → Entry → List Value → Result Activation Reason

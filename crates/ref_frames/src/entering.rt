@@ -1,10 +1,11 @@
 // A function is entered.
 
-ghost use Rattle.std.specs.Prelude.{◌≡◌, ◌+◌, ◌<◌, ◌∷◌, ◌++◌, IfOk, OnOk, OnErr, All, length, map, slice_get};
+ghost use Rattle.std.specs.Prelude.{◌≡◌, ◌+◌, ◌<◌, ◌^◌, ◌∷◌, ◌++◌, IfOk, OnOk, OnErr, All, length, map, slice_get};
 ghost use Rattle.std.specs.Option.{option_map};
 ghost use Rattle.std.specs.List.{range_with_len};
 ghost use Rattle.c_types.specs.declared.key.ObjectKey.{ObjectKey};
 ghost use Rattle.c_types.specs.Trees.{trees_at};
+ghost use Rattle.c_types.specs.Table as spec;
 ghost use Rattle.c_types.specs.Table.{type_of, types_of};
 ghost use Rattle.core_tree.specs.Range.{InRange};
 ghost use Rattle.core_tree.specs.Seen.{core_of};
@@ -12,7 +13,7 @@ ghost use Rattle.row_numbers.specs.Functions.{key_id};
 ghost use Rattle.call_sites.specs.Signatures.{called_type};
 ghost use Rattle.ref_cells.specs.Answers.{Gives};
 ghost use Rattle.ref_frames.specs.Made.{IsRunning, seen};
-ghost use Rattle.ref_frames.specs.Frames.{entered, is_typed, have_types, list_of, parameter_object, parameter_objects, pointers_from};
+ghost use Rattle.ref_frames.specs.Frames.{entered, entered_objects, is_typed, have_types, list_of, parameter_object, parameter_objects, pointers_from};
 
 use crate::running::Running;
 use c_types::key::ObjectKey;
@@ -24,9 +25,11 @@ use ref_cells::cells::{Cell, MemFault, Reason, Value};
 use ref_cells::instance::Instance;
 use ref_elements::outcome::pointers_in;
 use ref_elements::parts::same_type;
+use ref_mem::arguments::arguments_object;
 use ref_mem::memory::Memory;
 use ref_state::frames::{Frame, Frames};
 use ref_state::items::{Item, Items};
+use row_numbers::numbering::takes_further;
 use std::alloc::Global;
 
 /// How a function is entered: by the call at a node, or by a library function of that number, or as main.
@@ -151,6 +154,30 @@ fn parameter_objects(
     Ok(fresh)
 }
 
+// The objects of parameters, and that of what a variadic function is passed past them.
+fn entered_objects(
+    alloc: Global,
+    trees: &Trees<'_>,
+    ty: TypeId,
+    function: u32,
+    parameters: &[u32],
+    arguments: &[Value],
+) -> Result<Listing<Instance>, OutOfMemory>
+    requires ty { ty.0 < length trees.now.types.now.terms }
+    requires few { length arguments.now < 2 ^ 63 }
+    ensures { IfOk result (λ fresh. fresh ≡
+        entered_objects (core_of trees.now) (spec.type_of trees.now.types.now ty.0) function
+        (map ObjectKey.Entity parameters.now) arguments.now) }
+{
+    let mut fresh = parameter_objects(alloc, trees, parameters, arguments)?;
+    if takes_further(trees.types, ty) {
+        let own = parameters.len().min(arguments.len());
+        let key = ObjectKey::Varargs(function);
+        fresh.push(arguments_object(alloc, key, &arguments[own..])?)?;
+    }
+    Ok(fresh)
+}
+
 // More pairs behind others.
 fn push_all(
     list: Listing<(Cell, Cell)>,
@@ -231,7 +258,14 @@ pub fn entered(
     if !are_listed(&running.trees, entity.ty, parameters) {
         return Err(MemFault::Stop(Reason::Mismatch));
     }
-    let fresh = parameter_objects(alloc, &running.trees, parameters, arguments)?;
+    let fresh = entered_objects(
+        alloc,
+        &running.trees,
+        entity.ty,
+        entry.function,
+        parameters,
+        arguments,
+    )?;
     let stores = pointers_from(alloc, count, fresh.as_slice())?;
     let instances = numbers_from(alloc, count, fresh.len())?;
     let items = Items::one(alloc, Item::Do(body))?;

@@ -33,7 +33,7 @@ fn is_main(trees: &Trees<'_>, key: ObjectKey) -> bool
     match key {
         ObjectKey::Entity(e) => is_main_at(trees.entities, e),
         ObjectKey::Text(_) | ObjectKey::Call(_) | ObjectKey::Library(_) => false,
-        ObjectKey::Star(_) | ObjectKey::Function(_) => false,
+        ObjectKey::Star(_) | ObjectKey::Function(_) | ObjectKey::Varargs(_) => false,
     }
 }
 

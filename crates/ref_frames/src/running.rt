@@ -38,7 +38,7 @@ fn entity_of(key: ObjectKey) -> Option<u32>
     match key {
         ObjectKey::Entity(e) => Some(e),
         ObjectKey::Text(_) | ObjectKey::Call(_) | ObjectKey::Library(_) => None,
-        ObjectKey::Star(_) | ObjectKey::Function(_) => None,
+        ObjectKey::Star(_) | ObjectKey::Function(_) | ObjectKey::Varargs(_) => None,
     }
 }
 

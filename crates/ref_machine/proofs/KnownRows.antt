@@ -1,5 +1,5 @@
 -- What the top item of a frame does leaves the types of instances those of the table, and their keys.
-use Rattle.std.proofs.Common.{◌≡◌, ℕ, ℤ, ◌<◌, ◌&&◌, Bool, true, false, List, [], ◌∷◌, Option, Some, None, Result, Ok, Err, IfOk, length, slice_get, refl, subst}
+use Rattle.std.proofs.Common.{◌≡◌, ℕ, ℤ, ◌<◌, ◌&&◌, ◌||◌, Bool, true, false, List, [], ◌∷◌, Option, Some, None, Result, Ok, Err, IfOk, length, slice_get, refl, subst}
 use Rattle.std.specs.Prelude.{◌==◌, not, if◌then◌else◌, is_some}
 use Rattle.c_types.specs.declared.term.TypeId.{TypeId}
 use Rattle.c_types.specs.declared.key.ObjectKey.TheVariants.{Entity as EntityKey}
@@ -14,6 +14,7 @@ use Rattle.core_tree.specs.declared.node.NodeKind.TheVariants.{Fetch, AddressOf,
 use Rattle.core_tree.specs.Typed.{CoreTrees, type_at}
 use Rattle.core_tree.specs.Rows.{place_bits}
 use Rattle.core_tree.specs.Range.{InRange}
+use Rattle.ref_cells.specs.Wholes.{is_allocated}
 use Rattle.ref_cells.specs.declared.cells.Cell.{Cell}
 use Rattle.ref_cells.specs.declared.cells.Cell.TheVariants.{Pointer, Number, Null, Function, Unset}
 use Rattle.ref_cells.specs.declared.cells.Reason.{Reason}
@@ -45,6 +46,8 @@ use Rattle.ref_statements.specs.Rows.{Move, Next, Row, changes, computes}
 use Rattle.ref_statements.specs.Statements.{begun_row, finished_row}
 use Rattle.ref_statements.specs.Initialisers.{initialised_at, initialise_by, initialise_row, parts, clears}
 use Rattle.ref_statements.specs.Nodes.{begun_value, begun_initialiser, begun_by, do_in, do_row, picked, first_value, choose_row, operand_at, part_left, operand_row, taken_by, take_row, finish_row, wait_by, wait_in, wait_row}
+use Rattle.ref_calls.specs.declared.lists.Taken.{Taken}
+use Rattle.ref_calls.specs.Lists.{put_back}
 use Rattle.ref_machine.specs.Standing.{IsAfter}
 use Rattle.ref_machine.proofs.Known.{changed_known, followed, left_known}
 use Rattle.ref_machine.proofs.KnownMoves.{Kept, begun_kept, finished_kept}
@@ -93,7 +96,7 @@ module _ (u : CoreTrees) (first : List Instance) (range : InRange u) where
         at None e None known = h
         at None e (Some to) known = h
         at (Some a) e None known = h
-        at (Some a) e (Some to) known = set_kept a (is_some a.ty) to e known
+        at (Some a) e (Some to) known = set_kept a (is_some a.ty || not (is_allocated a.key)) to e known
 
     typed_kept : (cell : Cell) (ty : TypeId) → K (typed_by u.types memory cell ty)
     typed_kept (Pointer i path past) ty =
@@ -123,6 +126,10 @@ module _ (u : CoreTrees) (first : List Instance) (range : InRange u) where
     convert_kept : (a : Ctype) (cell : Cell) (ty : TypeId) (word : ℕ) → KE (convert_row u.types memory a cell ty word)
     unfolding convert_row
     convert_kept a cell ty word = converted_kept a cell ty word (type_of u.types ty.0)
+
+    pub put_back_kept : (t : Ctype) (next : Taken) → KE (put_back u.types memory t next)
+    put_back_kept t next =
+        written_kept next.place t next.list (λ after. stores_and_gives after next.value (stores_at next.place next.list.cells)) (λ m k. k)
 
     assign_kept : (place : Cell) (t : Ctype) (value : Value) → KE (assign_row u.types memory place t value)
     assign_kept place t value =

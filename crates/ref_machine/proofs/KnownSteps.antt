@@ -1,19 +1,23 @@
 -- A step leaves the types of instances those of the machine's table, and their keys.
 use Rattle.std.proofs.Common.{◌≡◌, ℕ, suc, ℤ, ◌+◌, ◌%◌, ◌<◌, Bool, true, false, List, [], ◌∷◌, Option, Some, None, Result, Ok, Err, IfOk, length, slice_get, refl, sym, subst}
-use Rattle.std.specs.Prelude.{find, if◌then◌else◌}
+use Rattle.std.specs.Prelude.{find, drop, if◌then◌else◌}
 use Rattle.std.specs.Option.{option_map}
 use Rattle.std.proofs.lemmas.List.Elements.{All-nil, All-cons, All-append, All-replicate}
 use Rattle.c_types.specs.declared.key.ObjectKey.{ObjectKey}
 use Rattle.c_types.specs.declared.key.ObjectKey.TheVariants.{Entity as EntityKey, Function as FunctionKey, Text as TextKey, Call as CallKey, Library as LibraryKey, Star}
+use Rattle.c_types.specs.declared.key.ObjectKey.TheVariants.{Varargs as VarargsKey}
 use Rattle.c_types.specs.declared.term.TypeId.{TypeId}
-use Rattle.c_types.specs.Trees.{Ctypes}
+use Rattle.c_types.specs.Trees.{Ctype}
 use Rattle.core_tree.specs.declared.node.Entity.{Entity}
 use Rattle.obj_space.specs.declared.location.Location.{Location}
 use Rattle.obj_space.specs.View.{view_of, first_from}
 use Rattle.row_numbers.specs.Objects.{is_library, library_id}
 use Rattle.row_numbers.specs.Functions.{key_id, parameters_of}
+use Rattle.row_numbers.specs.Setting.{takes_further}
+use Rattle.c_types.specs.Table.{type_of}
+use Rattle.ref_mem.specs.Arguments.{arguments_object}
 use Rattle.ref_cells.specs.declared.cells.Cell.{Cell}
-use Rattle.call_sites.specs.Signatures.{at_end}
+use Rattle.call_sites.specs.Signatures.{at_end, called_type}
 use Rattle.ref_cells.specs.declared.cells.Reason.{Reason}
 use Rattle.ref_cells.specs.declared.cells.Reason.TheVariants.{BadCall}
 use Rattle.ref_elements.specs.Types.{same_type}
@@ -42,7 +46,7 @@ use Rattle.ref_frames.specs.declared.entering.Entry.{Entry}
 use Rattle.ref_frames.specs.declared.entering.Activation.{Activation}
 use Rattle.ref_frames.specs.Running.{Running, location_in, element_by, element_type}
 use Rattle.ref_frames.specs.OnTop.{only, on_top}
-use Rattle.ref_frames.specs.Frames.{parameter_object, parameter_objects, activation, activation_over, activation_by, activation_of, entered, called_list, have_types, all_ended, left_with}
+use Rattle.ref_frames.specs.Frames.{parameter_object, parameter_objects, further_objects, entered_objects, list_of, activation, activation_over, activation_by, activation_of, entered, have_types, all_ended, left_with}
 use Rattle.ref_calls.specs.Calls.{signature_of}
 use Rattle.ref_calls.specs.Reached.{reached}
 use Rattle.ref_calls.specs.Library.{object_of, result_in, term_in, performed_as, performed, comparison_of, back_by, goes_by, library_row}
@@ -51,11 +55,15 @@ use Rattle.ref_state.specs.declared.state.StepAnswer.TheVariants.{Went, Finished
 use Rattle.ref_calls.specs.Outcomes.{Outcome, Goes, Ends, Stops, Steps, outcome}
 use Rattle.ref_calls.specs.Ending.{entry_of, enters, but_last, last_of, kept_entered, kept_called, end_step}
 use Rattle.ref_start.specs.Begin.{text_of_word, texts, main_entry, made_by, begun, begins_at, begins_with, begins, begin, main_of}
-use Rattle.ref_machine.specs.Step.{placed, called, call_row, calls, waited, leaves, item_step, outside_step, frames_step, step}
+use Rattle.core_tree.specs.declared.node.Node.{Node}
+use Rattle.core_tree.specs.Typed.{type_at}
+use Rattle.ref_state.specs.Values.{cell_in}
+use Rattle.ref_calls.specs.Lists.{taken, taken_over, taken_at, next_row}
+use Rattle.ref_machine.specs.Step.{placed, called, call_row, calls, takes, waited, leaves, item_step, outside_step, frames_step, step}
 use Rattle.ref_machine.specs.Machines.{IsGrounded}
 use Rattle.ref_machine.specs.Standing.{IsAfter}
 use Rattle.ref_machine.proofs.Known.{after_itself, joined_known, followed, changed_known, ended_known}
-use Rattle.ref_machine.proofs.KnownRows.{do_kept, wait_kept}
+use Rattle.ref_machine.proofs.KnownRows.{do_kept, wait_kept, put_back_kept}
 
 module _ (w : Running) (first : List Instance) (g : IsGrounded w) where
   abbrev KS : Result State Reason → Type 0
@@ -90,6 +98,7 @@ module _ (w : Running) (first : List Instance) (g : IsGrounded w) where
   key_known (CallKey n) = tt
   key_known (LibraryKey n) = tt
   key_known (Star n) = tt
+  key_known (VarargsKey n) = tt
 
   parameters_known : (keys : List ObjectKey) (values : List Value) → AreKnown (length w.trees.types.terms) (parameter_objects w.trees keys values)
   parameters_known [] values = All-nil (λ (inst : Instance). IsKnown (length w.trees.types.terms) inst.ty)
@@ -98,18 +107,32 @@ module _ (w : Running) (first : List Instance) (g : IsGrounded w) where
       All-cons (λ (inst : Instance). IsKnown (length w.trees.types.terms) inst.ty) (parameter_object w.trees key value) (parameter_objects w.trees keys values)
       (key_known key) (parameters_known keys values)
 
-  over_kept : (count : ℕ) (entry : Entry) (values : List Value) (types : Ctypes) (keys : List ObjectKey) (body : ℕ) → KA (activation_over w count entry values types keys body)
-  over_kept count entry values types keys body =
-      either (have_types w.trees keys types) (Ok (activation entry count body (parameter_objects w.trees keys values))) _
-      (λ made. AreKnown (length w.trees.types.terms) made.fresh) (parameters_known keys values) tt
+  further_known : (b : Bool) (key : ObjectKey) (values : List Value)
+      → AreKnown (length w.trees.types.terms) (if b then arguments_object key values ∷ [] else [])
+  further_known true key values =
+      All-cons (λ (inst : Instance). IsKnown (length w.trees.types.terms) inst.ty) (arguments_object key values) []
+      tt (All-nil (λ (inst : Instance). IsKnown (length w.trees.types.terms) inst.ty))
+  further_known false key values = All-nil (λ (inst : Instance). IsKnown (length w.trees.types.terms) inst.ty)
 
-  by_kept : (count : ℕ) (entry : Entry) (values : List Value) (types : Ctypes) (o : Option ℕ) → KA (activation_by w count entry values types o)
-  by_kept count entry values types None = tt
-  by_kept count entry values types (Some body) = over_kept count entry values types (parameters_of w.trees (view_of w.space) entry.function) body
+  objects_known : (t : Ctype) (function : ℕ) (keys : List ObjectKey) (values : List Value)
+      → AreKnown (length w.trees.types.terms) (entered_objects w.trees t function keys values)
+  objects_known t function keys values =
+      All-append (λ (inst : Instance). IsKnown (length w.trees.types.terms) inst.ty) (parameter_objects w.trees keys values)
+      (further_objects t function (drop (length keys) values)) (parameters_known keys values)
+      (further_known (takes_further t) (VarargsKey function) (drop (length keys) values))
+
+  over_kept : (count : ℕ) (entry : Entry) (values : List Value) (t : Ctype) (keys : List ObjectKey) (body : ℕ) → KA (activation_over w count entry values t keys body)
+  over_kept count entry values t keys body =
+      either (have_types w.trees keys (list_of (called_type t))) (Ok (activation entry count body (entered_objects w.trees t entry.function keys values))) _
+      (λ made. AreKnown (length w.trees.types.terms) made.fresh) (objects_known t entry.function keys values) tt
+
+  by_kept : (count : ℕ) (entry : Entry) (values : List Value) (t : Ctype) (o : Option ℕ) → KA (activation_by w count entry values t o)
+  by_kept count entry values t None = tt
+  by_kept count entry values t (Some body) = over_kept count entry values t (parameters_of w.trees (view_of w.space) entry.function) body
 
   of_kept : (count : ℕ) (entry : Entry) (values : List Value) (o : Option Entity) → KA (activation_of w count entry values o)
   of_kept count entry values None = tt
-  of_kept count entry values (Some entity) = by_kept count entry values (called_list w.trees entity) entity.body
+  of_kept count entry values (Some entity) = by_kept count entry values (type_of w.trees.types entity.ty.0) entity.body
 
   entered_kept : (count : ℕ) (entry : Entry) (values : List Value) → KA (entered w count entry values)
   unfolding entered
@@ -143,6 +166,7 @@ module _ (w : Running) (first : List Instance) (g : IsGrounded w) where
   called_kept state f rest n (CallKey k) values h = tt
   called_kept state f rest n (LibraryKey k) values h = tt
   called_kept state f rest n (Star k) values h = tt
+  called_kept state f rest n (VarargsKey k) values h = tt
 
   call_kept : (state : State) (f : Frame) (rest : List Frame) (n : ℕ) (values : List (ℕ × Value)) → IsAfter (length w.trees.types.terms) first state.memory
       → KS (call_row w state f rest n values)
@@ -183,6 +207,7 @@ module _ (w : Running) (first : List Instance) (g : IsGrounded w) where
   back_kept state f rest n by values (CallKey k) h = tt
   back_kept state f rest n by values (LibraryKey k) h = tt
   back_kept state f rest n by values (Star k) h = tt
+  back_kept state f rest n by values (VarargsKey k) h = tt
 
   goes_kept : (state : State) (f : Frame) (rest : List Frame) (n k : ℕ) (value : Value) (stores : List (Cell × Cell)) (next : Next) → IsAfter (length w.trees.types.terms) first state.memory
       → KS (goes_by w state f rest n k value stores next)
@@ -256,6 +281,7 @@ module _ (w : Running) (first : List Instance) (g : IsGrounded w) where
   kept_entered_kept state (CallKey k) n h = tt
   kept_entered_kept state (LibraryKey k) n h = tt
   kept_entered_kept state (Star k) n h = tt
+  kept_entered_kept state (VarargsKey k) n h = tt
 
   outcome_kept : (n : ℕ) (r : Result State Reason) → KS r → KO (outcome n r)
   outcome_kept n (Ok s) h = h
@@ -275,11 +301,34 @@ module _ (w : Running) (first : List Instance) (g : IsGrounded w) where
   placed_kept state rest (Ok next) h = h
   placed_kept state rest (Err reason) h = tt
 
+  next_over_kept : (state : State) (frames : List Frame) (t : Ctype) (children : List ℕ) (values : List (ℕ × Value)) → IsAfter (length w.trees.types.terms) first state.memory
+      → IfOk (taken_over w state.memory frames t children values) (λ (e : Effected). IsAfter (length w.trees.types.terms) first e.memory)
+  next_over_kept state frames t [] values h = tt
+  next_over_kept state frames t (p ∷ []) values h =
+      after_any (taken w state.memory frames (cell_in values p) (type_at w.trees p) t) _ (λ (e : Effected). IsAfter (length w.trees.types.terms) first e.memory)
+      (λ next. put_back_kept w.trees first g.range state.memory h (type_at w.trees p) next)
+  next_over_kept state frames t (p ∷ q ∷ children) values h = tt
+
+  next_at_kept : (state : State) (frames : List Frame) (o : Option Node) (values : List (ℕ × Value)) → IsAfter (length w.trees.types.terms) first state.memory
+      → IfOk (taken_at w state.memory frames o values) (λ (e : Effected). IsAfter (length w.trees.types.terms) first e.memory)
+  next_at_kept state frames None values h = tt
+  next_at_kept state frames (Some node) values h = next_over_kept state frames (type_of w.trees.types node.ty.0) node.children values h
+
+  next_kept : (state : State) (f : Frame) (rest : List Frame) (n : ℕ) (values : List (ℕ × Value)) → IsAfter (length w.trees.types.terms) first state.memory
+      → KS (next_row w state f rest n values)
+  unfolding next_row
+  next_kept state f rest n values h =
+      and_then (taken_at w state.memory (f ∷ rest) (slice_get w.trees.nodes n) values) _
+      (λ (e : Effected). IsAfter (length w.trees.types.terms) first e.memory) (λ (s : State). IsAfter (length w.trees.types.terms) first s.memory)
+      (next_at_kept state (f ∷ rest) (slice_get w.trees.nodes n) values h)
+      (λ e known. known)
+
   waited_kept : (state : State) (f : Frame) (rest : List Frame) (n : ℕ) (operands : List ℕ) (values : List (ℕ × Value)) (word : ℕ) → IsAfter (length w.trees.types.terms) first state.memory
       → KS (waited w state f rest n operands values word)
   waited_kept state f rest n operands values word h =
       either (calls w.trees n operands) _ _ (λ (s : State). IsAfter (length w.trees.types.terms) first s.memory) (call_kept state f rest n values h)
-      (placed_kept state rest (wait_row w.trees state.memory f n operands values word) (wait_kept w.trees first g.range state.memory h f n operands values word))
+      (either (takes w.trees n operands) _ _ (λ (s : State). IsAfter (length w.trees.types.terms) first s.memory) (next_kept state f rest n values h)
+      (placed_kept state rest (wait_row w.trees state.memory f n operands values word) (wait_kept w.trees first g.range state.memory h f n operands values word)))
 
   item_kept : (state : State) (f : Frame) (rest : List Frame) (items : List Item) (word : ℕ) → IsAfter (length w.trees.types.terms) first state.memory
       → KO (item_step w state f rest items word)

@@ -28,7 +28,8 @@ use Rattle.ref_statements.specs.Rows.{Row}
 use Rattle.ref_statements.specs.Nodes.{wait_row}
 use Rattle.ref_calls.specs.declared.reached.Target.{Target}
 use Rattle.ref_calls.specs.Reached.{reached}
-use Rattle.ref_machine.specs.Step.{top_items, placed, is_direct, target_of, noted, called, call_row, is_call_at, calls, waited}
+use Rattle.ref_calls.specs.Lists.{next_row}
+use Rattle.ref_machine.specs.Step.{top_items, placed, is_direct, target_of, noted, called, call_row, is_call_at, calls, takes, waited}
 
 some_one : {X : Type 0} (x y : X) → ◌≡◌ {A = Option X} (Some x) (Some y) → x ≡ y
 some_one x y h = cc
@@ -135,12 +136,23 @@ module _ (w : Running) (st : State) (f : Frame) (rest : List Frame) (n : ℕ) wh
   pub waits_ready : (operands : List ℕ) (values : List (ℕ × Value)) (word : ℕ) → calls w.trees n operands ≡ true
       → waited w st f rest n operands values word ≡ call_row w st f rest n values
   waits_ready operands values word h =
-      ap (λ (b : Bool). cond b (call_row w st f rest n values) (placed st rest (wait_row w.trees st.memory f n operands values word))) h
+      ap (λ (b : Bool). cond b (call_row w st f rest n values)
+      (cond (takes w.trees n operands) (next_row w st f rest n values) (placed st rest (wait_row w.trees st.memory f n operands values word)))) h
 
-  pub waits_on : (operands : List ℕ) (values : List (ℕ × Value)) (word : ℕ) → calls w.trees n operands ≡ false
+  -- the next one of a list is taken
+  pub waits_next : (operands : List ℕ) (values : List (ℕ × Value)) (word : ℕ) → calls w.trees n operands ≡ false → takes w.trees n operands ≡ true
+      → waited w st f rest n operands values word ≡ next_row w st f rest n values
+  waits_next operands values word h k =
+      ap (λ (b : Bool). cond b (call_row w st f rest n values)
+      (cond (takes w.trees n operands) (next_row w st f rest n values) (placed st rest (wait_row w.trees st.memory f n operands values word)))) h
+      ∙ ap (λ (b : Bool). cond b (next_row w st f rest n values) (placed st rest (wait_row w.trees st.memory f n operands values word))) k
+
+  pub waits_on : (operands : List ℕ) (values : List (ℕ × Value)) (word : ℕ) → calls w.trees n operands ≡ false → takes w.trees n operands ≡ false
       → waited w st f rest n operands values word ≡ placed st rest (wait_row w.trees st.memory f n operands values word)
-  waits_on operands values word h =
-      ap (λ (b : Bool). cond b (call_row w st f rest n values) (placed st rest (wait_row w.trees st.memory f n operands values word))) h
+  waits_on operands values word h k =
+      ap (λ (b : Bool). cond b (call_row w st f rest n values)
+      (cond (takes w.trees n operands) (next_row w st f rest n values) (placed st rest (wait_row w.trees st.memory f n operands values word)))) h
+      ∙ ap (λ (b : Bool). cond b (next_row w st f rest n values) (placed st rest (wait_row w.trees st.memory f n operands values word))) k
 
 -- what calls is a node
 pub calls_within : (u : CoreTrees) (n : ℕ) (operands : List ℕ) → calls u n operands ≡ true → n < length u.nodes

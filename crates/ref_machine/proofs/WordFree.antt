@@ -37,9 +37,10 @@ use Rattle.ref_statements.specs.Rows.{Row, computes}
 use Rattle.ref_statements.specs.Nodes.{picks, picked, begun_value, begun_by, do_in, do_row, operand_row, taken_by, finish_row, wait_by, wait_in, wait_row}
 use Rattle.ref_frames.specs.Running.{Running}
 use Rattle.ref_calls.specs.Library.{object_of, result_in, term_in, performed_as, performed, goes_by, library_row}
+use Rattle.ref_calls.specs.Lists.{next_row}
 use Rattle.ref_calls.specs.Outcomes.{outcome}
 use Rattle.ref_start.specs.Begin.{begins_with, begins, begin, main_of}
-use Rattle.ref_machine.specs.Step.{placed, calls, call_row, item_step, outside_step, frames_step, step, library_chooses, is_pointer, is_measure, measures, has_some, node_chooses, item_chooses, main_chooses, outside_chooses, frames_choose, chooses}
+use Rattle.ref_machine.specs.Step.{placed, calls, takes, call_row, item_step, outside_step, frames_step, step, library_chooses, is_pointer, is_measure, measures, has_some, node_chooses, item_chooses, main_chooses, outside_chooses, frames_choose, chooses}
 
 -- Library functions.
 
@@ -268,7 +269,8 @@ module _ (w : Running) (a b : ℕ) where
   item_same state f rest [] h = refl
   item_same state f rest (Do n ∷ items) h = ap (λ (r : Row). outcome n (placed state rest r)) (do_same state.memory f n)
   item_same state f rest (Wait n operands values ∷ items) h =
-      ap (λ (r : Row). outcome n (cond (calls w.trees n operands) (call_row w state f rest n values) (placed state rest r)))
+      ap (λ (r : Row). outcome n (cond (calls w.trees n operands) (call_row w state f rest n values)
+      (cond (takes w.trees n operands) (next_row w state f rest n values) (placed state rest r))))
       (wait_same state.memory f n operands values h)
   item_same state f rest (Library n k values ∷ items) h =
       ap (λ (r : Result State Reason). outcome n r) (library_same state f rest n k values h)

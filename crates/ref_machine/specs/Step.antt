@@ -33,6 +33,7 @@ use Rattle.ref_frames.specs.Frames.{entered, left_frame}
 use Rattle.ref_frames.specs.OnTop.{only, on_top}
 use Rattle.ref_calls.specs.Reached.{reached}
 use Rattle.ref_calls.specs.Library.{library_row}
+use Rattle.ref_calls.specs.Lists.{is_next, next_row}
 use Rattle.ref_calls.specs.Outcomes.{Outcome, Goes, outcome}
 use Rattle.ref_calls.specs.Ending.{end_step, last_of}
 use Rattle.ref_start.specs.Begin.{begin, main_of}
@@ -85,6 +86,15 @@ abbrev pub calls : CoreTrees → ℕ → List ℕ → Bool
 calls u n [] = is_call_at (slice_get u.nodes n)
 calls u n (c ∷ operands) = false
 
+abbrev pub is_next_at : Option Node → Bool
+is_next_at None = false
+is_next_at (Some node) = is_next node.kind
+
+-- a node that takes the next one of a list, whose operand is there
+abbrev pub takes : CoreTrees → ℕ → List ℕ → Bool
+takes u n [] = is_next_at (slice_get u.nodes n)
+takes u n (c ∷ operands) = false
+
 abbrev pub waited : Running
     → State
     → Frame
@@ -96,6 +106,7 @@ abbrev pub waited : Running
     → Result State Reason
 waited w state f rest n operands values word =
     if calls w.trees n operands then call_row w state f rest n values
+    else if takes w.trees n operands then next_row w state f rest n values
     else placed state rest (wait_row w.trees state.memory f n operands values word)
 
 -- a frame that is left notes nothing

@@ -109,10 +109,10 @@ pub fn item_chooses(trees: &Trees<'_>, items: &Items) -> bool
     requires { InRange (core_of trees.now) }
     ensures { result ≡ item_chooses (core_of trees.now) items.now }
 {
-    match items.as_slice() {
-        [Item::Wait { node, left, .. }, ..] => node_chooses(trees, *node, left.as_slice()),
-        [Item::Library { function, .. }, ..] => library_chooses(*function),
-        _ => false,
+    match items.top() {
+        Some(Item::Wait { node, left, .. }) => node_chooses(trees, *node, left.as_slice()),
+        Some(Item::Library { function, .. }) => library_chooses(*function),
+        Some(Item::Do(_) | Item::Result(_)) | None => false,
     }
 }
 

@@ -20,7 +20,7 @@ ghost use Rattle.ref_statements.specs.Made.{IsWorld};
 ghost use Rattle.ref_statements.specs.Nodes.{do_row, wait_row};
 ghost use Rattle.ref_statements.specs.Rows.{computes};
 ghost use Rattle.ref_machine.specs.Standing.{AreStanding};
-ghost use Rattle.ref_machine.specs.Step.{top_items, placed, target_of, is_direct, called, call_row, calls, waited, leaves, item_step, outside_step};
+ghost use Rattle.ref_machine.specs.Step.{top_items, placed, target_of, is_direct, called, call_row, calls, takes, waited, leaves, item_step, outside_step};
 
 use crate::standing::standing_at;
 use c_types::key::ObjectKey;
@@ -32,6 +32,7 @@ use ref_blocks::plan::Plan;
 use ref_calls::calls::named_callee;
 use ref_calls::ending::end_step;
 use ref_calls::library::library_row;
+use ref_calls::lists::{is_next, next_row};
 use ref_calls::reached::{Target, reached};
 use ref_cells::cells::{MemFault, Reason, Value};
 use ref_frames::entering::{Entry, enter, entered};
@@ -167,6 +168,16 @@ fn calls(trees: &Trees<'_>, n: u32, operands: &[u32]) -> bool
     }
 }
 
+// Whether a node takes the next one of a list, and its operand is there.
+fn takes(trees: &Trees<'_>, n: u32, operands: &[u32]) -> bool
+    ensures { result ≡ takes (core_of trees.now) n operands.now }
+{
+    match trees.nodes.get(n as usize) {
+        Some(node) => operands.is_empty() && is_next(&node.kind),
+        None => false,
+    }
+}
+
 // The target of a call that isn't by a function's name.
 fn target_of(trees: &Trees<'_>, n: u32, key: ObjectKey) -> Option<(u32, ObjectKey)>
     ensures { result ≡ target_of (is_direct (core_of trees.now) (slice_get trees.now.nodes.now n)) n key }
@@ -252,9 +263,10 @@ fn call(
             call_defined(running, state, n, function, arguments.as_slice())
         }
         ObjectKey::Function(k) => Ok(call_library(running, state, n, k, arguments)),
-        ObjectKey::Text(_) | ObjectKey::Call(_) | ObjectKey::Library(_) | ObjectKey::Star(_) => {
+        ObjectKey::Text(_) | ObjectKey::Call(_) | ObjectKey::Library(_) => {
             Err(MemFault::Stop(Reason::BadCall))
         }
+        ObjectKey::Star(_) | ObjectKey::Varargs(_) => Err(MemFault::Stop(Reason::BadCall)),
     }
 }
 
@@ -326,6 +338,7 @@ fn waited(
     n: u32,
     word: u64,
     is_ready: bool,
+    is_next: bool,
 ) -> Result<Notes, MemFault>
     requires running { IsRunning running.now }
     requires plan { IsPlan (core_of running.now.trees) plan.now }
@@ -333,6 +346,7 @@ fn waited(
     requires frames { 0 < length state.old.frames }
     requires items { 0 < length (top_items state.old.frames) }
     requires ready { is_ready ≡ calls (core_of running.now.trees) n (top_left (top_items state.old.frames)) }
+    requires next { is_next ≡ takes (core_of running.now.trees) n (top_left (top_items state.old.frames)) }
     ensures row { (f : Frame) (rest : List Frame) → state.old.frames ≡ f ∷ rest →
         Gives (λ notes. record state.new { notes = notes }) result
         (waited (seen running.now) state.old f rest n (top_left f.items) (top_values f.items) word) }
@@ -340,6 +354,8 @@ fn waited(
 {
     if is_ready {
         call_row(running, state, n)
+    } else if is_next {
+        next_row(running, state, n)
     } else {
         waits(running, plan, state, n, word)
     }
@@ -379,7 +395,8 @@ pub fn frame_step(
         Some(Item::Wait { node, left, .. }) => {
             let n = *node;
             let is_ready = calls(&running.trees, n, left.as_slice());
-            let row = waited(running, plan, state, n, word, is_ready);
+            let is_next = takes(&running.trees, n, left.as_slice());
+            let row = waited(running, plan, state, n, word, is_ready, is_next);
             answers(state, n, row)
         }
         Some(Item::Library { node, function, .. }) => {

@@ -2,6 +2,7 @@
 use Rattle.std.specs.Prelude.{ℕ, ◌+◌, Bool, true, false, if◌then◌else◌, List, [], ◌∷◌, ◌++◌, Option, Some, None}
 use Rattle.std.specs.Prelude.{Result, Ok, Err, slice_get}
 use Rattle.c_types.specs.declared.key.ObjectKey.{ObjectKey}
+use Rattle.c_types.specs.declared.key.ObjectKey.TheVariants.{Varargs as VarargsKey}
 use Rattle.c_types.specs.declared.term.PathStep.{PathStep}
 use Rattle.c_types.specs.declared.term.PathStep.TheVariants.{Index, Member}
 use Rattle.c_types.specs.Trees.{Ctype, PointerTo, ArrayOf, FunctionFrom}
@@ -43,9 +44,17 @@ abbrev pub whole_place : Option ℕ → Result Cell Reason
 whole_place None = Err Mismatch
 whole_place (Some i) = Ok (Pointer i [] false)
 
+abbrev pub first_place : Option ℕ → Result Cell Reason
+first_place None = Err Mismatch
+first_place (Some i) = Ok (Pointer i (Index 0 ∷ []) false)
+
 -- Named, Text, Literal: the object's instance
 unfoldable pub named_row : List Instance → List ℕ → ObjectKey → Result Cell Reason
 named_row memory own key = whole_place (instance_of memory own key)
+
+-- VarArgs: the first place of what this activation of a variadic function was passed past its parameters
+unfoldable pub varargs_row : List Instance → List ℕ → ℕ → Result Cell Reason
+varargs_row memory own e = first_place (instance_of memory own (VarargsKey e))
 
 -- Deref: the pointer as a place
 abbrev pub deref_row : Cell → Result Cell Reason

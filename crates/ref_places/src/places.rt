@@ -6,7 +6,7 @@ ghost use Rattle.ref_cells.specs.Wholes.{shape_in, IsOver};
 ghost use Rattle.c_types.specs.Table.{type_of};
 ghost use Rattle.ref_cells.specs.Answers.{Gives};
 ghost use Rattle.ref_cells.specs.Places.{AreKnown};
-ghost use Rattle.ref_places.specs.Places.{has_key, is_type, is_array, own_instance, first_instance, instance_of, named_row, deref_row, stepped, member_row, decay_row, upcast_row};
+ghost use Rattle.ref_places.specs.Places.{has_key, is_type, is_array, own_instance, first_instance, instance_of, named_row, varargs_row, deref_row, stepped, member_row, decay_row, upcast_row};
 
 use crate::parts::type_there;
 use c_types::key::ObjectKey;
@@ -31,6 +31,7 @@ pub fn pair_of(key: ObjectKey) -> (u32, u32)
         ObjectKey::Library(k) => (3, k),
         ObjectKey::Star(k) => (4, k),
         ObjectKey::Function(k) => (5, k),
+        ObjectKey::Varargs(e) => (6, e),
     }
 }
 
@@ -110,6 +111,33 @@ pub fn named_row(
             path: Listing::new(alloc),
             past: false,
         }),
+        None => Err(MemFault::Stop(Reason::Mismatch)),
+    }
+}
+
+/// VarArgs: the first place of what this activation of a variadic function was passed past its parameters.
+#[tactic(auto, unfolding(crate::specs::Places::varargs_row))]
+pub fn varargs_row(
+    alloc: Global,
+    memory: &[Instance],
+    own: &[u32],
+    e: u32,
+) -> Result<Cell, MemFault>
+    ensures { Gives (λ c. c) result (varargs_row memory.now own.now e) }
+{
+    if memory.len() > 0xffff_ffff {
+        return Err(MemFault::OutOfMemory);
+    }
+    match instance_of(memory, own, ObjectKey::Varargs(e)) {
+        Some(instance) => {
+            let mut path = Listing::new(alloc);
+            path.push(PathStep::Index(0))?;
+            Ok(Cell::Pointer {
+                instance,
+                path,
+                past: false,
+            })
+        }
         None => Err(MemFault::Stop(Reason::Mismatch)),
     }
 }

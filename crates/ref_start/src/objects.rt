@@ -157,7 +157,8 @@ fn object_of(
                 Ok(Some(object_with(key, ty, Cells::none(alloc))))
             }
         }
-        ObjectKey::Call(_) | ObjectKey::Star(_) | ObjectKey::Function(_) => Ok(None),
+        ObjectKey::Call(_) | ObjectKey::Star(_) => Ok(None),
+        ObjectKey::Function(_) | ObjectKey::Varargs(_) => Ok(None),
     }
 }
 

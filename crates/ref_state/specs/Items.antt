@@ -61,6 +61,12 @@ operand_taken i (item ∷ rest) = taken_from i item rest (slice_get (left_of ite
 abbrev pub replaced : ℕ → List Item → List Item → List Item
 replaced off on items = on ++ drop off items
 
+-- the item below the top one is changed
+abbrev pub on_second : (Item → Item) → List Item → List Item
+on_second change [] = []
+on_second change (top ∷ []) = top ∷ []
+on_second change (top ∷ item ∷ rest) = top ∷ change item ∷ rest
+
 -- How the code gives a value that isn't there yet: a place for it is opened below the top item, and then filled or
 -- shut.
 

@@ -1,8 +1,8 @@
 // What a frame has still to do.
 
-ghost use Rattle.std.specs.Prelude.{◌≡◌, [], ◌∷◌, ◌++◌, ◌<◌, ◌≤◌, IfOk, OnOk, OnErr, MatchOption, length, slice_get, remove, drop};
+ghost use Rattle.std.specs.Prelude.{◌≡◌, [], ◌∷◌, ◌++◌, ◌<◌, ◌≤◌, IfOk, OnOk, OnErr, length, slice_get, remove, drop};
 ghost use Rattle.std.specs.Option.{option_copied};
-ghost use Rattle.ref_state.specs.Items.{given, settled, top_values, top_left, values_of, left_of, with_left, filled, shut, operand_taken, replaced, opened, below_filled, below_shut};
+ghost use Rattle.ref_state.specs.Items.{given, settled, top_values, top_left, values_of, left_of, with_left, filled, shut, operand_taken, replaced, opened, below_filled, below_shut, on_second};
 ghost use Rattle.ref_state.specs.Values.{no_value};
 
 use c_types::term::OutOfMemory;
@@ -10,7 +10,7 @@ use pta_base::Listing;
 use ref_cells::cells::Value;
 use ref_cells::instance::Instance;
 use ref_mem::memory::Memory;
-use std::alloc::{AllocError, AllocFailed, Global};
+use std::alloc::Global;
 use std::marker::Model;
 use std::mem;
 
@@ -39,12 +39,12 @@ pub struct Items {
 }
 
 impl Model for Items {
-    ghost use Rattle.std.specs.Prelude.{List};
+    ghost use Rattle.std.specs.Prelude.{List, reverse};
     ghost use Rattle.ref_state.specs.declared.items.Item.{Item};
 
     ghost Value = { List Item };
 
-    ghost view = { λ s. s.list.items };
+    ghost view = { λ s. reverse s.list.items };
 }
 
 /// A node that waits for these operands.
@@ -168,6 +168,8 @@ impl Items {
     pub fn of(list: Vec<Item>) -> Items
         ensures { result ≡ list.items }
     {
+        let mut list = list;
+        list.reverse();
         Items { list }
     }
 
@@ -191,16 +193,16 @@ impl Items {
     pub fn top(&self) -> Option<&Item>
         ensures { option_copied result ≡ slice_get self.now 0 }
     {
-        self.list.first()
+        self.list.last()
     }
 
     /// The values that the top item has.
     pub fn values(&self) -> &[(u32, Value)]
         ensures { result.now ≡ top_values self.now }
     {
-        match self.list.as_slice() {
-            [item, ..] => values_of(item),
-            [] => &[],
+        match self.list.last() {
+            Some(item) => values_of(item),
+            None => &[],
         }
     }
 
@@ -208,17 +210,21 @@ impl Items {
     pub fn left(&self) -> &[u32]
         ensures { result.now ≡ top_left self.now }
     {
-        match self.list.as_slice() {
-            [item, ..] => left_of(item),
-            [] => &[],
+        match self.list.last() {
+            Some(item) => left_of(item),
+            None => &[],
         }
     }
 
-    /// All items, the top one first.
-    pub fn as_slice(&self) -> &[Item]
-        ensures { result.now ≡ self.now }
+    /// The item behind so many at the top.
+    pub fn from_top(&self, i: usize) -> Option<&Item>
+        ensures { option_copied result ≡ slice_get self.now i }
     {
-        self.list.as_slice()
+        if i < self.list.len() {
+            Some(&self.list[self.list.len() - 1 - i])
+        } else {
+            None
+        }
     }
 
     /// Puts an item on top. At `Err` nothing changes.
@@ -226,7 +232,7 @@ impl Items {
         ensures ok { OnOk result (self.new ≡ item ∷ self.old) }
         ensures err { OnErr result (self.new ≡ self.old) }
     {
-        match self.list.insert(0, item) {
+        match self.list.push(item) {
             Ok(()) => Ok(()),
             Err(_) => Err(OutOfMemory),
         }
@@ -237,24 +243,32 @@ impl Items {
         ensures ok { OnOk result (self.new ≡ operand_taken i self.old) }
         ensures err { OnErr result (self.new ≡ self.old) }
     {
-        if self.list.is_empty() {
+        let Some(item) = self.list.last() else {
             return Ok(());
-        }
-        if let Some(c) = operand_at(&self.list[0], i) {
-            let left = others(alloc, &self.list[0], i)?;
-            self.push(Item::Do(c))?;
-            keep(&mut self.list[1], left);
-        }
+        };
+        let Some(c) = operand_at(item, i) else {
+            return Ok(());
+        };
+        let left = others(alloc, item, i)?;
+        self.push(Item::Do(c))?;
+        self.keep_below(left);
         Ok(())
+    }
+
+    // The item below the top one waits for these operands now.
+    fn keep_below(&mut self, left: Listing<u32>)
+        requires { 1 < length self.old }
+        ensures { self.new ≡ on_second (with_left left) self.old }
+    {
+        let at = self.list.len() - 2;
+        keep(&mut self.list[at], left);
     }
 
     /// Takes the top item off. It takes no memory.
     pub fn pop(&mut self)
         ensures { self.new ≡ drop 1 self.old }
     {
-        if !self.list.is_empty() {
-            let _top = self.list.remove(0);
-        }
+        let _top = self.list.pop();
     }
 
     /// Puts an item in place of the top one. It takes no memory.
@@ -262,7 +276,8 @@ impl Items {
         requires { 0 < length self.old }
         ensures { self.new ≡ item ∷ drop 1 self.old }
     {
-        self.list[0] = item;
+        let at = self.list.len() - 1;
+        self.list[at] = item;
     }
 
     /// Opens a place for the value of a node below the top item. At `Err` nothing changes.
@@ -271,7 +286,8 @@ impl Items {
         ensures err { OnErr result (self.new ≡ self.old) }
     {
         if self.list.len() > 1 {
-            open(alloc, &mut self.list[1], n)?;
+            let at = self.list.len() - 2;
+            open(alloc, &mut self.list[at], n)?;
         }
         Ok(())
     }
@@ -281,7 +297,8 @@ impl Items {
         ensures { self.new ≡ below_filled value self.old }
     {
         if self.list.len() > 1 {
-            fill(&mut self.list[1], value);
+            let at = self.list.len() - 2;
+            fill(&mut self.list[at], value);
         }
         self.pop();
     }
@@ -291,7 +308,8 @@ impl Items {
         ensures { self.new ≡ below_shut self.old }
     {
         if self.list.len() > 1 {
-            shut(alloc, &mut self.list[1]);
+            let at = self.list.len() - 2;
+            shut(alloc, &mut self.list[at]);
         }
     }
 
@@ -301,20 +319,11 @@ impl Items {
         ensures err { OnErr result (self.new ≡ self.old) }
     {
         if self.list.len() > 1 {
-            give(&mut self.list[1], n, value)?;
+            let at = self.list.len() - 2;
+            give(&mut self.list[at], n, value)?;
         }
         self.pop();
         Ok(())
-    }
-
-    // The first so many items go.
-    fn cut(&mut self, off: usize)
-        requires { off ≤ length self.old }
-        ensures { self.new ≡ drop off self.old }
-    {
-        for _ in 0..off {
-            self.pop();
-        }
     }
 }
 
@@ -345,15 +354,12 @@ pub(crate) fn put_in_place(
     ensures items { OnOk result (items.new ≡ replaced off on items.old) }
     ensures err { OnErr result ((memory.new ≡ memory.old) × (items.new ≡ items.old)) }
 {
-    let mut all = on.list;
-    all.reserve(items.list.len())?;
+    let mut on = on.list;
+    items.list.reserve(on.len())?;
     memory.append(fresh)?;
-    items.cut(off);
-    match all.append(&mut items.list) {
-        Ok(()) => {
-            items.list = all;
-            Ok(())
-        }
+    items.list.truncate(items.list.len() - off);
+    match items.list.append(&mut on) {
+        Ok(()) => Ok(()),
         Err(_) => unreachable!(),
     }
 }

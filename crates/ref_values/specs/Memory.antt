@@ -1,5 +1,5 @@
 -- The rows of values that read memory or change it.
-use Rattle.std.specs.Prelude.{ℕ, ◌==◌, ℤ, pos, ◌&&◌, not, Bool, true, false, if◌then◌else◌, List, [], ◌∷◌}
+use Rattle.std.specs.Prelude.{ℕ, ◌==◌, ℤ, pos, ◌&&◌, ◌||◌, not, Bool, true, false, if◌then◌else◌, List, [], ◌∷◌}
 use Rattle.std.specs.Prelude.{Option, Some, None, Result, Ok, Err, slice_get, is_some}
 use Rattle.c_types.specs.declared.term.PathStep.TheVariants.{Member}
 use Rattle.c_types.specs.declared.term.TypeId.{TypeId}
@@ -18,6 +18,7 @@ use Rattle.ref_cells.specs.declared.instance.Instance.{Instance}
 use Rattle.ref_cells.specs.Cells.{CellList, under}
 use Rattle.ref_cells.specs.Numbers.{converted}
 use Rattle.ref_cells.specs.Values.{active}
+use Rattle.ref_cells.specs.Wholes.{is_allocated}
 use Rattle.ref_mem.specs.Reads.{read, one_cell}
 use Rattle.ref_mem.specs.Writes.{write, changed}
 use Rattle.ref_elements.specs.Runs.{◌>>=◌}
@@ -50,12 +51,14 @@ abbrev pub complete_only : Table → Option TypeId → Option TypeId
 complete_only table None = None
 complete_only table (Some id) = if is_some (extent_in table (type_of table id.0)) then Some id else None
 
+-- what is allocated and has no type yet gets one (C11 6.5p6)
 abbrev pub type_given : List Instance → ℕ → Option TypeId → Option Instance → List Instance
 type_given memory i (Some id) (Some inst) =
-    if is_some inst.ty then memory else changed memory i (Some inst) (λ inst. record inst { ty = Some id })
+    if is_some inst.ty || not (is_allocated inst.key) then memory
+    else changed memory i (Some inst) (λ inst. record inst { ty = Some id })
 type_given memory i id inst = memory
 
--- an object without a type gets that of its elements by a pointer to a complete type
+-- an allocated object without a type gets that of its elements by a pointer to a complete type
 abbrev pub typed_by : Table → List Instance → Cell → TypeId → List Instance
 typed_by table memory (Pointer i path past) ty =
     type_given memory i (complete_only table (pointee (slice_get table.terms ty.0))) (slice_get memory i)

@@ -10,6 +10,8 @@ use Rattle.core_tree.specs.declared.node.Node.{Node}
 use Rattle.core_tree.specs.declared.node.Op.{Op}
 use Rattle.core_tree.specs.declared.node.Op.TheVariants.{Not}
 use Rattle.core_tree.specs.declared.node.NodeKind.{NodeKind}
+use Rattle.core_tree.specs.declared.node.NodeKind.TheVariants.{VarArgs}
+use Rattle.ref_places.specs.Places.{varargs_row}
 use Rattle.core_tree.specs.declared.node.NodeKind.TheVariants.{Named, Text, Literal, FunctionName, Deref, Member}
 use Rattle.core_tree.specs.declared.node.NodeKind.TheVariants.{Number, NullValue, Fetch, AddressOf, Decay}
 use Rattle.core_tree.specs.declared.node.NodeKind.TheVariants.{PointerAdd, Convert, Upcast, Assign, Update, Choose}
@@ -98,6 +100,7 @@ gives_cell (Number k) = true
 gives_cell NullValue = true
 gives_cell Deref = true
 gives_cell (Member k) = true
+gives_cell (VarArgs e) = true
 gives_cell kind = false
 
 abbrev pub deref_computed : List (ℕ × Value) → Option ℕ → Result Cell Reason
@@ -124,6 +127,7 @@ cell_computed u memory own n (FunctionName e) children values =
     Ok (Function (entity_key e (slice_get u.entities e)))
 cell_computed u memory own n (Number k) children values = Ok (NumberCell k)
 cell_computed u memory own n NullValue children values = Ok Null
+cell_computed u memory own n (VarArgs e) children values = varargs_row memory own e
 cell_computed u memory own n Deref children values = deref_computed values (one_of children)
 cell_computed u memory own n (Member k) children values = member_computed u memory k values (one_of children)
 cell_computed u memory own n kind children values = Err Mismatch

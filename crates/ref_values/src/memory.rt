@@ -20,6 +20,7 @@ use core_tree::Op;
 use pta_base::Listing;
 use ref_cells::cells::{Cell, Cells, MemFault, Path, Reason, Value, copy_path, push_entry};
 use ref_cells::order::under;
+use ref_cells::wholes::is_allocated;
 use ref_elements::outcome::{LibOutcome, gives, number_value, stores_and_gives};
 use ref_elements::parts::{pointers_of, single};
 use ref_mem::memory::Memory;
@@ -101,14 +102,14 @@ fn pointee(types: &TypeTable, ty: TypeId) -> Option<TypeId>
     }
 }
 
-// An object without a type gets that of its elements by a pointer to a complete type.
+// An allocated object without a type gets that of its elements by a pointer to a complete type.
 fn give_type(types: &TypeTable, memory: &mut Memory, cell: &Cell, ty: TypeId)
     requires { ty.0 < length types.now.terms }
     ensures { memory.new ≡ typed_by types.now memory.old cell.now ty }
 {
     if let Cell::Pointer { instance, .. } = cell {
         let untyped = match memory.instances().get(*instance as usize) {
-            Some(inst) => inst.ty.is_none(),
+            Some(inst) => inst.ty.is_none() && is_allocated(inst.key),
             None => false,
         };
         if untyped {

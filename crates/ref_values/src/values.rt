@@ -28,7 +28,7 @@ use core_tree::{Node, NodeKind, Op};
 use ref_cells::cells::{Cell, MemFault, Reason, Value};
 use ref_elements::outcome::{LibOutcome, gives};
 use ref_mem::memory::Memory;
-use ref_places::places::{decay_row, deref_row, member_row, named_row, upcast_row};
+use ref_places::places::{decay_row, deref_row, member_row, named_row, upcast_row, varargs_row};
 use ref_places::pointers::compared;
 use ref_state::values::{cell_in, value_in};
 use row_numbers::objects::entity_key;
@@ -210,7 +210,7 @@ fn gives_cell(kind: &NodeKind) -> bool
     match kind {
         NodeKind::Named(_) | NodeKind::Text(_) | NodeKind::Literal(_) => true,
         NodeKind::FunctionName(_) | NodeKind::Number(_) | NodeKind::NullValue => true,
-        NodeKind::Deref | NodeKind::Member(_) => true,
+        NodeKind::Deref | NodeKind::Member(_) | NodeKind::VarArgs(_) => true,
         _ => false,
     }
 }
@@ -281,6 +281,7 @@ fn cell_computed(
         NodeKind::FunctionName(e) => Ok(Cell::Function(entity_key(trees.entities, *e))),
         NodeKind::Number(k) => Ok(Cell::Number(k.get())),
         NodeKind::NullValue => Ok(Cell::Null),
+        NodeKind::VarArgs(e) => varargs_row(alloc, instances, own, *e),
         NodeKind::Deref => deref_computed(alloc, values, one_of(node.children.as_slice(), n)),
         NodeKind::Member(k) => {
             let operand = one_of(node.children.as_slice(), n);

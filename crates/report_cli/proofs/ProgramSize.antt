@@ -66,7 +66,7 @@ word_count : (texts : List NamedText) (us vs : List Unit) (p q : Program) → Ar
     → word_total p (view_of (locations_in p)) ≡ word_total q (view_of (locations_in q))
 word_count texts us vs p q h k one other =
     one_word_total us vs p q (right_twins.all us vs (same_texts 0 texts us vs h k)) (rooted texts us h) (rooted texts vs k) one.linked other.linked
-    (record { made = one.made; named = one.named }) (record { made = other.made; named = other.named })
+    (record { made = one.made; named = one.named; range = one.range }) (record { made = other.made; named = other.named; range = other.range })
 
 words : (texts : List NamedText) (p q : Program) → Denotes texts p → Denotes texts q → word_total p (view_of (locations_in p)) ≡ word_total q (view_of (locations_in q))
 unfolding Denotes

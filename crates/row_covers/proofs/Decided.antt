@@ -11,6 +11,7 @@ use Rattle.row_covers.specs.declared.cells.NodeRows.TheVariants.{Object as Objec
 use Rattle.row_covers.specs.declared.parts.End.{End}
 use Rattle.row_covers.specs.Parts.{near, is_pointing, IsEnd}
 use Rattle.c_types.specs.declared.key.ObjectKey.{ObjectKey}
+use Rattle.c_types.specs.declared.key.ObjectKey.TheVariants.{Varargs as VarargsKey}
 use Rattle.c_types.specs.declared.term.PathStep.{PathStep}
 use Rattle.c_types.specs.declared.term.TypeId.{TypeId}
 use Rattle.c_types.specs.Trees.{Ctype, VoidType, BoolType, IntegerType, FloatingType, VaListType, PointerTo, ArrayOf, FunctionFrom, StructureOf, UnionOf}
@@ -30,10 +31,11 @@ use Rattle.ref_cells.specs.declared.instance.Instance.{Instance}
 use Rattle.ref_cells.specs.Cells.{CellList}
 use Rattle.ref_cells.specs.Wholes.{is_allocated, whole_of}
 use Rattle.covering_laws.specs.covered_memory.Cells.{EachCell}
-use Rattle.covering_laws.specs.covered_memory.Spots.{spot, whole_part, IsInTree}
-use Rattle.covering_laws.specs.covered_memory.Covered.{Sets, Lands, PointsIn, CellIn, row_by as pointing_by, pointer_row, CellsIn, object_row, HasShape, InstanceIn, MemoryIn}
+use Rattle.covering_laws.proofs.covered_memory.Cells.{each_change as each_same}
+use Rattle.covering_laws.specs.covered_memory.Spots.{spot, whole_part, IsFurther, IsInTree}
+use Rattle.covering_laws.specs.covered_memory.Covered.{Sets, Lands, PointsIn, CellIn, row_by as pointing_by, pointer_row, CellsIn, object_row, HasShape, further_row, cell_row, InstanceIn, MemoryIn}
 use Rattle.row_covers.specs.Cells.{Falls, PointsBy, CellBy, IsPast, SameRow, row_by, EntryBy, AreIn}
-use Rattle.row_covers.specs.Objects.{is_class_of, IsScalarOf, element_in, IsArrayOf, IsComplete, FitsContent, MayWait, ShapeBy, rows_of, LocatedBy, InstanceBy}
+use Rattle.row_covers.specs.Objects.{is_class_of, IsScalarOf, element_in, IsArrayOf, IsComplete, FitsContent, MayWait, ShapeBy, rows_of, is_further, KindBy, OwnBy, LocatedBy, InstanceBy}
 
 some_one : {X : Type 0} → {x y : X} → ◌≡◌ {A = Option X} (Some x) (Some y) → x ≡ y
 some_one h = cc
@@ -153,14 +155,64 @@ rows_same table (Scalars number) first node = refl
 rows_same table (Typed id) first node = refl
 rows_same table (Elements id) first node = refl
 
-untyped_to : (ty : Option TypeId) (key : ObjectKey) → IsSome ty ⊎ IsTrue (is_allocated key) → ty ≡ None → IsTrue (is_allocated key)
-untyped_to None key (inl h) e = absurd (false≢true h)
-untyped_to (Some id) key (inl h) e = absurd (some_none e)
-untyped_to ty key (inr h) e = h
+further_true : (key : ObjectKey) → IsFurther key → is_further key ≡ true
+further_true (VarargsKey e) f = refl
+further_true key f = absurd f
 
-untyped_from : (ty : Option TypeId) (key : ObjectKey) → (ty ≡ None → IsTrue (is_allocated key)) → IsSome ty ⊎ IsTrue (is_allocated key)
-untyped_from None key h = inr (h refl)
-untyped_from (Some id) key h = inl refl
+true_further : (key : ObjectKey) → is_further key ≡ true → IsFurther key
+true_further (VarargsKey e) h = tt
+true_further key h = absurd (false≢true h)
+
+untyped_to : (ty : Option TypeId) (key : ObjectKey) (content : Content) (b : Bool) → is_further key ≡ b → KindBy b ty key content → ty ≡ None → IsTrue (is_allocated key) ⊎ IsFurther key
+untyped_to ty key content true is h e = inr (true_further key is)
+untyped_to None key content false is (inl h) e = absurd (false≢true h)
+untyped_to (Some id) key content false is (inl h) e = absurd (some_none e)
+untyped_to ty key content false is (inr h) e = inl h
+
+further_to : (ty : Option TypeId) (key : ObjectKey) (content : Content) (b : Bool) → is_further key ≡ b → KindBy b ty key content → IsFurther key → (ty ≡ None) × (content ≡ Blob)
+further_to ty key content true is h f = h
+further_to ty key content false is h f = absurd (false≢true (sym is ∙ further_true key f))
+
+kind_from : (ty : Option TypeId) (key : ObjectKey) (content : Content) (b : Bool) → is_further key ≡ b → (ty ≡ None → IsTrue (is_allocated key) ⊎ IsFurther key) → (IsFurther key → (ty ≡ None) × (content ≡ Blob)) → KindBy b ty key content
+kind_from ty key content true is h f = f (true_further key is)
+kind_from (Some id) key content false is h f = inl refl
+kind_from None key content false is h f = inr (elim (h refl) [ inl a ↦ a | inr x ↦ absurd (false≢true (sym is ∙ further_true key x)) ])
+
+further_is : (key : ObjectKey) (first : ℕ) (row : Option ℕ) → is_further key ≡ true → further_row key first row ≡ Some first
+further_is (VarargsKey e) first row h = refl
+further_is key first row h = absurd (false≢true h)
+
+plain_is : (key : ObjectKey) (first : ℕ) (row : Option ℕ) → is_further key ≡ false → further_row key first row ≡ row
+plain_is (VarargsKey e) first row h = absurd (false≢true (sym h))
+plain_is key first row h = refl
+
+-- the cells of an instance, whose rows its key tells
+module _ (g : Sets) (memory : List Instance) (inst : Instance) (content : Content) (first : ℕ) where
+  abbrev IsOwn : List PathStep → Cell → Type 0
+  IsOwn path cell = CellIn g memory (cell_row g.table inst content first path) cell
+
+  own_to : (b : Bool) → is_further inst.key ≡ b → OwnBy g memory b content first (whole_of g.table inst) inst.cells → EachCell IsOwn inst.cells
+  own_to true is h =
+      all_each IsOwn inst.cells
+      (λ k d lt.
+      let entry = get_or inst.cells k d in
+      subst (λ (o : Option ℕ). CellIn g memory o entry.1) (sym (further_is inst.key first (pointer_row (object_row content first) (part_at g.table (whole_part (whole_of g.table inst)) entry.0)) is))
+      (cell_of_by g memory (Some first) entry.1 (h k d lt)))
+  own_to false is h =
+      each_same (λ path cell. CellIn g memory (pointer_row (object_row content first) (part_at g.table (whole_part (whole_of g.table inst)) path)) cell) IsOwn inst.cells
+      (λ path cell x. subst (λ (o : Option ℕ). CellIn g memory o cell) (sym (plain_is inst.key first (pointer_row (object_row content first) (part_at g.table (whole_part (whole_of g.table inst)) path)) is)) x)
+      (cells_of_by g memory (row_by g.table (rows_of content first)) (object_row content first) (rows_same g.table content first) (whole_part (whole_of g.table inst)) inst.cells h)
+
+  own_from : (b : Bool) → is_further inst.key ≡ b → EachCell IsOwn inst.cells → OwnBy g memory b content first (whole_of g.table inst) inst.cells
+  own_from true is h =
+      λ k d lt.
+      let entry = get_or inst.cells k d in
+      by_of_cell g memory (Some first) entry.1
+      (subst (λ (o : Option ℕ). CellIn g memory o entry.1) (further_is inst.key first (pointer_row (object_row content first) (part_at g.table (whole_part (whole_of g.table inst)) entry.0)) is) (each_all IsOwn inst.cells h k d lt))
+  own_from false is h =
+      by_of_cells g memory (row_by g.table (rows_of content first)) (object_row content first) (rows_same g.table content first) (whole_part (whole_of g.table inst)) inst.cells
+      (each_same IsOwn (λ path cell. CellIn g memory (pointer_row (object_row content first) (part_at g.table (whole_part (whole_of g.table inst)) path)) cell) inst.cells
+      (λ path cell x. subst (λ (o : Option ℕ). CellIn g memory o cell) (plain_is inst.key first (pointer_row (object_row content first) (part_at g.table (whole_part (whole_of g.table inst)) path)) is) x) h)
 
 module _ (g : Sets) (memory : List Instance) (inst : Instance) where
   located_to : (first : ℕ) (x : Option Location) → first_from 0 g.space inst.key ≡ Some first → slice_get g.space first ≡ x → LocatedBy g memory inst first x → InstanceIn g memory inst
@@ -171,8 +223,9 @@ module _ (g : Sets) (memory : List Instance) (inst : Instance) where
     first_is = e;
     location_is = f;
     shape = shape_of_by g.table x.content (whole_of g.table inst) h.0;
-    untyped = untyped_to inst.ty inst.key h.1;
-    cells = cells_of_by g memory (row_by g.table (rows_of x.content first)) (object_row x.content first) (rows_same g.table x.content first) (whole_part (whole_of g.table inst)) inst.cells h.2;
+    untyped = untyped_to inst.ty inst.key x.content (is_further inst.key) refl h.1;
+    further = further_to inst.ty inst.key x.content (is_further inst.key) refl h.1;
+    cells = own_to g memory inst x.content first (is_further inst.key) refl h.2;
   }
 
   instance_to : (o : Option ℕ) → first_from 0 g.space inst.key ≡ o → InstanceBy g memory inst o → InstanceIn g memory inst
@@ -187,8 +240,8 @@ module _ (g : Sets) (memory : List Instance) (inst : Instance) where
       subst (InstanceBy g memory inst) (sym h.first_is)
       (subst (LocatedBy g memory inst h.first) (sym h.location_is) (
         by_of_shape g.table h.location.content (whole_of g.table inst) h.shape,
-        untyped_from inst.ty inst.key h.untyped,
-        by_of_cells g memory (row_by g.table (rows_of h.location.content h.first)) (object_row h.location.content h.first) (rows_same g.table h.location.content h.first) (whole_part (whole_of g.table inst)) inst.cells h.cells,
+        kind_from inst.ty inst.key h.location.content (is_further inst.key) refl h.untyped h.further,
+        own_from g memory inst h.location.content h.first (is_further inst.key) refl h.cells,
       ))
 
 neither : ⊥ ⊎ ⊥ → ⊥

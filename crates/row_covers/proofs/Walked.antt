@@ -1,5 +1,5 @@
 -- Paths from a whole, step by step.
-use Rattle.std.proofs.Common.{arith, ◌≡◌, ℕ, zero, suc, ◌+◌, ◌-◌, ◌<◌, ◌≤◌, ◌^◌, ◌↔◌, Bool, true, false, IsTrue, List, [], ◌∷◌, Option, Some, None, length, get_or, min, slice_get, take, drop, refl, ap, sym, ◌∙◌, subst}
+use Rattle.std.proofs.Common.{arith, ◌≡◌, ℕ, zero, suc, ◌+◌, ◌-◌, ◌<◌, ◌≤◌, ◌^◌, Bool, true, false, List, [], ◌∷◌, Option, Some, None, length, get_or, min, slice_get, take, drop, refl, ap, sym, ◌∙◌, subst}
 use Rattle.std.proofs.lemmas.Bool.{false≢true}
 use Rattle.std.proofs.lemmas.Bool.Decides.{nat_tests}
 use Rattle.std.proofs.lemmas.List.{at_drop_more, at_drop_all}
@@ -13,7 +13,6 @@ use Rattle.c_types.specs.declared.term.TypeId.{TypeId}
 use Rattle.c_types.specs.Table.{Table, type_of, members_in, extents_in}
 use Rattle.c_types.specs.Parts.{position, unless_flexible, member_node, field_in, within_32}
 use Rattle.c_types.specs.Paths.{with_length, member_type, part_type}
-use Rattle.type_rules.specs.Kinds.{IsPointer}
 use Rattle.obj_space.specs.Spots.{Reached, reached, member_reached, step_by, part_at}
 use Rattle.obj_space.specs.Parts.{is_collapsed}
 use Rattle.obj_space.proofs.Followed.{step_member, no_part}
@@ -116,33 +115,12 @@ out table path i d part whole lt a steps =
     sym a.rest ∙ (at_drop_more (part_at table (Some a.x)) path i d lt
     ∙ (ap (λ (r : Option Reached). part_at table r (drop (i + 1) path)) (step_here table part a.x (get_or path i d) a.ty a.inside ∙ steps a.x.node a.node) ∙ no_part table (drop (i + 1) path)))
 
-pointing : (t : Ctype) (b : Bool) → (IsTrue b → IsPointer t) → (IsPointer t → IsTrue b) → b ≡ is_pointing t
-pointing (PointerTo to) b there back = back tt
-pointing VoidType true there back = absurd (there refl)
-pointing VoidType false there back = refl
-pointing BoolType true there back = absurd (there refl)
-pointing BoolType false there back = refl
-pointing (IntegerType size rank signed) true there back = absurd (there refl)
-pointing (IntegerType size rank signed) false there back = refl
-pointing FloatingType true there back = absurd (there refl)
-pointing FloatingType false there back = refl
-pointing VaListType true there back = absurd (there refl)
-pointing VaListType false there back = refl
-pointing (ArrayOf of n) true there back = absurd (there refl)
-pointing (ArrayOf of n) false there back = refl
-pointing (FunctionFrom result parameters form) true there back = absurd (there refl)
-pointing (FunctionFrom result parameters form) false there back = refl
-pointing (StructureOf tag) true there back = absurd (there refl)
-pointing (StructureOf tag) false there back = refl
-pointing (UnionOf tag) true there back = absurd (there refl)
-pointing (UnionOf tag) false there back = refl
-
 -- at the end of the path
-pub arrived : (table : Table) (path : List PathStep) (i : ℕ) (part : Part) (pointer : Bool) (whole : Option Reached) → length path ≤ i → IsTrue pointer ↔ IsPointer (type_of table part.ty.0)
+pub arrived : (table : Table) (path : List PathStep) (i : ℕ) (part : Part) (pointer : Bool) (whole : Option Reached) → length path ≤ i → pointer ≡ is_pointing (type_of table part.ty.0)
     → Along table part (drop i path) whole → IsEnd whole (Some (record { node = part.node; pointer = pointer }))
 arrived table path i part pointer whole h tells a =
     let here : Some a.x ≡ whole = sym (at_drop_all (part_at table (Some a.x)) path i h) ∙ a.rest in
-    (a.x, sym here, a.node, pointing (type_of table part.ty.0) pointer tells.0 tells.1 ∙ ap is_pointing (sym a.ty))
+    (a.x, sym here, a.node, tells ∙ ap is_pointing (sym a.ty))
 
 -- an array has no members
 pub no_member : (table : Table) (of : Ctype) (n : Option ℕ) (k : ℕ) (rest : List PathStep) → part_at table (Some (reached (ArrayOf of n) 0 false)) (Member k ∷ rest) ≡ None

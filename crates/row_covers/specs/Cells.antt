@@ -10,7 +10,7 @@ use Rattle.ref_cells.specs.declared.cells.Cell.TheVariants.{Pointer, Function}
 use Rattle.ref_cells.specs.declared.instance.Instance.{Instance}
 use Rattle.ref_cells.specs.Cells.{Entry, CellList}
 use Rattle.ref_cells.specs.Wholes.{whole_of}
-use Rattle.covering_laws.specs.covered_memory.Spots.{spot, IsInTree}
+use Rattle.covering_laws.specs.covered_memory.Spots.{spot, room, IsInTree}
 use Rattle.covering_laws.specs.covered_memory.Covered.{Sets, pointer_row}
 use Rattle.row_covers.specs.declared.cells.NodeRows.{NodeRows}
 use Rattle.row_covers.specs.declared.cells.NodeRows.TheVariants.{Object, Blob, Value}
@@ -24,7 +24,7 @@ Falls F row found = ⊥
 abbrev pub PointsBy : Sets → Option ℕ → List PathStep → Option Instance → Type 0
 PointsBy g row path None = ⊥
 PointsBy g row path (Some inst) =
-    IsInTree g.table (whole_of g.table inst) path × Falls g.family row (spot g.table g.space inst.key path)
+    IsInTree g.table (whole_of g.table inst) (room inst) path × Falls g.family row (spot g.table g.space inst.key path)
 
 -- what a cell points to is in the set of a row
 abbrev pub CellBy : Sets → List Instance → Option ℕ → Cell → Type 0

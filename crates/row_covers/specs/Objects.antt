@@ -1,5 +1,8 @@
 -- Instances that are of a program's objects, as the code decides it.
-use Rattle.std.specs.Prelude.{◌≡◌, ◌⊎◌, ℕ, ◌==◌, Bool, false, List, Option, Some, None, IsSome, IsTrue, All, length, slice_get}
+use Rattle.std.specs.Prelude.{◌≡◌, ◌⊎◌, ℕ, ◌==◌, Bool, true, false, List, Option, Some, None, IsSome, IsTrue, All, length, slice_get}
+use Rattle.c_types.specs.declared.key.ObjectKey.{ObjectKey}
+use Rattle.c_types.specs.declared.key.ObjectKey.TheVariants.{Varargs as VarargsKey}
+use Rattle.c_types.specs.declared.term.TypeId.{TypeId}
 use Rattle.c_types.specs.declared.term.Class.{Class}
 use Rattle.c_types.specs.declared.term.Class.TheVariants.{Pointer as PointerClass, Integer as IntegerClass}
 use Rattle.c_types.specs.Trees.{Ctype, ArrayOf}
@@ -11,6 +14,7 @@ use Rattle.obj_space.specs.declared.location.Location.{Location}
 use Rattle.obj_space.specs.Parts.{size_number, type_number}
 use Rattle.obj_space.specs.View.{first_from}
 use Rattle.ref_cells.specs.declared.instance.Instance.{Instance}
+use Rattle.ref_cells.specs.Cells.{CellList}
 use Rattle.ref_cells.specs.Places.{IsKnown}
 use Rattle.ref_cells.specs.Wholes.{is_allocated, whole_of}
 use Rattle.covering_laws.specs.covered_memory.Spots.{whole_part}
@@ -18,6 +22,7 @@ use Rattle.covering_laws.specs.covered_memory.Covered.{Sets}
 use Rattle.row_covers.specs.declared.cells.NodeRows.{NodeRows}
 use Rattle.row_covers.specs.declared.cells.NodeRows.TheVariants.{Object as ObjectRows, Blob as BlobRow}
 use Rattle.row_covers.specs.Cells.{row_by, AreIn}
+use Rattle.row_covers.specs.Values.{RowHas}
 
 -- the class of the scalars of that number
 abbrev pub is_class_of : ℕ → Class → Bool
@@ -64,13 +69,29 @@ abbrev pub rows_of : Content → ℕ → NodeRows
 rows_of Blob first = BlobRow first
 rows_of content first = ObjectRows first
 
+-- the object of what a variadic function is passed past its parameters
+abbrev pub is_further : ObjectKey → Bool
+is_further (VarargsKey e) = true
+is_further key = false
+
+-- it has no type, and is a blob; any other instance has a type, or is allocated
+abbrev pub KindBy : Bool → Option TypeId → ObjectKey → Content → Type 0
+KindBy true ty key content = (ty ≡ None) × (content ≡ Blob)
+KindBy false ty key content = IsSome ty ⊎ IsTrue (is_allocated key)
+
+-- all that it has is in its one row; the cells of any other instance are in the rows of their locations
+abbrev pub OwnBy : Sets → List Instance → Bool → Content → ℕ → Option Ctype → CellList → Type 0
+OwnBy g memory true content first whole cells = RowHas g memory (Some first) cells
+OwnBy g memory false content first whole cells =
+    AreIn g memory (row_by g.table (rows_of content first)) (whole_part whole) cells
+
 -- an instance of the object that begins there
 abbrev pub LocatedBy : Sets → List Instance → Instance → ℕ → Option Location → Type 0
 LocatedBy g memory inst first None = ⊥
 LocatedBy g memory inst first (Some x) =
     ShapeBy g.table x.content (whole_of g.table inst)
-    × (IsSome inst.ty ⊎ IsTrue (is_allocated inst.key))
-    × AreIn g memory (row_by g.table (rows_of x.content first)) (whole_part (whole_of g.table inst)) inst.cells
+    × KindBy (is_further inst.key) inst.ty inst.key x.content
+    × OwnBy g memory (is_further inst.key) x.content first (whole_of g.table inst) inst.cells
 
 abbrev pub InstanceBy : Sets → List Instance → Instance → Option ℕ → Type 0
 InstanceBy g memory inst None = ⊥

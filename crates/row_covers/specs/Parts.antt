@@ -1,6 +1,6 @@
 -- What the code keeps of the parts of objects and values.
 use Rattle.std.specs.Prelude.{◌≡◌, ℕ, ◌<◌, min, Bool, true, false, List, Option, Some, None, length}
-use Rattle.c_types.specs.Trees.{Ctype, PointerTo}
+use Rattle.c_types.specs.Trees.{Ctype, VaListType, PointerTo}
 use Rattle.c_types.specs.Table.{Table, type_of}
 use Rattle.obj_space.specs.Spots.{Reached}
 use Rattle.row_covers.specs.declared.parts.Part.{Part}
@@ -17,8 +17,10 @@ Follows table (Some part) r =
     (x : Reached) × (r ≡ Some x) × (x.ty ≡ type_of table part.ty.0) × (part.node ≡ near x.node)
     × (x.inside ≡ part.inside) × (part.ty.0 < length table.terms)
 
+-- a pointer or a variadic list
 abbrev pub is_pointing : Ctype → Bool
 is_pointing (PointerTo to) = true
+is_pointing VaListType = true
 is_pointing t = false
 
 -- the end of a path, where there is one

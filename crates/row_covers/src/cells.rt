@@ -1,10 +1,10 @@
 // Whether what cells point to is in the sets of their rows.
 
-ghost use Rattle.std.specs.Prelude.{◌≡◌, ◌↔◌, [], ◌∷◌, Option, IsTrue, IfSome, All, length, slice_get};
+ghost use Rattle.std.specs.Prelude.{◌≡◌, ◌↔◌, ℕ, ◌≤◌, [], ◌∷◌, Option, IsTrue, IfSome, All, length, slice_get};
 ghost use Rattle.obj_space.specs.Spots.{Reached, part_at};
 ghost use Rattle.ref_cells.specs.Places.{IsKnown, AreKnown};
 ghost use Rattle.ref_cells.specs.Wholes.{IsOver, shape_in, whole_of};
-ghost use Rattle.covering_laws.specs.covered_memory.Spots.{whole_part, IsInTree};
+ghost use Rattle.covering_laws.specs.covered_memory.Spots.{whole_part, room, IsInTree};
 ghost use Rattle.covering_laws.specs.covered_memory.Covered.{pointer_row};
 ghost use Rattle.row_covers.specs.Parts.{IsEnd};
 ghost use Rattle.row_covers.specs.Scene.{IsScene, sets_over};
@@ -12,6 +12,7 @@ ghost use Rattle.row_covers.specs.Cells.{PointsBy, CellBy, IsRowed, SameRow, row
 
 use crate::parts::{End, end_of};
 use crate::scene::{Scene, lands};
+use c_types::key::ObjectKey;
 use c_types::table::TypeTable;
 use c_types::term::{PathStep, TypeId};
 use ref_cells::cells::{Cell, Path};
@@ -38,23 +39,44 @@ pub fn is_first(path: &[PathStep]) -> bool
     }
 }
 
-// Whether a path stands in the tree of a whole; where there is none yet, it is that of the first element.
-fn stands_in(types: &TypeTable, whole: Option<Whole>, path: &[PathStep]) -> bool
+// Whether a path is that of an element, up to a greatest index.
+fn is_element(path: &[PathStep], most: u64) -> bool
+    ensures { IsTrue result ↔ ((i : ℕ) × (path.now ≡ PathStep.Index i ∷ []) × (i ≤ most)) }
+{
+    match path {
+        [PathStep::Index(i)] => *i <= most,
+        _ => false,
+    }
+}
+
+// The greatest index in an instance without a type.
+fn room(inst: &Instance) -> u64
+    ensures { result ≡ room inst.now }
+{
+    match inst.key {
+        ObjectKey::Varargs(_) => inst.bytes,
+        ObjectKey::Entity(_) | ObjectKey::Text(_) | ObjectKey::Call(_) => 0,
+        ObjectKey::Library(_) | ObjectKey::Star(_) | ObjectKey::Function(_) => 0,
+    }
+}
+
+// Whether a path stands in the tree of a whole; where there is none, it is that of an element up to a greatest index.
+fn stands_in(types: &TypeTable, whole: Option<Whole>, most: u64, path: &[PathStep]) -> bool
     requires { IfSome whole (IsOver (length types.now.terms)) }
-    ensures { IsTrue result ↔ IsInTree types.now (shape_in types.now whole) path.now }
+    ensures { IsTrue result ↔ IsInTree types.now (shape_in types.now whole) most path.now }
 {
     match whole {
         Some(found) => end_of(types, found, path).is_some(),
-        None => is_first(path),
+        None => is_element(path, most),
     }
 }
 
 /// Whether a path stands in the tree of an instance's type.
 pub fn stands(types: &TypeTable, inst: &Instance, path: &[PathStep]) -> bool
     requires { IsKnown (length types.now.terms) inst.now.ty }
-    ensures { IsTrue result ↔ IsInTree types.now (whole_of types.now inst.now) path.now }
+    ensures { IsTrue result ↔ IsInTree types.now (whole_of types.now inst.now) (room inst.now) path.now }
 {
-    stands_in(types, whole_of(types, inst), path)
+    stands_in(types, whole_of(types, inst), room(inst), path)
 }
 
 // Whether a pointer stands in its instance's tree, and the location of what it points to is in a row's set.

@@ -8,14 +8,17 @@ ghost use Rattle.obj_space.specs.Parts.{size_number};
 ghost use Rattle.obj_space.specs.View.{first_from};
 ghost use Rattle.ref_cells.specs.Places.{IsKnown, AreKnown};
 ghost use Rattle.ref_cells.specs.Wholes.{IsOver, shape_of, shape_in};
-ghost use Rattle.row_covers.specs.Objects.{is_class_of, IsScalarOf, IsArrayOf, FitsContent, MayWait, ShapeBy, InstanceBy, KnownBy, MemoryBy, element_in, rows_of};
+ghost use Rattle.row_covers.specs.Objects.{is_class_of, IsScalarOf, IsArrayOf, FitsContent, MayWait, ShapeBy, KindBy, OwnBy, InstanceBy, KnownBy, MemoryBy, element_in, is_further, rows_of};
 ghost use Rattle.row_covers.specs.Scene.{IsScene, sets_over};
 
 use crate::cells::{NodeRows, are_covered};
 use crate::scene::Scene;
+use crate::values::has_row;
+use c_types::key::ObjectKey;
 use c_types::table::TypeTable;
 use c_types::term::{Class, Term, TypeId};
 use obj_space::Content;
+use ref_cells::cells::{Cell, Path};
 use ref_cells::instance::Instance;
 use ref_cells::wholes::{Whole, is_allocated, whole_of};
 
@@ -200,8 +203,60 @@ fn object_rows(content: Content, first: u32) -> NodeRows
     }
 }
 
+// Whether an object is that of what a variadic function is passed past its parameters.
+fn is_further(key: ObjectKey) -> bool
+    ensures { result ≡ is_further key }
+{
+    match key {
+        ObjectKey::Varargs(_) => true,
+        ObjectKey::Entity(_) | ObjectKey::Text(_) | ObjectKey::Call(_) => false,
+        ObjectKey::Library(_) | ObjectKey::Star(_) | ObjectKey::Function(_) => false,
+    }
+}
+
+// Whether an object is a blob.
+fn is_blob(content: Content) -> bool
+    ensures { IsTrue result ↔ (content ≡ Content.Blob) }
+{
+    matches!(content, Content::Blob)
+}
+
+// Whether an instance has a type, or may be without one.
+fn is_kind(further: bool, ty: Option<TypeId>, key: ObjectKey, content: Content) -> bool
+    ensures { IsTrue result ↔ KindBy further ty key content }
+{
+    if further {
+        ty.is_none() && is_blob(content)
+    } else {
+        ty.is_some() || is_allocated(key)
+    }
+}
+
+// Whether the cells of an instance of the object that begins there are in the rows of their locations.
+fn are_own_covered(
+    scene: &Scene<'_>,
+    memory: &[Instance],
+    further: bool,
+    content: Content,
+    first: u32,
+    whole: Option<Whole>,
+    cells: &[(Path, Cell)],
+) -> bool
+    requires scene { IsScene scene.now }
+    requires known { AreKnown (length scene.now.trees.types.now.terms) memory.now }
+    requires whole { IfSome whole (IsOver (length scene.now.trees.types.now.terms)) }
+    ensures { let g = sets_over scene.now in IsTrue result ↔ OwnBy g memory.now further content first (shape_in g.table whole) cells.now }
+{
+    if further {
+        has_row(scene, memory, Some(u64::from(first)), cells)
+    } else {
+        are_covered(scene, memory, object_rows(content, first), whole, cells)
+    }
+}
+
 /// Whether an instance is of an object of the program, has its type, or none yet, and its cells are in the rows of their
-/// locations. One that has ended is looked at as any other.
+/// locations; what a variadic function is passed past its parameters has no type, and one row. One that has ended is
+/// looked at as any other.
 pub fn is_instance_covered(scene: &Scene<'_>, memory: &[Instance], inst: &Instance) -> bool
     requires scene { IsScene scene.now }
     requires known { AreKnown (length scene.now.trees.types.now.terms) memory.now }
@@ -213,12 +268,15 @@ pub fn is_instance_covered(scene: &Scene<'_>, memory: &[Instance], inst: &Instan
     };
     let content = scene.space.location(first).content;
     let whole = whole_of(scene.trees.types, inst);
+    let further = is_further(inst.key);
     has_shape(scene.trees.types, content, whole)
-        && (inst.ty.is_some() || is_allocated(inst.key))
-        && are_covered(
+        && is_kind(further, inst.ty, inst.key, content)
+        && are_own_covered(
             scene,
             memory,
-            object_rows(content, first),
+            further,
+            content,
+            first,
             whole,
             inst.cells.as_slice(),
         )

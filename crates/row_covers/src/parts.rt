@@ -6,12 +6,11 @@ ghost use Rattle.c_types.specs.Table.{type_of};
 ghost use Rattle.obj_space.specs.Parts.{is_collapsed};
 ghost use Rattle.obj_space.specs.Spots.{reached, step_by, part_at};
 ghost use Rattle.ref_cells.specs.Wholes.{IsOver, shape_of};
-ghost use Rattle.row_covers.specs.Parts.{near, Follows, IsEnd};
+ghost use Rattle.row_covers.specs.Parts.{near, Follows, is_pointing, IsEnd};
 
 use c_types::table::TypeTable;
 use c_types::term::{PathStep, Term, TypeId};
 use ref_cells::wholes::Whole;
-use type_rules::kinds::is_pointer;
 use type_rules::members::part_of;
 
 // A part: its type, its node among those of the whole, and whether it lies in a union.
@@ -22,7 +21,7 @@ struct Part {
     inside: bool,
 }
 
-/// What stands at the end of a path: its node among those of the whole, and whether it is a pointer.
+/// What stands at the end of a path: its node among those of the whole, and whether it is a pointer or a variadic list.
 #[derive(Clone, Copy)]
 pub struct End {
     pub node: u32,
@@ -79,6 +78,18 @@ fn step_from(types: &TypeTable, whole: Part, step: PathStep) -> Option<Part>
     }
 }
 
+// Whether a type is a pointer or a variadic list.
+fn is_pointing(types: &TypeTable, id: TypeId) -> bool
+    requires { id.0 < length types.now.terms }
+    ensures { result ≡ is_pointing (type_of types.now id.0) }
+{
+    match types.term(id) {
+        Term::Pointer(_) => true,
+        Term::VaList => true,
+        _ => false,
+    }
+}
+
 /// What stands at the end of a path from a whole of a type of the table.
 pub fn end_along(types: &TypeTable, whole: TypeId, path: &[PathStep]) -> Option<End>
     requires { whole.0 < length types.now.terms }
@@ -97,7 +108,7 @@ pub fn end_along(types: &TypeTable, whole: TypeId, path: &[PathStep]) -> Option<
     }
     Some(End {
         node: part.node,
-        pointer: is_pointer(types, part.ty),
+        pointer: is_pointing(types, part.ty),
     })
 }
 

@@ -1,15 +1,20 @@
 -- The numbers that the code finds are those of the program.
-use Rattle.std.proofs.Common.{arith, ◌≡◌, ℕ, zero, suc, ◌+◌, ◌<◌, ◌≤◌, List, [], ◌∷◌, Option, Some, None, length, take, get_or, map, sum, refl, ap, ◌∙◌}
+use Rattle.std.proofs.Common.{arith, ◌≡◌, ℕ, zero, suc, ◌+◌, ◌<◌, ◌≤◌, List, [], ◌∷◌, Option, Some, None, length, take, get_or, map, sum, slice_get, refl, ap, ◌∙◌}
 use Rattle.std.specs.List.{filter_map, range_with_len}
 use Rattle.std.proofs.lemmas.List.FromFn.{length-map-range_with_len, get_or-map-range_with_len, take-map-range_with_len}
 use Rattle.std.proofs.lemmas.List.{length-map, take_all}
 use Rattle.c_types.specs.declared.key.ObjectKey.{ObjectKey}
+use Rattle.std.proofs.lemmas.List.Sums.{sum_by_more_le}
+use Rattle.std.proofs.lemmas.Option.{slice_get_within}
+use Rattle.core_tree.specs.declared.node.Node.{Node}
+use Rattle.core_tree.specs.declared.node.NodeKind.{NodeKind}
+use Rattle.core_tree.specs.declared.node.NodeKind.TheVariants.{NextArg}
 use Rattle.core_tree.specs.Typed.{CoreTrees}
 use Rattle.obj_space.specs.View.{SpaceView}
 use Rattle.row_numbers.specs.Kept.{kept_count}
 use Rattle.row_numbers.specs.Functions.{object_at, objects_at, function_keys, functions_below, functions_of, number_at}
-use Rattle.row_numbers.specs.Numbering.{present_before}
-use Rattle.row_numbers.specs.Setting.{start_at, width, widths, result_nodes, result_widths, row, result_row, none_row}
+use Rattle.row_numbers.specs.Numbering.{present_before, own_row}
+use Rattle.row_numbers.specs.Setting.{start_at, lead, lead_in, width, widths, result_nodes, result_widths, row, list_row, result_row, none_row}
 use Rattle.row_numbers.proofs.NumberingLemmas.{starts_within}
 
 pub read_map : (f : ℕ → ℕ) (n i : ℕ) (xs : List ℕ) (r : ℕ) → xs ≡ map f (range_with_len 0 n) → i < n → r ≡ get_or xs i r → r ≡ f i
@@ -49,11 +54,26 @@ before_is u s at keys bs k a b =
     b ∙ (ap (λ (n : ℕ). map (present_before at) (range_with_len 0 n)) (length_objects s keys at a)
     ∙ map_same_below (present_before at) (number_at u s) 0 s.count (λ l lt. before_at u s at here l (omega arith)))
 
-pub rows_is : (u : CoreTrees) (s : SpaceView) (nw rs : List ℕ) → nw ≡ widths u → rs ≡ map (start_at s.count nw) (range_with_len 0 (length nw)) → rs ≡ map (row u s) (range_with_len 0 (length u.nodes))
+pub read_zero : (f : ℕ → ℕ) (n i : ℕ) (xs : List ℕ) → xs ≡ map f (range_with_len 0 n) → i < n → get_or xs i 0 ≡ f i
+read_zero f n i xs e lt = ap (λ (ys : List ℕ). get_or ys i 0) e ∙ get_or-map-range_with_len f 0 n i i 0 lt (omega arith)
+
+pub firsts_is : (u : CoreTrees) (s : SpaceView) (nw fs : List ℕ) → nw ≡ widths u → fs ≡ map (start_at s.count nw) (range_with_len 0 (length nw)) → fs ≡ map (start_at s.count (widths u)) (range_with_len 0 (length u.nodes))
+firsts_is u s nw fs w f =
+    f ∙ (ap (λ (xs : List ℕ). map (start_at s.count xs) (range_with_len 0 (length xs))) w
+    ∙ ap (λ (n : ℕ). map (start_at s.count (widths u)) (range_with_len 0 n)) (length-map u.nodes (width u)))
+
+own_at : (u : CoreTrees) (s : SpaceView) (fs : List ℕ) → fs ≡ map (start_at s.count (widths u)) (range_with_len 0 (length u.nodes)) → (k : ℕ) → k < length u.nodes → own_row u.nodes fs k ≡ row u s k
 unfolding row
-rows_is u s nw rs w r =
-    r ∙ (ap (λ (xs : List ℕ). map (start_at s.count xs) (range_with_len 0 (length xs))) w
-    ∙ ap (λ (n : ℕ). map (row u s) (range_with_len 0 n)) (length-map u.nodes (width u.types)))
+own_at u s fs f k lt = ap (λ (n : ℕ). n + lead_in (slice_get u.nodes k)) (read_zero (start_at s.count (widths u)) (length u.nodes) k fs f lt)
+
+pub rows_is : (u : CoreTrees) (s : SpaceView) (fs rs : List ℕ) → fs ≡ map (start_at s.count (widths u)) (range_with_len 0 (length u.nodes)) → rs ≡ map (own_row u.nodes fs) (range_with_len 0 (length u.nodes)) → rs ≡ map (row u s) (range_with_len 0 (length u.nodes))
+rows_is u s fs rs f r = r ∙ map_same_below (own_row u.nodes fs) (row u s) 0 (length u.nodes) (λ k lt. own_at u s fs f k (omega arith))
+
+-- a node that takes the next argument of a list has a row in front of its own
+pub row_behind : (u : CoreTrees) (s : SpaceView) (n : ℕ) (node : Node) → slice_get u.nodes n ≡ Some node → node.kind ≡ NextArg → row u s n ≡ list_row u s n + 1
+unfolding row list_row
+row_behind u s n node at kind =
+    ap (λ (o : Option Node). start_at s.count (widths u) n + lead_in o) at ∙ ap (λ (k : NodeKind). start_at s.count (widths u) n + lead k) kind
 
 pub results_is : (u : CoreTrees) (s : SpaceView) (first : ℕ) (fw rs : List ℕ) → first ≡ s.count + sum (widths u) → fw ≡ result_widths u s → rs ≡ map (start_at first fw) (range_with_len 0 (length fw)) → rs ≡ map (result_row u s) (range_with_len 0 (length (functions_of u s)))
 unfolding result_row
@@ -72,16 +92,29 @@ past_is u s number le =
     let all : take number (result_widths u s) ≡ result_widths u s = take_all number (result_widths u s) (omega (arith, length-map (functions_of u s) (λ (key : ObjectKey). kept_count (result_nodes u key)))) in
     ap (λ (xs : List ℕ). s.count + sum (widths u) + sum xs) all
 
+read_width : {X : Type 0} (f : X → ℕ) (xs : List X) (k : ℕ) (x : X) → slice_get xs k ≡ Some x → get_or (map f xs) k 0 ≡ f x
+read_width f [] k x h = cc
+read_width f (y ∷ xs) zero x h = let e : y ≡ x = cc in ap f e
+read_width f (y ∷ xs) (suc k) x h = read_width f xs k x h
+
+-- a node's rows, those before its own and those behind them too, are within
+pub width_within : (u : CoreTrees) (s : SpaceView) (k : ℕ) (node : Node) → slice_get u.nodes k ≡ Some node → start_at s.count (widths u) k + width u node ≤ s.count + sum (widths u)
+width_within u s k node e =
+    let lt : k < length (widths u) = omega (arith, slice_get_within u.nodes k node e, length-map u.nodes (width u)) in
+    let one : get_or (widths u) k 0 ≡ width u node = read_width (width u) u.nodes k node e in
+    omega (arith, sum_by_more_le (λ (x : ℕ). x) (widths u) k 0 lt, one)
+
+lead_within : (u : CoreTrees) (s : SpaceView) (k : ℕ) (o : Option Node) → slice_get u.nodes k ≡ o → start_at s.count (widths u) k + lead_in o ≤ s.count + sum (widths u)
+lead_within u s k None e = omega (arith, starts_within s.count (widths u) k)
+lead_within u s k (Some node) e = omega (arith, width_within u s k node e)
+
 pub node_within : (u : CoreTrees) (s : SpaceView) (k : ℕ) → row u s k ≤ none_row u s
 unfolding row none_row
-node_within u s k = omega (arith, starts_within s.count (widths u) k)
+node_within u s k = omega (arith, lead_within u s k (slice_get u.nodes k) refl)
 
 pub result_within : (u : CoreTrees) (s : SpaceView) (k : ℕ) → result_row u s k ≤ none_row u s
 unfolding result_row none_row
 result_within u s k = starts_within (s.count + sum (widths u)) (result_widths u s) k
-
-pub read_zero : (f : ℕ → ℕ) (n i : ℕ) (xs : List ℕ) → xs ≡ map f (range_with_len 0 n) → i < n → get_or xs i 0 ≡ f i
-read_zero f n i xs e lt = ap (λ (ys : List ℕ). get_or ys i 0) e ∙ get_or-map-range_with_len f 0 n i i 0 lt (omega arith)
 
 pub locations_within : (u : CoreTrees) (s : SpaceView) → s.count ≤ none_row u s
 unfolding none_row

@@ -18,7 +18,10 @@ use Rattle.core_tree.specs.Typed.{CoreTrees, Sort, NoNode, PlaceNode, ValueNode,
 use Rattle.row_numbers.specs.Kept.{nodes_in, nodes_of, kept_count}
 use Rattle.row_numbers.specs.Functions.{key_type}
 use Rattle.row_numbers.proofs.KeptLemmas.{kept_length}
-use Rattle.row_numbers.specs.Setting.{start_at, width_by, width, result_nodes}
+use Rattle.core_tree.specs.declared.node.NodeKind.{NodeKind}
+use Rattle.core_tree.specs.declared.node.NodeKind.TheVariants.{NextArg, CallNode}
+use Rattle.core_tree.specs.Typed.{type_at}
+use Rattle.row_numbers.specs.Setting.{start_at, width_by, own_width, width, widths, lead, trail, calls_further, result_nodes}
 use Rattle.row_numbers.specs.Numbering.{present_before}
 
 present_one : (o : Option ObjectKey) → length (filter_map (λ (found : Option ObjectKey). found) (o ∷ [])) ≡ cond (is_some o) 1 0
@@ -67,8 +70,23 @@ width_few PlaceNode kept h = omega arith
 width_few ValueNode kept h = h
 width_few StatementNode kept h = omega arith
 
-pub widths_few : (table : Table) (nodes : List Node) → All (λ y. y ≤ 2 ^ 24) (map (width table) nodes)
-widths_few table nodes = all_small (width table) nodes (2 ^ 24) (λ node. width_few (sort_of node.kind) _ (kept_few table (type_of table node.ty.0)))
+pub own_width_few : (table : Table) (node : Node) → own_width table node ≤ 2 ^ 24
+own_width_few table node = width_few (sort_of node.kind) _ (kept_few table (type_of table node.ty.0))
 
-pub result_widths_few : (u : CoreTrees) (keys : List ObjectKey) → All (λ y. y ≤ 2 ^ 24) (map (λ key. kept_count (result_nodes u key)) keys)
-result_widths_few u keys = all_small (λ key. kept_count (result_nodes u key)) keys (2 ^ 24) (λ key. kept_few u.types (result_of (key_type u key)))
+pub lead_few : (kind : NodeKind) → lead kind ≤ 1
+lead_few NextArg = omega arith
+lead_few kind = omega arith
+
+pub trail_few : (u : CoreTrees) (kind : NodeKind) (children : List ℕ) → trail u kind children ≤ 1
+trail_few u CallNode (c ∷ arguments) = one_most (calls_further (type_at u c))
+trail_few u CallNode [] = omega arith
+trail_few u kind children = omega arith
+
+width_small : (u : CoreTrees) (node : Node) → width u node ≤ 2 ^ 24 + 2
+width_small u node = omega (arith, lead_few node.kind, own_width_few u.types node, trail_few u node.kind node.children)
+
+pub widths_few : (u : CoreTrees) → All (λ y. y ≤ 2 ^ 24 + 2) (widths u)
+widths_few u = all_small (width u) u.nodes (2 ^ 24 + 2) (width_small u)
+
+pub result_widths_few : (u : CoreTrees) (keys : List ObjectKey) → All (λ y. y ≤ 2 ^ 24 + 2) (map (λ key. kept_count (result_nodes u key)) keys)
+result_widths_few u keys = all_small (λ key. kept_count (result_nodes u key)) keys (2 ^ 24 + 2) (λ key. omega (arith, kept_few u.types (result_of (key_type u key))))

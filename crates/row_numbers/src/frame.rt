@@ -5,13 +5,16 @@ ghost use Rattle.c_types.specs.declared.key.ObjectKey.{ObjectKey};
 ghost use Rattle.c_types.specs.Table.{type_of};
 ghost use Rattle.core_tree.specs.Typed.{trees_in, type_at};
 ghost use Rattle.core_tree.specs.Range.{InRange};
+ghost use Rattle.core_tree.specs.declared.node.Node.{Node};
+ghost use Rattle.core_tree.specs.declared.node.NodeKind.{NodeKind};
 ghost use Rattle.obj_space.specs.View.{view_of};
 ghost use Rattle.row_numbers.specs.Functions.{number_of};
-ghost use Rattle.row_numbers.specs.Setting.{row, result_row};
+ghost use Rattle.row_numbers.specs.Setting.{row, list_row, rest_row, result_row};
 ghost use Rattle.row_numbers.specs.Frame.{NumbersOf, IsFrame, setting_in};
 
 use crate::functions::{function_keys, objects_at, present};
-use crate::numbering::{present_before, result_widths, starts, total, widths};
+use crate::kept::kept_count;
+use crate::numbering::{own_rows, present_before, result_widths, starts, total, widths};
 use c_types::key::ObjectKey;
 use c_types::term::TypeId;
 use core_tree::Program;
@@ -47,7 +50,7 @@ pub fn number_rows(alloc: Global, program: &Program, space: &Space) -> Result<Nu
     let keys = function_keys(alloc, program)?;
     let at = objects_at(alloc, space, keys.as_slice())?;
     let functions = present(alloc, at.as_slice())?;
-    let node_widths = widths(alloc, &program.types, program.nodes.as_slice())?;
+    let node_widths = widths(alloc, program)?;
     let widths_of_results = result_widths(alloc, program, functions.as_slice())?;
     let nodes_end = u64::from(space.count()) + total(node_widths.as_slice());
     let end = nodes_end + total(widths_of_results.as_slice());
@@ -55,7 +58,8 @@ pub fn number_rows(alloc: Global, program: &Program, space: &Space) -> Result<Nu
         return Ok(Numbers::Many(end + 1));
     }
     let before = present_before(alloc, at.as_slice())?;
-    let rows = starts(alloc, space.count(), node_widths.as_slice())?;
+    let firsts = starts(alloc, space.count(), node_widths.as_slice())?;
+    let rows = own_rows(alloc, program.nodes.as_slice(), firsts.as_slice())?;
     let results = starts(alloc, nodes_end as u32, widths_of_results.as_slice())?;
     Ok(Numbers::Few(Numbering {
         functions,
@@ -84,6 +88,26 @@ impl<'a> Frame<'a> {
         ensures small { result ≤ 2 ^ 24 }
     {
         self.numbering.rows[n as usize]
+    }
+
+    /// The row of what a node may be, which takes the next argument of a list.
+    pub fn list_row(&self, n: u32) -> u32
+        requires frame { IsFrame self.now }
+        requires takes { (node : Node) × (slice_get self.now.program.now.nodes.items n ≡ Some node) × (node.kind ≡ NodeKind.NextArg) }
+        ensures value { result ≡ list_row (setting_in self.now).trees (setting_in self.now).space n }
+        ensures small { result ≤ 2 ^ 24 }
+    {
+        self.row(n) - 1
+    }
+
+    /// The row of all arguments of a call past the parameters.
+    pub fn rest_row(&self, n: u32) -> u32
+        requires frame { IsFrame self.now }
+        requires node { n < length self.now.program.now.nodes.items }
+        ensures value { result ≡ rest_row (setting_in self.now).trees (setting_in self.now).space n }
+        ensures small { result ≤ 2 ^ 25 }
+    {
+        self.row(n) + kept_count(&self.program.types, self.program.nodes[n as usize].ty)
     }
 
     /// The function around a node.

@@ -18,15 +18,15 @@ pub fn node_count(types: &TypeTable, id: TypeId) -> u32
     types.nodes(id).unwrap_or(0)
 }
 
-// Whether a type is a pointer or a union.
+// Whether a type is a pointer, a variadic list or a union.
 fn is_kept(types: &TypeTable, id: TypeId) -> bool
     requires { id.0 < length types.now.terms }
     ensures { result ≡ is_kept (type_of types.now id.0) }
 {
     match types.class_of(id) {
-        Class::Pointer | Class::Union => true,
+        Class::Pointer | Class::VaList | Class::Union => true,
         Class::Integer(_) | Class::Structure | Class::Array | Class::Function => false,
-        Class::Floating | Class::VaList | Class::Void => false,
+        Class::Floating | Class::Void => false,
     }
 }
 

@@ -5,7 +5,7 @@ use Rattle.c_grammar.specs.Productions.{p_declarator, p_either, p_enum, p_enumer
 use Rattle.c_grammar.specs.Productions.{p_field, p_function, p_member, p_members, p_multiplicative, p_parameter}
 use Rattle.c_grammar.specs.Productions.{p_shift, p_specs, p_storage, p_struct, p_suffix, p_type, p_type_name}
 use Rattle.c_grammar.specs.Productions.{p_unary, p_unit}
-use Rattle.c_grammar.specs.Words.{sign_colon, sign_ellipsis, sign_percent, sign_shift_left, sign_slash}
+use Rattle.c_grammar.specs.Words.{sign_colon, sign_percent, sign_shift_left, sign_slash}
 use Rattle.c_grammar.specs.Words.{word_alignas, word_bool, word_char, word_enum, word_inline, word_int, word_long}
 use Rattle.c_grammar.specs.Words.{word_sizeof, word_static, word_struct, word_union, word_void}
 use Rattle.sense_cases.specs.Branches.{Branch, Node, Done, ◌▸◌, name, word, sign, unit_end, of_word, named, counted}
@@ -997,24 +997,6 @@ array_of_functions =
     (open_bracket ▸ (Node p_assignment ((counted (codes "3")) ▸ Done)) ▸ shut_bracket ▸ Done))
     ▸ void_list ▸ Done))
     ▸ ending ▸ Done))
-    ▸ unit_end ▸ Done)
-
--- int f(int a,...){return a;}
-abbrev pub variadic_definition : Branch
-variadic_definition =
-    Node p_unit
-    ((Node p_external
-    ((of_word word_int) ▸
-    (Node p_declarator
-    (name (codes "f") ▸
-    (Node p_suffix
-    (opening ▸
-    (Node p_parameter ((of_word word_int) ▸ (parameter_name (codes "a")) ▸ Done)) ▸ comma ▸
-    sign
-    sign_ellipsis ▸ closing ▸ Done))
-    ▸ Done))
-    ▸
-    (Node p_block (open_brace ▸ (returns (named (codes "a"))) ▸ shut_brace ▸ Done)) ▸ Done))
     ▸ unit_end ▸ Done)
 
 -- static inline int f(void);inline int f(void){return 0;}

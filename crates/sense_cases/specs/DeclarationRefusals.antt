@@ -1,6 +1,6 @@
 -- Declarations that the rows refuse: the kind and the column, written by hand from C11 and the rules of places.
 use Rattle.pta_base.specs.declared.kind.Kind.TheVariants.{Constant, ConstantRange, DivideByZero, InlineDefinition}
-use Rattle.pta_base.specs.declared.kind.Kind.TheVariants.{Operand, VariadicDefinition, Vla}
+use Rattle.pta_base.specs.declared.kind.Kind.TheVariants.{Operand, Vla}
 use Rattle.sense_cases.specs.Cores.{IsRefused}
 use Rattle.sense_cases.specs.DeclarationRefusalTexts as text
 
@@ -53,7 +53,6 @@ pub record TypeFaults : Type 0 where
   pub void_parameter : IsRefused text.void_parameter Operand 5
   pub returns_array : IsRefused text.returns_array Operand 2
   pub array_of_functions : IsRefused text.array_of_functions Operand 2
-  pub variadic_definition : IsRefused text.variadic_definition VariadicDefinition 2
   pub inline_definition : IsRefused text.inline_definition InlineDefinition 11
   pub outer_tag_as_union : IsRefused text.outer_tag_as_union Operand 16
   pub array_of_void : IsRefused text.array_of_void Operand 2

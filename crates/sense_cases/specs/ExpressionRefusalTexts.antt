@@ -1025,19 +1025,6 @@ assert_fails =
     (codes "\"no\"") ▸ closing ▸ semicolon ▸ Done))
     ▸ unit_end ▸ Done)
 
--- __builtin_va_list v;void f(void){v;}
-abbrev pub variadic_list : Branch
-variadic_list =
-    Node p_unit
-    ((Node p_external
-    ((Node p_specs ((Node p_type (name (codes "__builtin_va_list") ▸ Done)) ▸ Done)) ▸
-    (plain (codes "v")) ▸ ending ▸ Done))
-    ▸
-    (Node p_external
-    ((of_word word_void) ▸ (Node p_declarator (name (codes "f") ▸ void_list ▸ Done)) ▸
-    (Node p_block (open_brace ▸ (evaluates (named (codes "v"))) ▸ shut_brace ▸ Done)) ▸ Done))
-    ▸ unit_end ▸ Done)
-
 -- void f(int*p,int n){n*(p+n);}
 abbrev pub parenthesised_operand : Branch
 parenthesised_operand =

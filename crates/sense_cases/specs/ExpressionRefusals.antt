@@ -1,5 +1,5 @@
 -- Expressions that the rows refuse: the kind and the column, written by hand from C11 and the rules of places.
-use Rattle.pta_base.specs.declared.kind.Kind.TheVariants.{ArrayOfValue, Builtin, Constant, ConstantRange}
+use Rattle.pta_base.specs.declared.kind.Kind.TheVariants.{ArrayOfValue, Constant, ConstantRange}
 use Rattle.pta_base.specs.declared.kind.Kind.TheVariants.{FlexibleMember, Floating, Operand}
 use Rattle.sense_cases.specs.Cores.{IsRefused}
 use Rattle.sense_cases.specs.ExpressionRefusalTexts as text
@@ -55,7 +55,6 @@ pub record ConstantFaults : Type 0 where
 
 -- the first node in the order in which productions end
 pub record OrderFaults : Type 0 where
-  pub variadic_list : IsRefused text.variadic_list Builtin 10
   pub parenthesised_operand : IsRefused text.parenthesised_operand Operand 13
   pub first_of_two : IsRefused text.first_of_two Operand 9
   pub inner_before_outer : IsRefused text.inner_before_outer Operand 10

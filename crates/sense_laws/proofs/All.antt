@@ -207,7 +207,7 @@ module _ (entities : ℕ → Option Ctype) (s : Source) (senses : List Sense) (a
   row_here n node x lt at is before items numbers =
       subst (λ (g : Given Sense). Gives (SoundSense (world_at s (take n senses) n) entities) g) (are.each n node x at is)
       (row_sound (world_at s (take n senses) n) entities (world_sound n lt before numbers) s (sense_in (take n senses)) before n (initial_fits n lt before numbers) ints (parts_fit n lt before items) node.production node.children.items (ap production_of at) (ap children_of at)
-      (λ primary. subst (FirstFits (world_at s (take n senses) n) entities) (ap children_of at) (fit.names n lt primary)))
+      (λ primary. (subst (FirstFits (world_at s (take n senses) n) entities) (ap children_of at) (fit.names n lt primary), fit.further n lt primary)))
 
   -- the sense of a statement, a block or what may stand in a block is no value
   item_here : (n : ℕ) (node : SyntaxNode) (x : Sense) → n < length senses → slice_get s.nodes n ≡ Some node → slice_get senses n ≡ Some x
@@ -305,6 +305,7 @@ first_fits w entities names (first ∷ rest) = names first
 asked_of : (entities : ℕ → Option Ctype) (s : Source) (senses : List Sense) → SensesFit entities s senses → AskedFit entities s senses
 asked_of entities s senses fit = record {
   names = λ i lt primary. first_fits (world_at s (take i senses) i) entities (fit.names i lt) (children_at s i);
+  further = λ i lt primary. fit.further i lt;
   aligns = fit.aligns;
   runs = fit.runs;
   initials = λ i lt.

@@ -15,7 +15,7 @@ use Rattle.c_senses.specs.Given.{Given, Fits}
 use Rattle.c_senses.specs.World.{World, same_type}
 use Rattle.c_senses.specs.Nulls.{is_null}
 use Rattle.c_senses.specs.Objects.{part_at}
-use Rattle.c_senses.specs.Conversions.{OperandSort, Whole, Address, Aggregate, Other, operand_of, is_fetched, fetched_or_decayed, value_of_sort, value_of, converted, made, is_narrow, read_width, promoted, promotion, higher, common, first_member_type, upcast_within, upcast, upcast_or, from_structure, character_kind, pointers, target_of, to_pointer, to_whole, to_other, conversion, null_value, typed}
+use Rattle.c_senses.specs.Conversions.{OperandSort, Whole, Address, Aggregate, Other, operand_of, is_fetched, is_list, fetched_or_decayed, value_of_sort, value_of, converted, made, is_narrow, read_width, promoted, promotion, higher, common, first_member_type, upcast_within, upcast, upcast_or, from_structure, character_kind, pointers, target_of, to_pointer, to_whole, to_other, conversion, null_value, typed}
 use Rattle.c_conversions.proofs.passed.core_nodes.SameTypes.{type_sound}
 use Rattle.sense_laws.specs.Sound.{Sound, SoundValue, SoundOf, IsProper, IsPartOf, IsFirstPart, Gives, ProperWorld}
 use Rattle.sense_laws.proofs.Giving.{if_given, if_holds, differs}
@@ -30,12 +30,13 @@ pub address_pointer : (t to : Ctype) → operand_of t ≡ Address to → t ≡ P
 address_pointer (PointerTo a) to h = cc
 address_pointer t to h = cc
 
-fetched_stored : (w : World) (t : Ctype) → is_fetched w (operand_of t) ≡ true → IsStored t
+fetched_stored : (w : World) (t : Ctype) → is_fetched w (operand_of t) || is_list t ≡ true → IsStored t
 fetched_stored w BoolType h = inl (inl tt)
 fetched_stored w (IntegerType size rank signed) h = inl (inl tt)
 fetched_stored w (PointerTo to) h = inl (inr tt)
-fetched_stored w (StructureOf tag) h = inr tt
-fetched_stored w (UnionOf tag) h = inr tt
+fetched_stored w (StructureOf tag) h = inr (inl tt)
+fetched_stored w (UnionOf tag) h = inr (inl tt)
+fetched_stored w VaListType h = inr (inr tt)
 fetched_stored w t h = cc
 
 decayed_proper : (t p : Ctype) → decayed t ≡ Some p → IsProper t → IsProper p
@@ -83,7 +84,7 @@ module _ (w : World) (entities : ℕ → Option Ctype) where
   decayed_sound : (at : ℕ) (c : Core) → Sound w entities c → core_sort c ≡ PlaceNode → (o : Option Ctype) → decayed (ctype_of c) ≡ o → Gives (SoundValue w entities) (fetched_or_decayed w at c o)
   decayed_sound at c h s (Some pointer) e = (((s, e), decayed_proper (ctype_of c) pointer e (proper_of c h), tt, (h, tt)), refl)
   decayed_sound at c h s None e =
-      if_given (SoundValue w entities) (is_fetched w (operand_of (ctype_of c))) Operand at (Fits (over Fetch (place_of c) (ctype_of c) c))
+      if_given (SoundValue w entities) (is_fetched w (operand_of (ctype_of c)) || is_list (ctype_of c)) Operand at (Fits (over Fetch (place_of c) (ctype_of c) c))
       (λ fetched. ((((s, refl), fetched_stored w (ctype_of c) fetched), proper_of c h, tt, (h, tt)), refl))
 
   value_of_sort_sound : (at : ℕ) (c : Core) → Sound w entities c → (s : Sort) → core_sort c ≡ s → Gives (SoundValue w entities) (value_of_sort w at c s)
@@ -220,7 +221,6 @@ module _ (w : World) (entities : ℕ → Option Ctype) where
 
   pub typed_sound : (P : Core → Type 0) (at : ℕ) (t : Ctype) (g : Given Core) → Gives P g → Gives P (typed at t g)
   typed_sound P at FloatingType g h = tt
-  typed_sound P at VaListType g h = tt
   typed_sound P at t g h = h
 
 -- promotions and usual conversions

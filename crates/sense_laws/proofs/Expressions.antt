@@ -1,6 +1,7 @@
 -- The rows of expressions over sound senses.
 use Rattle.std.proofs.Common.{◌≡◌, ℕ, Bool, true, false, ◌==◌, not, List, [], ◌∷◌, Option, Some, None, refl, subst}
-use Rattle.std.specs.Prelude.{⊤, if◌then◌else◌}
+use Rattle.std.specs.Prelude.{⊤, codes, if◌then◌else◌}
+use Rattle.std.specs.Str.{bytes_eq}
 use Rattle.pta_base.specs.declared.kind.Kind.TheVariants.{Operand}
 use Rattle.pta_base.specs.declared.place.Place.{Place}
 use Rattle.c_lexer.specs.declared.TokenKind.{TokenKind}
@@ -14,19 +15,19 @@ use Rattle.c_grammar.specs.Words.{word_sizeof, word_alignof, sign_left_bracket, 
 use Rattle.c_senses.specs.passed.c_consts.Core.{Core, ctype_of, core_sort}
 use Rattle.c_senses.specs.Tree.{Source, is_a, is_leaf, place_at, spelling_at, kind_at, sign_at, last_where, all_where, left_of}
 use Rattle.c_senses.specs.Given.{Given, Fits, Refuses, ◌>>=◌}
-use Rattle.c_senses.specs.World.{World, Meaning}
+use Rattle.c_senses.specs.World.{World}
 use Rattle.c_senses.specs.Conversions.{operand_of, value_of}
 use Rattle.c_senses.specs.Operators.{between, operator, number_core, choice_row}
-use Rattle.c_senses.specs.Objects.{name_row, index_row, member_row, arrow_row, assign_row, assigned_op, update_row, call_row, cast_row, size_row, align_row, sized_expression}
+use Rattle.c_senses.specs.Objects.{name_row, index_row, member_row, arrow_row, assign_row, assigned_op, update_row, call_row, cast_row, size_row, align_row, sized_expression, next_row, end_row}
 use Rattle.c_senses.specs.Sense.{Sense, IsCore, IsType, core_of, value_in, type_of_sense, last_of}
-use Rattle.c_senses.specs.Expressions.{as_sense, indexed_core, is_operator, value_core, operator_core, passed, named_of, step, chained, is_single, binary_row, string_bytes, primary_of, primary_row, indexed, dotted, pointed, all_cores, called, counted_after, post_of, post_signed, post_row, prefixed_core, prefixed, sized, aligned, worded, unary_of, unary_row, cast_over, cast_last, cast_of, cast_row_of, conditional_row, assigned, assigned_by, assignment_row, is_binary, expression_row}
-use Rattle.sense_laws.specs.Asked.{FirstFits}
-use Rattle.sense_laws.specs.Sound.{MeaningFits, Sound, SoundValue, SoundOf, ProperWorld, AreSound, IsProper, Gives}
+use Rattle.c_senses.specs.Expressions.{as_sense, indexed_core, is_operator, value_core, operator_core, passed, named_of, step, chained, is_single, binary_row, string_bytes, primary_of, primary_row, indexed, dotted, pointed, all_cores, called, counted_after, post_of, post_signed, post_row, prefixed_core, prefixed, sized, aligned, worded, unary_of, unary_row, cast_over, cast_last, cast_of, cast_row_of, conditional_row, assigned, assigned_by, assignment_row, is_binary, expression_row, two_lists, list_core, list_row, named_primary}
+use Rattle.sense_laws.specs.Asked.{PrimaryFits}
+use Rattle.sense_laws.specs.Sound.{FurtherIsVariadic, Sound, SoundValue, SoundOf, ProperWorld, AreSound, IsProper, Gives}
 use Rattle.sense_laws.specs.Senses.{SoundSense, ConstantsFit}
 use Rattle.sense_laws.proofs.Giving.{then_gives, gives_weaker, some_given, if_holds}
 use Rattle.sense_laws.proofs.Conversions.{value_sound}
 use Rattle.sense_laws.proofs.Operators.{between_sound, operator_fits, promoted_row_sound, not_sound, choice_sound, one_sound}
-use Rattle.sense_laws.proofs.Objects.{text_sound, name_sound, address_sound, indirection_sound, index_sound, member_sound, arrow_sound, assign_sound, update_sound, cast_sound, size_sound, sized_sound, align_sound, call_sound}
+use Rattle.sense_laws.proofs.Objects.{text_sound, name_sound, address_sound, indirection_sound, index_sound, member_sound, arrow_sound, assign_sound, update_sound, cast_sound, size_sound, sized_sound, align_sound, call_sound, start_sound, copy_sound, next_sound, end_sound}
 use Rattle.sense_laws.proofs.Literals.{integer_holds, character_holds}
 
 op_updates : (o : Option Op) → Type 0
@@ -127,16 +128,44 @@ module _ (w : World) (entities : ℕ → Option Ctype) (world : ProperWorld w) w
     passed_sound at (c ∷ rest) = sound c
 
     module _ (fit : ConstantsFit s) where
-      primary_of_sound : (at first : ℕ) (rest : List ℕ) (kind : TokenKind) → kind_at s first ≡ kind → ((m : Meaning) → w.meaning first ≡ Some m → MeaningFits entities m)
+      -- operations on variadic lists
+      two_lists_sound : FurtherIsVariadic w entities → (at : ℕ) (place : Place) (name : List ℕ) (a b : Core) → Sound w entities a → Sound w entities b → Gives (Sound w entities) (two_lists w s sense at place name a b)
+      two_lists_sound variadic at place name a b h k =
+          if_holds (Gives (Sound w entities)) (bytes_eq name (codes "__builtin_va_copy")) _ _ (λ e. copy_sound w entities world place at a b h k) (λ e. start_sound w entities world variadic place at a b h)
+
+      list_core_sound : FurtherIsVariadic w entities → (at : ℕ) (place : Place) (name : List ℕ) (parts : List ℕ) → Gives (Sound w entities) (list_core w s sense at place name parts)
+      list_core_sound variadic at place name [] = tt
+      list_core_sound variadic at place name (a ∷ []) =
+          then_gives (Sound w entities) (Sound w entities) (core_of at (sense a)) (end_row w place at) (core_sound at (sense a) (sound a)) (λ x h. end_sound w entities world place at x h)
+      list_core_sound variadic at place name (a ∷ b ∷ []) =
+          if_holds (Gives (Sound w entities)) (is_a s p_type_name b) _ _
+          (λ e.
+          then_gives (Sound w entities) (Sound w entities) (core_of at (sense a)) (λ x. type_of_sense at (sense b) >>= next_row place at x) (core_sound at (sense a) (sound a))
+          (λ x h. then_gives IsProper (Sound w entities) (type_of_sense at (sense b)) (next_row place at x) (type_sense_sound at (sense b) (sound b)) (λ t proper. next_sound w entities world place at x t h proper)))
+          (λ e.
+          then_gives (Sound w entities) (Sound w entities) (core_of at (sense a)) (λ x. core_of at (sense b) >>= two_lists w s sense at place name x) (core_sound at (sense a) (sound a))
+          (λ x h. then_gives (Sound w entities) (Sound w entities) (core_of at (sense b)) (two_lists w s sense at place name x) (core_sound at (sense b) (sound b)) (λ y k. two_lists_sound variadic at place name x y h k)))
+      list_core_sound variadic at place name (a ∷ b ∷ c ∷ rest) = tt
+
+      list_row_sound : FurtherIsVariadic w entities → (at first : ℕ) (rest : List ℕ) → Gives (SoundSense w entities) (list_row w s sense at first rest)
+      list_row_sound variadic at first rest =
+          as_sense_sound (list_core w s sense at (place_at s first) (spelling_at s first) (all_where (λ c. not (is_leaf s c)) rest))
+          (list_core_sound variadic at (place_at s first) (spelling_at s first) (all_where (λ c. not (is_leaf s c)) rest))
+
+      named_primary_sound : (at first : ℕ) (rest : List ℕ) → PrimaryFits w entities (first ∷ rest) → Gives (SoundSense w entities) (named_primary w s sense at first rest)
+      named_primary_sound at first [] fits = as_sense_sound (name_row w (place_at s first) at (w.meaning first)) (name_sound w entities world (place_at s first) at first (w.meaning first) refl fits.0)
+      named_primary_sound at first (c ∷ rest) fits = list_row_sound fits.1 at first (c ∷ rest)
+
+      primary_of_sound : (at first : ℕ) (rest : List ℕ) (kind : TokenKind) → kind_at s first ≡ kind → PrimaryFits w entities (first ∷ rest)
           → Gives (SoundSense w entities) (primary_of w s sense at first rest kind)
-      primary_of_sound at first rest Identifier e names = as_sense_sound (name_row w (place_at s first) at (w.meaning first)) (name_sound w entities world (place_at s first) at first (w.meaning first) refl names)
+      primary_of_sound at first rest Identifier e names = named_primary_sound at first rest names
       primary_of_sound at first rest Integer e names = let holds = integer_holds (spelling_at s first) (fit first e) in (holds.0, holds.1, tt, tt)
       primary_of_sound at first rest Character e names = (character_holds (spelling_at s first), tt, tt, tt)
       primary_of_sound at first rest Text e names = text_sound w entities world (place_at s first) (string_bytes w s sense (first ∷ rest))
       primary_of_sound at first rest (Punctuator p) e names = passed_sound at rest
       primary_of_sound at first rest kind e names = tt
 
-      primary_sound : (at : ℕ) (children : List ℕ) → FirstFits w entities children → Gives (SoundSense w entities) (primary_row w s sense at children)
+      primary_sound : (at : ℕ) (children : List ℕ) → PrimaryFits w entities children → Gives (SoundSense w entities) (primary_row w s sense at children)
       primary_sound at [] names = tt
       primary_sound at (first ∷ rest) names = primary_of_sound at first rest (kind_at s first) refl names
 
@@ -311,7 +340,7 @@ module _ (w : World) (entities : ℕ → Option Ctype) (world : ProperWorld w) w
           then_gives (Sound w entities) (Sound w entities) (core_of at (sense v)) (λ b. assigned_by w s sense at o a b (sign_at s o)) (core_sound at (sense v) (sound v)) (λ b k. assigned_by_sound at o a b (sign_at s o) h k)))
       assignment_sound at children = tt
 
-      pub expression_sound : (production at : ℕ) (children : List ℕ) → ((production == p_primary) ≡ true → FirstFits w entities children)
+      pub expression_sound : (production at : ℕ) (children : List ℕ) → ((production == p_primary) ≡ true → PrimaryFits w entities children)
           → Gives (SoundSense w entities) (expression_row w s sense production at children)
       expression_sound production at children names =
           if_holds (Gives (SoundSense w entities)) (production == p_primary) _ _ (λ e. primary_sound at children (names e))

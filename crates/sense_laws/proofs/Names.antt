@@ -15,7 +15,7 @@ use Rattle.c_senses.specs.Entities.{agree, fuller, together, all_together, with_
 use Rattle.c_senses.specs.Statements.{returned_type}
 use Rattle.c_senses.specs.Sense.{Sense, IsSpecified, IsDeclarator, IsParameter, IsValue, Specified}
 use Rattle.sense_laws.specs.Sound.{IsProper, ProperMeaning, SoundMeaning, MeaningFits, SoundWorld, ProperWorld, Gives}
-use Rattle.sense_laws.specs.Asked.{FirstFits}
+use Rattle.sense_laws.specs.Asked.{PrimaryFits}
 use Rattle.sense_laws.specs.Senses.{SoundSense, IsIntSense}
 use Rattle.std.proofs.lemmas.Bool.{lt-ltb, leb-true}
 use Rattle.pta_base.specs.declared.kind.Kind.TheVariants.{Operand}
@@ -202,9 +202,9 @@ proper_world w entities world = record { parts = world.parts; names = λ leaf m 
     proper (Tag tag) h = tt
     proper (Value n) h = h
 
-pub meanings_fit : (w : World) (entities : ℕ → Option Ctype) → SoundWorld w entities → (children : List ℕ) → FirstFits w entities children
-meanings_fit w entities world [] = tt
-meanings_fit w entities world (first ∷ rest) = λ m e. fits m (world.names first m e)
+pub meanings_fit : (w : World) (entities : ℕ → Option Ctype) → SoundWorld w entities → (children : List ℕ) → PrimaryFits w entities children
+meanings_fit w entities world [] = (tt, world.further)
+meanings_fit w entities world (first ∷ rest) = (λ m e. fits m (world.names first m e), world.further)
   where
     fits : (m : Meaning) → SoundMeaning entities m → MeaningFits entities m
     fits (Object e t) h = h.1

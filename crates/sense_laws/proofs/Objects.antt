@@ -1,6 +1,6 @@
 -- Names, objects and their parts, assignments, calls and casts of what is sound are sound.
-use Rattle.std.proofs.Common.{arith, ◌≡◌, ◌≢◌, ℕ, suc, ◌<◌, Bool, true, false, ◌&&◌, not, pos, List, [], ◌∷◌, length, slice_get, Option, Some, None, refl, sym, subst, inl, inr}
-use Rattle.std.specs.Prelude.{◌^◌, nat_lt, is_some, is_none}
+use Rattle.std.proofs.Common.{arith, ◌≡◌, ◌≢◌, ℕ, suc, ◌<◌, Bool, true, false, ◌&&◌, ◌||◌, not, pos, List, [], ◌∷◌, length, slice_get, Option, Some, None, refl, sym, ◌∙◌, subst, inl, inr}
+use Rattle.std.specs.Prelude.{◌^◌, nat_lt, is_some, is_none, if◌then◌else◌}
 use Rattle.std.specs.Int.Signed.{le_z_yes, lt_z_yes}
 use Rattle.std.proofs.Math.Facts.{yes_ltb, yes_leb}
 use Rattle.std.proofs.lemmas.Bool.{eqb-true, eq-eqb, ltb-true, false≢true}
@@ -9,25 +9,26 @@ use Rattle.pta_base.specs.declared.kind.Kind.TheVariants.{Operand, ArrayOfValue,
 use Rattle.pta_base.specs.declared.place.Place.{Place}
 use Rattle.c_types.specs.declared.term.Form.{Form}
 use Rattle.c_types.specs.declared.term.Form.TheVariants.{Fixed, Variadic, Unspecified}
-use Rattle.c_types.specs.Trees.{Ctype, Ctypes, NoTypes, MoreTypes, VoidType, BoolType, IntegerType, PointerTo, ArrayOf, FunctionFrom, StructureOf, UnionOf}
+use Rattle.c_types.specs.Trees.{Ctype, Ctypes, NoTypes, MoreTypes, VoidType, BoolType, IntegerType, PointerTo, ArrayOf, FunctionFrom, StructureOf, UnionOf, VaListType}
 use Rattle.c_types.specs.Layout.{Extent}
 use Rattle.c_types.specs.Table.{size_below}
 use Rattle.c_conversions.specs.passed.core_tree.declared.node.Op.{Op}
 use Rattle.c_conversions.specs.passed.core_tree.declared.node.Op.TheVariants.{Plus, Minus}
 use Rattle.c_conversions.specs.passed.core_tree.declared.node.NodeKind.{NodeKind}
-use Rattle.c_conversions.specs.passed.core_tree.declared.node.NodeKind.TheVariants.{Named, Deref, AddressOf, Assign, CallNode}
-use Rattle.c_conversions.specs.passed.core_tree.Typed.{Sort, NoNode, PlaceNode, ValueNode, StatementNode, sort_of, IsInteger, IsStored, IsPromoted, IsPointer, IsPassed, LacksLength, Holds}
+use Rattle.c_conversions.specs.passed.core_tree.declared.node.NodeKind.TheVariants.{Named, Deref, AddressOf, Assign, CallNode, VarArgs, NextArg}
+use Rattle.c_conversions.specs.passed.core_tree.Typed.{Sort, NoNode, PlaceNode, ValueNode, StatementNode, sort_of, IsInteger, IsScalar, IsStored, IsPromoted, IsPointer, IsPassed, LacksLength, Holds}
+use Rattle.type_rules.specs.Kinds.{IsList}
 use Rattle.c_senses.specs.Literals.{unsigned_long}
 use Rattle.c_conversions.specs.passed.core_tree.Rows.{IsUpdate, IsMove, IsArray}
-use Rattle.c_senses.specs.passed.c_consts.Core.{Core, Cores, Of, MoreCores, ctype_of, core_sort, leaf, over, over_two}
+use Rattle.c_senses.specs.passed.c_consts.Core.{Core, Cores, Of, NoCores, MoreCores, ctype_of, core_sort, leaf, over, over_two}
 use Rattle.c_senses.specs.passed.c_inits.Made.{Part}
 use Rattle.c_senses.specs.Given.{Given, Fits, Refuses, ◌>>=◌, given_if}
 use Rattle.c_senses.specs.World.{World, Meaning, Object, Function, TypeName, Tag, Value, extent, members_of, way_to}
-use Rattle.c_senses.specs.Conversions.{OperandSort, Whole, Address, Aggregate, Other, operand_of, value_of, promotion, conversion, place_width}
+use Rattle.c_senses.specs.Conversions.{OperandSort, Whole, Address, Aggregate, Other, operand_of, value_of, promotion, conversion, place_width, is_list, is_scalar}
 use Rattle.c_senses.specs.Operators.{moved}
-use Rattle.c_senses.specs.Objects.{text_core, name_row, address_row, target_row, indirection_row, element_row, index_row, lacks_length, is_array, is_place_sort, member_node, member_step, part_at, along, member_row, arrow_row, is_assigned, assign_row, moves_pointer, updated, update_sorts, update_row, count_of, takes_so_many, further, one_more, arguments, is_returned, call_of, callee_row, call_row, cast_row, size_number, size_row, align_in, align_row, named_width, sized_expression}
-use Rattle.sense_laws.specs.Sound.{Sound, AllSound, AreSound, SoundValue, SoundOf, ProperMeaning, MeaningFits, ProperWorld, IsProper, AreProper, IsListOf, IsValueCore, IsFurtherCore, AreArguments, CallsWith, list_of, Gives}
-use Rattle.sense_laws.proofs.Giving.{then_gives, if_given, some_given, if_holds, and_left, and_right}
+use Rattle.c_senses.specs.Objects.{text_core, name_row, address_row, target_row, indirection_row, element_row, index_row, lacks_length, is_array, is_place_sort, member_node, member_step, part_at, along, member_row, arrow_row, is_assigned, assign_row, moves_pointer, updated, update_sorts, update_row, count_of, takes_so_many, further, further_value, one_more, arguments, is_returned, call_of, callee_row, call_row, cast_row, size_number, size_row, align_in, align_row, named_width, sized_expression, start_row, copy_row, next_row, end_row, start_named, started, dropped, copied, is_list_place, last_named}
+use Rattle.sense_laws.specs.Sound.{Sound, AllSound, AreSound, SoundValue, SoundOf, ProperMeaning, MeaningFits, ProperWorld, IsProper, AreProper, IsListOf, IsValueCore, IsFurtherCore, AreArguments, CallsWith, list_of, Gives, FurtherIsVariadic, IsVariadicOf}
+use Rattle.sense_laws.proofs.Giving.{then_gives, gives_weaker, if_given, some_given, if_holds, and_left, and_right}
 use Rattle.sense_laws.proofs.Conversions.{proper_of, whole_integer, address_pointer, value_sound, conversion_sound, typed_sound, promotion_value, promotion_promoted, promoted_integer}
 use Rattle.sense_laws.proofs.Operators.{moved_sound}
 
@@ -77,11 +78,15 @@ module _ (w : World) (entities : ℕ → Option Ctype) (world : ProperWorld w) w
   name_sound place at i (Some (Value n)) e fits = (world.names i (Value n) e, tt, tt, tt)
 
   -- addresses and what pointers point to
+  pointer_sound : (place : Place) (at : ℕ) (c : Core) → Sound w entities c → (s : Sort) → core_sort c ≡ s → Gives (SoundOf w entities (PointerTo (ctype_of c))) (address_row w place at c s)
+  pointer_sound place at c h PlaceNode e =
+      if_given (SoundOf w entities (PointerTo (ctype_of c))) (is_none (place_width w c)) Operand at (Fits (over AddressOf place (PointerTo (ctype_of c)) c))
+      (λ none. (((e, refl, none_of (place_width w c) none), proper_of w entities c h, tt, (h, tt)), (refl, refl)))
+  pointer_sound place at c h s e = tt
+
   pub address_sound : (place : Place) (at : ℕ) (c : Core) → Sound w entities c → (s : Sort) → core_sort c ≡ s → Gives (SoundValue w entities) (address_row w place at c s)
-  address_sound place at c h PlaceNode e =
-      if_given (SoundValue w entities) (is_none (place_width w c)) Operand at (Fits (over AddressOf place (PointerTo (ctype_of c)) c))
-      (λ none. (((e, refl, none_of (place_width w c) none), proper_of w entities c h, tt, (h, tt)), refl))
-  address_sound place at c h s e = tt
+  address_sound place at c h s e =
+      gives_weaker (SoundOf w entities (PointerTo (ctype_of c))) (SoundValue w entities) (address_row w place at c s) (λ x k. (k.0, k.1.0)) (pointer_sound place at c h s e)
 
   target_at : (place : Place) (v : Core) (t : Ctype) → SoundValue w entities v → ctype_of v ≡ PointerTo t → t ≢ VoidType → Sound w entities (over Deref place t v)
   target_at place v t h e ne = (((h.1, e), ne), subst IsProper e (proper_of w entities v h.0), tt, (h.0, tt))
@@ -157,22 +162,83 @@ module _ (w : World) (entities : ℕ → Option Ctype) (world : ProperWorld w) w
   arrow_sound place at name v h s e = tt
 
   -- assignments
-  assigned_stored : (t : Ctype) → is_assigned w (operand_of t) ≡ true → IsStored t
+  assigned_stored : (t : Ctype) → is_assigned w (operand_of t) || is_list t ≡ true → IsStored t
   assigned_stored BoolType h = inl (inl tt)
   assigned_stored (IntegerType size rank signed) h = inl (inl tt)
   assigned_stored (PointerTo to) h = inl (inr tt)
-  assigned_stored (StructureOf tag) h = inr tt
-  assigned_stored (UnionOf tag) h = inr tt
+  assigned_stored (StructureOf tag) h = inr (inl tt)
+  assigned_stored (UnionOf tag) h = inr (inl tt)
+  assigned_stored VaListType h = inr (inr tt)
   assigned_stored t h = cc
 
   pub assign_sound : (place : Place) (at : ℕ) (p v : Core) → Sound w entities p → SoundValue w entities v → Gives (SoundValue w entities) (assign_row w place at p v)
   assign_sound place at p v h k =
-      if_given (SoundValue w entities) (is_place_sort (core_sort p) && is_assigned w (operand_of (ctype_of p))) Operand at (conversion w false at v (ctype_of p) >>= (λ x. Fits (over_two Assign place (ctype_of p) p x)))
+      if_given (SoundValue w entities) (is_place_sort (core_sort p) && (is_assigned w (operand_of (ctype_of p)) || is_list (ctype_of p))) Operand at (conversion w false at v (ctype_of p) >>= (λ x. Fits (over_two Assign place (ctype_of p) p x)))
       (λ may.
-      let sort : core_sort p ≡ PlaceNode = place_sort (core_sort p) (and_left (is_place_sort (core_sort p)) (is_assigned w (operand_of (ctype_of p))) may) in
-      let stored : IsStored (ctype_of p) = assigned_stored (ctype_of p) (and_right (is_place_sort (core_sort p)) (is_assigned w (operand_of (ctype_of p))) may) in
+      let sort : core_sort p ≡ PlaceNode = place_sort (core_sort p) (and_left (is_place_sort (core_sort p)) ((is_assigned w (operand_of (ctype_of p)) || is_list (ctype_of p))) may) in
+      let stored : IsStored (ctype_of p) = assigned_stored (ctype_of p) (and_right (is_place_sort (core_sort p)) ((is_assigned w (operand_of (ctype_of p)) || is_list (ctype_of p))) may) in
       then_gives (SoundOf w entities (ctype_of p)) (SoundValue w entities) (conversion w false at v (ctype_of p)) (λ x. Fits (over_two Assign place (ctype_of p) p x)) (conversion_sound w entities v k world false at (ctype_of p) (proper_of w entities p h))
       (λ x s. ((((sort, refl), s.1, stored), proper_of w entities p h, tt, (h, (s.0, tt))), refl)))
+
+  -- operations on variadic lists
+  list_type : (t : Ctype) → is_list t ≡ true → t ≡ VaListType
+  list_type VaListType h = refl
+  list_type t h = cc
+
+  place_of_list : (a : Core) → is_list_place a ≡ true → (core_sort a ≡ PlaceNode) × (ctype_of a ≡ VaListType)
+  place_of_list a h =
+      (place_sort (core_sort a) (and_left (is_place_sort (core_sort a)) (is_list (ctype_of a)) h), list_type (ctype_of a) (and_right (is_place_sort (core_sort a)) (is_list (ctype_of a)) h))
+
+  assigned_list : (place : Place) (a v : Core) → Sound w entities a → is_list_place a ≡ true → Sound w entities v → (core_sort v ≡ ValueNode) × (ctype_of v ≡ VaListType) → Sound w entities (dropped place (over_two Assign place VaListType a v))
+  assigned_list place a v h list k is = ((refl, λ e. cc, tt), tt, tt, (((place_of_list a list, is, inr (inr tt)), tt, tt, (h, (k, tt))), tt))
+
+  named_further : FurtherIsVariadic w entities → (n : Core) (function : ℕ) → last_named w n ≡ Some function → IsVariadicOf (entities function)
+  named_further variadic (Of (Named entity) place type NoCores) function e = variadic entity function e
+  named_further variadic n function e = cc
+
+  started_sound : (place : Place) (at : ℕ) (a : Core) (o : Option ℕ) → ((function : ℕ) → o ≡ Some function → IsVariadicOf (entities function)) → Sound w entities a → Gives (Sound w entities) (start_named place at a o)
+  started_sound place at a None variadic h = tt
+  started_sound place at a (Some function) variadic h =
+      if_given (Sound w entities) (is_list_place a) Operand at (Fits (started place a function))
+      (λ list. assigned_list place a (leaf (VarArgs function) place VaListType) h list ((tt, tt, variadic function refl), tt, tt, tt) (refl, refl))
+
+  pub start_sound : FurtherIsVariadic w entities → (place : Place) (at : ℕ) (a n : Core) → Sound w entities a → Gives (Sound w entities) (start_row w place at a n)
+  start_sound variadic place at a n h = started_sound place at a (last_named w n) (named_further variadic n) h
+
+  pub copy_sound : (place : Place) (at : ℕ) (a b : Core) → Sound w entities a → Sound w entities b → Gives (Sound w entities) (copy_row w place at a b)
+  copy_sound place at a b h k =
+      if_given (Sound w entities) (is_list_place a) Operand at (value_of w at b >>= copied place at a)
+      (λ list.
+      then_gives (SoundValue w entities) (Sound w entities) (value_of w at b) (copied place at a) (value_sound w entities at b k)
+      (λ v l.
+      if_given (Sound w entities) (is_list (ctype_of v)) Operand at (Fits (dropped place (over_two Assign place VaListType a v)))
+      (λ given. assigned_list place a v h list l.0 (l.1, list_type (ctype_of v) given))))
+
+  scalar_of : (t : Ctype) → is_scalar (operand_of t) ≡ true → IsScalar t
+  scalar_of BoolType h = inl tt
+  scalar_of (IntegerType size rank signed) h = inl tt
+  scalar_of (PointerTo to) h = inr tt
+  scalar_of t h = cc
+
+  is_a_list : (t : Ctype) → is_list t ≡ true → IsList t
+  is_a_list VaListType h = tt
+  is_a_list t h = cc
+
+  pub next_sound : (place : Place) (at : ℕ) (a : Core) (t : Ctype) → Sound w entities a → IsProper t → Gives (Sound w entities) (next_row place at a t)
+  next_sound place at a t h proper =
+      typed_sound w entities (Sound w entities) at t (given_if (is_list_place a && is_scalar (operand_of t)) Operand at (Fits (over NextArg place t a)))
+      (if_given (Sound w entities) (is_list_place a && is_scalar (operand_of t)) Operand at (Fits (over NextArg place t a))
+      (λ may.
+      let list : is_list_place a ≡ true = and_left (is_list_place a) (is_scalar (operand_of t)) may in
+      let place_is = place_of_list a list in
+      ((place_is.0, is_a_list (ctype_of a) (and_right (is_place_sort (core_sort a)) (is_list (ctype_of a)) list), scalar_of t (and_right (is_list_place a) (is_scalar (operand_of t)) may)), proper, tt, (h, tt))))
+
+  pub end_sound : (place : Place) (at : ℕ) (a : Core) → Sound w entities a → Gives (Sound w entities) (end_row w place at a)
+  end_sound place at a h =
+      if_given (Sound w entities) (is_list_place a) Operand at (address_row w place at a (core_sort a) >>= (λ x. Fits (dropped place x)))
+      (λ list.
+      then_gives (SoundOf w entities (PointerTo (ctype_of a))) (Sound w entities) (address_row w place at a (core_sort a)) (λ x. Fits (dropped place x)) (pointer_sound place at a h (core_sort a) refl)
+      (λ x k. ((k.1.0, (λ e. let void : ◌≡◌ {A = Ctype} (PointerTo (ctype_of a)) VoidType = sym k.1.1 ∙ e in cc), tt), tt, tt, (k.0, tt))))
 
   moves : (op : Op) → moves_pointer op ≡ true → IsMove op
   moves Plus h = tt
@@ -252,6 +318,17 @@ module _ (w : World) (entities : ℕ → Option Ctype) (world : ProperWorld w) w
   further_sound at v h (Aggregate tag) e = (h.0, (h.1, passed_aggregate (ctype_of v) tag e))
   further_sound at v h Other e = tt
 
+  passed_list : (t : Ctype) → is_list t ≡ true → IsPassed t
+  passed_list VaListType h = tt
+  passed_list t h = cc
+
+  further_value_sound : (at : ℕ) (v : Core) → SoundValue w entities v → Gives (λ c. Sound w entities c × IsFurtherCore c) (further_value w at v)
+  further_value_sound at v h = by (is_list (ctype_of v)) refl
+    where
+      by : (b : Bool) → is_list (ctype_of v) ≡ b → Gives (λ c. Sound w entities c × IsFurtherCore c) (if b then Fits v else further w at v (operand_of (ctype_of v)))
+      by true e = (h.0, (h.1, passed_list (ctype_of v) e))
+      by false e = further_sound at v h (operand_of (ctype_of v)) refl
+
   -- each parameter's argument, and what is past them
   module _ (at : ℕ) where
     no_more : (a : Core) (rest : List Core) → takes_so_many Fixed 0 (length (a ∷ rest)) ≡ true → ⊥
@@ -300,9 +377,9 @@ module _ (w : World) (entities : ℕ → Option Ctype) (world : ProperWorld w) w
     arguments_sound form NoTypes (a ∷ rest) proper is many h =
         let more = so_many form a rest many in
         let Q : Cores → Type 0 = λ cores. AreArguments NoTypes form (list_of cores) × AllSound w entities cores in
-        then_gives (SoundValue w entities) Q (value_of w at a) (λ v. further w at v (operand_of (ctype_of v)) >>= (λ x. arguments w at NoTypes rest >>= (λ more. Fits (one_more x more)))) (value_sound w entities at a h.0)
+        then_gives (SoundValue w entities) Q (value_of w at a) (λ v. further_value w at v >>= (λ x. arguments w at NoTypes rest >>= (λ more. Fits (one_more x more)))) (value_sound w entities at a h.0)
         (λ v s.
-        then_gives (λ c. Sound w entities c × IsFurtherCore c) Q (further w at v (operand_of (ctype_of v))) (λ x. arguments w at NoTypes rest >>= (λ more. Fits (one_more x more))) (further_sound at v s (operand_of (ctype_of v)) refl)
+        then_gives (λ c. Sound w entities c × IsFurtherCore c) Q (further_value w at v) (λ x. arguments w at NoTypes rest >>= (λ more. Fits (one_more x more))) (further_value_sound at v s)
         (λ x y.
         then_gives Q Q (arguments w at NoTypes rest) (λ more. Fits (one_more x more)) (arguments_sound form NoTypes rest proper is more.0 h.1)
         (λ cores z. (one_further form x (list_of cores) more.1 y.1 z.0, (y.0, z.1)))))

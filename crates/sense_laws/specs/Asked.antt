@@ -1,5 +1,5 @@
--- What the row of a node asks of the declarations before it: of the name that a primary begins with, and of an
--- initialiser's own object.
+-- What the row of a node asks of the declarations before it: of the name that a primary begins with, of the last
+-- parameter of a variadic function, and of an initialiser's own object.
 use Rattle.std.specs.Prelude.{ℕ, pos, ◌≡◌, ◌<◌, ⊤, true, ◌||◌, take, length, List, [], ◌∷◌, Option, Some, is_some}
 use Rattle.c_types.specs.Trees.{Ctype}
 use Rattle.c_types.specs.Layout.{Extent}
@@ -18,7 +18,7 @@ use Rattle.c_senses.specs.Initialised.{braced, name_of_declarator}
 use Rattle.c_senses.specs.Statements.{objects_declared}
 use Rattle.c_senses.specs.Sense.{Sense, IsType, sense_in}
 use Rattle.c_senses.specs.Rows.{AreSenses, world_at}
-use Rattle.sense_laws.specs.Sound.{IsProper, MeaningFits, type_down, Gives}
+use Rattle.sense_laws.specs.Sound.{IsProper, MeaningFits, FurtherIsVariadic, type_down, Gives}
 use Rattle.sense_laws.specs.Senses.{SoundSense, ChildrenFirst, ConstantsFit, StatementGrammar, IsStatementSense}
 use Rattle.sense_laws.specs.Senses.{RunsIn, OutcomeFits}
 
@@ -26,6 +26,10 @@ use Rattle.sense_laws.specs.Senses.{RunsIn, OutcomeFits}
 abbrev pub FirstFits : World → (ℕ → Option Ctype) → List ℕ → Type 0
 FirstFits w entities [] = ⊤
 FirstFits w entities (first ∷ rest) = (m : Meaning) → w.meaning first ≡ Some m → MeaningFits entities m
+
+-- all that a primary asks
+abbrev pub PrimaryFits : World → (ℕ → Option Ctype) → List ℕ → Type 0
+PrimaryFits w entities children = FirstFits w entities children × FurtherIsVariadic w entities
 
 -- what is asked of node i where it is the initialiser of an object, with the declarator, the name and the type of
 -- that object, and where it is the list of a compound literal, with the type of that
@@ -76,6 +80,10 @@ pub record AskedFit (entities : ℕ → Option Ctype) (s : Source) (senses : Lis
       → i < length senses
       → is_a s p_primary i ≡ true
       → FirstFits (world_at s (take i senses) i) entities (children_at s i)
+  pub further : (i : ℕ)
+      → i < length senses
+      → is_a s p_primary i ≡ true
+      → FurtherIsVariadic (world_at s (take i senses) i) entities
   pub aligns : (i : ℕ)
       → i < length senses
       → (t : Ctype) (e : Extent)

@@ -29,6 +29,7 @@ use Rattle.c_senses.specs.Conversions.{value_of, promotion, conversion}
 use Rattle.c_senses.specs.Operators.{between, operator, choice_row}
 use Rattle.c_senses.specs.Expressions.{expression_row}
 use Rattle.sense_laws.specs.Sound.{Sound, SoundValue, SoundOf, SoundWorld, IsProper, MeaningFits, Gives}
+use Rattle.sense_laws.specs.Sound.{FurtherIsVariadic}
 use Rattle.sense_laws.specs.Senses.{SoundSense, ChildrenFirst, ConstantsFit, StatementParts, StatementGrammar}
 use Rattle.sense_laws.specs.Senses.{RunsIn, IsStatementSense, OutcomeFits, InitialisersFit}
 use Rattle.c_senses.specs.Rows.{AreSenses, world_at, row_of}
@@ -167,14 +168,16 @@ SoundKept =
     → Sound old entities c
     → Sound new entities c
 
--- what is known where each row is asked: that a name's type agrees with its entity's, alignments, that what a
--- declaration runs initialises its objects, and that initialisers fit
+-- what is known where each row is asked: that a name's type agrees with its entity's, that a function whose last
+-- parameter is known is variadic, alignments, that what a declaration runs initialises its objects, and that
+-- initialisers fit
 pub record SensesFit (entities : ℕ → Option Ctype) (s : Source) (senses : List Sense) : Type 0 where
   pub names : (i : ℕ)
       → i < length senses
       → (leaf : ℕ) (m : Meaning)
       → (world_at s (take i senses) i).meaning leaf ≡ Some m
       → MeaningFits entities m
+  pub further : (i : ℕ) → i < length senses → FurtherIsVariadic (world_at s (take i senses) i) entities
   pub aligns : (i : ℕ)
       → i < length senses
       → (t : Ctype) (e : Extent)

@@ -12,6 +12,8 @@ use Rattle.c_types.specs.declared.term.PathStep.TheVariants.{Index, Member as Me
 use Rattle.c_types.specs.Paths.{with_length}
 use Rattle.c_conversions.specs.passed.core_tree.declared.node.Op.{Op}
 use Rattle.c_conversions.specs.passed.core_tree.declared.node.NodeKind.{NodeKind}
+use Rattle.c_conversions.specs.passed.core_tree.declared.node.NodeKind.TheVariants.{VarArgs, NextArg}
+use Rattle.type_rules.specs.Kinds.{IsList, IsVariadic}
 use Rattle.c_conversions.specs.passed.core_tree.declared.node.NodeKind.TheVariants.{Named, Text, Literal}
 use Rattle.c_conversions.specs.passed.core_tree.declared.node.NodeKind.TheVariants.{FunctionName, Deref, Member}
 use Rattle.c_conversions.specs.passed.core_tree.declared.node.NodeKind.TheVariants.{Number, NullValue, Fetch}
@@ -96,6 +98,11 @@ AreArguments ps f args = ⊥
 abbrev pub CallsWith : Ctype → Ctype → List Core → Type 0
 CallsWith (PointerTo (FunctionFrom r ps f)) t args = (r ≡ t) × AreArguments ps f args
 CallsWith callee t args = ⊥
+
+-- the entity is a variadic function
+abbrev pub IsVariadicOf : Option Ctype → Type 0
+IsVariadicOf None = ⊥
+IsVariadicOf (Some t) = IsVariadic t
 
 -- a statement has no type
 abbrev pub HasNoType : Sort → Ctype → Type 0
@@ -258,6 +265,9 @@ module _ (w : World) where
   RowOver entities (MemberOfValue k) t under =
       One (λ v. (core_sort v ≡ ValueNode) × IsPartOf (ctype_of v) k t × (IsArray t → ⊥)) under
   RowOver entities (Arith op) t under = ArithOver op t under
+  RowOver entities (VarArgs e) t under = IsEmpty under × IsList t × IsVariadicOf (entities e)
+  RowOver entities NextArg t under =
+      One (λ p. (core_sort p ≡ PlaceNode) × IsList (ctype_of p) × IsScalar t) under
   RowOver entities Expression t under = One (λ v. core_sort v ≡ ValueNode) under
   RowOver entities (Block es) t under = All IsStatementCore under
   RowOver entities If t under = IfOver under
@@ -318,6 +328,10 @@ MeaningFits entities (Object e t) = AgreesWith (entities e) t
 MeaningFits entities (Function e t) = AgreesWith (entities e) t
 MeaningFits entities m = ⊤
 
+-- 7.16.1.4: the function whose last parameter a name declares is variadic
+abbrev pub FurtherIsVariadic : World → (ℕ → Option Ctype) → Type 0
+FurtherIsVariadic w entities = (leaf function : ℕ) → w.further leaf ≡ Some function → IsVariadicOf (entities function)
+
 -- what the declarations around an expression give
 pub record SoundWorld (w : World) (entities : ℕ → Option Ctype) : Type 0 where
   pub parts : (tag : ℕ) (members : List Part) (k : ℕ) (m : Part)
@@ -325,6 +339,7 @@ pub record SoundWorld (w : World) (entities : ℕ → Option Ctype) : Type 0 whe
       → slice_get members k ≡ Some m
       → IsProper m.type
   pub names : (leaf : ℕ) (m : Meaning) → w.meaning leaf ≡ Some m → SoundMeaning entities m
+  pub further : FurtherIsVariadic w entities
   pub aligns : (t : Ctype) (e : Extent) → IsProper t → extent w t ≡ Some e → Holds unsigned_long (pos e.align)
 
 -- what the declarations around an expression give by themselves, with no word on entities

@@ -6,7 +6,7 @@ use Rattle.std.proofs.lemmas.Bool.{false≢true}
 use Rattle.std.proofs.lemmas.Bool.Decides.{eqb_tells}
 use Rattle.std.proofs.lemmas.List.Elements.{Contains-append_left, Contains-append_right}
 use Rattle.c_types.specs.declared.key.ObjectKey.{ObjectKey}
-use Rattle.c_types.specs.declared.key.ObjectKey.TheVariants.{Entity as EntityKey, Text as TextKey, Call as CallKey, Library as LibraryKey, Star as StarKey, Function as FunctionKey}
+use Rattle.c_types.specs.declared.key.ObjectKey.TheVariants.{Entity as EntityKey, Text as TextKey, Call as CallKey, Library as LibraryKey, Star as StarKey, Function as FunctionKey, Varargs as VarargsKey}
 use Rattle.c_types.specs.declared.term.Form.TheVariants.{Fixed, Variadic, Unspecified}
 use Rattle.c_types.specs.declared.term.Term.{Term}
 use Rattle.c_types.specs.declared.term.TypeId.{TypeId}
@@ -253,6 +253,7 @@ module _ (units : List Unit) (p : Program) (more : List Term) (world : World) (c
   function_by (CallKey m) l first function = absurd (false≢true function)
   function_by (LibraryKey m) l first function = absurd (false≢true function)
   function_by (StarKey m) l first function = absurd (false≢true function)
+  function_by (VarargsKey m) l first function = absurd (false≢true function)
 
   -- a conversion over a call alone
   converted_by : (node : Node) (n : ℕ) (kind : node.kind ≡ Convert) (children : List ℕ) → node.children ≡ children → ConvertRow (trees_in p) (type_of p.types node.ty.0) children → slice_get children 0 ≡ Some n → node.children ≡ n ∷ []

@@ -2,7 +2,7 @@
 use Rattle.std.specs.Prelude.{ℕ, suc, ◌⊎◌, Bool, true, false, IsTrue, List, [], ◌∷◌, drop, Contains}
 use Rattle.c_types.specs.Trees.{Ctype, Ctypes, NoTypes, MoreTypes, PointerTo, ArrayOf, FunctionFrom}
 use Rattle.core_tree.specs.declared.node.NodeKind.{NodeKind}
-use Rattle.core_tree.specs.declared.node.NodeKind.TheVariants.{Convert, CallNode}
+use Rattle.core_tree.specs.declared.node.NodeKind.TheVariants.{Convert, CallNode, NextArg}
 use Rattle.core_tree.specs.Typed.{CoreTrees, type_at}
 use Rattle.core_tree.specs.Range.{SomeNode, IsChild}
 use Rattle.stop_places.specs.Fits.{Solution}
@@ -53,6 +53,7 @@ LooseCall x n (callee ∷ arguments) =
 
 abbrev pub LooseBy : Solution → ℕ → NodeKind → List ℕ → Type 0
 LooseBy x n Convert children = IsLooseNode x.trees n
+LooseBy x n NextArg children = IsLooseNode x.trees n
 LooseBy x n CallNode children = LooseCall x n children
 LooseBy x n kind children = ⊥
 

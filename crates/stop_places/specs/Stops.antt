@@ -1,5 +1,5 @@
 -- Where the machine may stop for a type: the nodes that stand as a mismatch or as a bad call.
-use Rattle.std.specs.Prelude.{◌≡◌, ℕ, ◌<◌, ◌↔◌, ◌⊎◌, Bool, true, false, IsTrue, List, [], ◌∷◌, ◌++◌, Some}
+use Rattle.std.specs.Prelude.{◌≡◌, ℕ, ◌<◌, ◌↔◌, ◌⊎◌, ⊤, Bool, true, false, IsTrue, List, [], ◌∷◌, ◌++◌, Some}
 use Rattle.std.specs.Prelude.{Contains}
 use Rattle.std.specs.Prelude.{AllPairs, if◌then◌else◌}
 use Rattle.c_types.specs.Trees.{Ctype}
@@ -8,7 +8,7 @@ use Rattle.core_tree.specs.declared.node.Node.{Node}
 use Rattle.core_tree.specs.declared.node.NodeKind.{NodeKind}
 use Rattle.core_tree.specs.declared.node.NodeKind.TheVariants.{Member, Fetch, Decay, Upcast, Assign, Update}
 use Rattle.core_tree.specs.declared.node.NodeKind.TheVariants.{CallNode}
-use Rattle.core_tree.specs.declared.node.NodeKind.TheVariants.{MemberOfValue}
+use Rattle.core_tree.specs.declared.node.NodeKind.TheVariants.{MemberOfValue, NextArg}
 use Rattle.core_tree.specs.Typed.{type_at}
 use Rattle.core_tree.specs.Range.{node_at}
 use Rattle.normal_form.specs.Assignments.{pointed, is_union_type}
@@ -26,7 +26,8 @@ ReadsBadly x p t = Misfits x p t ⊎ (IsFar x.trees.nodes p × IsLoose x)
 abbrev pub PassesBadly : Solution → ℕ → Ctype → Type 0
 PassesBadly x p t = IsFar x.trees.nodes p × (Misfits x p t ⊎ IsLoose x)
 
--- the node of number n and type t, whose first operand is p, stands as a mismatch, by its kind
+-- the node of number n and type t, whose first operand is p, stands as a mismatch, by its kind; one that takes the next
+-- argument of a list always does, since no type tells which argument that is (7.16.1.1p2)
 abbrev pub MismatchOver : Solution → ℕ → NodeKind → Ctype → ℕ → Type 0
 MismatchOver x n Fetch t p = ReadsBadly x p t
 MismatchOver x n (Update op post) t p = ReadsBadly x p t
@@ -35,6 +36,7 @@ MismatchOver x n Decay t p = PassesBadly x p (type_at x.trees p)
 MismatchOver x n (Member k) t p = PassesBadly x p (type_at x.trees p)
 MismatchOver x n Upcast t v = Misfits x v (pointed (type_at x.trees v)) ⊎ IsLoose x
 MismatchOver x n (MemberOfValue k) t v = IsTrue (is_union_type (type_at x.trees v))
+MismatchOver x n NextArg t list = ⊤
 MismatchOver x n CallNode t callee = CallAt x n ReachesWalker
 MismatchOver x n kind t operand = ⊥
 

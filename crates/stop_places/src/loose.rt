@@ -137,7 +137,7 @@ fn makes_loose(sight: &Sight<'_>, loose: &[bool], n: u32, node: &Node) -> bool
     ensures { IsTrue result ↔ LooseBy (solution_in sight.now) n node.now.kind node.now.children }
 {
     match node.kind {
-        NodeKind::Convert => loose[n as usize],
+        NodeKind::Convert | NodeKind::NextArg => loose[n as usize],
         NodeKind::CallNode => is_loose_call(sight, loose, n, node.children.as_slice()),
         _ => false,
     }

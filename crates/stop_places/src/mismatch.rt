@@ -137,6 +137,7 @@ fn is_mismatch_over(
         ),
         NodeKind::Upcast => leads_badly(alloc, sight, loose, operand),
         NodeKind::MemberOfValue(_) => Ok(is_union(sight, sight.type_id(operand))),
+        NodeKind::NextArg => Ok(true),
         NodeKind::CallNode => Ok(sight.judged_at(n).mismatch),
         _ => Ok(false),
     }

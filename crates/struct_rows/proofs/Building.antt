@@ -175,6 +175,7 @@ own_world u = record {
   may_name = λ e. true;
   may_call = true;
   own_name = None;
+  further = λ leaf. None;
 }
 
 own_known : (u : Unit) → Knows (own_world u) u

@@ -13,7 +13,8 @@ use Rattle.obj_space.specs.View.{SpaceView}
 use Rattle.obj_space.proofs.Placed.{get_map}
 use Rattle.row_numbers.specs.Kept.{nodes_of, is_kept, kept_at, kept_from, kept_count, kept_row, row_or, row_list}
 use Rattle.row_numbers.specs.Functions.{functions_of}
-use Rattle.row_numbers.specs.Setting.{width_by, width, widths, result_nodes, result_widths, start_at, row, result_row, none_row, value_rows}
+use Rattle.row_numbers.specs.Setting.{width_by, own_width, lead, lead_in, width, widths, result_nodes, result_widths, start_at, row, list_row, rest_row, result_row, none_row, value_rows}
+use Rattle.row_numbers.proofs.NumberingLemmas.{starts_within}
 
 some_one : {X : Type 0} → {x y : X} → ◌≡◌ {A = Option X} (Some x) (Some y) → x ≡ y
 some_one h = cc
@@ -54,11 +55,22 @@ module _ (u : CoreTrees) (s : SpaceView) where
   pub value_fits : (n : ℕ) (node : Node) → slice_get u.nodes n ≡ Some node → sort_of node.kind ≡ ValueNode → row u s n + kept_count (nodes_of u.types (type_at u n)) ≤ none_row u s
   unfolding row none_row
   value_fits n node at value =
-      let wide : slice_get (widths u) n ≡ Some (width u.types node) = get_map (width u.types) u.nodes n node at in
-      let count : width u.types node ≡ kept_count (nodes_of u.types (type_at u n)) =
+      let wide : slice_get (widths u) n ≡ Some (width u node) = get_map (width u) u.nodes n node at in
+      let first : lead_in (slice_get u.nodes n) ≡ lead node.kind = ap lead_in at in
+      let count : own_width u.types node ≡ kept_count (nodes_of u.types (type_at u n)) =
       ap (λ (sort : Sort). width_by sort (kept_count (nodes_of u.types (type_in u.types (Some node))))) value ∙ sym (ap (λ (o : Option Node). kept_count (nodes_of u.types (type_in u.types o))) at) in
-      let fit = start_next s.count (widths u) n (width u.types node) wide in
+      let fit = start_next s.count (widths u) n (width u node) wide in
       omega arith
+
+  -- the row of what a node may be that takes the next argument of a list
+  pub list_fits : (n : ℕ) → list_row u s n ≤ none_row u s
+  unfolding list_row none_row
+  list_fits n = omega (arith, starts_within s.count (widths u) n)
+
+  -- the row of all further arguments of a call
+  pub rest_fits : (n : ℕ) (node : Node) → slice_get u.nodes n ≡ Some node → sort_of node.kind ≡ ValueNode → rest_row u s n ≤ none_row u s
+  unfolding rest_row
+  rest_fits n node at value = value_fits n node at value
 
   pub value_rows_within : (n : ℕ) (node : Node) → slice_get u.nodes n ≡ Some node → sort_of node.kind ≡ ValueNode → All (λ r. r ≤ none_row u s) (value_rows u s n)
   value_rows_within n node at value = list_within (none_row u s) (row u s n) (nodes_of u.types (type_at u n)) (value_fits n node at value)

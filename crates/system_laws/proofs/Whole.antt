@@ -1,11 +1,11 @@
 -- What decides whether a system of a program is valid.
-use Rattle.std.proofs.Common.{arith, ◌≡◌, ◌∙◌, ℕ, zero, suc, ◌+◌, ◌<◌, ◌≤◌, ◌==◌, Bool, true, false, cond, List, [], ◌∷◌, ◌++◌, Option, Some, None, length, map, get_or, slice_get, refl, sym, ap, subst, inl, inr}
+use Rattle.std.proofs.Common.{arith, ◌≡◌, ◌∙◌, ℕ, zero, suc, ◌+◌, ◌<◌, ◌≤◌, ◌==◌, Bool, true, false, cond, List, [], ◌∷◌, ◌++◌, Option, Some, None, length, map, take, get_or, slice_get, refl, sym, ap, subst, inl, inr}
 use Rattle.std.specs.Prelude.{◌≢◌}
 use Rattle.std.specs.List.{All, AllPairs, range_with_len, filter_map, cons_option, find, enumerate_from}
 use Rattle.std.specs.Option.{option_map_or}
 use Rattle.std.proofs.lemmas.Bool.{false≢true}
 use Rattle.std.proofs.lemmas.Bool.Decides.{eqb_tells}
-use Rattle.std.proofs.lemmas.List.Elements.{All-nil, All-map}
+use Rattle.std.proofs.lemmas.List.Elements.{All-nil, All-cons, All-append, All-take, All-map}
 use Rattle.std.proofs.lemmas.List.FromFn.{length-map-range_with_len}
 use Rattle.std.proofs.lemmas.Option.{slice_get-get_or}
 use Rattle.pta_base.specs.declared.effect.Effect.{Effect}
@@ -17,7 +17,7 @@ use Rattle.core_tree.specs.declared.node.Entity.{Entity}
 use Rattle.core_tree.specs.declared.node.Storage.{Storage}
 use Rattle.core_tree.specs.declared.node.Storage.TheVariants.{FunctionBody}
 use Rattle.core_tree.specs.declared.node.NodeKind.TheVariants.{CallNode}
-use Rattle.core_tree.specs.Typed.{CoreTrees, ValueNode, sort_of, sort_in, sort_at, trees_in}
+use Rattle.core_tree.specs.Typed.{CoreTrees, ValueNode, sort_of, sort_in, sort_at, type_at, trees_in}
 use Rattle.sol_model.specs.declared.system.System.{System}
 use Rattle.sol_model.specs.declared.system.CallSite.{CallSite}
 use Rattle.sol_model.specs.declared.system.Function.{Function}
@@ -28,9 +28,9 @@ use Rattle.obj_space.specs.Space.{locations_in}
 use Rattle.obj_space.specs.View.{SpaceView, first_from, view_of}
 use Rattle.row_numbers.specs.declared.functions.Role.TheVariants.{Defined}
 use Rattle.row_numbers.specs.Functions.{has_body, key_if, keys_in, begins_at, function_keys, functions_of, number_at, number_of}
-use Rattle.row_numbers.specs.Setting.{none_row, value_rows}
+use Rattle.row_numbers.specs.Setting.{none_row, rest_row, value_rows}
 use Rattle.row_numbers.proofs.FrameLemmas.{node_within}
-use Rattle.call_sites.specs.Calls.{calls_upto, givers_in, fresh_in, named_library, caller_by, head_of, rest_of, IsSiteAt}
+use Rattle.call_sites.specs.Calls.{calls_upto, givers_in, fresh_in, named_library, caller_by, head_of, rest_of, variadic_count, rows_past, argument_rows, IsSiteAt}
 use Rattle.normal_form.specs.Facts.{location_fact, effects_by, IsFunctionFact}
 use Rattle.normal_form.specs.SystemOf.{setting_of, SystemOf}
 use Rattle.constraints.specs.System.{IsSized, AreLocated}
@@ -39,7 +39,7 @@ use Rattle.linked_laws.proofs.main_laws.Objects.{body_begins}
 use Rattle.system_laws.specs.Parts.{HasBody, AreDemandsValid}
 use Rattle.system_laws.proofs.Compact.{zip_right, zip_length, numbered_length}
 use Rattle.system_laws.proofs.Functions.{place_of, number_within, locations_valid}
-use Rattle.system_laws.proofs.Rows.{value_rows_within, result_rows_within}
+use Rattle.system_laws.proofs.Rows.{value_rows_within, rest_fits, result_rows_within}
 use Rattle.system_laws.proofs.Effects.{library_valid}
 use Rattle.system_laws.proofs.Calls.{call_node, fresh_once, fresh_valid, first_below}
 
@@ -154,14 +154,28 @@ module _ (p : Program) (space : List Location) (is_space : space ≡ locations_i
       by None at sort = cc
 
   module _ (body : HasBody p) (values : AreCallsOfValues p) where
-    arguments_by : (n : ℕ) (node : Node) → slice_get p.nodes.items n ≡ Some node → node.kind ≡ CallNode → (children : List ℕ) → node.children ≡ children → All (λ rows. All (IsRow system) rows) (map (value_rows u (view_of space)) (rest_of children))
-    arguments_by n node at call [] is = λ k d lt. absurd (omega arith)
-    arguments_by n node at call (c ∷ rest) is =
-        All-map (λ rows. All (IsRow system) rows) (value_rows u (view_of space)) rest
-        (λ k d lt. value_at (get_or rest k d) (values.each n node at call (suc k) (get_or rest k d) (ap (λ (l : List ℕ). slice_get l (suc k)) is ∙ slice_get-get_or rest k d lt)))
+    abbrev AreRows : List ℕ → Type 0
+    AreRows rows = All (IsRow system) rows
 
-    arguments_in : (n : ℕ) (node : Node) → slice_get p.nodes.items n ≡ Some node → node.kind ≡ CallNode → All (λ rows. All (IsRow system) rows) (map (value_rows u (view_of space)) (rest_of node.children))
-    arguments_in n node at call = arguments_by n node at call node.children refl
+    arguments_by : (n : ℕ) (node : Node) → slice_get p.nodes.items n ≡ Some node → node.kind ≡ CallNode → (children : List ℕ) → node.children ≡ children → All (λ c. sort_at u c ≡ ValueNode) (rest_of children)
+    arguments_by n node at call [] is = λ k d lt. absurd (omega arith)
+    arguments_by n node at call (c ∷ rest) is = λ k d lt. values.each n node at call (suc k) (get_or rest k d) (ap (λ (l : List ℕ). slice_get l (suc k)) is ∙ slice_get-get_or rest k d lt)
+
+    rows_of : (arguments : List ℕ) → All (λ c. sort_at u c ≡ ValueNode) arguments → All AreRows (map (value_rows u (view_of space)) arguments)
+    rows_of arguments h = All-map AreRows (value_rows u (view_of space)) arguments (λ k d lt. value_at (get_or arguments k d) (h k d lt))
+
+    -- all arguments past the parameters have one row
+    past_in : (n : ℕ) (node : Node) → slice_get p.nodes.items n ≡ Some node → sort_of node.kind ≡ ValueNode → (count : Option ℕ) (arguments : List ℕ) → All (λ c. sort_at u c ≡ ValueNode) arguments → All AreRows (rows_past u (view_of space) n count arguments)
+    past_in n node at value None arguments h = rows_of arguments h
+    past_in n node at value (Some count) arguments h =
+        let rest = rest_row u (view_of space) n in
+        let fits = All-cons (λ r. r ≤ none_row u (view_of space)) rest [] (rest_fits u (view_of space) n node at value) (All-nil (λ r. r ≤ none_row u (view_of space))) in
+        All-append AreRows (map (value_rows u (view_of space)) (take count arguments)) ((rest ∷ []) ∷ [])
+        (rows_of (take count arguments) (All-take (λ c. sort_at u c ≡ ValueNode) count arguments h))
+        (All-cons AreRows (rest ∷ []) [] (rows_in (rest ∷ []) fits) (All-nil AreRows))
+
+    arguments_in : (n : ℕ) (node : Node) → slice_get p.nodes.items n ≡ Some node → node.kind ≡ CallNode → All AreRows (argument_rows u (view_of space) n (head_of node.children) (rest_of node.children))
+    arguments_in n node at call = past_in n node at (ap sort_of call) (variadic_count (type_at u (head_of node.children))) (rest_of node.children) (arguments_by n node at call node.children refl)
 
     caller_within : (n : ℕ) (o : Option (Option ℕ)) → slice_get is.owners n ≡ o → caller_by (setting_of p (view_of space) is.owners) o < length system.functions
     caller_within n (Some (Some f)) at = let owner = is.around.right n (Some f) at in numbered_body f owner.0 owner.1 owner.2.0

@@ -1,7 +1,8 @@
 -- What a type is.
 use Rattle.std.specs.Prelude.{◌≤◌, ⊤, true, None, ◌⊎◌}
 use Rattle.c_types.specs.Trees.{Ctype, BoolType, IntegerType, PointerTo, ArrayOf, FunctionFrom, StructureOf}
-use Rattle.c_types.specs.Trees.{UnionOf}
+use Rattle.c_types.specs.Trees.{UnionOf, VaListType}
+use Rattle.c_types.specs.declared.term.Form.TheVariants.{Variadic}
 
 -- a type of whole numbers
 abbrev pub IsInteger : Ctype → Type 0
@@ -29,9 +30,19 @@ abbrev pub IsFunction : Ctype → Type 0
 IsFunction (FunctionFrom r ps f) = ⊤
 IsFunction t = ⊥
 
+-- the type of variadic lists
+abbrev pub IsList : Ctype → Type 0
+IsList VaListType = ⊤
+IsList t = ⊥
+
+-- a function that takes arguments past its parameters
+abbrev pub IsVariadic : Ctype → Type 0
+IsVariadic (FunctionFrom r ps Variadic) = ⊤
+IsVariadic t = ⊥
+
 -- a type that a fetch or an assignment may have
 abbrev pub IsStored : Ctype → Type 0
-IsStored t = IsScalar t ⊎ IsAggregate t
+IsStored t = IsScalar t ⊎ (IsAggregate t ⊎ IsList t)
 
 -- an integer type that promotion leaves as it is
 abbrev pub IsPromoted : Ctype → Type 0
@@ -44,6 +55,7 @@ IsPassed (IntegerType size rank signed) = 4 ≤ size
 IsPassed (PointerTo to) = ⊤
 IsPassed (StructureOf tag) = ⊤
 IsPassed (UnionOf tag) = ⊤
+IsPassed VaListType = ⊤
 IsPassed t = ⊥
 
 -- a type whose values are compared

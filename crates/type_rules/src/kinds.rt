@@ -3,10 +3,10 @@
 ghost use Rattle.std.specs.Prelude.{◌≡◌, ℕ, ◌+◌, ◌<◌, ◌↔◌, Some, true, IsTrue, length};
 ghost use Rattle.c_types.specs.Trees.{VoidType, IntegerType, PointerTo, ArrayOf};
 ghost use Rattle.c_types.specs.Table.{type_of};
-ghost use Rattle.type_rules.specs.Kinds.{IsInteger, IsPointer, IsScalar, IsAggregate, IsArray, IsFunction, IsStored, IsPromoted, IsPassed, IsComparable, LacksLength, character};
+ghost use Rattle.type_rules.specs.Kinds.{IsInteger, IsPointer, IsScalar, IsAggregate, IsArray, IsFunction, IsStored, IsPromoted, IsPassed, IsComparable, IsList, IsVariadic, LacksLength, character};
 
 use c_types::table::TypeTable;
-use c_types::term::{Term, TypeId};
+use c_types::term::{Form, Term, TypeId};
 
 /// Whether a type is void.
 pub fn is_void(types: &TypeTable, id: TypeId) -> bool
@@ -109,7 +109,26 @@ pub fn is_function(types: &TypeTable, id: TypeId) -> bool
     matches!(types.term(id), Term::Function { .. })
 }
 
-/// Whether a type may be fetched and assigned: a scalar, a structure or a union.
+/// Whether a type is that of variadic lists (C11 7.16p3).
+pub fn is_list(types: &TypeTable, id: TypeId) -> bool
+    requires { id.0 < length types.now.terms }
+    ensures { IsTrue result ↔ IsList (type_of types.now id.0) }
+{
+    matches!(types.term(id), Term::VaList)
+}
+
+/// Whether a type is that of a function that takes arguments past its parameters (C11 6.7.6.3p9).
+pub fn is_variadic(types: &TypeTable, id: TypeId) -> bool
+    requires { id.0 < length types.now.terms }
+    ensures { IsTrue result ↔ IsVariadic (type_of types.now id.0) }
+{
+    match types.term(id) {
+        Term::Function { form, .. } => *form == Form::Variadic,
+        _ => false,
+    }
+}
+
+/// Whether a type may be fetched and assigned: a scalar, a structure, a union or a variadic list.
 pub fn is_stored(types: &TypeTable, id: TypeId) -> bool
     requires { id.0 < length types.now.terms }
     ensures { IsTrue result ↔ IsStored (type_of types.now id.0) }
@@ -117,7 +136,7 @@ pub fn is_stored(types: &TypeTable, id: TypeId) -> bool
     match types.term(id) {
         Term::Bool | Term::Integer { .. } => true,
         Term::Pointer(_) => true,
-        Term::Structure(_) | Term::Union(_) => true,
+        Term::Structure(_) | Term::Union(_) | Term::VaList => true,
         _ => false,
     }
 }
@@ -134,7 +153,7 @@ pub fn is_promoted(types: &TypeTable, id: TypeId) -> bool
 }
 
 /// Whether an argument past the parameters may have that type (C11 6.5.2.2p6): a promoted integer, a pointer, a
-/// structure or a union.
+/// structure, a union or a variadic list.
 pub fn is_passed(types: &TypeTable, id: TypeId) -> bool
     requires { id.0 < length types.now.terms }
     ensures { IsTrue result ↔ IsPassed (type_of types.now id.0) }
@@ -142,7 +161,7 @@ pub fn is_passed(types: &TypeTable, id: TypeId) -> bool
     match types.term(id) {
         Term::Integer { size, .. } => *size >= 4,
         Term::Pointer(_) => true,
-        Term::Structure(_) | Term::Union(_) => true,
+        Term::Structure(_) | Term::Union(_) | Term::VaList => true,
         _ => false,
     }
 }

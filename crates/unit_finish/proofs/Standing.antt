@@ -8,7 +8,7 @@ use Rattle.c_types.specs.Table.{type_of}
 use Rattle.core_tree.specs.declared.node.Node.{Node}
 use Rattle.core_tree.specs.declared.node.Unit.{Unit}
 use Rattle.core_tree.specs.declared.node.NodeKind.{NodeKind}
-use Rattle.core_tree.specs.declared.node.NodeKind.TheVariants.{Named, Literal, FunctionName, Block, For, Initialise}
+use Rattle.core_tree.specs.declared.node.NodeKind.TheVariants.{Named, Literal, FunctionName, VarArgs, Block, For, Initialise}
 use Rattle.core_tree.specs.Range.{child_in}
 use Rattle.c_consts.specs.Core.{Core, Cores, core_in}
 use Rattle.core_nodes.specs.Standing.{core_at, cores_at, IsReady}
@@ -42,6 +42,7 @@ same_entities n (d ∷ ds) h =
 pub same_kind : (n : Numbering) (kind : NodeKind) → is_known n kind ≡ true → SameKind n kind (renamed n kind)
 same_kind n (Named d) h = number_same (n d) h
 same_kind n (FunctionName d) h = number_same (n d) h
+same_kind n (VarArgs d) h = number_same (n d) h
 same_kind n (Literal d) h = number_same (n d) h
 same_kind n (Initialise d paths) h = (number_same (n d) h, refl)
 same_kind n (Block ds) h = same_entities n ds h

@@ -103,7 +103,7 @@ module _ (S T : System) (new : ℕ → ℕ) (is : IsRenumbered S T new) (G : Fam
   -- ---- lines
   sets_same : (space : List Location) → length space ≡ location_count S → set_lines space T G ≡ set_lines space S (over G new)
   sets_same space count = map_filter (set_line space T G) (set_line space S (over G new)) (has_set space) (range_with_len 0 (length space))
-      (λ location has. (let found = found_or (λ (known : Location). known.collapsed || (known.ty == 4)) (slice_get space location) has in
+      (λ location has. (let found = found_or (λ (known : Location). known.collapsed || (known.ty == 4) || (known.ty == 7)) (slice_get space location) has in
       let within : location < length space = slice_get_within space location found.0 found.1 in
       ap (λ (members : List ℕ). codes "set " ++ name_in space location ++ codes ":" ++ names_of space members) (members_fixed location (omega arith))))
 
@@ -155,7 +155,7 @@ module _ (S T : System) (new : ℕ → ℕ) (is : IsRenumbered S T new) (G : Fam
   set_values_same : (space : List Location) → length space ≡ location_count S → sets_value space T G ≡ sets_value space S (over G new)
   set_values_same space count = ap (λ (values : List Data). array (items_of values))
       (map_filter (set_value space T G) (set_value space S (over G new)) (has_set space) (range_with_len 0 (length space))
-      (λ location has. (let found = found_or (λ (known : Location). known.collapsed || (known.ty == 4)) (slice_get space location) has in
+      (λ location has. (let found = found_or (λ (known : Location). known.collapsed || (known.ty == 4) || (known.ty == 7)) (slice_get space location) has in
       let within : location < length space = slice_get_within space location found.0 found.1 in
       ap (λ (members : List ℕ). object (member (codes "members") (names_value space members) (member (codes "name") (name_value space location) no_members))) (members_fixed location (omega arith)))))
 

@@ -9,7 +9,7 @@ use Rattle.c_consts.specs.Core.{Core, Cores, NoCores, MoreCores, ctype_of}
 use Rattle.c_senses.specs.Given.{Given, Fits, Refuses, ◌>>=◌}
 use Rattle.c_senses.specs.World.{World}
 use Rattle.c_senses.specs.Conversions.{value_of, conversion, operand_of}
-use Rattle.c_senses.specs.Objects.{arguments, further, one_more}
+use Rattle.c_senses.specs.Objects.{arguments, further_value, one_more}
 use Rattle.core_nodes.specs.Standing.{core_at, cores_at, IsReady, Builds, Made, Knows}
 use Rattle.core_nodes.specs.declared.fault.CheckFault.{CheckFault}
 use Rattle.core_nodes.specs.declared.fault.CheckFault.TheVariants.{BadOperand, Unsupported, OutOfMemory}
@@ -28,7 +28,7 @@ bind_same (Refuses kind node) f h e = refl
 -- one argument and then the rest
 arguments_step : (w : World) (at : ℕ) (ps : Ctypes) (a : Core) (rest : List Core) → arguments w at ps (a ∷ rest) ≡ (argument_of w at a (first_type ps) >>= (λ x. arguments w at (other_types ps) rest >>= (λ more. Fits (one_more x more))))
 arguments_step w at NoTypes a rest =
-    sym (bind_twice (value_of w at a) (λ v. further w at v (operand_of (ctype_of v))) (λ x. arguments w at NoTypes rest >>= (λ more. Fits (one_more x more))))
+    sym (bind_twice (value_of w at a) (λ v. further_value w at v) (λ x. arguments w at NoTypes rest >>= (λ more. Fits (one_more x more))))
 arguments_step w at (MoreTypes t ps) a rest = sym (bind_twice (value_of w at a) (λ v. conversion w false at v t) (λ x. arguments w at ps rest >>= (λ more. Fits (one_more x more))))
 
 after_other : (k : ℕ) (ps : Ctypes) → types_after k (other_types ps) ≡ other_types (types_after k ps)

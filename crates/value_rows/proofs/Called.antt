@@ -76,17 +76,17 @@ callee_refused w place at c args (StructureOf tag) h = refl
 callee_refused w place at c args (UnionOf tag) h = refl
 
 -- a type that isn't refused by itself
-pub typed_plain : (at : ℕ) (g : Given Core) (trees : List Ctype) (term : Term) → (term ≡ Floating → ⊥) → (term ≡ VaList → ⊥) → typed at (grow trees term) g ≡ g
-typed_plain at g trees Floating f v = absurd (f refl)
-typed_plain at g trees VaList f v = absurd (v refl)
-typed_plain at g trees Void f v = refl
-typed_plain at g trees BoolTerm f v = refl
-typed_plain at g trees (Integer size rank signed) f v = refl
-typed_plain at g trees (Pointer to) f v = refl
-typed_plain at g trees (Array of length) f v = refl
-typed_plain at g trees (Function result parameters form) f v = refl
-typed_plain at g trees (Structure tag) f v = refl
-typed_plain at g trees (Union tag) f v = refl
+pub typed_plain : (at : ℕ) (g : Given Core) (trees : List Ctype) (term : Term) → (term ≡ Floating → ⊥) → typed at (grow trees term) g ≡ g
+typed_plain at g trees Floating f = absurd (f refl)
+typed_plain at g trees VaList f = refl
+typed_plain at g trees Void f = refl
+typed_plain at g trees BoolTerm f = refl
+typed_plain at g trees (Integer size rank signed) f = refl
+typed_plain at g trees (Pointer to) f = refl
+typed_plain at g trees (Array of length) f = refl
+typed_plain at g trees (Function result parameters form) f = refl
+typed_plain at g trees (Structure tag) f = refl
+typed_plain at g trees (Union tag) f = refl
 
 length_map : {X Y : Type 0} (f : X → Y) (xs : List X) → length xs ≡ length (map f xs)
 length_map f [] = refl

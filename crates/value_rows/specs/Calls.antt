@@ -13,7 +13,7 @@ use Rattle.c_consts.specs.Core.{Core, Cores, Of, MoreCores, ctype_of}
 use Rattle.c_senses.specs.Given.{Given, Fits, Refuses, given_if, ◌>>=◌}
 use Rattle.c_senses.specs.World.{World}
 use Rattle.c_senses.specs.Conversions.{operand_of, value_of, conversion, typed}
-use Rattle.c_senses.specs.Objects.{arguments, further, one_more, is_returned, call_of}
+use Rattle.c_senses.specs.Objects.{arguments, further_value, one_more, is_returned, call_of}
 use Rattle.core_nodes.specs.Standing.{core_at, cores_at}
 use Rattle.core_nodes.specs.declared.fault.CheckFault.{CheckFault}
 use Rattle.core_nodes.specs.declared.fault.CheckFault.TheVariants.{BadOperand, Unsupported, OutOfMemory}
@@ -47,7 +47,7 @@ first_type (MoreTypes t rest) = Some t
 -- one argument, for its parameter or past the list
 abbrev pub argument_of : World → ℕ → Core → Option Ctype → Given Core
 argument_of w at a (Some t) = value_of w at a >>= (λ v. conversion w false at v t)
-argument_of w at a None = value_of w at a >>= (λ v. further w at v (operand_of (ctype_of v)))
+argument_of w at a None = value_of w at a >>= (λ v. further_value w at v)
 
 -- what is called, and then the arguments
 abbrev pub passed : World → ℕ → Core → Ctypes → List Core → Given Cores

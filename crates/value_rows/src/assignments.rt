@@ -18,7 +18,7 @@ use c_operators::updates::update_row;
 use c_types::term::{Term, TypeId};
 use core_nodes::CheckFault;
 use core_nodes::reads::{is_place, type_of_node};
-use core_nodes::sorts::Operand;
+use core_nodes::sorts::{Operand, is_list};
 use core_nodes::trees::push_over_two;
 use core_nodes::values::value as value_node;
 use core_tree::node::{NodeKind, Op, Unit};
@@ -62,8 +62,8 @@ fn assigned_to(
     push_over_two(alloc, unit, NodeKind::Assign, place, ty, p, x)
 }
 
-/// A place that takes a value (C11 6.5.16.1): the place is of a scalar type, or of a structure or union that is complete, else it is
-/// `BadOperand`; the value is converted to its type, and refused as the table of conversions says. The nodes of the value's
+/// A place that takes a value (C11 6.5.16.1): the place is of a scalar type, a variadic list, or a structure or union that is complete,
+/// else it is `BadOperand`; the value is converted to its type, and refused as the table of conversions says. The nodes of the value's
 /// constants stand in their rows.
 pub fn assign_row(
     alloc: Global,
@@ -87,13 +87,13 @@ pub fn assign_row(
         return Err(CheckFault::BadOperand(at));
     }
     let sort = sort_of_node(unit, p);
-    if !is_assigned(unit, sort) {
+    if !is_assigned(unit, sort) && !is_list(&unit.types, type_of_node(unit, p)) {
         return Err(CheckFault::BadOperand(at));
     }
     assigned_to(alloc, unit, place, at, p, v)
 }
 
-// The value of an expression, cast to a type that is neither floating nor that of variadic lists.
+// The value of an expression, cast to a type that is not floating.
 fn cast_to(alloc: Global, unit: &mut Unit, at: u32, x: u32, ty: TypeId) -> Result<u32, CheckFault>
     requires ready { IsReady unit.old }
     requires x { x < length unit.old.nodes.items }
@@ -110,9 +110,9 @@ fn cast_to(alloc: Global, unit: &mut Unit, at: u32, x: u32, ty: TypeId) -> Resul
     conversion(alloc, unit, true, at, v, ty)
 }
 
-/// A cast (C11 6.5.4), for the row of the syntax node `at`: to a floating type it is `Floating`, to that of variadic lists `Builtin`,
-/// whatever else is wrong with it; else the expression's value is converted by the table of conversions, with the rows that are a
-/// cast's alone. The nodes of the expression's constants stand in their rows.
+/// A cast (C11 6.5.4), for the row of the syntax node `at`: to a floating type it is `Floating`, whatever else is wrong with it; else the
+/// expression's value is converted by the table of conversions, with the rows that are a cast's alone. The nodes of the expression's
+/// constants stand in their rows.
 pub fn cast_row(
     alloc: Global,
     unit: &mut Unit,
@@ -132,7 +132,6 @@ pub fn cast_row(
 {
     match unit.types.term(ty) {
         Term::Floating => Err(CheckFault::Unsupported(Kind::Floating, at)),
-        Term::VaList => Err(CheckFault::Unsupported(Kind::Builtin, at)),
         _ => cast_to(alloc, unit, at, x, ty),
     }
 }

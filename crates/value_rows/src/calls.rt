@@ -21,7 +21,7 @@ use c_types::term::{Term, TypeId};
 use core_nodes::CheckFault;
 use core_nodes::integers::promotion;
 use core_nodes::reads::type_of_node;
-use core_nodes::sorts::Operand;
+use core_nodes::sorts::{Operand, is_list};
 use core_nodes::trees::push_node;
 use core_nodes::values::value as value_node;
 use core_tree::held::Children;
@@ -38,8 +38,11 @@ fn further(alloc: Global, unit: &mut Unit, at: u32, v: u32) -> Result<u32, Check
     ensures within { IfOk result (λ i. i < length unit.new.nodes.items) }
     ensures made { (w : World) →
         Knows w unit.old →
-        Made unit.new result (spec.further w at (core_at unit.old v) (operand_of (ctype_of (core_at unit.old v)))) }
+        Made unit.new result (spec.further_value w at (core_at unit.old v)) }
 {
+    if is_list(&unit.types, type_of_node(unit, v)) {
+        return Ok(v);
+    }
     match sort_of_node(unit, v) {
         Operand::Whole => promotion(alloc, unit, v),
         Operand::Address(_) => Ok(v),
@@ -165,7 +168,6 @@ fn called(
     let result = result_type(&unit.types, function);
     match unit.types.term(result) {
         Term::Floating => return Err(CheckFault::Unsupported(Kind::Floating, at)),
-        Term::VaList => return Err(CheckFault::Unsupported(Kind::Builtin, at)),
         _ => {}
     }
     if !may_call {
@@ -207,13 +209,12 @@ fn callee_row(
     }
 }
 
-/// A call (C11 6.5.2.2) of the value of an expression with some arguments, each an expression. The value points to a function, else
-/// it is `BadOperand`. A result of floating type is `Floating`, one of the type of variadic lists `Builtin`. Then, each `BadOperand`: a
-/// call that may not stand here, as `may_call` says; another number of arguments than the list asks for, which is as many as it has
-/// parameters, with `...` at least as many, and any with `()`. Then the arguments in order: each is converted to its parameter's type, as
-/// the table of conversions says; past the list, and with `()`, an integer is promoted, and what is neither a scalar, a structure nor a
-/// union is `BadOperand`. Last, `BadOperand` is a result that is neither void nor complete. The nodes of the arguments' constants
-/// stand in their rows.
+/// A call (C11 6.5.2.2) of the value of an expression with some arguments, each an expression. The value points to a function, else it is
+/// `BadOperand`. A result of floating type is `Floating`. Then, each `BadOperand`: a call that may not stand here, as `may_call` says;
+/// another number of arguments than the list asks for, which is as many as it has parameters, with `...` at least as many, and any with
+/// `()`. Then the arguments in order: each is converted to its parameter's type, as the table of conversions says; past the list, and
+/// with `()`, an integer is promoted, and what is neither a scalar, a variadic list, a structure nor a union is `BadOperand`. Last,
+/// `BadOperand` is a result that is neither void nor complete. The nodes of the arguments' constants stand in their rows.
 pub fn call_row(
     alloc: Global,
     unit: &mut Unit,

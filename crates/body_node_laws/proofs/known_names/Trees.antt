@@ -152,6 +152,7 @@ module _ (tokens : Tokens) (unit : ℕ) (tree : SyntaxTree) (tag_number : ℕ �
       row_free : (n : ℕ) → n < length senses → is_a s p_suffix n ≡ false → near n → ((c : ℕ) → near c → OfSense s near (IsFree d) (sense_in (take n senses) c)) → RowGives (IsFree d) (world_at s (take n senses) n) s (sense_in (take n senses)) n (children_at s n)
       row_free n lt off here each = record {
         names = λ c has. use_gives (sense_in (take n senses)) c (closed.parts n c has off here);
+        lists = λ entity function place at type asked e. tt;
         objects = λ declarator l by_it named paths values fixed. tt;
         initials = λ q above paths values over fixed. tt;
         literals = λ q above type initial over. tt;

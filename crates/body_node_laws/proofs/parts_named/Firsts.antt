@@ -25,7 +25,7 @@ use Rattle.c_senses.specs.Initialised.{name_of_declarator, opening}
 use Rattle.c_inits.specs.Initial.{Outcome, Places, NoPlace}
 use Rattle.c_senses.specs.Right.{core_of_sense, representative, declared_name, IsPart, Within, Itself, Below}
 use Rattle.c_senses.specs.Right as right
-use Rattle.sense_laws.specs.Sound.{Sound, AllSound, AgreesWith, Gives, NamedOver, FunctionNameOver, list_of, MeaningFits}
+use Rattle.sense_laws.specs.Sound.{Sound, AllSound, AgreesWith, Gives, NamedOver, FunctionNameOver, list_of, MeaningFits, IsVariadicOf}
 use Rattle.sense_laws.specs.Senses.{SoundSense}
 use Rattle.sense_laws.specs.Asked.{FirstFits, OutcomeStands}
 use Rattle.sense_laws.proofs.All.{asked_sound}
@@ -52,6 +52,7 @@ use Rattle.function_laws.proofs.passed.definition_laws.own_initialisers.Standing
 use Rattle.function_laws.specs.passed.definition_laws.scope_laws.Scoped.{DeclaredOnce}
 use Rattle.function_laws.proofs.passed.definition_laws.scope_laws.Whole.{names_declared_once}
 use Rattle.declared_type_laws.proofs.known_entities.Known.{entities_known}
+use Rattle.declared_type_laws.proofs.known_entities.Further.{further_found}
 use Rattle.declared_type_laws.proofs.passed.owner_laws.Whole.{grown_of}
 use Rattle.count_laws.proofs.once_nodes.Rooted.{OfBlock, OfInitial, body_is, body_by}
 use Rattle.object_initialiser_laws.proofs.once_initialised.Whole.{opening_differs}
@@ -272,6 +273,10 @@ module _ (tokens : Tokens) (unit : ℕ) (tree : Tree) (tag_number : ℕ → ℕ)
     asked_so : AskedElseFit E s senses
     asked_so = record {
       names = λ i lt primary. firsts i primary (children_at s i) refl (fit.names i lt primary);
+      further = λ i lt primary leaf function found.
+          let x = further_found tokens unit tree tag_number senses cut read are whole i leaf function found in
+          let passes = subst Passes x.known (known_passes x.defines.name x.defines.declarator i x.defines.outermost (let before = x.before in omega (arith, before))) in
+          subst IsVariadicOf (sym (passing function passes)) (fit.further i lt primary leaf function found);
       runs = asked.runs;
       initials = λ i lt.
           record {

@@ -8,7 +8,7 @@ use Rattle.c_grammar.specs.declared.trees.Tree.{Tree}
 use Rattle.c_parser.specs.c_units.Units.{IsUnit}
 use Rattle.core_tree.specs.declared.node.Node.{Node}
 use Rattle.core_tree.specs.declared.node.NodeKind.{NodeKind}
-use Rattle.core_tree.specs.declared.node.NodeKind.TheVariants.{Named, FunctionName, Literal, Initialise, Block, For}
+use Rattle.core_tree.specs.declared.node.NodeKind.TheVariants.{Named, FunctionName, Literal, VarArgs, Initialise, Block, For}
 use Rattle.core_tree.specs.declared.node.Unit.{Unit}
 use Rattle.c_consts.specs.Core.{Core, kind_of}
 use Rattle.core_nodes.specs.Standing.{core_at}
@@ -39,7 +39,7 @@ use Rattle.body_node_laws.proofs.parts_named.Owners.{parts_owned}
 use Rattle.body_node_laws.proofs.parts_named.Apart.{IsLasting, lasting_back, names_there, lasts, in_body, parts_apart}
 use Rattle.body_node_laws.proofs.parts_named.Roots.{key_of}
 use Rattle.body_node_laws.proofs.parts_named.Initials.{initials_declared}
-use Rattle.body_node_laws.proofs.parts_named.Objects.{listed_declared}
+use Rattle.body_node_laws.proofs.parts_named.Objects.{listed_declared, further_declared}
 use Rattle.body_node_laws.proofs.parts_named.Firsts.{internals_first}
 use Rattle.body_node_laws.proofs.parts_named.Linked.{internal_declared, external_declared, linked_name}
 
@@ -144,6 +144,7 @@ module _ (tokens : Tokens) (unit : ℕ) (tree : Tree) (tag_number : ℕ → ℕ)
     kind_known : (m : ℕ) (y : Node) → slice_get p.kept.nodes.items m ≡ Some y → (c : Core) → IsInBody s p.senses c → IsUnderLasting c → (kind : NodeKind) → y.kind ≡ kind → kind_of c ≡ kind → is_known n kind ≡ true
     kind_known m y there c h on (Named d) is e = declared_known d (name_declared c d h (inl e))
     kind_known m y there c h on (FunctionName d) is e = declared_known d (name_declared c d h (inr e))
+    kind_known m y there c h on (VarArgs d) is e = declared_known d (further_declared tokens unit tree tag_number p.senses cut read p.made.are_senses p.made.whole c h d e)
     kind_known m y there c h on (Literal d) is e = kept_known d m y there is
     kind_known m y there c h on (Initialise d paths) is e = by (initial_known c d paths h e on)
       where

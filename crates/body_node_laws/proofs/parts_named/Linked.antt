@@ -22,8 +22,7 @@ use Rattle.declared_type_laws.proofs.agreed_internals.PassedOn.{declared_once}
 use Rattle.declared_type_laws.specs.agreed_internals.Agreeing.{AreAgreed}
 use Rattle.declared_type_laws.proofs.agreed_internals.Agreeing.{internals_agree}
 use Rattle.body_node_laws.specs.parts_named.Named.{IsDeclared}
-use Rattle.body_node_laws.proofs.parts_named.Owners.{both, declared_with, typed}
-use Rattle.body_node_laws.proofs.parts_named.Objects.{named_name}
+use Rattle.body_node_laws.proofs.parts_named.Owners.{both, declared_with, typed, named_name}
 
 -- types together are one where there are any
 all_some : (a : Ctype) (ts : List Ctype) → (b : Ctype) × (all_together (Some a) ts ≡ Some b)

@@ -12,7 +12,7 @@ use Rattle.c_parser.specs.c_units.Units.{IsUnit}
 use Rattle.c_types.specs.Trees.{Ctype}
 use Rattle.core_tree.specs.declared.node.Linkage.{Linkage}
 use Rattle.core_tree.specs.declared.node.Linkage.TheVariants.{External, Internal, Local}
-use Rattle.core_tree.specs.declared.node.NodeKind.TheVariants.{Block, For}
+use Rattle.core_tree.specs.declared.node.NodeKind.TheVariants.{Block, For, VarArgs}
 use Rattle.c_consts.specs.Core.{Core, Cores, Of, NoCores, MoreCores, kind_of, core_in}
 use Rattle.c_senses.specs.Names.{source_of, numbered, ordinary_at, linked_before}
 use Rattle.c_senses.specs.Tree.{Source, is_a, is_name, children_at, parent_of, production_at}
@@ -33,14 +33,13 @@ use Rattle.function_laws.proofs.passed.definition_laws.linkage_laws.Seen.{some_s
 use Rattle.function_laws.proofs.passed.definition_laws.linkage_laws.Linked as linked
 use Rattle.function_laws.proofs.passed.definition_laws.linkage_laws.Reading.{tree_is}
 use Rattle.parsed_tree_laws.proofs.grown_parts.Reading.{units_bring}
-use Rattle.declared_type_laws.specs.declared_leaves.Leaves.{IsNamed, Own, Inner, IsDeclaredBy}
+use Rattle.declared_type_laws.specs.declared_leaves.Leaves.{IsDeclaredBy}
 use Rattle.declared_type_laws.proofs.declared_leaves.Climbing.{leaves_declared}
 use Rattle.body_node_laws.specs.parts_named.Named.{IsDeclared, AreDeclared}
+use Rattle.declared_type_laws.proofs.known_entities.Further.{further_found}
+use Rattle.body_node_laws.proofs.parts_named.Owners.{named_name}
+use Rattle.body_node_laws.proofs.parts_named.Linked.{entity_declared}
 use Rattle.body_node_laws.proofs.parts_named.Roots.{seen_declarator, words_kept}
-
-pub named_name : (s : Source) (m leaf : ℕ) → IsNamed s m leaf → is_name s leaf ≡ true
-named_name s m leaf (Own child name) = name
-named_name s m leaf (Inner c child is more) = named_name s c leaf more
 
 both_true : (a b : Bool) → a ≡ true → b ≡ true → (a && b) ≡ true
 both_true true true e f = refl
@@ -225,6 +224,7 @@ module _ (tokens : Tokens) (unit : ℕ) (tree : Tree) (tag_number : ℕ → ℕ)
     abbrev Lists : Core → Type 0
     Lists (Of (Block ds) place type under) = AreDeclared s senses ds
     Lists (Of (For ds c a) place type under) = AreDeclared s senses ds
+    Lists (Of (VarArgs d) place type under) = IsDeclared s senses d
     Lists c = ⊤
 
     meaning_free : (o : Option Meaning) → MeaningGives Lists o
@@ -241,6 +241,9 @@ module _ (tokens : Tokens) (unit : ℕ) (tree : Tree) (tag_number : ℕ → ℕ)
     row_lists : (n : ℕ) → RowGives Lists (world_at s (take n senses) n) s (before n) n (children_at s n)
     row_lists n = record {
       names = λ leaf has. meaning_free _;
+      lists = λ entity function place at type asked e.
+          let x = further_found tokens unit tree tag_number senses cut read are whole n entity function e in
+          subst (IsDeclared s senses) x.entity (entity_declared tokens unit tree tag_number senses cut read are whole x.defines.name x.defines.linked);
       objects = λ declarator leaf by_it named paths values fixed. tt;
       initials = λ q above paths values over fixed. tt;
       literals = λ q above type initial over. tt;
@@ -286,3 +289,11 @@ module _ (tokens : Tokens) (unit : ℕ) (tree : Tree) (tag_number : ℕ → ℕ)
         by (Of (For es a b) place type under) (inl e) held = cc
         by (Of kind place type under) (inl e) held = cc
         by (Of kind place type under) (inr (x, y, e)) held = cc
+
+    -- the function whose further arguments a list has
+    pub further_declared : (c : Core) → IsInBody s senses c → (d : ℕ) → kind_of c ≡ VarArgs d → IsDeclared s senses d
+    further_declared c h d e = by c e (within_held c h.body h.within (body_held h.leaf h.what h.body h.declared h.has))
+      where
+        by : (c : Core) → kind_of c ≡ VarArgs d → Holds Lists c → IsDeclared s senses d
+        by (Of (VarArgs x) place type under) e held = let same : x ≡ d = cc in subst (IsDeclared s senses) same held.0
+        by (Of kind place type under) e held = cc

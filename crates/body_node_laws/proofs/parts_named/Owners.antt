@@ -13,7 +13,7 @@ use Rattle.c_types.specs.Trees.{Ctype, FunctionFrom}
 use Rattle.core_tree.specs.declared.node.Linkage.{Linkage}
 use Rattle.core_tree.specs.declared.node.Linkage.TheVariants.{External, Internal, Local}
 use Rattle.c_senses.specs.Names.{source_of, numbered, ordinary_at, names_type, is_linked_kind, is_typedef_kind}
-use Rattle.c_senses.specs.Tree.{Source, is_a, child_of, parent_of, above_within, nearest_above}
+use Rattle.c_senses.specs.Tree.{Source, is_a, child_of, parent_of, above_within, nearest_above, is_name}
 use Rattle.c_senses.specs.Sense.{Sense, sense_in}
 use Rattle.c_senses.specs.Rows.{AreSenses}
 use Rattle.c_senses.specs.Entities.{first_of, internal_among, is_typedef, is_internal, is_linked, is_defined, linkage_of, entity_of, own_type, all_together, types_of, function_around, defined_name}
@@ -36,8 +36,14 @@ use Rattle.declared_type_laws.proofs.passed.owner_laws.internal_laws.Reading.{de
 use Rattle.unit_finish.specs.declared.unit_parts.declared.Declared.{Declared}
 use Rattle.unit_finish.specs.unit_parts.Entities.{numbering_of, is_owner_known}
 use Rattle.unit_finish.specs.Walked.{declared_seen}
+use Rattle.declared_type_laws.specs.declared_leaves.Leaves.{IsNamed, Own, Inner}
 use Rattle.body_node_laws.specs.parts_named.Named.{AreParts, PartsOwned}
 use Rattle.body_node_laws.proofs.parts_named.Listing.{all_of, planted_back, name_there, entry, IsOfName, IsOfLiteral}
+
+-- what names declare
+pub named_name : (s : Source) (m leaf : ℕ) → IsNamed s m leaf → is_name s leaf ≡ true
+named_name s m leaf (Own child name) = name
+named_name s m leaf (Inner c child is more) = named_name s c leaf more
 
 pub both : (a b : Bool) → (a && b) ≡ true → (a ≡ true) × (b ≡ true)
 both true true e = (refl, refl)

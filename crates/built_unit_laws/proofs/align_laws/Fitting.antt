@@ -18,7 +18,7 @@ use Rattle.c_senses.specs.Statements.{objects_declared}
 use Rattle.c_senses.specs.Tags.{completed_from, look_of}
 use Rattle.c_senses.specs.Sense.{Sense, IsMembers, sense_in}
 use Rattle.c_senses.specs.Rows.{AreSenses, world_at, row}
-use Rattle.c_initialise.specs.passed.sense_laws.Sound.{IsProper}
+use Rattle.c_initialise.specs.passed.sense_laws.Sound.{IsProper, FurtherIsVariadic}
 use Rattle.c_initialise.specs.passed.sense_laws.Senses.{ChildrenFirst, ConstantsFit, StatementGrammar, RunsIn, SoundSense}
 use Rattle.c_initialise.specs.passed.sense_laws.Asked.{FirstFits, InitialAsks, OutcomeStands, AskedFit}
 use Rattle.c_initialise.proofs.passed.sense_laws.All.{asked_sound, first_fits, weaker_outcome}
@@ -63,6 +63,9 @@ module _ (entities : ℕ → Option Ctype) (s : Source) (senses : List Sense) (a
       names = λ i lt.
           let few : i < n = before i lt in
           subst (λ (xs : List Sense). is_a s p_primary i ≡ true → FirstFits (world_at s xs i) entities (children_at s i)) (sym (shorter i few)) (fit.names i (omega (arith, few, le)));
+      further = λ i lt.
+          let few : i < n = before i lt in
+          subst (λ (xs : List Sense). is_a s p_primary i ≡ true → FurtherIsVariadic (world_at s xs i) entities) (sym (shorter i few)) (fit.further i (omega (arith, few, le)));
       aligns = λ i lt.
           let few : i < n = before i lt in
           subst (λ (xs : List Sense). AlignsAt xs i) (sym (shorter i few)) (aligns i few);
@@ -96,7 +99,7 @@ module _ (entities : ℕ → Option Ctype) (s : Source) (senses : List Sense) (a
   all_aligned i lt = aligns_up (length senses) (omega arith) i lt
 
   asked_fit : AskedFit entities s senses
-  asked_fit = record { names = fit.names; aligns = λ i lt. all_aligned i lt; runs = fit.runs; initials = fit.initials }
+  asked_fit = record { names = fit.names; further = fit.further; aligns = λ i lt. all_aligned i lt; runs = fit.runs; initials = fit.initials }
 
 pub asked_aligns_fit : AskedAlignsFit
 asked_aligns_fit entities s senses are first ints grammar fit = asked_fit entities s senses are first ints grammar fit
@@ -104,6 +107,7 @@ asked_aligns_fit entities s senses are first ints grammar fit = asked_fit entiti
 asked_of : (entities : ℕ → Option Ctype) (s : Source) (senses : List Sense) → AllElseFits entities s senses → AskedElseFit entities s senses
 asked_of entities s senses fit = record {
   names = λ i lt primary. first_fits (world_at s (take i senses) i) entities (fit.names i lt) (children_at s i);
+  further = λ i lt primary. fit.further i lt;
   runs = fit.runs;
   initials = λ i lt.
       let w : World = world_at s (take i senses) i in
@@ -116,4 +120,4 @@ asked_of entities s senses fit = record {
 
 pub aligns_fit : AlignsFit
 aligns_fit entities s senses are first ints grammar fit =
-    record { names = fit.names; aligns = all_aligned entities s senses are first ints grammar (asked_of entities s senses fit); runs = fit.runs; initials = fit.initials }
+    record { names = fit.names; further = fit.further; aligns = all_aligned entities s senses are first ints grammar (asked_of entities s senses fit); runs = fit.runs; initials = fit.initials }

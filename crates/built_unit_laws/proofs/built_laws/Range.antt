@@ -6,7 +6,7 @@ use Rattle.std.proofs.lemmas.Option.{slice_get_within}
 use Rattle.core_tree.specs.declared.node.Unit.{Unit}
 use Rattle.core_tree.specs.declared.node.Node.{Node}
 use Rattle.core_tree.specs.declared.node.NodeKind.{NodeKind}
-use Rattle.core_tree.specs.declared.node.NodeKind.TheVariants.{Named, FunctionName, Literal, Block, For, Initialise}
+use Rattle.core_tree.specs.declared.node.NodeKind.TheVariants.{Named, FunctionName, Literal, VarArgs, Block, For, Initialise}
 use Rattle.core_tree.specs.Typed.{trees_of}
 use Rattle.core_tree.specs.Range.{InRange, named_by, listed_by}
 use Rattle.c_consts.specs.Core.{Core, Of}
@@ -25,10 +25,12 @@ module _ (n : Numbering) (count : ℕ) (numbered : (d e : ℕ) → n d ≡ Some 
   named_in (Named d) (Named e) h = numbered d e h
   named_in (FunctionName d) (FunctionName e) h = numbered d e h
   named_in (Literal d) (Literal e) h = numbered d e h
+  named_in (VarArgs d) (VarArgs e) h = numbered d e h
   named_in (Initialise d paths) (Initialise e others) h = numbered d e h.0
   named_in kind (Named e) h = cc
   named_in kind (FunctionName e) h = cc
   named_in kind (Literal e) h = cc
+  named_in kind (VarArgs e) h = cc
   named_in kind (Initialise e others) h = cc
   named_in kind other h = tt
 

@@ -10,14 +10,14 @@ use Rattle.c_types.specs.declared.term.Form.TheVariants.{Fixed, Variadic, Unspec
 use Rattle.c_types.specs.declared.term.PathStep.{PathStep}
 use Rattle.core_tree.specs.declared.node.Op.{Op}
 use Rattle.core_tree.specs.declared.node.NodeKind.{NodeKind}
-use Rattle.core_tree.specs.declared.node.NodeKind.TheVariants.{Named, Text, Literal, FunctionName, Deref, Member, Number, NullValue, Fetch, AddressOf, Decay, PointerAdd, Convert, Upcast, Assign, Update, Choose, Sequence, CallNode, MemberOfValue, Arith, Expression, Block, If, While, DoWhile, For, Switch, Case, Default, Label, Goto, Break, Continue, Return, Initialise, Skip}
-use Rattle.core_tree.specs.Typed.{Sort, PlaceNode, ValueNode, sort_of, IsInteger, IsScalar, IsStored, IsPassed, LacksLength, decayed}
+use Rattle.core_tree.specs.declared.node.NodeKind.TheVariants.{Named, Text, Literal, FunctionName, Deref, Member, Number, NullValue, Fetch, AddressOf, Decay, PointerAdd, Convert, Upcast, Assign, Update, Choose, Sequence, CallNode, MemberOfValue, Arith, VarArgs, NextArg, Expression, Block, If, While, DoWhile, For, Switch, Case, Default, Label, Goto, Break, Continue, Return, Initialise, Skip}
+use Rattle.core_tree.specs.Typed.{Sort, PlaceNode, ValueNode, sort_of, IsInteger, IsScalar, IsList, IsStored, IsPassed, LacksLength, decayed}
 use Rattle.core_tree.specs.Rows.{IsArray, Converts, Unary, Binary, Updates, InitialisesEntity, InitialisesOneOf}
 use Rattle.c_consts.specs.Core.{Core, Cores, Of, NoCores, MoreCores, kind_of, ctype_of, core_sort}
 use Rattle.c_senses.specs.World.{World, members_of}
 use Rattle.c_senses.specs.Conversions.{place_width, width_in}
 use Rattle.c_senses.specs.Right.{Numbering, SameKind, SameEntities}
-use Rattle.c_initialise.specs.passed.sense_laws.Sound.{Sound, AllSound, RowOver, IsProper, HasNoType, list_of, AgreesWith, IsPartOf, PointsToSized, IsFirstPart, IsValueCore, IsPlaceCore, IsStatementCore, IsConditionCore, IsNumeralCore, IsFurtherCore, AreArguments, CallsWith, InitialOver, IsOneExpressionCore, IsForFirst, IsForCondition, IsForAfter, AreForParts, IfOver, ReturnOver, ArithOver, ChooseOver, CallOver, One, Two, IsEmpty}
+use Rattle.c_initialise.specs.passed.sense_laws.Sound.{Sound, AllSound, RowOver, IsProper, HasNoType, list_of, IsVariadicOf, AgreesWith, IsPartOf, PointsToSized, IsFirstPart, IsValueCore, IsPlaceCore, IsStatementCore, IsConditionCore, IsNumeralCore, IsFurtherCore, AreArguments, CallsWith, InitialOver, IsOneExpressionCore, IsForFirst, IsForCondition, IsForAfter, AreForParts, IfOver, ReturnOver, ArithOver, ChooseOver, CallOver, One, Two, IsEmpty}
 
 some_one : {X : Type 0} → {x y : X} → ◌≡◌ {A = Option X} (Some x) (Some y) → x ≡ y
 some_one h = cc
@@ -41,6 +41,7 @@ module _ (w : World) (n : Numbering) where
   IsPlain (Named d) = ⊥
   IsPlain (FunctionName d) = ⊥
   IsPlain (Literal d) = ⊥
+  IsPlain (VarArgs d) = ⊥
   IsPlain (Initialise d paths) = ⊥
   IsPlain (Block ds) = ⊥
   IsPlain (For ds c a) = ⊥
@@ -50,6 +51,7 @@ module _ (w : World) (n : Numbering) where
   same_sort (Named d) (Named e) h = refl
   same_sort (FunctionName d) (FunctionName e) h = refl
   same_sort (Literal d) (Literal e) h = refl
+  same_sort (VarArgs d) (VarArgs e) h = refl
   same_sort (Initialise d paths) (Initialise e others) h = refl
   same_sort (Block ds) (Block es) h = refl
   same_sort (For ds c a) (For es d b) h = refl
@@ -79,6 +81,7 @@ module _ (w : World) (n : Numbering) where
   width_by (Named d) (Named e) p q t r under below h al = refl
   width_by (FunctionName d) (FunctionName e) p q t r under below h al = refl
   width_by (Literal d) (Literal e) p q t r under below h al = refl
+  width_by (VarArgs d) (VarArgs e) p q t r under below h al = refl
   width_by (Initialise d paths) (Initialise e others) p q t r under below h al = refl
   width_by (Block ds) (Block es) p q t r under below h al = refl
   width_by (For ds c a) (For es d b) p q t r under below h al = refl
@@ -316,6 +319,7 @@ module _ (w : World) (n : Numbering) where
     plain_on (Named d) p t xs ys k h = absurd p
     plain_on (FunctionName d) p t xs ys k h = absurd p
     plain_on (Literal d) p t xs ys k h = absurd p
+    plain_on (VarArgs d) p t xs ys k h = absurd p
     plain_on (Initialise d paths) p t xs ys k h = absurd p
     plain_on (Block ds) p t xs ys k h = absurd p
     plain_on (For ds c a) p t xs ys k h = absurd p
@@ -357,6 +361,9 @@ module _ (w : World) (n : Numbering) where
         one_on (λ v. (core_sort v ≡ ValueNode) × IsPartOf w (ctype_of v) m t × (IsArray t → ⊥)) (λ v. (core_sort v ≡ ValueNode) × IsPartOf w (ctype_of v) m t × (IsArray t → ⊥))
         (λ a b same is. (sym same.sort ∙ is.0, subst (λ (x : Ctype). IsPartOf w x m t) same.type is.1, is.2)) xs ys k h
     plain_on (Arith op) p t xs ys k h = arith_on op t xs ys k h
+    plain_on NextArg p t xs ys k h =
+        one_on (λ c. (core_sort c ≡ PlaceNode) × IsList (ctype_of c) × IsScalar t) (λ c. (core_sort c ≡ PlaceNode) × IsList (ctype_of c) × IsScalar t)
+        (λ a b same is. (sym same.sort ∙ is.0, subst IsList same.type is.1, is.2)) xs ys k h
     plain_on Expression p t xs ys k h = one_on (λ v. core_sort v ≡ ValueNode) (λ v. core_sort v ≡ ValueNode) (λ a b same is. sym same.sort ∙ is) xs ys k h
     plain_on If p t xs ys k h = if_on xs ys k h
     plain_on While p t xs ys k h =
@@ -390,10 +397,14 @@ module _ (w : World) (n : Numbering) where
         one_on (λ i. (old d ≡ Some t) × InitialisesEntity (kind_of i) d) (λ i. (new e ≡ Some t) × InitialisesEntity (kind_of i) e)
         (λ a b same is. (named_on (λ (o : Option Ctype). o ≡ Some t) d e number is.0, begins_on (kind_of a) (kind_of b) d e number same.kind is.1)) xs ys k h
 
+    varargs_on : (d e : ℕ) (t : Ctype) (xs ys : List Core) → n d ≡ Some e → AllAlike xs ys → RowOver w old (VarArgs d) t xs → RowOver w new (VarArgs e) t ys
+    varargs_on d e t xs ys number k h = (empty_on xs ys k h.0, h.1, named_on IsVariadicOf d e number h.2)
+
     row_on : (kind other : NodeKind) (t : Ctype) (xs ys : List Core) → SameKind n kind other → AllAlike xs ys → RowOver w old kind t xs → RowOver w new other t ys
     row_on (Named d) (Named e) t xs ys same k h = name_on d e t xs ys same k h
     row_on (FunctionName d) (FunctionName e) t xs ys same k h = function_on d e t xs ys same k h
     row_on (Literal d) (Literal e) t xs ys same k h = literal_on d e t xs ys same k h
+    row_on (VarArgs d) (VarArgs e) t xs ys same k h = varargs_on d e t xs ys same k h
     row_on (Initialise d paths) (Initialise e others) t xs ys same k h =
         subst (λ (l : List (List PathStep)). InitialOver w (new e) l ys) same.1 (initial_on (new e) paths xs ys k (named_on (λ (o : Option Ctype). InitialOver w o paths xs) d e same.0 h))
     row_on (Block ds) (Block es) t xs ys same k h = all_on IsStatementCore IsStatementCore statement_on xs ys k h
@@ -402,6 +413,7 @@ module _ (w : World) (n : Numbering) where
     row_on (Named d) other t xs ys same k h = cc
     row_on (FunctionName d) other t xs ys same k h = cc
     row_on (Literal d) other t xs ys same k h = cc
+    row_on (VarArgs d) other t xs ys same k h = cc
     row_on (Initialise d paths) other t xs ys same k h = cc
     row_on (Block ds) other t xs ys same k h = cc
     row_on (For ds c a) other t xs ys same k h = cc

@@ -5,7 +5,7 @@ use Rattle.std.proofs.lemmas.Bool.{eqb-true, eqb-false}
 use Rattle.pta_base.specs.declared.kind.Kind.TheVariants.{Operand}
 use Rattle.c_lexer.specs.declared.TokenKind.{TokenKind}
 use Rattle.c_lexer.specs.declared.TokenKind.TheVariants.{Punctuator, Identifier}
-use Rattle.c_types.specs.Trees.{Ctype, FloatingType, VaListType}
+use Rattle.c_types.specs.Trees.{Ctype, FloatingType}
 use Rattle.c_grammar.specs.Productions.{p_type_name, p_items, p_cast, p_unary}
 use Rattle.c_grammar.specs.Reads.{leaf as leaf_production}
 use Rattle.c_grammar.specs.Terminals.{contains}
@@ -72,7 +72,6 @@ module _ (w : World) (s : Source) (sense : ℕ → Sense) where
 
   as_typed : (P : Core → Type 0) (at : ℕ) (t : Ctype) (g : Given Core) → Gives P g → Gives P (typed at t g)
   as_typed P at FloatingType g h = tt
-  as_typed P at VaListType g h = tt
   as_typed P at t g h = h
 
   module _ (i p : ℕ) (t : Ctype) (actions : List Action) (placed : outcome_of w s sense (brace w s sense p) (shape_for w.fillable most_elements t) (braced w s sense (brace w s sense p) (view.items_at (seen w s sense) s.nodes i)) ≡ Fits (Places actions)) where

@@ -1,7 +1,7 @@
 -- The senses of what stands in declarations.
 use Rattle.std.proofs.Common.{◌≡◌, ℕ, Bool, ◌&&◌, ◌||◌, not, List, [], Option, Some, None, refl}
 use Rattle.std.specs.Prelude.{⊤, is_some, if◌then◌else◌}
-use Rattle.pta_base.specs.declared.kind.Kind.TheVariants.{Operand, InlineDefinition, VariadicDefinition}
+use Rattle.pta_base.specs.declared.kind.Kind.TheVariants.{Operand, InlineDefinition}
 use Rattle.c_types.specs.Trees.{Ctype}
 use Rattle.c_grammar.specs.Productions.{p_field, p_parameter, p_conditional}
 use Rattle.c_grammar.specs.Reads.{leaf as leaf_production}
@@ -18,7 +18,7 @@ use Rattle.c_senses.specs.Given.{Given, Fits, given_if}
 use Rattle.c_senses.specs.World.{World, has_size}
 use Rattle.c_senses.specs.Constants.{constant_in}
 use Rattle.c_senses.specs.Declarators.{is_outermost, base_type, derived, adjusted, plain_declarator_row, derives_well, derivations, name_in}
-use Rattle.c_senses.specs.Entities.{with_length, named_row, parameter_named, initialiser_of, words_go, is_same_again, has_one_linkage, internal_fits, is_name_complete, definition_row, is_void_type, is_variadic, result_of, has_function_word, has_storage, is_defined, entity_of, is_static_object}
+use Rattle.c_senses.specs.Entities.{with_length, named_row, parameter_named, initialiser_of, words_go, is_same_again, has_one_linkage, internal_fits, is_name_complete, definition_row, is_void_type, result_of, has_function_word, has_storage, is_defined, entity_of, is_static_object}
 use Rattle.c_senses.specs.Initialised.{outcome_of, most_elements, seen, made_of, placed_cores, new_length, object_initialiser, initialised_fits}
 use Rattle.c_senses.specs.Places.{own_place}
 use Rattle.c_senses.specs.Statements.{assert_row}
@@ -32,15 +32,13 @@ use Rattle.core_node_laws.proofs.standing_laws.PassedOn.{anything}
 module _ (P : Sense → Type 0) (w : World) (s : Source) (sense : ℕ → Sense) where
   defined_gives : (t : Ctype) (leaf : ℕ) (g : Given Sense) → Gives P g → Gives P (definition_row w s sense t leaf g)
   defined_gives t leaf g h =
-      let third : Given Sense = given_if (not (is_variadic w s sense t)) VariadicDefinition leaf g in
-      let second : Given Sense = given_if (not (has_function_word s sense word_inline leaf && not (has_storage s sense word_static leaf))) InlineDefinition leaf third in
+      let second : Given Sense = given_if (not (has_function_word s sense word_inline leaf && not (has_storage s sense word_static leaf))) InlineDefinition leaf g in
       let complete : Bool = is_void_type w s sense (result_of w s sense t) || has_size w (result_of w s sense t) in
       if_holds (Gives P) (is_defined s sense leaf) (given_if complete Operand leaf second) g
       (λ e.
       if_given P complete Operand leaf second
       (λ e.
-      if_given P (not (has_function_word s sense word_inline leaf && not (has_storage s sense word_static leaf))) InlineDefinition leaf third
-      (λ e. if_given P (not (is_variadic w s sense t)) VariadicDefinition leaf g (λ e. h)))) (λ e. h)
+      if_given P (not (has_function_word s sense word_inline leaf && not (has_storage s sense word_static leaf))) InlineDefinition leaf g (λ e. h))) (λ e. h)
 
   named_gives : (at leaf : ℕ) (t : Ctype) (g : Given Sense) → Gives P g → Gives P (named_row w s sense at leaf t g)
   named_gives at leaf t g h =

@@ -1,5 +1,5 @@
 -- Values of structures and unions have sizes.
-use Rattle.std.proofs.Common.{arith, ◌≡◌, ℕ, ℤ, zero, suc, ◌<◌, true, List, [], ◌∷◌, length, Option, Some, None, slice_get, get_or, refl, sym, ap, ◌∙◌, subst, inl, inr}
+use Rattle.std.proofs.Common.{arith, ◌≡◌, ℕ, ℤ, zero, suc, ◌<◌, Bool, true, false, ◌||◌, List, [], ◌∷◌, length, Option, Some, None, slice_get, get_or, refl, sym, ap, ◌∙◌, subst, inl, inr}
 use Rattle.std.specs.Prelude.{is_some, option_map}
 use Rattle.std.proofs.lemmas.Option.{slice_get_within, get_or_from_slice_get}
 use Rattle.std.proofs.lemmas.List.Elements.{All-get_or}
@@ -7,22 +7,22 @@ use Rattle.pta_base.specs.declared.place.Place.{Place}
 use Rattle.c_types.specs.declared.term.MemberTerm.{MemberTerm}
 use Rattle.c_types.specs.Trees.{Ctype, StructureOf, UnionOf}
 use Rattle.c_types.specs.Table.{type_of, members_in}
-use Rattle.type_rules.specs.Kinds.{IsAggregate}
+use Rattle.type_rules.specs.Kinds.{IsAggregate, IsList}
 use Rattle.type_rules.specs.Members.{IsMemberOf, tag_of, member_at}
 use Rattle.type_rules.specs.Sizes.{IsObject}
 use Rattle.core_tree.specs.declared.node.Unit.{Unit}
 use Rattle.core_tree.specs.declared.node.Node.{Node}
 use Rattle.core_tree.specs.declared.node.Op.{Op}
 use Rattle.core_tree.specs.declared.node.NodeKind.{NodeKind}
-use Rattle.core_tree.specs.declared.node.NodeKind.TheVariants.{Number, NullValue, Fetch, AddressOf, Decay, PointerAdd, Convert, Upcast, Assign, Update, Choose, Sequence, CallNode, Arith, MemberOfValue}
+use Rattle.core_tree.specs.declared.node.NodeKind.TheVariants.{Number, NullValue, Fetch, AddressOf, Decay, PointerAdd, Convert, Upcast, Assign, Update, Choose, Sequence, CallNode, Arith, MemberOfValue, VarArgs, NextArg}
 use Rattle.core_tree.specs.Typed.{trees_of, ValueNode, sort_of, sort_in, type_in, type_at, IsValue}
 use Rattle.core_tree.specs.Range.{Has}
-use Rattle.core_tree.specs.Rows.{RowOf, NumberRow, NullRow, AddressRow, DecayRow, PointerAddRow, ConvertRow, UpcastRow, AssignRow, UpdateRow, ChooseRow, SequenceRow, MemberOfValueRow, ArithRow}
+use Rattle.core_tree.specs.Rows.{RowOf, NumberRow, NullRow, AddressRow, DecayRow, PointerAddRow, ConvertRow, UpcastRow, AssignRow, UpdateRow, ChooseRow, SequenceRow, MemberOfValueRow, ArithRow, VarArgsRow, NextArgRow}
 use Rattle.core_tree.specs.Valid.{InRows}
 use Rattle.c_consts.specs.Core.{Core, Cores, Of}
 use Rattle.c_senses.specs.Tree.{Source}
 use Rattle.c_senses.specs.World.{World, extent}
-use Rattle.c_senses.specs.Conversions.{operand_of, is_fetched}
+use Rattle.c_senses.specs.Conversions.{operand_of, is_fetched, is_list}
 use Rattle.c_senses.specs.Objects.{is_returned}
 use Rattle.c_senses.specs.Rows.{world_at}
 use Rattle.c_senses.specs.Sense.{sense_in}
@@ -76,9 +76,13 @@ module _ (s : Source) (name : List ℕ) (u : Unit) (b : IsBuilt s name u) (first
   has_members : (tag : ℕ) → is_some (w.members tag) ≡ true → is_some (members_in u.types tag) ≡ true
   has_members tag h = map_some _ (members_in u.types tag) (ap is_some (sym (b.knows.members tag)) ∙ h)
 
-  fetched : (t : Ctype) → IsAggregate t → is_fetched w (operand_of t) ≡ true → IsObject u.types t
-  fetched (StructureOf tag) g h = structure_complete u.types tag (has_members tag h)
-  fetched (UnionOf tag) g h = union_complete u.types tag (has_members tag h)
+  no_more : (b : Bool) → b || false ≡ true → b ≡ true
+  no_more true h = refl
+  no_more false h = cc
+
+  fetched : (t : Ctype) → IsAggregate t → is_fetched w (operand_of t) || is_list t ≡ true → IsObject u.types t
+  fetched (StructureOf tag) g h = structure_complete u.types tag (has_members tag (no_more (is_some (w.members tag)) h))
+  fetched (UnionOf tag) g h = union_complete u.types tag (has_members tag (no_more (is_some (w.members tag)) h))
   fetched t g h = absurd g
 
   sized : (t : Ctype) → is_some (extent w t) ≡ true → IsObject u.types t
@@ -151,6 +155,19 @@ module _ (s : Source) (name : List ℕ) (u : Unit) (b : IsBuilt s name u) (first
   computed op t (x ∷ y ∷ []) row g = binary_plain op (type_at (trees_of u) x) (type_at (trees_of u) y) t row.2 g
   computed op t children row g = row
 
+  no_list : (t : Ctype) → IsAggregate t → IsList t → ⊥
+  no_list (StructureOf tag) g h = h
+  no_list (UnionOf tag) g h = h
+  no_list t g h = absurd g
+
+  listed : (e : ℕ) (t : Ctype) (children : List ℕ) → VarArgsRow (trees_of u) e t children → IsAggregate t → ⊥
+  listed e t [] row g = no_list t g row.0
+  listed e t children row g = row
+
+  next_one : (t : Ctype) (children : List ℕ) → NextArgRow (trees_of u) t children → IsAggregate t → ⊥
+  next_one t (p ∷ []) row g = elim row.1 as (λ _. ⊥) [ inl h ↦ no_integer t g h | inr h ↦ no_pointer t g h ]
+  next_one t children row g = row
+
   complete_by : (kind : NodeKind) (t : Ctype) (children : List ℕ) → RowOf (trees_of u) kind t children → IsTestedKind w kind t → Below t children → sort_of kind ≡ ValueNode → IsAggregate t → IsObject u.types t
   complete_by Fetch t children row told below v g = fetched t g told
   complete_by CallNode t children row told below v g = returned t g told
@@ -167,6 +184,8 @@ module _ (s : Source) (name : List ℕ) (u : Unit) (b : IsBuilt s name u) (first
   complete_by Upcast t children row told below v g = absurd (upcast t children row g)
   complete_by (Update op post) t children row told below v g = absurd (updated op t children row g)
   complete_by (Arith op) t children row told below v g = absurd (computed op t children row g)
+  complete_by (VarArgs e) t children row told below v g = absurd (listed e t children row g)
+  complete_by NextArg t children row told below v g = absurd (next_one t children row g)
   complete_by kind t children row told below v g = cc
 
   -- ---- node after node

@@ -7,7 +7,7 @@ use Rattle.c_senses.specs.World.{Meaning}
 use Rattle.c_senses.specs.Statements.{objects_declared}
 use Rattle.c_senses.specs.Sense.{Sense, sense_in}
 use Rattle.c_senses.specs.Rows.{AreSenses, world_at}
-use Rattle.c_initialise.specs.passed.sense_laws.Sound.{MeaningFits}
+use Rattle.c_initialise.specs.passed.sense_laws.Sound.{MeaningFits, FurtherIsVariadic}
 use Rattle.c_initialise.specs.passed.sense_laws.Senses.{ChildrenFirst, ConstantsFit, StatementGrammar, RunsIn}
 use Rattle.c_initialise.specs.passed.sense_laws.Senses.{InitialisersFit}
 use Rattle.c_initialise.specs.passed.sense_laws.Laws.{SensesFit}
@@ -19,6 +19,7 @@ pub record AllElseFits (entities : ℕ → Option Ctype) (s : Source) (senses : 
       → (leaf : ℕ) (m : Meaning)
       → (world_at s (take i senses) i).meaning leaf ≡ Some m
       → MeaningFits entities m
+  pub further : (i : ℕ) → i < length senses → FurtherIsVariadic (world_at s (take i senses) i) entities
   pub runs : (i : ℕ) → i < length senses → (d : ℕ) → is_a s p_declaration d ≡ true
       → RunsIn (objects_declared (world_at s (take i senses) i) s (sense_in (take i senses)) d)
       (sense_in (take i senses) d)
@@ -41,6 +42,10 @@ pub record AskedElseFit (entities : ℕ → Option Ctype) (s : Source) (senses :
       → i < length senses
       → is_a s p_primary i ≡ true
       → FirstFits (world_at s (take i senses) i) entities (children_at s i)
+  pub further : (i : ℕ)
+      → i < length senses
+      → is_a s p_primary i ≡ true
+      → FurtherIsVariadic (world_at s (take i senses) i) entities
   pub runs : (i : ℕ) → i < length senses → (d : ℕ) → is_a s p_declaration d ≡ true
       → RunsIn (objects_declared (world_at s (take i senses) i) s (sense_in (take i senses)) d)
       (sense_in (take i senses) d)

@@ -1,5 +1,5 @@
 -- What calls answer of integer constants, and the results whose constants can be computed.
-use Rattle.std.specs.Prelude.{ℕ, ℤ, ◌≡◌, ⊤, Bool, true, List, Option, Some, None, Result, Ok, Err, slice_get}
+use Rattle.std.specs.Prelude.{ℕ, ℤ, ◌≡◌, ◌||◌, ⊤, Bool, true, List, Option, Some, None, Result, Ok, Err, slice_get}
 use Rattle.pta_base.specs.declared.kind.Kind.TheVariants.{Operand, Constant, ConstantRange}
 use Rattle.pta_base.specs.declared.kind.Kind.TheVariants.{DivideByZero as ZeroKind}
 use Rattle.pta_base.specs.declared.place.Place.{Place}
@@ -11,7 +11,7 @@ use Rattle.c_consts.specs.declared.fault.ConstFault.{ConstFault}
 use Rattle.c_consts.specs.declared.fault.ConstFault.TheVariants.{NotConstant, Range, DivideByZero}
 use Rattle.core_nodes.specs.passed.c_senses.Tree.{Source}
 use Rattle.core_nodes.specs.passed.c_senses.Constants.{leaf_of_place}
-use Rattle.core_nodes.specs.passed.c_senses.Conversions.{operand_of, is_fetched}
+use Rattle.core_nodes.specs.passed.c_senses.Conversions.{operand_of, is_fetched, is_list}
 use Rattle.core_nodes.specs.passed.c_senses.Given.{Given, Fits, Refuses}
 use Rattle.core_nodes.specs.passed.c_senses.World.{World}
 use Rattle.core_nodes.specs.passed.c_senses.Sense.{Sense, IsCore}
@@ -39,7 +39,7 @@ HasConstants u m = SenseHasRows (sense_made u m)
 -- a place of that type has a value
 abbrev pub has_value_by : World → Ctype → Option Ctype → Bool
 has_value_by w t (Some pointer) = true
-has_value_by w t None = is_fetched w (operand_of t)
+has_value_by w t None = is_fetched w (operand_of t) || is_list t
 
 abbrev pub has_value : World → Ctype → Bool
 has_value w t = has_value_by w t (decayed t)

@@ -17,7 +17,7 @@ use c_consts::{ConstFault, constant};
 use c_results::{Results, node_at};
 use core_nodes::CheckFault;
 use core_nodes::reads::{is_place, is_value, place_of_node, type_of_node};
-use core_nodes::sorts::{decayed, is_fetched, operand_of};
+use core_nodes::sorts::{decayed, is_fetched, is_list, operand_of};
 use core_tree::node::{Node, Unit};
 use pta_base::{Kind, Place};
 use tree_reads::Syntax;
@@ -89,7 +89,7 @@ fn has_value(unit: &Unit, node: u32) -> bool
     let ty = type_of_node(unit, node);
     match decayed(&unit.types, ty) {
         Some(_) => true,
-        None => is_fetched(unit, operand_of(&unit.types, ty)),
+        None => is_fetched(unit, operand_of(&unit.types, ty)) || is_list(&unit.types, ty),
     }
 }
 

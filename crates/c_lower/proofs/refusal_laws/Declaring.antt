@@ -1,7 +1,7 @@
 -- Rows of declarations.
 use Rattle.std.proofs.Common.{◌==◌, ℕ, Bool, true, false, ◌&&◌, ◌||◌, not, pos, negsuc, List, [], ◌∷◌, Option, Some, None}
 use Rattle.std.specs.Prelude.{ℤ, ◌+ℤ◌, nat_lt, is_some, option_and_then, if◌then◌else◌}
-use Rattle.pta_base.specs.declared.kind.Kind.TheVariants.{Operand, Vla, InlineDefinition, VariadicDefinition}
+use Rattle.pta_base.specs.declared.kind.Kind.TheVariants.{Operand, Vla, InlineDefinition}
 use Rattle.c_types.specs.Trees.{Ctype}
 use Rattle.core_tree.specs.Rows.{int}
 use Rattle.c_grammar.specs.Productions.{p_specs, p_members, p_field, p_declarator, p_abstract, p_either, p_parameter, p_assignment, p_conditional}
@@ -19,7 +19,7 @@ use Rattle.c_senses.specs.Limits.{is_small, ends_flexible}
 use Rattle.c_senses.specs.Specifiers.{align_operand, align_specifier, words_fit, storage_words, function_words, is_word_kind, named_type, type_leaf, type_row, specs_row}
 use Rattle.c_senses.specs.Declarators.{derived, adjusted, specified_at, sense_of_child, is_parameter_array, positive, length_found, length_of, array_length, array_suffix, suffix_row, parameter_fits, parameter_of, parameter_row, type_name_of, type_name_row, derivations, derives_well, plain_declarator_row, is_outermost, base_type}
 use Rattle.c_senses.specs.Tags.{tag_fits, named_tag, is_union, aggregate_type, laid, members_in_sense, struct_type, struct_row, enum_row, members_among, is_in_union, untagged_in, type_in_sense, unnamed_member, member_specs, member_declaration, may_be_member, width_fits, bits_in, bit_field, field_name, is_new_name, named_field, field_typed, field_of, field_row, is_int, value_before, before_enumerator, enumerator_of, enumerator_named, enumerator_row}
-use Rattle.c_senses.specs.Entities.{is_defined, is_void_type, result_of, is_variadic, has_function_word, has_storage, initialiser_of, words_go, is_same_again, has_one_linkage, internal_fits, is_name_complete, definition_row, named_row, defined_parameter, is_parameter_complete, parameter_named, by_place}
+use Rattle.c_senses.specs.Entities.{is_defined, is_void_type, result_of, has_function_word, has_storage, initialiser_of, words_go, is_same_again, has_one_linkage, internal_fits, is_name_complete, definition_row, named_row, defined_parameter, is_parameter_complete, parameter_named, by_place}
 use Rattle.c_senses.specs.Rows.{at_its_name, declarator_row}
 use Rattle.c_lower.specs.refusal_laws.Refusals.{IsOther, IsBuilt}
 use Rattle.c_lower.proofs.refusal_laws.Steps.{then_built, if_built, some_built, either_built}
@@ -142,8 +142,7 @@ module _ (w : World) (s : Source) (sense : ℕ → Sense) where
   definition_built t leaf g h =
       either_built {A = Sense} (is_defined s sense leaf) _ g
       (if_built {A = Sense} (is_void_type w s sense (result_of w s sense t) || has_size w (result_of w s sense t)) Operand leaf _ tt
-      (if_built {A = Sense} (not (has_function_word s sense word_inline leaf && not (has_storage s sense word_static leaf))) InlineDefinition leaf _ tt
-      (if_built {A = Sense} (not (is_variadic w s sense t)) VariadicDefinition leaf g tt h)))
+      (if_built {A = Sense} (not (has_function_word s sense word_inline leaf && not (has_storage s sense word_static leaf))) InlineDefinition leaf g tt h))
       h
 
   named_row_built : (at leaf : ℕ) (t : Ctype) (g : Given Sense) → IsBuilt g → IsBuilt (named_row w s sense at leaf t g)

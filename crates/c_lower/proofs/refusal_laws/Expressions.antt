@@ -1,6 +1,7 @@
 -- Rows of expressions.
+use Rattle.std.specs.Str.{bytes_eq}
 use Rattle.std.proofs.Common.{◌==◌, ℕ, Bool, true, false, not, List, [], ◌∷◌, Option, Some, None}
-use Rattle.std.specs.Prelude.{if◌then◌else◌}
+use Rattle.std.specs.Prelude.{if◌then◌else◌, codes}
 use Rattle.pta_base.specs.declared.kind.Kind.TheVariants.{Operand}
 use Rattle.pta_base.specs.declared.place.Place.{Place}
 use Rattle.core_tree.specs.declared.node.Op.TheVariants.{Plus, Minus, Complement}
@@ -15,11 +16,11 @@ use Rattle.c_senses.specs.World.{World}
 use Rattle.c_senses.specs.Sense.{Sense, core_of, value_in, type_of_sense, fits}
 use Rattle.c_senses.specs.Conversions.{operand_of, value_of}
 use Rattle.c_senses.specs.Operators.{operator, between, choice_row, number_core}
-use Rattle.c_senses.specs.Objects.{name_row, member_row, arrow_row, call_row, update_row, cast_row, size_row, align_row, sized_expression, assign_row, assigned_op}
-use Rattle.c_senses.specs.Expressions.{as_sense, indexed_core, is_operator, value_core, operator_core, passed, step, chained, is_single, named_of, binary_row, primary_of, primary_row, indexed, dotted, pointed, all_cores, called, counted_after, post_of, post_signed, post_row, prefixed_core, prefixed, sized, aligned, worded, unary_of, unary_row, cast_last, cast_of, cast_row_of, conditional_row, assigned, assigned_by, assignment_row, is_binary, expression_row}
+use Rattle.c_senses.specs.Objects.{name_row, member_row, arrow_row, call_row, update_row, cast_row, size_row, align_row, sized_expression, assign_row, assigned_op, start_row, copy_row, next_row, end_row}
+use Rattle.c_senses.specs.Expressions.{as_sense, indexed_core, is_operator, value_core, operator_core, passed, step, chained, is_single, named_of, binary_row, primary_of, primary_row, indexed, dotted, pointed, all_cores, called, counted_after, post_of, post_signed, post_row, prefixed_core, prefixed, sized, aligned, worded, unary_of, unary_row, cast_last, cast_of, cast_row_of, conditional_row, assigned, assigned_by, assignment_row, is_binary, expression_row, two_lists, list_core}
 use Rattle.c_lower.specs.refusal_laws.Refusals.{IsBuilt}
 use Rattle.c_lower.proofs.refusal_laws.Steps.{then_built, some_built, either_built}
-use Rattle.c_lower.proofs.refusal_laws.Values.{value_built, core_built, value_in_built, type_built, between_built, promoted_built, not_built, choice_built, name_built, address_built, indirection_built, index_built, member_built, arrow_built, assign_built, update_built, call_built, cast_built, size_built, align_built, sized_built}
+use Rattle.c_lower.proofs.refusal_laws.Values.{value_built, core_built, value_in_built, type_built, between_built, promoted_built, not_built, choice_built, name_built, address_built, indirection_built, index_built, member_built, arrow_built, assign_built, update_built, call_built, cast_built, size_built, align_built, sized_built, start_built, copy_built, next_built, end_built}
 
 pub sense_built : (g : Given Core) → IsBuilt g → IsBuilt (as_sense g)
 sense_built g h = then_built {B = Sense} g fits h (λ c. tt)
@@ -57,8 +58,35 @@ module _ (w : World) (s : Source) (sense : ℕ → Sense) where
   passed_built at [] = tt
   passed_built at (c ∷ rest) = tt
 
+  two_lists_built : (at : ℕ) (place : Place) (name : List ℕ) (a b : Core) → IsBuilt (two_lists w s sense at place name a b)
+  two_lists_built at place name a b = by (bytes_eq name (codes "__builtin_va_copy"))
+    where
+      by : (t : Bool) → IsBuilt (if t then copy_row w place at a b else start_row w place at a b)
+      by true = copy_built w place at a b
+      by false = start_built w place at a b
+
+  pair_built : (at : ℕ) (place : Place) (name : List ℕ) (a b : ℕ) → IsBuilt (list_core w s sense at place name (a ∷ b ∷ []))
+  pair_built at place name a b = by (is_a s p_type_name b)
+    where
+      by : (t : Bool) → IsBuilt (if t then (core_of at (sense a) >>= (λ x. type_of_sense at (sense b) >>= next_row place at x)) else (core_of at (sense a) >>= (λ x. core_of at (sense b) >>= two_lists w s sense at place name x)))
+      by true =
+          then_built {B = Core} (core_of at (sense a)) (λ x. type_of_sense at (sense b) >>= next_row place at x) (core_at at a)
+          (λ x. then_built {B = Core} (type_of_sense at (sense b)) (next_row place at x) (type_built at (sense b)) (λ t. next_built place at x t))
+      by false =
+          then_built {B = Core} (core_of at (sense a)) (λ x. core_of at (sense b) >>= two_lists w s sense at place name x) (core_at at a)
+          (λ x. then_built {B = Core} (core_of at (sense b)) (two_lists w s sense at place name x) (core_at at b) (λ y. two_lists_built at place name x y))
+
+  list_core_built : (at : ℕ) (place : Place) (name : List ℕ) (parts : List ℕ) → IsBuilt (list_core w s sense at place name parts)
+  list_core_built at place name [] = tt
+  list_core_built at place name (a ∷ []) = then_built {B = Core} (core_of at (sense a)) (end_row w place at) (core_at at a) (λ x. end_built w place at x)
+  list_core_built at place name (a ∷ b ∷ []) = pair_built at place name a b
+  list_core_built at place name (a ∷ b ∷ c ∷ rest) = tt
+
   primary_by : (at first : ℕ) (rest : List ℕ) (kind : TokenKind) → IsBuilt (primary_of w s sense at first rest kind)
-  primary_by at first rest Identifier = sense_built (name_row w (place_at s first) at (w.meaning first)) (name_built w (place_at s first) at (w.meaning first))
+  primary_by at first [] Identifier = sense_built (name_row w (place_at s first) at (w.meaning first)) (name_built w (place_at s first) at (w.meaning first))
+  primary_by at first (c ∷ rest) Identifier =
+      sense_built (list_core w s sense at (place_at s first) (spelling_at s first) (all_where (λ i. not (is_leaf s i)) (c ∷ rest)))
+      (list_core_built at (place_at s first) (spelling_at s first) (all_where (λ i. not (is_leaf s i)) (c ∷ rest)))
   primary_by at first rest Integer = tt
   primary_by at first rest Character = tt
   primary_by at first rest Text = tt

@@ -1,23 +1,16 @@
 -- No unit is refused as what isn't built.
 use Rattle.std.proofs.Common.{ℕ, List, Result, Ok, Err, MatchResult, IfErr}
-use Rattle.pta_base.specs.declared.kind.Kind.{Kind}
-use Rattle.pta_base.specs.declared.kind.Kind.TheVariants.{NotBuilt}
 use Rattle.core_tree.specs.declared.node.Unit.{Unit}
 use Rattle.core_nodes.specs.declared.fault.CheckFault.{CheckFault}
 use Rattle.core_nodes.specs.declared.fault.CheckFault.TheVariants.{BadOperand, Unsupported, OutOfMemory}
 use Rattle.c_senses.specs.Tree.{Source}
-use Rattle.c_senses.specs.Rows.{RefusedAt}
 use Rattle.c_lower.specs.unit_lowering.PassedOn.{RefusedIn}
 use Rattle.c_lower.specs.unit_lowering.Lowered.{IsLowered}
-use Rattle.c_lower.specs.refusal_laws.Refusals.{IsOther, IsOtherFault}
+use Rattle.c_lower.specs.refusal_laws.Refusals.{IsOtherFault}
 use Rattle.c_lower.proofs.refusal_laws.Rows.{rows_built}
 
-other_kind : (s : Source) (named : ℕ) (kind : Kind) → RefusedAt s kind named → IsOther kind
-other_kind s named NotBuilt h = rows_built.never s named h
-other_kind s named kind h = tt
-
 other_fault : (s : Source) (fault : CheckFault) → RefusedIn s fault → IsOtherFault fault
-other_fault s (Unsupported kind node) h = other_kind _ node kind h.2
+other_fault s (Unsupported kind node) h = rows_built.never _ kind node h.2
 other_fault s (BadOperand node) h = tt
 other_fault s OutOfMemory h = tt
 

@@ -1,14 +1,14 @@
 -- Each row is built.
 use Rattle.std.proofs.Common.{◌==◌, ℕ, ◌&&◌, ◌||◌, List, length, subst}
 use Rattle.std.specs.Prelude.{nat_le}
-use Rattle.pta_base.specs.declared.kind.Kind.TheVariants.{NotBuilt}
+use Rattle.pta_base.specs.declared.kind.Kind.{Kind}
 use Rattle.c_grammar.specs.Productions.{p_rest, p_declaration, p_assert, p_specs, p_align, p_type, p_struct, p_members, p_member, p_field, p_enum, p_enumerator, p_declarator, p_abstract, p_either, p_suffix, p_parameter, p_type_name, p_init, p_items, p_designator, p_block, p_statement, p_expression, p_primary}
 use Rattle.c_senses.specs.Tree.{Source}
 use Rattle.c_senses.specs.Given.{Fits}
 use Rattle.c_senses.specs.World.{World}
 use Rattle.c_senses.specs.Sense.{Sense, Nothing, sense_in}
 use Rattle.c_senses.specs.Rows.{world_at, row_of, declaring_row, RefusedAt}
-use Rattle.c_lower.specs.refusal_laws.Refusals.{IsBuilt, RowsAreBuilt}
+use Rattle.c_lower.specs.refusal_laws.Refusals.{IsOther, IsBuilt, RowsAreBuilt}
 use Rattle.c_lower.proofs.refusal_laws.Steps.{either_built}
 use Rattle.c_lower.proofs.refusal_laws.Expressions.{expressions_built}
 use Rattle.c_lower.proofs.refusal_laws.Declaring.{align_specified, types_built, specs_built, suffix_built, parameter_built, type_name_built, declarator_built, structs_built, enums_built, members_built, fields_built, enumerators_built}
@@ -43,8 +43,8 @@ module _ (w : World) (s : Source) (sense : ℕ → Sense) where
   row_built production at xs =
       either_built {A = Sense} (nat_le p_expression production && nat_le production p_primary) _ _ (expressions_built w s sense production at xs) (declaring_built production at xs)
 
-never_unbuilt : (s : Source) (named : ℕ) → RefusedAt s NotBuilt named → ⊥
-never_unbuilt s named h =
+never_unbuilt : (s : Source) (kind : Kind) (named : ℕ) → RefusedAt s kind named → IsOther kind
+never_unbuilt s kind named h =
     subst IsBuilt h.refuses (row_built (world_at s h.senses (length h.senses)) s (sense_in h.senses) h.node.production (length h.senses) h.node.children.items)
 
 pub rows_built : RowsAreBuilt

@@ -1,5 +1,5 @@
 -- Conversions, operators and places.
-use Rattle.std.proofs.Common.{◌==◌, ℕ, Bool, true, false, ◌&&◌, not, List, [], ◌∷◌, Option, Some, None, length}
+use Rattle.std.proofs.Common.{◌==◌, ℕ, Bool, true, false, ◌&&◌, not, List, [], ◌∷◌, Option, Some, None, length, ◌||◌}
 use Rattle.std.specs.Prelude.{is_some, is_none, if◌then◌else◌}
 use Rattle.pta_base.specs.declared.kind.Kind.{Kind}
 use Rattle.pta_base.specs.declared.kind.Kind.TheVariants.{Operand, CharacterCast, IntegerSizeCast, StructureCast}
@@ -7,7 +7,7 @@ use Rattle.pta_base.specs.declared.place.Place.{Place}
 use Rattle.c_types.specs.declared.term.Form.{Form}
 use Rattle.c_types.specs.Trees.{Ctype, Ctypes, NoTypes, MoreTypes, VoidType, BoolType, IntegerType, FloatingType, VaListType, PointerTo, ArrayOf, FunctionFrom, StructureOf, UnionOf}
 use Rattle.core_tree.specs.declared.node.Op.{Op}
-use Rattle.core_tree.specs.declared.node.NodeKind.TheVariants.{Fetch, Deref}
+use Rattle.core_tree.specs.declared.node.NodeKind.TheVariants.{Fetch, Deref, NextArg}
 use Rattle.c_types.specs.Table.{size_below}
 use Rattle.core_tree.specs.Typed.{Sort, NoNode, PlaceNode, ValueNode, StatementNode, decayed}
 use Rattle.c_consts.specs.Core.{Core, Cores, core_sort, ctype_of, place_of, over}
@@ -16,9 +16,9 @@ use Rattle.c_senses.specs.Given.{Given, Fits, Refuses, ◌>>=◌}
 use Rattle.c_senses.specs.World.{World, extent, has_size, Meaning, Object, Function, TypeName, Tag, Value, same_type, members_of, way_to}
 use Rattle.c_senses.specs.Nulls.{is_null}
 use Rattle.c_senses.specs.Sense.{Sense, core_of, value_in, type_of_sense, IsCore, IsType}
-use Rattle.c_senses.specs.Conversions.{is_scalar, place_width, OperandSort, Whole, Address, Aggregate, Other, Target, ToVoid, ToFunction, ToWhole, ToPointer, ToStructure, ToUnion, ToOther, operand_of, is_fetched, is_character, character_kind, value_of, value_of_sort, fetched_or_decayed, upcast, upcast_or, from_structure, target_of, pointers, to_pointer, to_whole, to_other, conversion, typed}
+use Rattle.c_senses.specs.Conversions.{is_scalar, place_width, OperandSort, Whole, Address, Aggregate, Other, Target, ToVoid, ToFunction, ToWhole, ToPointer, ToStructure, ToUnion, ToOther, operand_of, is_fetched, is_character, character_kind, value_of, value_of_sort, fetched_or_decayed, upcast, upcast_or, from_structure, target_of, pointers, to_pointer, to_whole, to_other, conversion, typed, is_list}
 use Rattle.c_senses.specs.Operators.{compared, is_void, is_object, Between, Numeric, Shifting, Adding, Subtracting, Ordering, Equating, BothTrue, EitherTrue, Following, NoOperator, numeric_row, shift_row, moved, plus_row, minus_row, order_row, joined, pointers_joined, equality_row, Both, between, promoted_row, not_row, branches, choice_row}
-use Rattle.c_senses.specs.Objects.{lacks_length, is_array, is_place_sort, is_assigned, moves_pointer, takes_so_many, count_of, is_returned, named_width, text_core, name_row, address_row, target_row, indirection_row, element_row, index_row, member_step, part_at, along, member_row, arrow_row, assign_row, update_sorts, update_row, further, arguments, call_of, callee_row, call_row, cast_row, size_row, align_in, align_row, sized_expression}
+use Rattle.c_senses.specs.Objects.{lacks_length, is_array, is_place_sort, is_assigned, moves_pointer, takes_so_many, count_of, is_returned, named_width, text_core, name_row, address_row, target_row, indirection_row, element_row, index_row, member_step, part_at, along, member_row, arrow_row, assign_row, update_sorts, update_row, further, arguments, call_of, callee_row, call_row, cast_row, size_row, align_in, align_row, sized_expression, further_value, start_row, copy_row, next_row, end_row, start_named, started, copied, is_list_place, last_named, dropped}
 use Rattle.c_lower.specs.refusal_laws.Refusals.{IsOther, IsBuilt}
 use Rattle.c_lower.proofs.refusal_laws.Steps.{then_built, if_built, some_built, either_built}
 
@@ -26,7 +26,6 @@ use Rattle.c_lower.proofs.refusal_laws.Steps.{then_built, if_built, some_built, 
 
 pub typed_built : (at : ℕ) (t : Ctype) (g : Given Core) → IsBuilt g → IsBuilt (typed at t g)
 typed_built at FloatingType g h = tt
-typed_built at VaListType g h = tt
 typed_built at t g h = h
 
 value_by : (w : World) (at : ℕ) (c : Core) (sort : Sort) → IsBuilt (value_of_sort w at c sort)
@@ -35,7 +34,7 @@ value_by w at c PlaceNode = by (decayed (ctype_of c))
   where
     by : (o : Option Ctype) → IsBuilt (fetched_or_decayed w at c o)
     by (Some pointer) = tt
-    by None = if_built (is_fetched w (operand_of (ctype_of c))) Operand at (Fits (over Fetch (place_of c) (ctype_of c) c)) tt tt
+    by None = if_built (is_fetched w (operand_of (ctype_of c)) || is_list (ctype_of c)) Operand at (Fits (over Fetch (place_of c) (ctype_of c) c)) tt tt
 value_by w at c ValueNode = tt
 value_by w at c StatementNode = tt
 
@@ -280,7 +279,7 @@ arrow_built w place at name v (Address to) = if_built {A = Core} (is_some (membe
 arrow_built w place at name v x = tt
 
 pub assign_built : (w : World) (place : Place) (at : ℕ) (p v : Core) → IsBuilt (assign_row w place at p v)
-assign_built w place at p v = if_built {A = Core} (is_place_sort (core_sort p) && is_assigned w (operand_of (ctype_of p))) Operand at _ tt (then_built {B = Core} (conversion w false at v (ctype_of p)) _ (conversion_built w false at v (ctype_of p)) (λ x. tt))
+assign_built w place at p v = if_built {A = Core} (is_place_sort (core_sort p) && (is_assigned w (operand_of (ctype_of p)) || is_list (ctype_of p))) Operand at _ tt (then_built {B = Core} (conversion w false at v (ctype_of p)) _ (conversion_built w false at v (ctype_of p)) (λ x. tt))
 
 sorts_built : (w : World) (op : Op) (post : Bool) (place : Place) (at : ℕ) (p v : Core) (x y : OperandSort) → IsBuilt (update_sorts w op post place at p v x y)
 sorts_built w op post place at p v Whole Whole = tt
@@ -290,11 +289,40 @@ sorts_built w op post place at p v x y = tt
 pub update_built : (w : World) (op : Op) (post : Bool) (place : Place) (at : ℕ) (p v : Core) → IsBuilt (update_row w op post place at p v)
 update_built w op post place at p v = if_built {A = Core} (is_place_sort (core_sort p)) Operand at _ tt (sorts_built w op post place at p v (operand_of (ctype_of p)) (operand_of (ctype_of v)))
 
+-- ---- operations on variadic lists
+
+started_built : (place : Place) (at : ℕ) (a : Core) (o : Option ℕ) → IsBuilt (start_named place at a o)
+started_built place at a None = tt
+started_built place at a (Some function) = if_built {A = Core} (is_list_place a) Operand at (Fits (started place a function)) tt tt
+
+pub start_built : (w : World) (place : Place) (at : ℕ) (a n : Core) → IsBuilt (start_row w place at a n)
+start_built w place at a n = started_built place at a (last_named w n)
+
+pub copy_built : (w : World) (place : Place) (at : ℕ) (a b : Core) → IsBuilt (copy_row w place at a b)
+copy_built w place at a b =
+    if_built {A = Core} (is_list_place a) Operand at _ tt
+    (then_built {B = Core} (value_of w at b) (copied place at a) (value_built w at b)
+    (λ v. if_built {A = Core} (is_list (ctype_of v)) Operand at _ tt tt))
+
+pub next_built : (place : Place) (at : ℕ) (a : Core) (t : Ctype) → IsBuilt (next_row place at a t)
+next_built place at a t = typed_built at t _ (if_built {A = Core} (is_list_place a && is_scalar (operand_of t)) Operand at (Fits (over NextArg place t a)) tt tt)
+
+pub end_built : (w : World) (place : Place) (at : ℕ) (a : Core) → IsBuilt (end_row w place at a)
+end_built w place at a =
+    if_built {A = Core} (is_list_place a) Operand at _ tt (then_built {B = Core} (address_row w place at a (core_sort a)) (λ x. Fits (dropped place x)) (address_built w place at a (core_sort a)) (λ x. tt))
+
 further_built : (w : World) (at : ℕ) (v : Core) (x : OperandSort) → IsBuilt (further w at v x)
 further_built w at v Whole = tt
 further_built w at v (Address to) = tt
 further_built w at v (Aggregate tag) = tt
 further_built w at v Other = tt
+
+further_value_built : (w : World) (at : ℕ) (v : Core) → IsBuilt (further_value w at v)
+further_value_built w at v = by (is_list (ctype_of v))
+  where
+    by : (b : Bool) → IsBuilt (if b then Fits v else further w at v (operand_of (ctype_of v)))
+    by true = tt
+    by false = further_built w at v (operand_of (ctype_of v))
 
 arguments_built : (w : World) (at : ℕ) (ps : Ctypes) (args : List Core) → IsBuilt (arguments w at ps args)
 arguments_built w at NoTypes [] = tt
@@ -304,7 +332,7 @@ arguments_built w at NoTypes (a ∷ rest) = go (arguments_built w at NoTypes res
     go : IsBuilt (arguments w at NoTypes rest) → IsBuilt (arguments w at NoTypes (a ∷ rest))
     go h =
         then_built {B = Cores} (value_of w at a) _ (value_built w at a)
-        (λ v. then_built {B = Cores} (further w at v (operand_of (ctype_of v))) _ (further_built w at v (operand_of (ctype_of v))) (λ x. then_built {B = Cores} (arguments w at NoTypes rest) _ h (λ more. tt)))
+        (λ v. then_built {B = Cores} (further_value w at v) _ (further_value_built w at v) (λ x. then_built {B = Cores} (arguments w at NoTypes rest) _ h (λ more. tt)))
 arguments_built w at (MoreTypes t ps) (a ∷ rest) = go (arguments_built w at ps rest)
   where
     go : IsBuilt (arguments w at ps rest) → IsBuilt (arguments w at (MoreTypes t ps) (a ∷ rest))

@@ -1,7 +1,7 @@
 -- What refuses a member by its type alone (C11 6.5.2.3).
 use Rattle.std.specs.Prelude.{ℕ, Bool, ◌&&◌, not, Option, Some, None, if◌then◌else◌}
 use Rattle.pta_base.specs.declared.kind.Kind.{Kind}
-use Rattle.pta_base.specs.declared.kind.Kind.TheVariants.{ArrayOfValue, FlexibleMember, Floating, Builtin}
+use Rattle.pta_base.specs.declared.kind.Kind.TheVariants.{ArrayOfValue, FlexibleMember, Floating}
 use Rattle.c_types.specs.Trees.{Ctype, FloatingType, VaListType}
 use Rattle.c_senses.specs.Given.{Given, Fits, Refuses}
 use Rattle.c_senses.specs.Objects.{lacks_length, is_array}
@@ -9,7 +9,6 @@ use Rattle.c_senses.specs.Objects.{lacks_length, is_array}
 -- a type that no expression has
 abbrev pub type_refusal : Ctype → Option Kind
 type_refusal FloatingType = Some Floating
-type_refusal VaListType = Some Builtin
 type_refusal t = None
 
 -- why a member of that type isn't reached, in a place or in a value: a flexible array, an array of a value, a type

@@ -8,7 +8,7 @@ use c_types::term::{Term, TypeId};
 use pta_base::Kind;
 
 /// Why a member of a type isn't reached, in a place or in a value: `FlexibleMember` for an array without a length, `ArrayOfValue` for
-/// any other array of a value, `Floating` and `Builtin` for floating types and variadic lists; None for every other member.
+/// any other array of a value, `Floating` for floating types; None for every other member.
 pub fn member_refusal(types: &TypeTable, ty: TypeId, of_place: bool) -> Option<Kind>
     requires { ty.0 < length types.now.terms }
     ensures { result ≡ spec.member_refusal (type_of types.now ty.0) of_place }
@@ -17,7 +17,6 @@ pub fn member_refusal(types: &TypeTable, ty: TypeId, of_place: bool) -> Option<K
         Term::Array { length: None, .. } => Some(Kind::FlexibleMember),
         Term::Array { .. } if !of_place => Some(Kind::ArrayOfValue),
         Term::Floating => Some(Kind::Floating),
-        Term::VaList => Some(Kind::Builtin),
         _ => None,
     }
 }

@@ -1,5 +1,5 @@
 -- What is asked of a value where it is made holds at the end, since worlds grow.
-use Rattle.std.proofs.Common.{◌≡◌, ℕ, ◌≤◌, arith, true, false, List, take, length, Option, Some, None, refl, sym, ap, ◌∙◌}
+use Rattle.std.proofs.Common.{◌≡◌, ℕ, ◌≤◌, arith, Bool, ◌||◌, true, false, List, take, length, Option, Some, None, refl, sym, ap, ◌∙◌}
 use Rattle.std.specs.Prelude.{is_some}
 use Rattle.c_types.specs.Trees.{Ctype, VoidType, BoolType, IntegerType, FloatingType, VaListType, PointerTo, ArrayOf, FunctionFrom, StructureOf, UnionOf}
 use Rattle.c_types.specs.Layout.{Extent}
@@ -7,7 +7,7 @@ use Rattle.c_types.specs.Table.{size_below}
 use Rattle.c_inits.specs.Made.{Part}
 use Rattle.core_nodes.specs.passed.c_senses.Tree.{Source}
 use Rattle.core_nodes.specs.passed.c_senses.World.{World, Meaning, Object, Function, TypeName, Tag, Value, extent, has_size}
-use Rattle.core_nodes.specs.passed.c_senses.Conversions.{OperandSort, Whole, Address, Aggregate, Other, operand_of, is_fetched}
+use Rattle.core_nodes.specs.passed.c_senses.Conversions.{OperandSort, Whole, Address, Aggregate, Other, operand_of, is_fetched, is_list}
 use Rattle.core_nodes.specs.passed.c_senses.Objects.{is_returned}
 use Rattle.core_nodes.specs.passed.c_senses.Rows.{world_at}
 use Rattle.core_nodes.specs.passed.c_senses.Sense.{Sense, sense_in}
@@ -44,9 +44,21 @@ module _ (old new : World) (grows : Grows old new) where
   returned_stays (StructureOf tag) h = size_stays (StructureOf tag) (extent old (StructureOf tag)) refl h
   returned_stays (UnionOf tag) h = size_stays (UnionOf tag) (extent old (UnionOf tag)) refl h
 
+  list_or_fetched : (t : Ctype) (l : Bool) → is_fetched old (operand_of t) || l ≡ true → is_fetched new (operand_of t) || l ≡ true
+  list_or_fetched t true h = by (is_fetched new (operand_of t))
+    where
+      by : (b : Bool) → b || true ≡ true
+      by true = refl
+      by false = refl
+  list_or_fetched t false h = by (is_fetched old (operand_of t)) (is_fetched new (operand_of t)) (fetched_stays (operand_of t)) h
+    where
+      by : (a b : Bool) → (a ≡ true → b ≡ true) → a || false ≡ true → b || false ≡ true
+      by true b k e = ap (λ (x : Bool). x || false) (k refl)
+      by false b k e = cc
+
   tested : Tests (IsTested new) old
   tested = record {
-    fetched = λ place t under h. fetched_stays (operand_of t) h;
+    fetched = λ place t under h. list_or_fetched t (is_list t) h;
     returned = λ place t under h. returned_stays t h;
   }
 

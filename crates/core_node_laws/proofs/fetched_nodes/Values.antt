@@ -1,16 +1,16 @@
 -- The places of values of places, promotions and conversions.
-use Rattle.std.proofs.Common.{◌==◌, ℕ, zero, suc, Bool, true, false, Option, Some, None}
+use Rattle.std.proofs.Common.{◌==◌, ℕ, zero, suc, Bool, true, false, Option, Some, None, ◌||◌}
 use Rattle.std.specs.Prelude.{⊤}
 use Rattle.pta_base.specs.declared.kind.Kind.{Kind}
 use Rattle.pta_base.specs.declared.kind.Kind.TheVariants.{Operand, StructureCast, IntegerSizeCast}
-use Rattle.c_types.specs.Trees.{Ctype, VoidType, BoolType, IntegerType, FloatingType, VaListType, PointerTo}
+use Rattle.c_types.specs.Trees.{Ctype, VoidType, BoolType, IntegerType, FloatingType, PointerTo}
 use Rattle.core_tree.specs.declared.node.NodeKind.TheVariants.{Fetch, Upcast}
 use Rattle.core_tree.specs.Typed.{Sort, NoNode, PlaceNode, ValueNode, StatementNode, decayed}
 use Rattle.c_consts.specs.Core.{Core, MoreCores, NoCores, place_of, ctype_of, core_sort, over}
 use Rattle.core_nodes.specs.passed.c_senses.Given.{Given, Fits}
 use Rattle.core_nodes.specs.passed.c_senses.World.{World, same_type}
 use Rattle.core_nodes.specs.passed.c_senses.Nulls.{is_null}
-use Rattle.core_nodes.specs.passed.c_senses.Conversions.{OperandSort, Whole, Address, Aggregate, Other, operand_of, is_fetched, fetched_or_decayed, value_of_sort, value_of, converted, made, promotion, promoted, is_narrow, read_width, Target, ToVoid, ToFunction, ToWhole, ToPointer, ToStructure, ToUnion, ToOther, target_of, null_value, first_member_type, upcast_within, upcast, upcast_or, from_structure, character_kind, pointers, to_pointer, to_whole, to_other, conversion, typed}
+use Rattle.core_nodes.specs.passed.c_senses.Conversions.{OperandSort, Whole, Address, Aggregate, Other, operand_of, is_fetched, fetched_or_decayed, value_of_sort, value_of, converted, made, promotion, promoted, is_narrow, read_width, Target, ToVoid, ToFunction, ToWhole, ToPointer, ToStructure, ToUnion, ToOther, target_of, null_value, first_member_type, upcast_within, upcast, upcast_or, from_structure, character_kind, pointers, to_pointer, to_whole, to_other, conversion, typed, is_list}
 use Rattle.core_node_laws.specs.fetched_nodes.Holding.{Holds, Tests}
 use Rattle.core_node_laws.proofs.fetched_nodes.Giving.{Gives, if_given, if_told, if_holds}
 
@@ -24,7 +24,7 @@ module _ (asks : Core → Type 0) where
 
   fetched_kept : (w : World) → Tests asks w → (at : ℕ) (c : Core) → Holds asks c → (o : Option Ctype) → Gives (Holds asks) (fetched_or_decayed w at c o)
   fetched_kept w g at c h (Some pointer) = (place_kept c h, (h, tt))
-  fetched_kept w g at c h None = if_told (Holds asks) (is_fetched w (operand_of (ctype_of c))) Operand at (Fits (over Fetch (place_of c) (ctype_of c) c)) (λ told. (g.fetched (place_of c) (ctype_of c) (MoreCores c NoCores) told, (h, tt)))
+  fetched_kept w g at c h None = if_told (Holds asks) (is_fetched w (operand_of (ctype_of c)) || is_list (ctype_of c)) Operand at (Fits (over Fetch (place_of c) (ctype_of c) c)) (λ told. (g.fetched (place_of c) (ctype_of c) (MoreCores c NoCores) told, (h, tt)))
 
   sort_kept : (w : World) → Tests asks w → (at : ℕ) (c : Core) → Holds asks c → (sort : Sort) → Gives (Holds asks) (value_of_sort w at c sort)
   sort_kept w g at c h NoNode = tt
@@ -105,5 +105,4 @@ module _ (asks : Core → Type 0) where
 
   pub typed_kept : (at : ℕ) (t : Ctype) (g : Given Core) → Gives (Holds asks) g → Gives (Holds asks) (typed at t g)
   typed_kept at FloatingType g h = tt
-  typed_kept at VaListType g h = tt
   typed_kept at t g h = h

@@ -1,7 +1,7 @@
 -- The places of the row of every production.
 use Rattle.std.proofs.Common.{◌==◌, ◌≡◌, ℕ, Bool, true, refl, ◌&&◌, ◌||◌, not, List, [], ◌∷◌, Option, Some, None}
 use Rattle.std.specs.Prelude.{nat_le, is_some, if◌then◌else◌}
-use Rattle.pta_base.specs.declared.kind.Kind.TheVariants.{Operand, InlineDefinition, VariadicDefinition}
+use Rattle.pta_base.specs.declared.kind.Kind.TheVariants.{Operand, InlineDefinition}
 use Rattle.c_types.specs.Trees.{Ctype}
 use Rattle.c_grammar.specs.Productions.{p_rest, p_declaration, p_assert, p_specs, p_align, p_type, p_struct, p_members, p_member, p_field, p_enum, p_enumerator, p_declarator, p_abstract, p_either, p_suffix, p_parameter, p_type_name, p_init, p_items, p_designator, p_block, p_statement, p_expression, p_primary, p_conditional}
 use Rattle.c_grammar.specs.Words.{word_inline, word_static}
@@ -12,7 +12,7 @@ use Rattle.core_nodes.specs.passed.c_senses.World.{World, has_size}
 use Rattle.core_nodes.specs.passed.c_senses.Constants.{constant_in}
 use Rattle.core_nodes.specs.passed.c_senses.Sense.{Sense, Nothing, IsDeclarator, IsRun, IsInitial}
 use Rattle.core_nodes.specs.passed.c_senses.Declarators.{is_outermost, base_type, derived, adjusted, plain_declarator_row}
-use Rattle.core_nodes.specs.passed.c_senses.Entities.{named_row, parameter_named, initialiser_of, words_go, is_same_again, has_one_linkage, internal_fits, is_name_complete, definition_row, is_void_type, is_variadic, result_of, has_function_word, has_storage, is_defined}
+use Rattle.core_nodes.specs.passed.c_senses.Entities.{named_row, parameter_named, initialiser_of, words_go, is_same_again, has_one_linkage, internal_fits, is_name_complete, definition_row, is_void_type, result_of, has_function_word, has_storage, is_defined}
 use Rattle.core_nodes.specs.passed.c_senses.Statements.{runs_initialiser, initials_among, run_in, assert_row}
 use Rattle.core_nodes.specs.passed.c_senses.Rows.{at_its_name, declarator_row, declaring_row, row_of}
 use Rattle.core_node_laws.specs.literal_initials.Holding.{AreOf, OfSense, ObjectsGive}
@@ -38,13 +38,11 @@ module _ (asks : ℕ → Type 0) (w : World) (s : Source) (sense : ℕ → Sense
   defined_gives : (t : Ctype) (leaf : ℕ) (g : Given Sense) → G g → G (definition_row w s sense t leaf g)
   unfolding G
   defined_gives t leaf g h =
-      let third : Given Sense = given_if (not (is_variadic w s sense t)) VariadicDefinition leaf g in
-      let second : Given Sense = given_if (not (has_function_word s sense word_inline leaf && not (has_storage s sense word_static leaf))) InlineDefinition leaf third in
+      let second : Given Sense = given_if (not (has_function_word s sense word_inline leaf && not (has_storage s sense word_static leaf))) InlineDefinition leaf g in
       let complete : Bool = is_void_type w s sense (result_of w s sense t) || has_size w (result_of w s sense t) in
       if_holds (Gives (OfSense asks)) (is_defined s sense leaf) (given_if complete Operand leaf second) g
       (if_given (OfSense asks) complete Operand leaf second
-      (if_given (OfSense asks) (not (has_function_word s sense word_inline leaf && not (has_storage s sense word_static leaf))) InlineDefinition leaf third
-      (if_given (OfSense asks) (not (is_variadic w s sense t)) VariadicDefinition leaf g h))) h
+      (if_given (OfSense asks) (not (has_function_word s sense word_inline leaf && not (has_storage s sense word_static leaf))) InlineDefinition leaf g h)) h
 
   named_gives : (at leaf : ℕ) (t : Ctype) (g : Given Sense) → G g → G (named_row w s sense at leaf t g)
   unfolding G

@@ -1,4 +1,6 @@
 -- The places of expressions.
+use Rattle.std.specs.Prelude.{codes}
+use Rattle.std.specs.Str.{bytes_eq}
 use Rattle.std.proofs.Common.{◌==◌, ℕ, Bool, true, false, not, List, [], ◌∷◌, Option, Some, None}
 use Rattle.std.specs.Prelude.{⊤, is_none, if◌then◌else◌}
 use Rattle.pta_base.specs.declared.kind.Kind.TheVariants.{Operand}
@@ -14,13 +16,13 @@ use Rattle.core_nodes.specs.passed.c_senses.Given.{Given, Fits, Refuses, ◌>>=�
 use Rattle.core_nodes.specs.passed.c_senses.World.{World}
 use Rattle.core_nodes.specs.passed.c_senses.Conversions.{operand_of, value_of}
 use Rattle.core_nodes.specs.passed.c_senses.Operators.{between, operator, number_core, choice_row}
-use Rattle.core_nodes.specs.passed.c_senses.Objects.{name_row, index_row, member_row, arrow_row, assign_row, assigned_op, update_row, call_row, cast_row, size_row, align_row, named_width, sized_expression}
+use Rattle.core_nodes.specs.passed.c_senses.Objects.{name_row, index_row, member_row, arrow_row, assign_row, assigned_op, update_row, call_row, cast_row, size_row, align_row, named_width, sized_expression, next_row, end_row}
 use Rattle.core_nodes.specs.passed.c_senses.Sense.{Sense, IsCore, core_of, value_in, type_of_sense, last_of}
-use Rattle.core_nodes.specs.passed.c_senses.Expressions.{as_sense, indexed_core, is_operator, value_core, operator_core, passed, named_of, step, chained, is_single, binary_row, primary_of, primary_row, indexed, dotted, pointed, all_cores, called, counted_after, post_of, post_signed, post_row, prefixed_core, prefixed, sized, aligned, worded, unary_of, unary_row, cast_over, cast_last, cast_of, cast_row_of, conditional_row, assigned, assigned_by, assignment_row, is_binary, expression_row}
+use Rattle.core_nodes.specs.passed.c_senses.Expressions.{as_sense, indexed_core, is_operator, value_core, operator_core, passed, named_of, step, chained, is_single, binary_row, primary_of, primary_row, indexed, dotted, pointed, all_cores, called, counted_after, post_of, post_signed, post_row, prefixed_core, prefixed, sized, aligned, worded, unary_of, unary_row, cast_over, cast_last, cast_of, cast_row_of, conditional_row, assigned, assigned_by, assignment_row, is_binary, expression_row, two_lists, list_core, list_row}
 use Rattle.core_node_laws.specs.literal_nodes.Holding.{Holds, AreOf, OfSense, RowGives}
 use Rattle.core_node_laws.proofs.literal_nodes.Giving.{Gives, then_gives, after, if_given, some_given, if_holds}
 use Rattle.core_node_laws.proofs.literal_nodes.Values.{value_kept}
-use Rattle.core_node_laws.proofs.literal_nodes.Operators.{between_kept, promoted_kept, not_kept, choice_kept, name_kept, address_kept, indirection_kept, index_kept, member_kept, arrow_kept, assign_kept, update_kept, call_kept, cast_kept, size_kept, align_kept}
+use Rattle.core_node_laws.proofs.literal_nodes.Operators.{between_kept, promoted_kept, not_kept, choice_kept, name_kept, address_kept, indirection_kept, index_kept, member_kept, arrow_kept, assign_kept, update_kept, call_kept, cast_kept, size_kept, align_kept, start_kept, copy_kept, next_kept, end_kept}
 
 pub at_unit : (s : Source) (i : ℕ) → ⊤
 at_unit s i = tt
@@ -88,8 +90,31 @@ module _ (asks : Core → Type 0) (w : World) (s : Source) (sense : ℕ → Sens
   passed_kept at [] = tt
   passed_kept at (c ∷ rest) = each c
 
+  -- operations on variadic lists
+  two_lists_kept : (at first : ℕ) (name : List ℕ) (a b : Core) → Holds asks a → Holds asks b → Gives (Holds asks) (two_lists w s sense at (place_at s first) name a b)
+  two_lists_kept at first name a b h k =
+      if_holds (Gives (Holds asks)) (bytes_eq name (codes "__builtin_va_copy")) _ _ (copy_kept asks w (place_at s first) at a b (at_unit s first) h k) (start_kept asks w (place_at s first) at a b (at_unit s first) h)
+
+  list_core_kept : (at first : ℕ) (name : List ℕ) (parts : List ℕ) → Gives (Holds asks) (list_core w s sense at (place_at s first) name parts)
+  list_core_kept at first name [] = tt
+  list_core_kept at first name (a ∷ []) =
+      then_gives (Holds asks) (Holds asks) (core_of at (sense a)) (end_row w (place_at s first) at) (core_kept asks w at (sense a) (each a)) (λ x h. end_kept asks w (place_at s first) at x (at_unit s first) h)
+  list_core_kept at first name (a ∷ b ∷ []) =
+      if_holds (Gives (Holds asks)) (is_a s p_type_name b) _ _
+      (then_gives (Holds asks) (Holds asks) (core_of at (sense a)) _ (core_kept asks w at (sense a) (each a))
+      (λ x h. after (Holds asks) (type_of_sense at (sense b)) (next_row (place_at s first) at x) (λ t. next_kept asks (place_at s first) at x t (at_unit s first) h)))
+      (then_gives (Holds asks) (Holds asks) (core_of at (sense a)) _ (core_kept asks w at (sense a) (each a))
+      (λ x h. then_gives (Holds asks) (Holds asks) (core_of at (sense b)) (two_lists w s sense at (place_at s first) name x) (core_kept asks w at (sense b) (each b)) (λ y k. two_lists_kept at first name x y h k)))
+  list_core_kept at first name (a ∷ b ∷ c ∷ rest) = tt
+
+  list_row_kept : (at first : ℕ) (rest : List ℕ) → Gives (OfSense asks) (list_row w s sense at first rest)
+  list_row_kept at first rest =
+      as_sense_kept asks w (list_core w s sense at (place_at s first) (spelling_at s first) (all_where (λ c. not (is_leaf s c)) rest))
+      (list_core_kept at first (spelling_at s first) (all_where (λ c. not (is_leaf s c)) rest))
+
   primary_of_kept : (at first : ℕ) (rest : List ℕ) (kind : TokenKind) → Gives (OfSense asks) (primary_of w s sense at first rest kind)
-  primary_of_kept at first rest Identifier = as_sense_kept asks w (name_row w (place_at s first) at (w.meaning first)) (name_kept asks w (place_at s first) at (w.meaning first) (at_unit s first) (gives.names first))
+  primary_of_kept at first [] Identifier = as_sense_kept asks w (name_row w (place_at s first) at (w.meaning first)) (name_kept asks w (place_at s first) at (w.meaning first) (at_unit s first) (gives.names first))
+  primary_of_kept at first (c ∷ rest) Identifier = list_row_kept at first (c ∷ rest)
   primary_of_kept at first rest Integer = (at_unit s first, tt)
   primary_of_kept at first rest Character = (at_unit s first, tt)
   primary_of_kept at first rest Text = (at_unit s first, tt)

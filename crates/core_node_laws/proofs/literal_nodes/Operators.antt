@@ -1,14 +1,14 @@
 -- The places of operators on values, of names, members, assignments and calls.
-use Rattle.std.proofs.Common.{ℕ, Bool, true, false, ◌&&◌, not, List, [], ◌∷◌, length, Option, Some, None}
-use Rattle.std.specs.Prelude.{⊤, is_some, is_none}
+use Rattle.std.proofs.Common.{ℕ, Bool, true, false, ◌&&◌, not, List, [], ◌∷◌, length, Option, Some, None, ◌||◌}
+use Rattle.std.specs.Prelude.{⊤, is_some, is_none, if◌then◌else◌}
 use Rattle.pta_base.specs.declared.kind.Kind.TheVariants.{Operand, ArrayOfValue, FlexibleMember}
 use Rattle.pta_base.specs.declared.place.Place.{Place}
 use Rattle.c_types.specs.declared.term.Form.{Form}
-use Rattle.c_types.specs.Trees.{Ctype, Ctypes, NoTypes, MoreTypes, VoidType, PointerTo, FunctionFrom}
+use Rattle.c_types.specs.Trees.{Ctype, Ctypes, NoTypes, MoreTypes, VoidType, PointerTo, FunctionFrom, VaListType}
 use Rattle.c_types.specs.Table.{size_below}
 use Rattle.core_tree.specs.declared.node.Op.{Op}
 use Rattle.core_tree.specs.declared.node.Op.TheVariants.{Not}
-use Rattle.core_tree.specs.declared.node.NodeKind.TheVariants.{Named, PointerAdd, Arith, Deref, AddressOf, CallNode}
+use Rattle.core_tree.specs.declared.node.NodeKind.TheVariants.{Named, PointerAdd, Arith, Deref, AddressOf, CallNode, NextArg, Assign}
 use Rattle.core_tree.specs.Typed.{Sort, PlaceNode}
 use Rattle.core_tree.specs.Rows.{int}
 use Rattle.c_consts.specs.Core.{Core, Of, NoCores, MoreCores, ctype_of, core_sort, leaf, over, over_two}
@@ -16,9 +16,9 @@ use Rattle.c_inits.specs.Made.{Part}
 use Rattle.core_nodes.specs.passed.c_senses.Given.{Given, Fits, Refuses, ◌>>=◌}
 use Rattle.core_nodes.specs.passed.c_senses.World.{World, Meaning, Object, Function, TypeName, Tag, Value, extent, has_size, same_type, members_of, way_to}
 use Rattle.core_nodes.specs.passed.c_senses.Nulls.{is_null}
-use Rattle.core_nodes.specs.passed.c_senses.Conversions.{OperandSort, Whole, Address, Aggregate, Other, operand_of, is_scalar, value_of, promotion, conversion, null_value, place_width}
+use Rattle.core_nodes.specs.passed.c_senses.Conversions.{OperandSort, Whole, Address, Aggregate, Other, operand_of, is_scalar, value_of, promotion, conversion, null_value, place_width, is_list}
 use Rattle.core_nodes.specs.passed.c_senses.Operators.{in_common, common_of, numeric_row, shift_row, moved, plus_row, difference, minus_row, compared, order_row, is_void, is_object, Both, joined, pointers_joined, equality_row, both_core, both_row, either_core, either_row, truth, Between, Numeric, Shifting, Adding, Subtracting, Ordering, Equating, BothTrue, EitherTrue, Following, NoOperator, between, promoted_row, not_row, chosen, branches, choice_row}
-use Rattle.core_nodes.specs.passed.c_senses.Objects.{text_core, object_name, name_row, address_row, target_row, indirection_row, element_row, index_row, lacks_length, is_array, is_place_sort, member_node, member_step, part_at, along, member_row, arrow_row, is_assigned, assign_row, moves_pointer, updated, update_sorts, update_row, count_of, takes_so_many, further, one_more, arguments, is_returned, call_of, callee_row, call_row, cast_row, size_number, size_row, align_in, align_row}
+use Rattle.core_nodes.specs.passed.c_senses.Objects.{text_core, object_name, name_row, address_row, target_row, indirection_row, element_row, index_row, lacks_length, is_array, is_place_sort, member_node, member_step, part_at, along, member_row, arrow_row, is_assigned, assign_row, moves_pointer, updated, update_sorts, update_row, count_of, takes_so_many, further, one_more, arguments, is_returned, call_of, callee_row, call_row, cast_row, size_number, size_row, align_in, align_row, further_value, start_row, copy_row, next_row, end_row, start_named, started, dropped, copied, is_list_place, last_named}
 use Rattle.core_node_laws.specs.literal_nodes.Holding.{Holds, AllHold, AreOf, MeaningGives}
 use Rattle.core_node_laws.proofs.literal_nodes.Giving.{Gives, then_gives, if_given, some_given, if_holds}
 use Rattle.core_node_laws.proofs.literal_nodes.Values.{value_kept, converted_kept, made_kept, promotion_kept, null_kept, conversion_kept, typed_kept}
@@ -183,7 +183,7 @@ module _ (asks : Core → Type 0) where
   -- assignments
   pub assign_kept : (w : World) (place : Place) (at : ℕ) (q v : Core) → ⊤ → Holds asks q → Holds asks v → Gives (Holds asks) (assign_row w place at q v)
   assign_kept w place at q v p h k =
-      if_given (Holds asks) (is_place_sort (core_sort q) && is_assigned w (operand_of (ctype_of q))) Operand at _
+      if_given (Holds asks) (is_place_sort (core_sort q) && (is_assigned w (operand_of (ctype_of q)) || is_list (ctype_of q))) Operand at _
       (then_gives (Holds asks) (Holds asks) (conversion w false at v (ctype_of q)) _ (conversion_kept asks w false at v (ctype_of q) k) (λ x l. (p, (h, (l, tt)))))
 
   sorts_kept : (w : World) (op : Op) (post : Bool) (place : Place) (at : ℕ) (q v : Core) (x y : OperandSort) → ⊤ → Holds asks q → Holds asks v → Gives (Holds asks) (update_sorts w op post place at q v x y)
@@ -194,6 +194,28 @@ module _ (asks : Core → Type 0) where
   pub update_kept : (w : World) (op : Op) (post : Bool) (place : Place) (at : ℕ) (q v : Core) → ⊤ → Holds asks q → Holds asks v → Gives (Holds asks) (update_row w op post place at q v)
   update_kept w op post place at q v p h k = if_given (Holds asks) (is_place_sort (core_sort q)) Operand at _ (sorts_kept w op post place at q v (operand_of (ctype_of q)) (operand_of (ctype_of v)) p h k)
 
+  -- operations on variadic lists
+  started_kept : (place : Place) (at : ℕ) (a : Core) (o : Option ℕ) → ⊤ → Holds asks a → Gives (Holds asks) (start_named place at a o)
+  started_kept place at a None p h = tt
+  started_kept place at a (Some function) p h = if_given (Holds asks) (is_list_place a) Operand at (Fits (started place a function)) (p, ((p, (h, ((p, tt), tt))), tt))
+
+  pub start_kept : (w : World) (place : Place) (at : ℕ) (a n : Core) → ⊤ → Holds asks a → Gives (Holds asks) (start_row w place at a n)
+  start_kept w place at a n p h = started_kept place at a (last_named w n) p h
+
+  pub copy_kept : (w : World) → (place : Place) (at : ℕ) (a b : Core) → ⊤ → Holds asks a → Holds asks b → Gives (Holds asks) (copy_row w place at a b)
+  copy_kept w place at a b p h k =
+      if_given (Holds asks) (is_list_place a) Operand at _
+      (then_gives (Holds asks) (Holds asks) (value_of w at b) (copied place at a) (value_kept asks w at b k)
+      (λ v l. if_given (Holds asks) (is_list (ctype_of v)) Operand at (Fits (dropped place (over_two Assign place VaListType a v))) (p, ((p, (h, (l, tt))), tt))))
+
+  pub next_kept : (place : Place) (at : ℕ) (a : Core) (t : Ctype) → ⊤ → Holds asks a → Gives (Holds asks) (next_row place at a t)
+  next_kept place at a t p h = typed_kept asks at t _ (if_given (Holds asks) (is_list_place a && is_scalar (operand_of t)) Operand at (Fits (over NextArg place t a)) (p, (h, tt)))
+
+  pub end_kept : (w : World) (place : Place) (at : ℕ) (a : Core) → ⊤ → Holds asks a → Gives (Holds asks) (end_row w place at a)
+  end_kept w place at a p h =
+      if_given (Holds asks) (is_list_place a) Operand at (address_row w place at a (core_sort a) >>= (λ x. Fits (dropped place x)))
+      (then_gives (Holds asks) (Holds asks) (address_row w place at a (core_sort a)) (λ x. Fits (dropped place x)) (address_kept w place at a (core_sort a) p h) (λ x k. (p, (k, tt))))
+
   -- calls
   further_kept : (w : World) (at : ℕ) (v : Core) (x : OperandSort) → Holds asks v → Gives (Holds asks) (further w at v x)
   further_kept w at v Whole h = promotion_kept asks w v h
@@ -201,12 +223,19 @@ module _ (asks : Core → Type 0) where
   further_kept w at v (Aggregate tag) h = h
   further_kept w at v Other h = tt
 
+  further_value_kept : (w : World) (at : ℕ) (v : Core) → Holds asks v → Gives (Holds asks) (further_value w at v)
+  further_value_kept w at v h = by (is_list (ctype_of v))
+    where
+      by : (b : Bool) → Gives (Holds asks) (if b then Fits v else further w at v (operand_of (ctype_of v)))
+      by true = h
+      by false = further_kept w at v (operand_of (ctype_of v)) h
+
   arguments_kept : (w : World) (at : ℕ) (ps : Ctypes) (args : List Core) → AreOf asks args → Gives (AllHold asks) (arguments w at ps args)
   arguments_kept w at ps [] h = tt
   arguments_kept w at NoTypes (a ∷ rest) h =
       then_gives (Holds asks) (AllHold asks) (value_of w at a) _ (value_kept asks w at a h.0)
       (λ v k.
-      then_gives (Holds asks) (AllHold asks) (further w at v (operand_of (ctype_of v))) _ (further_kept w at v (operand_of (ctype_of v)) k)
+      then_gives (Holds asks) (AllHold asks) (further_value w at v) _ (further_value_kept w at v k)
       (λ x l. then_gives (AllHold asks) (AllHold asks) (arguments w at NoTypes rest) (λ more. Fits (one_more x more)) (arguments_kept w at NoTypes rest h.1) (λ more m. (l, m))))
   arguments_kept w at (MoreTypes t ps) (a ∷ rest) h =
       then_gives (Holds asks) (AllHold asks) (value_of w at a) _ (value_kept asks w at a h.0)

@@ -15,7 +15,7 @@ use Rattle.c_consts.specs.Wrapped.{converted}
 use Rattle.core_nodes.specs.passed.c_senses.Tree.{Source, is_a, is_name, has_sign, place_at, spelling_at, word_at, children_at, first_where, all_where, any_where, child_of, nearest_above, numbers_from}
 use Rattle.core_nodes.specs.passed.c_senses.Given.{Given, Fits, Refuses, ◌>>=◌, given_if}
 use Rattle.core_nodes.specs.passed.c_senses.World.{World, same_type}
-use Rattle.core_nodes.specs.passed.c_senses.Conversions.{operand_of, is_scalar, is_fetched, value_of, value_of_sort, fetched_or_decayed, made, promoted, is_narrow, read_width, promotion, conversion}
+use Rattle.core_nodes.specs.passed.c_senses.Conversions.{operand_of, is_scalar, is_fetched, value_of, value_of_sort, fetched_or_decayed, made, promoted, is_narrow, read_width, promotion, conversion, is_list}
 use Rattle.core_nodes.specs.passed.c_senses.Constants.{constant_in, is_whole}
 use Rattle.core_nodes.specs.passed.c_senses.Places.{own_place}
 use Rattle.core_nodes.specs.passed.c_senses.Sense.{Sense, IsCore, IsRun, core_of, value_in}
@@ -74,7 +74,7 @@ by_sort w at c PlaceNode e = by (decayed (ctype_of c))
   where
     by : (o : Option Ctype) → Gives IsValueCore (fetched_or_decayed w at c o)
     by (Some pointer) = refl
-    by None = if_given IsValueCore (is_fetched w (operand_of (ctype_of c))) Operand at (Fits (over Fetch (place_of c) (ctype_of c) c)) (λ e. refl)
+    by None = if_given IsValueCore (is_fetched w (operand_of (ctype_of c)) || is_list (ctype_of c)) Operand at (Fits (over Fetch (place_of c) (ctype_of c) c)) (λ e. refl)
 by_sort w at c ValueNode e = e
 by_sort w at c StatementNode e = tt
 

@@ -1,7 +1,7 @@
 -- One statement that is marked makes one node.
 use Rattle.std.proofs.Common.{arith, ◌≡◌, ◌<◌, ◌≤◌, ℕ, Bool, true, false, ◌||◌, List, length, get_or, zero, suc, [], ◌∷◌, refl, sym, ap, ◌∙◌, subst}
 use Rattle.core_tree.specs.declared.node.NodeKind.{NodeKind}
-use Rattle.core_tree.specs.declared.node.NodeKind.TheVariants.{Named, FunctionName, Literal, Block, For, Initialise}
+use Rattle.core_tree.specs.declared.node.NodeKind.TheVariants.{Named, FunctionName, Literal, VarArgs, Block, For, Initialise}
 use Rattle.c_grammar.specs.Productions.{p_block, p_statement}
 use Rattle.c_consts.specs.Core.{Core}
 use Rattle.core_nodes.specs.passed.c_senses.Tree.{is_a}
@@ -27,6 +27,7 @@ pub marks_blind : (marked : NodeKind → Bool) → MarksOnly marked → Blind ma
 marks_blind marked only (Named e) = only (Named e) refl ∙ sym (only (Named 0) refl)
 marks_blind marked only (FunctionName e) = only (FunctionName e) refl ∙ sym (only (FunctionName 0) refl)
 marks_blind marked only (Literal e) = only (Literal e) refl ∙ sym (only (Literal 0) refl)
+marks_blind marked only (VarArgs e) = only (VarArgs e) refl ∙ sym (only (VarArgs 0) refl)
 marks_blind marked only (Initialise e paths) = only (Initialise e paths) refl ∙ sym (only (Initialise 0 paths) refl)
 marks_blind marked only (Block es) = only (Block es) refl ∙ sym (only (Block []) refl)
 marks_blind marked only (For es c a) = only (For es c a) refl ∙ sym (only (For [] c a) refl)

@@ -1,4 +1,6 @@
 -- The nodes of expressions.
+use Rattle.std.specs.Prelude.{codes}
+use Rattle.std.specs.Str.{bytes_eq}
 use Rattle.std.proofs.Common.{◌≡◌, ◌==◌, ℕ, Bool, true, false, not, refl, List, [], ◌∷◌, Option, Some, None}
 use Rattle.std.specs.Prelude.{⊤, is_none, if◌then◌else◌}
 use Rattle.pta_base.specs.declared.kind.Kind.TheVariants.{Operand}
@@ -15,14 +17,14 @@ use Rattle.core_nodes.specs.passed.c_senses.Given.{Given, Fits, Refuses, ◌>>=�
 use Rattle.core_nodes.specs.passed.c_senses.World.{World}
 use Rattle.core_nodes.specs.passed.c_senses.Conversions.{operand_of, value_of}
 use Rattle.core_nodes.specs.passed.c_senses.Operators.{between, operator, number_core, choice_row}
-use Rattle.core_nodes.specs.passed.c_senses.Objects.{name_row, index_row, member_row, arrow_row, assign_row, assigned_op, update_row, call_row, cast_row, size_row, align_row, named_width, sized_expression}
+use Rattle.core_nodes.specs.passed.c_senses.Objects.{name_row, index_row, member_row, arrow_row, assign_row, assigned_op, update_row, call_row, cast_row, size_row, align_row, named_width, sized_expression, next_row, end_row}
 use Rattle.core_nodes.specs.passed.c_senses.Sense.{Sense, IsCore, core_of, value_in, type_of_sense, last_of}
-use Rattle.core_nodes.specs.passed.c_senses.Expressions.{as_sense, indexed_core, is_operator, value_core, operator_core, passed, named_of, step, chained, is_single, binary_row, primary_of, primary_row, indexed, dotted, pointed, all_cores, called, counted_after, post_of, post_signed, post_row, prefixed_core, prefixed, sized, aligned, worded, unary_of, unary_row, cast_over, cast_last, cast_of, cast_row_of, conditional_row, assigned, assigned_by, assignment_row, is_binary, expression_row}
-use Rattle.core_node_laws.specs.near_nodes.Holding.{Holds, AreOf, OfSense, MeaningGives}
+use Rattle.core_nodes.specs.passed.c_senses.Expressions.{as_sense, indexed_core, is_operator, value_core, operator_core, passed, named_of, step, chained, is_single, binary_row, primary_of, primary_row, indexed, dotted, pointed, all_cores, called, counted_after, post_of, post_signed, post_row, prefixed_core, prefixed, sized, aligned, worded, unary_of, unary_row, cast_over, cast_last, cast_of, cast_row_of, conditional_row, assigned, assigned_by, assignment_row, is_binary, expression_row, two_lists, list_core, list_row}
+use Rattle.core_node_laws.specs.near_nodes.Holding.{Holds, AreOf, OfSense, MeaningGives, ListsGive}
 use Rattle.core_node_laws.proofs.near_nodes.Nearness.{AllNear, IfNear, chosen_near, last_near, end_near}
 use Rattle.core_node_laws.proofs.near_nodes.Giving.{Gives, then_gives, after, if_given, some_given, if_says, if_holds}
 use Rattle.core_node_laws.proofs.near_nodes.Values.{value_kept}
-use Rattle.core_node_laws.proofs.near_nodes.Operators.{between_kept, promoted_kept, not_kept, choice_kept, name_kept, address_kept, indirection_kept, index_kept, member_kept, arrow_kept, assign_kept, update_kept, call_kept, cast_kept, size_kept, align_kept}
+use Rattle.core_node_laws.proofs.near_nodes.Operators.{between_kept, promoted_kept, not_kept, choice_kept, name_kept, address_kept, indirection_kept, index_kept, member_kept, arrow_kept, assign_kept, update_kept, call_kept, cast_kept, size_kept, align_kept, start_kept, copy_kept, next_kept, end_kept}
 
 pub at_unit : (s : Source) (i : ℕ) → ⊤
 at_unit s i = tt
@@ -90,17 +92,40 @@ module _ (asks : Core → Type 0) (w : World) (s : Source) (sense : ℕ → Sens
   passed_kept at [] n = tt
   passed_kept at (c ∷ rest) n = each c n.0
 
-  primary_of_kept : (at first : ℕ) (rest : List ℕ) (kind : TokenKind) → AllNear near rest → MeaningGives asks (w.meaning first) → Gives (OfSense s near asks) (primary_of w s sense at first rest kind)
-  primary_of_kept at first rest Identifier n means = as_sense_kept s near asks w (name_row w (place_at s first) at (w.meaning first)) (name_kept asks w (place_at s first) at (w.meaning first) (at_unit s first) means)
-  primary_of_kept at first rest Integer n means = (at_unit s first, tt)
-  primary_of_kept at first rest Character n means = (at_unit s first, tt)
-  primary_of_kept at first rest Text n means = (at_unit s first, tt)
-  primary_of_kept at first rest (Punctuator p) n means = passed_kept at rest n
-  primary_of_kept at first rest kind n means = tt
+  -- operations on variadic lists
+  two_lists_kept : ListsGive asks w → (at first : ℕ) (name : List ℕ) (a b : Core) → Holds asks a → Holds asks b → Gives (Holds asks) (two_lists w s sense at (place_at s first) name a b)
+  two_lists_kept gives at first name a b h k =
+      if_holds (Gives (Holds asks)) (bytes_eq name (codes "__builtin_va_copy")) _ _ (copy_kept asks w (place_at s first) at a b (at_unit s first) h k) (start_kept asks w gives (place_at s first) at a b h k)
 
-  primary_kept : (at : ℕ) (children : List ℕ) → AllNear near children → ((leaf : ℕ) → Has children leaf → MeaningGives asks (w.meaning leaf)) → Gives (OfSense s near asks) (primary_row w s sense at children)
-  primary_kept at [] n means = tt
-  primary_kept at (first ∷ rest) n means = primary_of_kept at first rest (kind_at s first) n.1 (means first (0, refl))
+  list_core_kept : ListsGive asks w → (at first : ℕ) (name : List ℕ) (parts : List ℕ) → AllNear near parts → Gives (Holds asks) (list_core w s sense at (place_at s first) name parts)
+  list_core_kept gives at first name [] n = tt
+  list_core_kept gives at first name (a ∷ []) n =
+      then_gives (Holds asks) (Holds asks) (core_of at (sense a)) (end_row w (place_at s first) at) (core_kept s near asks w at (sense a) (each a n.0)) (λ x h. end_kept asks w (place_at s first) at x (at_unit s first) h)
+  list_core_kept gives at first name (a ∷ b ∷ []) n =
+      if_holds (Gives (Holds asks)) (is_a s p_type_name b) _ _
+      (then_gives (Holds asks) (Holds asks) (core_of at (sense a)) _ (core_kept s near asks w at (sense a) (each a n.0))
+      (λ x h. after (Holds asks) (type_of_sense at (sense b)) (next_row (place_at s first) at x) (λ t. next_kept asks (place_at s first) at x t (at_unit s first) h)))
+      (then_gives (Holds asks) (Holds asks) (core_of at (sense a)) _ (core_kept s near asks w at (sense a) (each a n.0))
+      (λ x h. then_gives (Holds asks) (Holds asks) (core_of at (sense b)) (two_lists w s sense at (place_at s first) name x) (core_kept s near asks w at (sense b) (each b n.1.0)) (λ y k. two_lists_kept gives at first name x y h k)))
+  list_core_kept gives at first name (a ∷ b ∷ c ∷ rest) n = tt
+
+  pub list_row_kept : ListsGive asks w → (at first : ℕ) (rest : List ℕ) → AllNear near rest → Gives (OfSense s near asks) (list_row w s sense at first rest)
+  list_row_kept gives at first rest n =
+      as_sense_kept s near asks w (list_core w s sense at (place_at s first) (spelling_at s first) (all_where (λ c. not (is_leaf s c)) rest))
+      (list_core_kept gives at first (spelling_at s first) (all_where (λ c. not (is_leaf s c)) rest) (chosen_near near (λ c. not (is_leaf s c)) rest n))
+
+  primary_of_kept : (at first : ℕ) (rest : List ℕ) (kind : TokenKind) → AllNear near rest → MeaningGives asks (w.meaning first) → ListsGive asks w → Gives (OfSense s near asks) (primary_of w s sense at first rest kind)
+  primary_of_kept at first [] Identifier n means gives = as_sense_kept s near asks w (name_row w (place_at s first) at (w.meaning first)) (name_kept asks w (place_at s first) at (w.meaning first) (at_unit s first) means)
+  primary_of_kept at first (c ∷ rest) Identifier n means gives = list_row_kept gives at first (c ∷ rest) n
+  primary_of_kept at first rest Integer n means gives = (at_unit s first, tt)
+  primary_of_kept at first rest Character n means gives = (at_unit s first, tt)
+  primary_of_kept at first rest Text n means gives = (at_unit s first, tt)
+  primary_of_kept at first rest (Punctuator p) n means gives = passed_kept at rest n
+  primary_of_kept at first rest kind n means gives = tt
+
+  primary_kept : (at : ℕ) (children : List ℕ) → AllNear near children → ((leaf : ℕ) → Has children leaf → MeaningGives asks (w.meaning leaf)) → ListsGive asks w → Gives (OfSense s near asks) (primary_row w s sense at children)
+  primary_kept at [] n means gives = tt
+  primary_kept at (first ∷ rest) n means gives = primary_of_kept at first rest (kind_at s first) n.1 (means first (0, refl)) gives
 
   -- what follows a primary
   indexed_kept : (place : Place) (at : ℕ) (left : Sense) (list : List ℕ) → AllNear near list → ⊤ → OfSense s near asks left → Gives (OfSense s near asks) (indexed w s sense place at left list)
@@ -255,10 +280,10 @@ module _ (asks : Core → Type 0) (w : World) (s : Source) (sense : ℕ → Sens
       (λ a h. then_gives (Holds asks) (Holds asks) (core_of at (sense v)) (λ b. assigned_by w s sense at o a b (sign_at s o)) (core_kept s near asks w at (sense v) (each v n.1.1.0)) (λ b k. assigned_by_kept at o a b (sign_at s o) h k)))
   assignment_kept at children n = tt
 
-  pub expression_kept : (production at : ℕ) (children : List ℕ) → AllNear near children → ((leaf : ℕ) → Has children leaf → MeaningGives asks (w.meaning leaf))
+  pub expression_kept : (production at : ℕ) (children : List ℕ) → AllNear near children → ((leaf : ℕ) → Has children leaf → MeaningGives asks (w.meaning leaf)) → ListsGive asks w
       → ((production == p_post) ≡ true → (first : ℕ) (rest : List ℕ) → children ≡ first ∷ rest → near (left_of s first)) → Gives (OfSense s near asks) (expression_row w s sense production at children)
-  expression_kept production at children n means left =
-      if_holds (Gives (OfSense s near asks)) (production == p_primary) _ _ (primary_kept at children n means)
+  expression_kept production at children n means gives left =
+      if_holds (Gives (OfSense s near asks)) (production == p_primary) _ _ (primary_kept at children n means gives)
       (if_says (Gives (OfSense s near asks)) (production == p_post) _ _ (λ is. post_kept at children n (left is))
       (if_holds (Gives (OfSense s near asks)) (production == p_unary) _ _ (unary_kept at children n)
       (if_holds (Gives (OfSense s near asks)) (production == p_cast) _ _ (cast_row_kept at children n)

@@ -7,7 +7,7 @@ use Rattle.c_types.specs.declared.term.Form.TheVariants.{Fixed, Variadic, Unspec
 use Rattle.c_types.specs.declared.term.PathStep.{PathStep}
 use Rattle.core_tree.specs.declared.node.Node.{Node}
 use Rattle.core_tree.specs.declared.node.NodeKind.{NodeKind}
-use Rattle.core_tree.specs.declared.node.NodeKind.TheVariants.{Named, Text, Literal, FunctionName, Deref, Member, Number, NullValue, Fetch, AddressOf, Decay, PointerAdd, Convert, Upcast, Assign, Update, Choose, Sequence, CallNode, MemberOfValue, Arith, Expression, Block, If, While, DoWhile, For, Switch, Case, Default, Label, Goto, Break, Continue, Return, Initialise, Skip}
+use Rattle.core_tree.specs.declared.node.NodeKind.TheVariants.{Named, Text, Literal, FunctionName, Deref, Member, Number, NullValue, Fetch, AddressOf, Decay, PointerAdd, Convert, Upcast, Assign, Update, Choose, Sequence, CallNode, MemberOfValue, Arith, VarArgs, NextArg, Expression, Block, If, While, DoWhile, For, Switch, Case, Default, Label, Goto, Break, Continue, Return, Initialise, Skip}
 use Rattle.core_tree.specs.Typed.{CoreTrees, PlaceNode, ValueNode, StatementNode, sort_of, sort_in, sort_at, type_at}
 use Rattle.core_tree.specs.Rows.{RowOf, Arguments, Calls, IsFurther, InitialValues, Initialises, InitialisesIn, InitialisesEntity, entity_type}
 use Rattle.core_node_laws.proofs.standing_laws.Kept.{opens}
@@ -199,6 +199,11 @@ module _ (u : CoreTrees) where
   shut (Arith op) t (c ∷ []) row e = one c (value c row.0)
   shut (Arith op) t (c ∷ d ∷ []) row e = more c (d ∷ []) (value c row.0) (one d (value d row.1))
   shut (Arith op) t (c ∷ d ∷ x ∷ rest) row e = absurd row
+  shut (VarArgs x) t [] row e = none
+  shut (VarArgs x) t (c ∷ rest) row e = absurd row
+  shut NextArg t [] row e = absurd row
+  shut NextArg t (c ∷ []) row e = one c (place c row.0.0)
+  shut NextArg t (c ∷ d ∷ rest) row e = absurd row
   shut Expression t [] row e = absurd row
   shut Expression t (c ∷ []) row e = one c (value c row)
   shut Expression t (c ∷ d ∷ rest) row e = absurd row

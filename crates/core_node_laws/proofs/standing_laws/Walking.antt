@@ -4,7 +4,7 @@ use Rattle.c_types.specs.Table.{type_of}
 use Rattle.core_tree.specs.declared.node.Unit.{Unit}
 use Rattle.core_tree.specs.declared.node.Node.{Node}
 use Rattle.core_tree.specs.declared.node.NodeKind.{NodeKind}
-use Rattle.core_tree.specs.declared.node.NodeKind.TheVariants.{Named, Literal, FunctionName, Block, For, Initialise}
+use Rattle.core_tree.specs.declared.node.NodeKind.TheVariants.{Named, Literal, FunctionName, VarArgs, Block, For, Initialise}
 use Rattle.core_tree.specs.Typed.{trees_of, StatementNode}
 use Rattle.core_tree.specs.Range.{Under, here, below, IsChild}
 use Rattle.core_tree.specs.Valid.{InRows}
@@ -19,6 +19,7 @@ abbrev pub bare : NodeKind → NodeKind
 bare (Named e) = Named 0
 bare (FunctionName e) = FunctionName 0
 bare (Literal e) = Literal 0
+bare (VarArgs e) = VarArgs 0
 bare (Initialise e paths) = Initialise 0 paths
 bare (Block es) = Block []
 bare (For es c a) = For [] c a
@@ -40,10 +41,15 @@ literal_bare : (n : Numbering) (d : ℕ) (b : NodeKind) → SameKind n (Literal 
 literal_bare n d (Literal e) h = refl
 literal_bare n d b h = ap bare h
 
+list_bare : (n : Numbering) (d : ℕ) (b : NodeKind) → SameKind n (VarArgs d) b → VarArgs 0 ≡ bare b
+list_bare n d (VarArgs e) h = refl
+list_bare n d b h = ap bare h
+
 same_bare : (n : Numbering) (a b : NodeKind) → SameKind n a b → bare a ≡ bare b
 same_bare n (Named d) b h = named_bare n d b h
 same_bare n (FunctionName d) b h = function_bare n d b h
 same_bare n (Literal d) b h = literal_bare n d b h
+same_bare n (VarArgs d) b h = list_bare n d b h
 same_bare n (Initialise d paths) b h = by b h
   where
     by : (b : NodeKind) → SameKind n (Initialise d paths) b → Initialise 0 paths ≡ bare b

@@ -13,7 +13,7 @@ use Rattle.core_nodes.specs.passed.c_senses.Tree.{Source, is_a, place_at}
 use Rattle.core_nodes.specs.passed.c_senses.World.{World, Meaning, Object, Function}
 use Rattle.core_nodes.specs.passed.c_senses.Entities.{entity_of, is_static_object}
 use Rattle.core_nodes.specs.passed.c_senses.Places.{own_place}
-use Rattle.core_nodes.specs.passed.c_senses.Conversions.{operand_of, is_fetched}
+use Rattle.core_nodes.specs.passed.c_senses.Conversions.{operand_of, is_fetched, is_list}
 use Rattle.core_nodes.specs.passed.c_senses.Objects.{is_returned}
 use Rattle.core_nodes.specs.passed.c_senses.Initialised.{is_fixed, is_automatic, is_in_body, opening, brace}
 use Rattle.core_nodes.specs.passed.c_senses.Sense.{Sense, IsCore, IsRun, IsInitial}
@@ -66,7 +66,7 @@ module _ (w : World) (s : Source) (sense : ℕ → Sense) where
 -- what is tested where a place is fetched, and where a function is called
 pub record Tests (asks : Core → Type 0) (w : World) : Type 0 where
   pub fetched : (place : Place) (t : Ctype) (under : Cores)
-      → is_fetched w (operand_of t) ≡ true
+      → is_fetched w (operand_of t) || is_list t ≡ true
       → asks (Of Fetch place t under)
   pub returned : (place : Place) (t : Ctype) (under : Cores)
       → is_returned w t ≡ true

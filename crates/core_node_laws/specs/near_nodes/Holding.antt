@@ -3,9 +3,10 @@
 -- trees.
 use Rattle.std.specs.Prelude.{ℕ, ◌≡◌, ⊤, Bool, true, not, ◌||◌, List, [], ◌∷◌, Option, Some}
 use Rattle.pta_base.specs.declared.place.Place.{Place}
-use Rattle.c_types.specs.Trees.{Ctype, VoidType}
+use Rattle.c_types.specs.Trees.{Ctype, VoidType, VaListType}
 use Rattle.core_tree.specs.declared.node.NodeKind.{NodeKind}
 use Rattle.core_tree.specs.declared.node.NodeKind.TheVariants.{Named, Literal, FunctionName, Initialise, Block, For}
+use Rattle.core_tree.specs.declared.node.NodeKind.TheVariants.{VarArgs}
 use Rattle.core_tree.specs.Rows.{Has}
 use Rattle.c_grammar.specs.Productions.{p_declaration, p_block, p_statement, p_cast, p_unary, p_post}
 use Rattle.c_consts.specs.Core.{Core, Cores, Of, NoCores, MoreCores}
@@ -24,6 +25,7 @@ abbrev pub Asks : (Core → Type 0) → NodeKind → Place → Ctype → Cores �
 Asks asks (Named e) place type under = asks (Of (Named e) place type under)
 Asks asks (FunctionName e) place type under = asks (Of (FunctionName e) place type under)
 Asks asks (Literal e) place type under = asks (Of (Literal e) place type under)
+Asks asks (VarArgs e) place type under = asks (Of (VarArgs e) place type under)
 Asks asks (Initialise e paths) place type under = asks (Of (Initialise e paths) place type under)
 Asks asks (Block es) place type under = asks (Of (Block es) place type under)
 Asks asks (For es c a) place type under = asks (Of (For es c a) place type under)
@@ -56,6 +58,14 @@ MeaningGives asks (Some (Object e t)) = (place : Place) → asks (Of (Named e) p
 MeaningGives asks (Some (Function e t)) = (place : Place) → asks (Of (FunctionName e) place t NoCores)
 MeaningGives asks m = ⊤
 
+-- 7.16.1.4: what a function was passed past its last parameter, where that is named
+abbrev pub ListsGive : (Core → Type 0) → World → Type 0
+ListsGive asks w =
+    (entity function : ℕ) (place at : Place) (type : Ctype)
+    → asks (Of (Named entity) place type NoCores)
+    → w.further entity ≡ Some function
+    → asks (Of (VarArgs function) at VaListType NoCores)
+
 module _ (w : World) (s : Source) (sense : ℕ → Sense) where
   -- 6.7.9p4: fixed values, where the object has its place for the whole run
   abbrev pub IsFixedIf : Bool → Core → Type 0
@@ -70,6 +80,7 @@ module _ (w : World) (s : Source) (sense : ℕ → Sense) where
 pub record RowGives (asks : Core → Type 0) (w : World) (s : Source) (sense : ℕ → Sense) (at : ℕ)
     (children : List ℕ) : Type 0 where
   pub names : (leaf : ℕ) → Has children leaf → MeaningGives asks (w.meaning leaf)
+  pub lists : ListsGive asks w
   pub objects : (declarator leaf : ℕ)
       → initialised_by s sense at ≡ Some declarator
       → name_of_declarator w s sense (sense declarator) ≡ Some leaf

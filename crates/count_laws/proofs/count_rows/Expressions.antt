@@ -1,6 +1,7 @@
 -- The nodes of expressions.
 use Rattle.std.proofs.Common.{arith, ◌==◌, ℕ, ◌+◌, ◌≤◌, ◌≡◌, refl, sym, Bool, true, false, not, List, [], ◌∷◌, Option, Some, None}
-use Rattle.std.specs.Prelude.{is_some, is_none, if◌then◌else◌}
+use Rattle.std.specs.Prelude.{is_some, is_none, codes, if◌then◌else◌}
+use Rattle.std.specs.Str.{bytes_eq}
 use Rattle.pta_base.specs.declared.kind.Kind.TheVariants.{Operand}
 use Rattle.pta_base.specs.declared.place.Place.{Place}
 use Rattle.c_lexer.specs.declared.Token.{Token}
@@ -16,15 +17,15 @@ use Rattle.c_senses.specs.Given.{Given, Fits, Refuses, ◌>>=◌}
 use Rattle.c_senses.specs.World.{World}
 use Rattle.c_senses.specs.Conversions.{operand_of, value_of}
 use Rattle.c_senses.specs.Operators.{between, operator, number_core, choice_row}
-use Rattle.c_senses.specs.Objects.{name_row, index_row, member_row, arrow_row, assign_row, assigned_op, update_row, call_row, cast_row, size_row, align_row, named_width, sized_expression}
+use Rattle.c_senses.specs.Objects.{name_row, index_row, member_row, arrow_row, assign_row, assigned_op, update_row, call_row, cast_row, size_row, align_row, named_width, sized_expression, next_row, end_row}
 use Rattle.c_senses.specs.Sense.{Sense, IsCore, core_of, value_in, type_of_sense, last_of}
-use Rattle.c_senses.specs.Expressions.{as_sense, indexed_core, is_operator, value_core, operator_core, passed, string_bytes, named_of, step, chained, is_single, binary_row, primary_of, primary_row, indexed, dotted, pointed, all_cores, called, counted_after, post_of, post_signed, post_row, prefixed_core, prefixed, sized, aligned, worded, unary_of, unary_row, cast_over, cast_last, cast_of, cast_row_of, conditional_row, assigned, assigned_by, assignment_row}
+use Rattle.c_senses.specs.Expressions.{as_sense, indexed_core, is_operator, value_core, operator_core, passed, string_bytes, named_of, step, chained, is_single, binary_row, primary_of, primary_row, indexed, dotted, pointed, all_cores, called, counted_after, post_of, post_signed, post_row, prefixed_core, prefixed, sized, aligned, worded, unary_of, unary_row, cast_over, cast_last, cast_of, cast_row_of, conditional_row, assigned, assigned_by, assignment_row, two_lists, list_core, list_row, named_primary}
 use Rattle.count_laws.specs.count_rows.Counts.{Count, count_in, count_all, count_of}
 use Rattle.count_laws.specs.count_rows.Covers.{IsIn}
 use Rattle.count_laws.proofs.count_rows.Giving.{Gives, then_gives, after, if_given, some_given, if_holds}
 use Rattle.count_laws.proofs.count_rows.Lists.{in_head, in_tail, last_in, last_where_in, N, T, all_where_less}
 use Rattle.count_laws.proofs.count_rows.Values.{AtMost, value_kept}
-use Rattle.count_laws.proofs.count_rows.Operators.{Together, value_less, between_kept, promoted_kept, not_kept, choice_kept, name_kept, address_kept, indirection_kept, index_kept, member_kept, arrow_kept, assign_kept, update_kept, call_kept, cast_kept, size_kept, align_kept}
+use Rattle.count_laws.proofs.count_rows.Operators.{Together, value_less, between_kept, promoted_kept, not_kept, choice_kept, name_kept, address_kept, indirection_kept, index_kept, member_kept, arrow_kept, assign_kept, update_kept, call_kept, cast_kept, size_kept, align_kept, start_kept, copy_kept, next_kept, end_kept}
 
 token_there : (o : Option Token) (k : TokenKind) → kind_of_token o ≡ k → (k ≡ End → ⊥) → is_some o ≡ true
 token_there None k e never = absurd (never (sym e))
@@ -101,22 +102,50 @@ module _ (n : Count) (w : World) (s : Source) (sense : ℕ → Sense) where
       (then_gives (AtMost n (N n sense first)) (AtMost n m) (core_of at (sense first)) (λ a. chained w s sense (between w) at (is_single w s sense (between w) (o ∷ rest)) a (o ∷ rest)) (core_less n w at (sense first))
       (λ a h. chained_kept m (N n sense first) at (is_single w s sense (between w) (o ∷ rest)) a (o ∷ rest) h sum))
 
-  -- a row that stands for one of its parts
-  passed_kept : (m at : ℕ) (children : List ℕ) → EachMost m children → Gives (SenseMost n m) (passed sense at children)
-  passed_kept m at [] h = tt
-  passed_kept m at (c ∷ rest) h = h c (in_head c rest)
+  -- operations on variadic lists
+  two_lists_kept : (m at : ℕ) (place : Place) (name : List ℕ) (a b : Core) → Together n m a b → Gives (AtMost n m) (two_lists w s sense at place name a b)
+  two_lists_kept m at place name a b h =
+      if_holds (Gives (AtMost n m)) (bytes_eq name (codes "__builtin_va_copy")) _ _ (copy_kept n m w place at a b h) (start_kept n m w place at a b (omega (arith, h)))
 
-  primary_of_kept : (m at first : ℕ) (rest : List ℕ) (kind : TokenKind) → kind_at s first ≡ kind → (is_some (token_at s first) ≡ true → (bytes : List ℕ) → n.weight (TextNode bytes) (place_at s first) ≤ m) → EachMost m rest → Gives (SenseMost n m) (primary_of w s sense at first rest kind)
-  primary_of_kept m at first rest Identifier e p h = as_sense_kept n w m (name_row w (place_at s first) at (w.meaning first)) (name_kept n m w (place_at s first) at (w.meaning first) (p (token_there (token_at s first) Identifier e (λ f. absurd (cc)))))
+  list_core_kept : (m at : ℕ) (place : Place) (name : List ℕ) (parts : List ℕ) → T n sense parts ≤ m → Gives (AtMost n m) (list_core w s sense at place name parts)
+  list_core_kept m at place name [] h = tt
+  list_core_kept m at place name (a ∷ []) h =
+      then_gives (AtMost n (N n sense a)) (AtMost n m) (core_of at (sense a)) (end_row w place at) (core_less n w at (sense a)) (λ x k. end_kept n m w place at x (omega (arith, h, k)))
+  list_core_kept m at place name (a ∷ b ∷ []) h =
+      if_holds (Gives (AtMost n m)) (is_a s p_type_name b) _ _
+      (then_gives (AtMost n (N n sense a)) (AtMost n m) (core_of at (sense a)) (λ x. type_of_sense at (sense b) >>= next_row place at x) (core_less n w at (sense a))
+      (λ x k. after (AtMost n m) (type_of_sense at (sense b)) (next_row place at x) (λ t. next_kept n m place at x t (omega (arith, h, k)))))
+      (then_gives (AtMost n (N n sense a)) (AtMost n m) (core_of at (sense a)) (λ x. core_of at (sense b) >>= two_lists w s sense at place name x) (core_less n w at (sense a))
+      (λ x k.
+      then_gives (AtMost n (N n sense b)) (AtMost n m) (core_of at (sense b)) (two_lists w s sense at place name x) (core_less n w at (sense b))
+      (λ y l. two_lists_kept m at place name x y (omega (arith, h, k, l)))))
+  list_core_kept m at place name (a ∷ b ∷ c ∷ rest) h = tt
+
+  list_row_kept : (m at first : ℕ) (rest : List ℕ) → T n sense rest ≤ m → Gives (SenseMost n m) (list_row w s sense at first rest)
+  list_row_kept m at first rest h =
+      let list : List ℕ = all_where (λ c. not (is_leaf s c)) rest in
+      let less = all_where_less n sense (λ c. not (is_leaf s c)) rest in
+      as_sense_kept n w m (list_core w s sense at (place_at s first) (spelling_at s first) list) (list_core_kept m at (place_at s first) (spelling_at s first) list (omega (arith, h, less)))
+
+  named_kept : (m at first : ℕ) (rest : List ℕ) → ((bytes : List ℕ) → n.weight (TextNode bytes) (place_at s first) ≤ m) → T n sense rest ≤ m → Gives (SenseMost n m) (named_primary w s sense at first rest)
+  named_kept m at first [] p h = as_sense_kept n w m (name_row w (place_at s first) at (w.meaning first)) (name_kept n m w (place_at s first) at (w.meaning first) p)
+  named_kept m at first (c ∷ rest) p h = list_row_kept m at first (c ∷ rest) h
+
+  enclosed_kept : (m at : ℕ) (children : List ℕ) → T n sense children ≤ m → Gives (SenseMost n m) (passed sense at children)
+  enclosed_kept m at [] h = tt
+  enclosed_kept m at (c ∷ rest) h = omega (arith, h)
+
+  primary_of_kept : (m at first : ℕ) (rest : List ℕ) (kind : TokenKind) → kind_at s first ≡ kind → (is_some (token_at s first) ≡ true → (bytes : List ℕ) → n.weight (TextNode bytes) (place_at s first) ≤ m) → T n sense rest ≤ m → Gives (SenseMost n m) (primary_of w s sense at first rest kind)
+  primary_of_kept m at first rest Identifier e p h = named_kept m at first rest (p (token_there (token_at s first) Identifier e (λ f. absurd (cc)))) h
   primary_of_kept m at first rest Integer e p h = omega arith
   primary_of_kept m at first rest Character e p h = omega arith
   primary_of_kept m at first rest Text e p h = let q = p (token_there (token_at s first) Text e (λ f. absurd (cc))) (string_bytes w s sense (first ∷ rest)) in omega (arith, q)
-  primary_of_kept m at first rest (Punctuator sign) e p h = passed_kept m at rest h
+  primary_of_kept m at first rest (Punctuator sign) e p h = enclosed_kept m at rest h
   primary_of_kept m at first rest kind e p h = tt
 
-  pub primary_kept : (m at : ℕ) (children : List ℕ) → ((first : ℕ) (rest : List ℕ) (bytes : List ℕ) → children ≡ first ∷ rest → is_some (token_at s first) ≡ true → n.weight (TextNode bytes) (place_at s first) ≤ m) → EachMost m children → Gives (SenseMost n m) (primary_row w s sense at children)
+  pub primary_kept : (m at : ℕ) (children : List ℕ) → ((first : ℕ) (rest : List ℕ) (bytes : List ℕ) → children ≡ first ∷ rest → is_some (token_at s first) ≡ true → n.weight (TextNode bytes) (place_at s first) ≤ m) → T n sense children ≤ m → Gives (SenseMost n m) (primary_row w s sense at children)
   primary_kept m at [] p h = tt
-  primary_kept m at (first ∷ rest) p h = primary_of_kept m at first rest (kind_at s first) refl (λ there bytes. p first rest bytes refl there) (λ c i. h c (in_tail first c rest i))
+  primary_kept m at (first ∷ rest) p h = primary_of_kept m at first rest (kind_at s first) refl (λ there bytes. p first rest bytes refl there) (omega (arith, h))
 
   -- what follows a primary
   indexed_kept : (m : ℕ) (place : Place) (at : ℕ) (left : Sense) (list : List ℕ) → count_of n left + T n sense list ≤ m → Gives (SenseMost n m) (indexed w s sense place at left list)

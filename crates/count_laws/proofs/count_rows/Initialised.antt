@@ -3,7 +3,7 @@ use Rattle.std.proofs.Common.{arith, ◌≡◌, ◌≤◌, ◌+◌, ◌-◌, ℕ
 use Rattle.std.specs.Prelude.{is_some, if◌then◌else◌}
 use Rattle.pta_base.specs.declared.kind.Kind.TheVariants.{Operand}
 use Rattle.pta_base.specs.declared.place.Place.{Place}
-use Rattle.c_types.specs.Trees.{Ctype, FloatingType, VaListType}
+use Rattle.c_types.specs.Trees.{Ctype, FloatingType}
 use Rattle.core_tree.specs.declared.node.NodeKind.TheVariants.{Literal, Initialise}
 use Rattle.c_grammar.specs.Productions.{p_rest, p_type_name, p_conditional, p_cast, p_unary}
 use Rattle.c_grammar.specs.Words.{sign_left_bracket}
@@ -146,7 +146,6 @@ module _ (n : Count) (w : World) (s : Source) (sense : ℕ → Sense) where
 
   typed_literal : (m at : ℕ) (t : Ctype) (g : Given Core) → Gives (LiteralCore m) g → Gives (LiteralCore m) (typed at t g)
   typed_literal m at FloatingType g h = tt
-  typed_literal m at VaListType g h = tt
   typed_literal m at t g h = h
 
   literal_in_kept : (m at p : ℕ) (o : Option ℕ) → OwnLiteral m p (view.items_at (seen w s sense) s.nodes at) → Gives (FullMost n m) (literal_in w s sense at p o)

@@ -1,14 +1,14 @@
 -- The nodes of operators on values, of names, members, assignments and calls.
-use Rattle.std.proofs.Common.{arith, ℕ, ◌+◌, ◌≤◌, Bool, true, false, ◌&&◌, not, List, [], ◌∷◌, length, Option, Some, None}
-use Rattle.std.specs.Prelude.{is_some, is_none}
+use Rattle.std.proofs.Common.{arith, ℕ, ◌+◌, ◌≤◌, Bool, true, false, ◌&&◌, not, List, [], ◌∷◌, length, Option, Some, None, ◌||◌}
+use Rattle.std.specs.Prelude.{is_some, is_none, if◌then◌else◌}
 use Rattle.pta_base.specs.declared.kind.Kind.TheVariants.{Operand, ArrayOfValue, FlexibleMember}
 use Rattle.pta_base.specs.declared.place.Place.{Place}
 use Rattle.c_types.specs.declared.term.Form.{Form}
-use Rattle.c_types.specs.Trees.{Ctype, Ctypes, NoTypes, MoreTypes, VoidType, PointerTo, FunctionFrom}
+use Rattle.c_types.specs.Trees.{Ctype, Ctypes, NoTypes, MoreTypes, VoidType, PointerTo, FunctionFrom, VaListType}
 use Rattle.c_types.specs.Table.{size_below}
 use Rattle.core_tree.specs.declared.node.Op.{Op}
 use Rattle.core_tree.specs.declared.node.Op.TheVariants.{Not}
-use Rattle.core_tree.specs.declared.node.NodeKind.TheVariants.{Named, PointerAdd, Arith, Deref, AddressOf, CallNode, Text}
+use Rattle.core_tree.specs.declared.node.NodeKind.TheVariants.{Named, PointerAdd, Arith, Deref, AddressOf, CallNode, Text, Assign, NextArg}
 use Rattle.core_tree.specs.Typed.{Sort, PlaceNode}
 use Rattle.core_tree.specs.Rows.{int}
 use Rattle.c_consts.specs.Core.{Core, Cores, Of, MoreCores, ctype_of, core_sort, leaf, over, over_two}
@@ -16,9 +16,9 @@ use Rattle.c_inits.specs.Made.{Part}
 use Rattle.c_senses.specs.Given.{Given, Fits, Refuses, ◌>>=◌}
 use Rattle.c_senses.specs.World.{World, Meaning, Object, Function, TypeName, Tag, Value, extent, has_size, same_type, members_of, way_to}
 use Rattle.c_senses.specs.Nulls.{is_null}
-use Rattle.c_senses.specs.Conversions.{OperandSort, Whole, Address, Aggregate, Other, operand_of, is_scalar, value_of, promotion, conversion, null_value, place_width}
+use Rattle.c_senses.specs.Conversions.{OperandSort, Whole, Address, Aggregate, Other, operand_of, is_scalar, value_of, promotion, conversion, null_value, place_width, is_list}
 use Rattle.c_senses.specs.Operators.{in_common, common_of, numeric_row, shift_row, moved, plus_row, difference, minus_row, compared, order_row, is_void, is_object, Both, joined, pointers_joined, equality_row, both_core, both_row, either_core, either_row, Between, Numeric, Shifting, Adding, Subtracting, Ordering, Equating, BothTrue, EitherTrue, Following, NoOperator, between, promoted_row, not_row, chosen, branches, choice_row}
-use Rattle.c_senses.specs.Objects.{text_core, name_row, address_row, target_row, indirection_row, element_row, index_row, lacks_length, is_array, is_place_sort, member_node, member_step, part_at, along, member_row, arrow_row, is_assigned, assign_row, moves_pointer, updated, update_sorts, update_row, count_of, takes_so_many, further, one_more, arguments, is_returned, call_of, callee_row, call_row, cast_row, size_number, size_row, align_in, align_row}
+use Rattle.c_senses.specs.Objects.{text_core, name_row, address_row, target_row, indirection_row, element_row, index_row, lacks_length, is_array, is_place_sort, member_node, member_step, part_at, along, member_row, arrow_row, is_assigned, assign_row, moves_pointer, updated, update_sorts, update_row, count_of, takes_so_many, further, one_more, arguments, is_returned, call_of, callee_row, call_row, cast_row, size_number, size_row, align_in, align_row, further_value, start_row, copy_row, next_row, end_row, start_named, started, dropped, copied, is_list_place, last_named}
 use Rattle.count_laws.specs.count_rows.Counts.{Count, count_in, count_under, count_all}
 use Rattle.count_laws.proofs.count_rows.Giving.{Gives, then_gives, if_given, some_given, if_holds}
 use Rattle.count_laws.proofs.count_rows.Values.{AtMost, value_kept, conversion_kept, typed_kept, converted_same, made_same, promotion_same}
@@ -191,8 +191,31 @@ module _ (n : Count) (m : ℕ) where
   -- assignments
   pub assign_kept : (w : World) (place : Place) (at : ℕ) (q v : Core) → Together q v → Gives (AtMost n m) (assign_row w place at q v)
   assign_kept w place at q v h =
-      if_given (AtMost n m) (is_place_sort (core_sort q) && is_assigned w (operand_of (ctype_of q))) Operand at _
+      if_given (AtMost n m) (is_place_sort (core_sort q) && (is_assigned w (operand_of (ctype_of q)) || is_list (ctype_of q))) Operand at _
       (then_gives (AtMost n (count_in n v)) (AtMost n m) (conversion w false at v (ctype_of q)) _ (conversion_less n w false at v (ctype_of q)) (λ x l. omega (arith, h, l)))
+
+  -- operations on variadic lists
+  started_kept : (place : Place) (at : ℕ) (a : Core) (o : Option ℕ) → AtMost n m a → Gives (AtMost n m) (start_named place at a o)
+  started_kept place at a None h = tt
+  started_kept place at a (Some function) h = if_given (AtMost n m) (is_list_place a) Operand at (Fits (started place a function)) (omega (arith, h))
+
+  pub start_kept : (w : World) (place : Place) (at : ℕ) (a b : Core) → AtMost n m a → Gives (AtMost n m) (start_row w place at a b)
+  start_kept w place at a b h = started_kept place at a (last_named w b) h
+
+  pub copy_kept : (w : World) (place : Place) (at : ℕ) (a b : Core) → Together a b → Gives (AtMost n m) (copy_row w place at a b)
+  copy_kept w place at a b h =
+      if_given (AtMost n m) (is_list_place a) Operand at (value_of w at b >>= copied place at a)
+      (then_gives (AtMost n (count_in n b)) (AtMost n m) (value_of w at b) (copied place at a) (value_less n w at b)
+      (λ v l. if_given (AtMost n m) (is_list (ctype_of v)) Operand at (Fits (dropped place (over_two Assign place VaListType a v))) (omega (arith, h, l))))
+
+  pub next_kept : (place : Place) (at : ℕ) (a : Core) (t : Ctype) → AtMost n m a → Gives (AtMost n m) (next_row place at a t)
+  next_kept place at a t h =
+      typed_kept n m at t _ (if_given (AtMost n m) (is_list_place a && is_scalar (operand_of t)) Operand at (Fits (over NextArg place t a)) (omega (arith, h)))
+
+  pub end_kept : (w : World) (place : Place) (at : ℕ) (a : Core) → AtMost n m a → Gives (AtMost n m) (end_row w place at a)
+  end_kept w place at a h =
+      if_given (AtMost n m) (is_list_place a) Operand at (address_row w place at a (core_sort a) >>= (λ x. Fits (dropped place x)))
+      (then_gives (AtMost n m) (AtMost n m) (address_row w place at a (core_sort a)) (λ x. Fits (dropped place x)) (address_kept w place at a (core_sort a) h) (λ x k. omega (arith, k)))
 
   sorts_kept : (w : World) (op : Op) (post : Bool) (place : Place) (at : ℕ) (q v : Core) (x y : OperandSort) → Together q v → Gives (AtMost n m) (update_sorts w op post place at q v x y)
   sorts_kept w op post place at q v Whole Whole h = let p = promotion_same n w v in omega (arith, p, h)
@@ -224,6 +247,13 @@ module _ (n : Count) where
   further_kept w at v (Aggregate tag) k h = h
   further_kept w at v Other k h = tt
 
+  further_value_kept : (w : World) (at : ℕ) (v : Core) (k : ℕ) → AtMost n k v → Gives (AtMost n k) (further_value w at v)
+  further_value_kept w at v k h = by (is_list (ctype_of v))
+    where
+      by : (b : Bool) → Gives (AtMost n k) (if b then Fits v else further w at v (operand_of (ctype_of v)))
+      by true = h
+      by false = further_kept w at v (operand_of (ctype_of v)) k h
+
   arguments_kept : (w : World) (at : ℕ) (ps : Ctypes) (args : List Core) → Gives (UnderMost n (count_all n args)) (arguments w at ps args)
   arguments_kept w at ps [] = omega arith
   arguments_kept w at NoTypes (a ∷ rest) =
@@ -231,7 +261,7 @@ module _ (n : Count) where
       let one : ℕ = count_in n a in
       then_gives (AtMost n one) (UnderMost n all) (value_of w at a) _ (value_less n w at a)
       (λ v k.
-      then_gives (AtMost n one) (UnderMost n all) (further w at v (operand_of (ctype_of v))) _ (further_kept w at v (operand_of (ctype_of v)) one k)
+      then_gives (AtMost n one) (UnderMost n all) (further_value w at v) _ (further_value_kept w at v one k)
       (λ x l. then_gives (UnderMost n (count_all n rest)) (UnderMost n all) (arguments w at NoTypes rest) (λ more. Fits (one_more x more)) (arguments_kept w at NoTypes rest) (λ more p. omega (arith, l, p))))
   arguments_kept w at (MoreTypes t ps) (a ∷ rest) =
       let all : ℕ = count_all n (a ∷ rest) in

@@ -1,7 +1,7 @@
 -- The nodes of the row of every production.
 use Rattle.std.proofs.Common.{arith, ◌≡◌, refl, sym, ap, ◌∙◌, subst, ◌≤◌, ◌+◌, true, false, ◌==◌, ℕ, Bool, ◌&&◌, ◌||◌, not, List, [], ◌∷◌, Option, Some, None}
 use Rattle.std.specs.Prelude.{nat_le, is_some, if◌then◌else◌}
-use Rattle.pta_base.specs.declared.kind.Kind.TheVariants.{Operand, InlineDefinition, VariadicDefinition}
+use Rattle.pta_base.specs.declared.kind.Kind.TheVariants.{Operand, InlineDefinition}
 use Rattle.c_types.specs.Trees.{Ctype}
 use Rattle.c_grammar.specs.Productions.{p_rest, p_declaration, p_assert, p_specs, p_align, p_type, p_struct, p_members, p_member, p_field, p_enum, p_enumerator, p_declarator, p_abstract, p_either, p_suffix, p_parameter, p_type_name, p_init, p_items, p_designator, p_block, p_statement, p_expression, p_primary, p_conditional}
 use Rattle.c_grammar.specs.Words.{word_inline, word_static}
@@ -12,7 +12,7 @@ use Rattle.c_senses.specs.World.{World, has_size}
 use Rattle.c_senses.specs.Constants.{constant_in}
 use Rattle.c_senses.specs.Sense.{Sense, Nothing, IsDeclarator, IsMembers, IsRun, IsInitial}
 use Rattle.c_senses.specs.Declarators.{is_outermost, base_type, derived, adjusted, plain_declarator_row}
-use Rattle.c_senses.specs.Entities.{named_row, parameter_named, initialiser_of, words_go, is_same_again, has_one_linkage, internal_fits, is_name_complete, definition_row, is_void_type, is_variadic, result_of, has_function_word, has_storage, is_defined}
+use Rattle.c_senses.specs.Entities.{named_row, parameter_named, initialiser_of, words_go, is_same_again, has_one_linkage, internal_fits, is_name_complete, definition_row, is_void_type, result_of, has_function_word, has_storage, is_defined}
 use Rattle.c_senses.specs.Statements.{runs_initialiser, initials_among, run_in, assert_row, block_row}
 use Rattle.c_senses.specs.Rows.{at_its_name, declarator_row, declaring_row, row_of}
 use Rattle.std.proofs.lemmas.Bool.{eqb-true}
@@ -51,13 +51,11 @@ module _ (n : Count) (m : ℕ) (w : World) (s : Source) (sense : ℕ → Sense) 
   defined_gives : (t : Ctype) (leaf : ℕ) (g : Given Sense) → G g → G (definition_row w s sense t leaf g)
   unfolding G
   defined_gives t leaf g h =
-      let third : Given Sense = given_if (not (is_variadic w s sense t)) VariadicDefinition leaf g in
-      let second : Given Sense = given_if (not (has_function_word s sense word_inline leaf && not (has_storage s sense word_static leaf))) InlineDefinition leaf third in
+      let second : Given Sense = given_if (not (has_function_word s sense word_inline leaf && not (has_storage s sense word_static leaf))) InlineDefinition leaf g in
       let complete : Bool = is_void_type w s sense (result_of w s sense t) || has_size w (result_of w s sense t) in
       if_holds (Gives (SenseMost n m)) (is_defined s sense leaf) (given_if complete Operand leaf second) g
       (if_given (SenseMost n m) complete Operand leaf second
-      (if_given (SenseMost n m) (not (has_function_word s sense word_inline leaf && not (has_storage s sense word_static leaf))) InlineDefinition leaf third
-      (if_given (SenseMost n m) (not (is_variadic w s sense t)) VariadicDefinition leaf g h))) h
+      (if_given (SenseMost n m) (not (has_function_word s sense word_inline leaf && not (has_storage s sense word_static leaf))) InlineDefinition leaf g h)) h
 
   named_gives : (at leaf : ℕ) (t : Ctype) (g : Given Sense) → G g → G (named_row w s sense at leaf t g)
   unfolding G
@@ -207,19 +205,18 @@ module _ (n : Count) (m : ℕ) (w : World) (s : Source) (sense : ℕ → Sense) 
         by true e = let never : true ≡ false = sym large ∙ (ap (nat_le p_expression) (eqb-true production p e) ∙ small) in cc
         by false e = refl
 
-    summed_by : (a b c d e f : Bool) → a ≡ false → b ≡ false → c ≡ false → d ≡ false → e ≡ false → f ≡ false → not ((a || (b || c)) || (d || (e || f))) ≡ true
-    summed_by false false false false false false ha hb hc hd he hf = refl
-    summed_by true b c d e f ha hb hc hd he hf = cc
-    summed_by false true c d e f ha hb hc hd he hf = cc
-    summed_by false false true d e f ha hb hc hd he hf = cc
-    summed_by false false false true e f ha hb hc hd he hf = cc
-    summed_by false false false false true f ha hb hc hd he hf = cc
-    summed_by false false false false false true ha hb hc hd he hf = cc
+    summed_by : (b c d e f : Bool) → b ≡ false → c ≡ false → d ≡ false → e ≡ false → f ≡ false → not ((b || c) || (d || (e || f))) ≡ true
+    summed_by false false false false false hb hc hd he hf = refl
+    summed_by true c d e f hb hc hd he hf = cc
+    summed_by false true d e f hb hc hd he hf = cc
+    summed_by false false true e f hb hc hd he hf = cc
+    summed_by false false false true f hb hc hd he hf = cc
+    summed_by false false false false true hb hc hd he hf = cc
 
     expression_gives : nat_le p_expression production ≡ true → Gives (SenseMost n m) (expression_row w s sense production at children)
     expression_gives large =
         let P : Given Sense → Type 0 = Gives (SenseMost n m) in
-        if_known P (production == p_primary) _ _ (λ e. primary_kept n w s sense m at children (covers.text e) (single p_primary e refl))
+        if_known P (production == p_primary) _ _ (λ e. primary_kept n w s sense m at children (covers.text e) (summed p_primary e refl))
         (λ no_primary.
         if_known P (production == p_post) _ _ (λ e. post_kept n w s sense m at children (covers.post e))
         (λ no_post.
@@ -232,7 +229,7 @@ module _ (n : Count) (m : ℕ) (w : World) (s : Source) (sense : ℕ → Sense) 
         if_known P (production == p_assignment) _ _ (λ e. assignment_kept n w s sense m at children (summed p_assignment e refl))
         (λ _.
         if_known P (is_binary w s sense production) _ (Refuses Operand at)
-        (λ _. binary_kept n w s sense m at children (covers.others (summed_by (production == p_primary) (production == p_unary) (production == p_cast) (production == p_post) (production == p_init) (production == p_items) no_primary no_unary no_cast no_post (apart_from p_init refl large) (apart_from p_items refl large))))
+        (λ _. binary_kept n w s sense m at children (covers.others (summed_by (production == p_unary) (production == p_cast) (production == p_post) (production == p_init) (production == p_items) no_unary no_cast no_post (apart_from p_init refl large) (apart_from p_items refl large))))
         (λ _. tt)))))))
 
     left_true : (a b : Bool) → (a && b) ≡ true → a ≡ true

@@ -19,7 +19,7 @@ use Rattle.c_lexer.specs.Pieces.{Kind, run, sign, literal, Piece}
 use Rattle.c_lexer.specs.Meanings.{kind_meaning, keyword_meaning, word_meaning, number_meaning, lookup}
 use Rattle.c_lexer.specs.Laws.{Stands}
 use Rattle.c_grammar.specs.Names.{Names, is_type}
-use Rattle.c_grammar.specs.Terminals.{is_wide, has_one_character, terminal_of_kind, terminal_of, takes, spelled, own_words, own_meaning, name_terminal, is_builtin}
+use Rattle.c_grammar.specs.Terminals.{is_wide, has_one_character, terminal_of_kind, terminal_of, takes, spelled, own_words, list_words, own_meaning, name_terminal, is_builtin}
 
 left : (a b : Bool) → (a && b) ≡ true → a ≡ true
 left true b e = refl
@@ -94,18 +94,24 @@ high_words : list_all (λ w. not (nat_lt w.1 93)) own_words ≡ true
 unfolding own_words
 high_words = refl
 
+high_list_words : list_all (λ w. not (nat_lt w.1 93)) list_words ≡ true
+unfolding list_words
+high_list_words = refl
+
 name_high : (names : Names) (name : List ℕ) → 93 ≤ name_terminal names name
 unfolding name_terminal
 name_high names name = by (own_meaning own_words name) refl
   where
-    plain : (a b : Bool) → 93 ≤ (if a then (if b then 108 else 97) else (if b then 94 else 93))
-    plain true true = omega arith
-    plain true false = omega arith
-    plain false true = omega arith
-    plain false false = omega arith
+    plain : (a b : Bool) (o : Option ℕ) → own_meaning list_words name ≡ o → 93 ≤ (if a then (if b then 108 else unwrap_or o 97) else (if b then 94 else 93))
+    plain true true o e = omega arith
+    plain true false None e = omega arith
+    plain true false (Some x) e = own_high list_words high_list_words name x e
+    plain false true o e = omega arith
+    plain false false o e = omega arith
 
-    by : (o : Option ℕ) → own_meaning own_words name ≡ o → 93 ≤ unwrap_or o (if is_builtin name then (if is_type names name then 108 else 97) else (if is_type names name then 94 else 93))
-    by None e = plain (is_builtin name) (is_type names name)
+    by : (o : Option ℕ) → own_meaning own_words name ≡ o
+        → 93 ≤ unwrap_or o (if is_builtin name then (if is_type names name then 108 else unwrap_or (own_meaning list_words name) 97) else (if is_type names name then 94 else 93))
+    by None e = plain (is_builtin name) (is_type names name) (own_meaning list_words name) refl
     by (Some x) e = own_high own_words high_words name x e
 
 paren_kind : (k : TokenKind) (names : Names) (bytes : List ℕ) → IsSmall k → terminal_of_kind k names bytes ≡ 47 → k ≡ Punctuator 2

@@ -1,9 +1,9 @@
 -- Names are made of letters, which stand in no other part of a location's name.
 use Rattle.std.proofs.Common.{arith, ◌≡◌, ◌+◌, ◌-◌, ◌<◌, ◌≤◌, ℕ, suc, ◌&&◌, ◌||◌, ◌==◌, Bool, true, false, List, [], ◌∷◌, Option, Some, None, length, drop, slice_get, All, inl, inr, refl, sym, ap, ◌∙◌, subst}
 use Rattle.std.specs.Prelude.{slice_index, slice_range, nat_le, nat_eq, not, if◌then◌else◌}
-use Rattle.std.proofs.lemmas.Bool.{leb-true, eqb-true, and_parts, or_cases, cases_lt}
+use Rattle.std.proofs.lemmas.Bool.{le-leb, leb-true, eqb-true, and_parts, or_cases, cases_lt}
 use Rattle.std.proofs.lemmas.Bool.Decides.{nat_tests}
-use Rattle.std.proofs.lemmas.List.{get_or-take, get_or-drop, length-take}
+use Rattle.std.proofs.lemmas.List.{get_or-take, get_or-drop, length-take, length-take-le, length-drop}
 use Rattle.std.proofs.lemmas.Option.{slice_get_within, get_or_from_slice_get}
 use Rattle.std.specs.List.{list_all}
 use Rattle.c_lexer.specs.declared.Token.{Token}
@@ -21,7 +21,7 @@ use Rattle.c_lexer.specs.Laws as laws
 use Rattle.c_lexer.proofs.OneCut.{stand}
 use Rattle.c_grammar.specs.declared.trees.SyntaxNode.{SyntaxNode}
 use Rattle.c_grammar.specs.Terminals.{spelled}
-use Rattle.location_laws.specs.name_shapes.Bytes.{is_letter, IsMadeOf}
+use Rattle.location_laws.specs.name_shapes.Bytes.{is_letter, IsMadeOf, IsWord}
 use Rattle.c_senses.specs.Tree.{Source, token_of, token_at, kind_of_token, spelling_of, spelling_at, is_identifier, is_name, is_leaf}
 
 -- letters and digits are none of the signs that stand between the parts of names
@@ -95,21 +95,38 @@ is_word (sign k) word e = cc
 is_word (literal p Character) word e = cc
 is_word (literal p Text) word e = cc
 
-range_letters : (text : List ℕ) (t : Token) → laws.Stands text t → t.kind ≡ token.Identifier → IsMadeOf is_letter (slice_range text t.start t.end)
-range_letters text t (inl h) e = absurd (let f : t.kind ≡ token.End = h.0 in cc)
-range_letters text t (inr h) e =
+-- a word's token is a text of letters with a byte
+word_there : (list : List ℕ) → 0 < length list → IsMadeOf is_letter list → IsWord list
+word_there [] lt h = absurd (omega (arith, lt))
+word_there (c ∷ rest) lt h = h
+
+letters_of : (list : List ℕ) → IsWord list → IsMadeOf is_letter list
+letters_of [] h = absurd h
+letters_of (c ∷ rest) h = h
+
+range_word : (text : List ℕ) (t : Token) → laws.Stands text t → t.kind ≡ token.Identifier → (t.start ≤ t.end) × (t.end ≤ length text) × IsWord (slice_range text t.start t.end)
+range_word text t (inl h) e = absurd (let f : t.kind ≡ token.End = h.0 in cc)
+range_word text t (inr h) e =
     let p : Piece = h.0 in
     let named : p.kind ≡ run Name = is_word p.kind (slice_range text p.from p.end) (h.4 ∙ ap means.Token e) in
     let stands : Stands (run Name) text p.from p.end = subst (λ (k : Kind). Stands k text p.from p.end) named h.3.piece.stands in
     let same : slice_range text p.from p.end ≡ slice_range text t.start t.end = ap (λ (k : ℕ). slice_range text k p.end) h.1 ∙ ap (λ (k : ℕ). slice_range text t.start k) h.2 in
-    subst (λ (w : List ℕ). IsMadeOf is_letter w) same (name_letters text p.from p.end stands)
+    let start : p.from ≡ t.start = h.1 in
+    let end : p.end ≡ t.end = h.2 in
+    let some : p.from < p.end = h.3.piece.within.0 in
+    let inside : p.end ≤ length text = h.3.piece.within.1 in
+    let long : length (slice_range text p.from p.end) ≡ p.end - p.from = length-take-le (p.end - p.from) (drop p.from text) (omega (arith, length-drop p.from text, inside)) in
+    (omega (arith, start, end, some), omega (arith, end, inside), subst IsWord same (word_there (slice_range text p.from p.end) (omega (arith, long, some)) (name_letters text p.from p.end stands)))
 
-spelling_letters : (b : Bool) (w : List ℕ) → IsMadeOf is_letter w → IsMadeOf is_letter (if b then w else [])
-spelling_letters true w h = h
-spelling_letters false w h = refl
+spelling_word : (a b : Bool) (w : List ℕ) → a ≡ true → b ≡ true → IsWord w → IsWord (if a && b then w else [])
+spelling_word true true w e f h = h
+spelling_word true false w e f h = cc
+spelling_word false b w e f h = cc
 
-token_letters : (text : List ℕ) (t : Token) → laws.Stands text t → t.kind ≡ token.Identifier → IsMadeOf is_letter (spelled text t)
-token_letters text t h e = spelling_letters (nat_le t.start t.end && nat_le t.end (length text)) (slice_range text t.start t.end) (range_letters text t h e)
+token_word : (text : List ℕ) (t : Token) → laws.Stands text t → t.kind ≡ token.Identifier → IsWord (spelled text t)
+token_word text t h e =
+    let word = range_word text t h e in
+    spelling_word (nat_le t.start t.end) (nat_le t.end (length text)) (slice_range text t.start t.end) (le-leb t.start t.end word.0) (le-leb t.end (length text) word.1) word.2
 
 identifier_is : (k : TokenKind) → is_identifier k ≡ true → k ≡ token.Identifier
 identifier_is token.Identifier e = refl
@@ -125,15 +142,18 @@ module _ (s : Source) (all : All (laws.Stands s.text) s.tokens) where
   token_stands : (k : ℕ) (t : Token) → slice_get s.tokens k ≡ Some t → laws.Stands s.text t
   token_stands k t e = subst (λ (u : Token). laws.Stands s.text u) (get_or_from_slice_get s.tokens k t t e) (all k t (slice_get_within s.tokens k t e))
 
-  by_token : (k : ℕ) (o : Option Token) → slice_get s.tokens k ≡ o → kind_of_token o ≡ token.Identifier → IsMadeOf is_letter (spelling_of s o)
+  by_token : (k : ℕ) (o : Option Token) → slice_get s.tokens k ≡ o → kind_of_token o ≡ token.Identifier → IsWord (spelling_of s o)
   by_token k None h e = absurd (let f : token.End ≡ token.Identifier = e in cc)
-  by_token k (Some t) h e = token_letters s.text t (token_stands k t h) e
+  by_token k (Some t) h e = token_word s.text t (token_stands k t h) e
 
-  by_node : (n : Option SyntaxNode) → kind_of_token (token_of s n) ≡ token.Identifier → IsMadeOf is_letter (spelling_of s (token_of s n))
+  by_node : (n : Option SyntaxNode) → kind_of_token (token_of s n) ≡ token.Identifier → IsWord (spelling_of s (token_of s n))
   by_node None e = absurd (let f : token.End ≡ token.Identifier = e in cc)
   by_node (Some n) e = by_token n.token (slice_get s.tokens n.token) refl e
 
-pub names_spelled : (s : Source) → IsTokens s.text s.tokens → (name : ℕ) → is_name s name ≡ true → IsMadeOf is_letter (spelling_at s name)
-names_spelled s is name h =
+pub words_spelled : (s : Source) → IsTokens s.text s.tokens → (name : ℕ) → is_name s name ≡ true → IsWord (spelling_at s name)
+words_spelled s is name h =
     by_node s (stand s.text s.tokens is) (slice_get s.nodes name)
     (identifier_is (kind_of_token (token_at s name)) (and_parts (is_leaf s name) (is_identifier (kind_of_token (token_at s name))) h).1)
+
+pub names_spelled : (s : Source) → IsTokens s.text s.tokens → (name : ℕ) → is_name s name ≡ true → IsMadeOf is_letter (spelling_at s name)
+names_spelled s is name h = letters_of (spelling_at s name) (words_spelled s is name h)

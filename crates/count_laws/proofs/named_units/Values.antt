@@ -1,9 +1,9 @@
 -- The places of values of places, promotions and conversions.
-use Rattle.std.proofs.Common.{◌==◌, ℕ, zero, suc, Bool, true, false, Option, Some, None}
+use Rattle.std.proofs.Common.{◌==◌, ℕ, zero, suc, Bool, true, false, Option, Some, None, ◌||◌}
 use Rattle.std.specs.Prelude.{⊤}
 use Rattle.pta_base.specs.declared.kind.Kind.{Kind}
 use Rattle.pta_base.specs.declared.kind.Kind.TheVariants.{Operand, StructureCast, IntegerSizeCast}
-use Rattle.c_types.specs.Trees.{Ctype, VoidType, BoolType, IntegerType, FloatingType, VaListType, PointerTo}
+use Rattle.c_types.specs.Trees.{Ctype, VoidType, BoolType, IntegerType, FloatingType, PointerTo}
 use Rattle.core_tree.specs.declared.node.NodeKind.TheVariants.{Fetch, Upcast}
 use Rattle.core_tree.specs.Typed.{Sort, NoNode, PlaceNode, ValueNode, StatementNode, decayed}
 use Rattle.c_consts.specs.Core.{Core, Of, place_of, ctype_of, core_sort, over}
@@ -11,7 +11,7 @@ use Rattle.c_senses.specs.Tree.{Source}
 use Rattle.c_senses.specs.Given.{Given, Fits}
 use Rattle.c_senses.specs.World.{World, same_type}
 use Rattle.c_senses.specs.Nulls.{is_null}
-use Rattle.c_senses.specs.Conversions.{OperandSort, Whole, Address, Aggregate, Other, operand_of, is_fetched, fetched_or_decayed, value_of_sort, value_of, converted, made, promotion, promoted, is_narrow, read_width, Target, ToVoid, ToFunction, ToWhole, ToPointer, ToStructure, ToUnion, ToOther, target_of, null_value, first_member_type, upcast_within, upcast, upcast_or, from_structure, character_kind, pointers, to_pointer, to_whole, to_other, conversion, typed}
+use Rattle.c_senses.specs.Conversions.{OperandSort, Whole, Address, Aggregate, Other, operand_of, is_fetched, fetched_or_decayed, value_of_sort, value_of, converted, made, promotion, promoted, is_narrow, read_width, Target, ToVoid, ToFunction, ToWhole, ToPointer, ToStructure, ToUnion, ToOther, target_of, null_value, first_member_type, upcast_within, upcast, upcast_or, from_structure, character_kind, pointers, to_pointer, to_whole, to_other, conversion, typed, is_list}
 use Rattle.count_laws.proofs.named_units.Standing.{IsAt, OfSource, fine_at}
 use Rattle.count_laws.proofs.named_units.Giving.{Gives, if_given, if_holds}
 
@@ -25,7 +25,7 @@ module _ (source : Source) where
 
   fetched_kept : (w : World) (at : ℕ) (c : Core) → OfSource source c → (o : Option Ctype) → Gives (OfSource source) (fetched_or_decayed w at c o)
   fetched_kept w at c h (Some pointer) = (place_kept c h, (h, tt))
-  fetched_kept w at c h None = if_given (OfSource source) (is_fetched w (operand_of (ctype_of c))) Operand at (Fits (over Fetch (place_of c) (ctype_of c) c)) (place_kept c h, (h, tt))
+  fetched_kept w at c h None = if_given (OfSource source) (is_fetched w (operand_of (ctype_of c)) || is_list (ctype_of c)) Operand at (Fits (over Fetch (place_of c) (ctype_of c) c)) (place_kept c h, (h, tt))
 
   sort_kept : (w : World) (at : ℕ) (c : Core) → OfSource source c → (sort : Sort) → Gives (OfSource source) (value_of_sort w at c sort)
   sort_kept w at c h NoNode = tt
@@ -106,5 +106,4 @@ module _ (source : Source) where
 
   pub typed_kept : (at : ℕ) (t : Ctype) (g : Given Core) → Gives (OfSource source) g → Gives (OfSource source) (typed at t g)
   typed_kept at FloatingType g h = tt
-  typed_kept at VaListType g h = tt
   typed_kept at t g h = h

@@ -34,14 +34,14 @@ use Rattle.c_senses.specs.Entities.{keep, first_of, linkage_of, is_internal, is_
 use Rattle.c_senses.specs.Right.{Numbering, SameKind, StandsBy, AllStandBy, SameBody, IsEntityOf, IsDeclaredAt, IsLiteralOf, IsBody, Within, Itself, Below, sense_of, is_declaring, declares_entity, stands_in_declaration, entity_type, of_internal, is_definition_at, is_tentative, representative, core_of_sense, block_for, body_at, declared_as, declared_name, literal_as, Right}
 use Rattle.c_senses.specs.Right as right
 use Rattle.obj_made.specs.Uses.{is_literal, is_number, literal_entity}
-use Rattle.location_laws.specs.name_shapes.Bytes.{is_unit_byte, is_letter, IsMadeOf}
+use Rattle.location_laws.specs.name_shapes.Bytes.{is_unit_byte, is_letter, IsMadeOf, IsWord}
 use Rattle.count_laws.specs.named_units.Named.{HaveNames, IsNarrow, IsLocalOf, SamePlace, HasUnitNames}
 use Rattle.count_laws.proofs.named_units.Standing.{IsSpelled, AreSpelled, IsAt, IsOpening, Fine, fine_at, OfSource, AllOfSource}
 use Rattle.count_laws.proofs.named_units.Giving.{if_holds}
 use Rattle.count_laws.proofs.named_units.Values.{SomeOf}
 use Rattle.count_laws.proofs.named_units.Expressions.{OfSense}
 use Rattle.count_laws.proofs.named_units.All.{all_kept}
-use Rattle.count_laws.proofs.named_units.Spelled.{names_spelled}
+use Rattle.count_laws.proofs.named_units.Spelled.{names_spelled, words_spelled}
 use Rattle.count_laws.proofs.named_units.Parts.{IsCut, HasToken, narrow, one_place, name_token}
 use Rattle.count_laws.proofs.named_units.Tokens.{few_located}
 use Rattle.parsed_tree_laws.specs.member_names.Differ.{PartsDiffer}
@@ -429,6 +429,19 @@ module _ (s : Source) (name : List ℕ) (u : Unit) (cut : IsCut s) (tokens : IsT
       by : IsMade e y → HasLeaf e y
       by m = by_kind m m.declared
 
+  -- so its name is a word
+  local_word : (e : ℕ) (y : Entity) → IsLocalOf u e y → IsWord y.name
+  local_word e y h = by (made e y h.entity)
+    where
+      by_kind : (m : IsMade e y) → IsDeclaredAt s r.senses m.leaf m.what → IsWord y.name
+      by_kind m (inr l) = absurd (let yes = has_literal m.leaf e l.0 l.1 m.number in let no = h.plain in let never : true ≡ false = sym yes ∙ no in cc)
+      by_kind m (inl named) =
+          let told = named_as s r.senses r.are_senses m.leaf m.what named in
+          subst IsWord (ap (λ (w : right.Declared). w.name) told.as_is ∙ sym m.is.name) (words_spelled s tokens m.leaf (name_at s r.senses r.are_senses m.leaf m.what told))
+
+      by : IsMade e y → IsWord y.name
+      by m = by_kind m m.declared
+
   -- so is a literal, by its parenthesis
   literal_at : (e j : ℕ) (node : Node) → slice_get u.nodes.items j ≡ Some node → node.kind ≡ Literal e → Placed j → (d : ℕ) × (r.numbering d ≡ Some e) × IsOpening s d
   unfolding Placed
@@ -511,6 +524,7 @@ module _ (s : Source) (name : List ℕ) (u : Unit) (cut : IsCut s) (tokens : IsT
       name = subst (λ (n : List ℕ). IsMadeOf is_unit_byte n) (sym r.named) bytes;
       entities = record {
         letters = λ e y at. let m = made e y at in subst (λ (n : List ℕ). IsMadeOf is_letter n) (sym m.is.name) (declared_letters s r.senses r.are_senses (names_spelled s tokens) m.leaf m.what m.declared);
+        word = local_word;
         place = λ e y at. let m = made e y at in subst IsNarrow (sym m.is.place) (at_narrow m.what.place (declared_at s r.senses r.are_senses m.leaf m.what m.declared));
         internal = λ e f y z at there p q same. one_named e f y z (made e y at) (made f z there) p q same;
         local = λ e f y z a b same. one_leafed e f y z (local_leaf e y a) (local_leaf f z b) same;

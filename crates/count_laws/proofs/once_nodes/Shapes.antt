@@ -1,7 +1,7 @@
 -- What the rows of blocks, initialisers and declarators stand for.
 use Rattle.std.proofs.Common.{◌≡◌, ℕ, Bool, not, ◌&&◌, ◌||◌, List, [], Option, Some, None, refl}
 use Rattle.std.specs.Prelude.{⊤, is_some, if◌then◌else◌}
-use Rattle.pta_base.specs.declared.kind.Kind.TheVariants.{Operand, InlineDefinition, VariadicDefinition}
+use Rattle.pta_base.specs.declared.kind.Kind.TheVariants.{Operand, InlineDefinition}
 use Rattle.pta_base.specs.declared.place.Place.{Place}
 use Rattle.c_types.specs.Trees.{Ctype, VoidType}
 use Rattle.core_tree.specs.declared.node.NodeKind.TheVariants.{Block, Initialise}
@@ -18,7 +18,7 @@ use Rattle.c_senses.specs.World.{World, has_size}
 use Rattle.c_senses.specs.Places.{own_place}
 use Rattle.c_senses.specs.Sense.{Sense, Nothing, IsCore, IsDeclarator, IsInitial}
 use Rattle.c_senses.specs.Declarators.{is_outermost, base_type, derived, adjusted, plain_declarator_row, derives_well, derivations, name_in}
-use Rattle.c_senses.specs.Entities.{with_length, entity_of, is_static_object, specified_of, derived_type, initialised_by, named_row, parameter_named, initialiser_of, words_go, is_same_again, has_one_linkage, internal_fits, is_name_complete, definition_row, is_void_type, is_variadic, result_of, has_function_word, has_storage, is_defined}
+use Rattle.c_senses.specs.Entities.{with_length, entity_of, is_static_object, specified_of, derived_type, initialised_by, named_row, parameter_named, initialiser_of, words_go, is_same_again, has_one_linkage, internal_fits, is_name_complete, definition_row, is_void_type, result_of, has_function_word, has_storage, is_defined}
 use Rattle.c_senses.specs.Initialised.{Made, made_of, new_length, placed_cores, most_elements, seen, outcome_of, initialised_fits, object_initialiser, initialised_object, name_of_declarator, init_in}
 use Rattle.c_senses.specs.Statements.{objects_in, cores_in}
 use Rattle.c_senses.specs.Rows.{at_its_name, row_of}
@@ -80,13 +80,11 @@ module _ (w : World) (s : Source) (sense : ℕ → Sense) where
 
   defined_gives : (t : Ctype) (leaf : ℕ) (g : Given Sense) → G g → G (definition_row w s sense t leaf g)
   defined_gives t leaf g h =
-      let third : Given Sense = given_if (not (is_variadic w s sense t)) VariadicDefinition leaf g in
-      let second : Given Sense = given_if (not (has_function_word s sense word_inline leaf && not (has_storage s sense word_static leaf))) InlineDefinition leaf third in
+      let second : Given Sense = given_if (not (has_function_word s sense word_inline leaf && not (has_storage s sense word_static leaf))) InlineDefinition leaf g in
       let complete : Bool = is_void_type w s sense (result_of w s sense t) || has_size w (result_of w s sense t) in
       if_holds (Gives Bodiless) (is_defined s sense leaf) (given_if complete Operand leaf second) g
       (if_given Bodiless complete Operand leaf second
-      (if_given Bodiless (not (has_function_word s sense word_inline leaf && not (has_storage s sense word_static leaf))) InlineDefinition leaf third
-      (if_given Bodiless (not (is_variadic w s sense t)) VariadicDefinition leaf g h))) h
+      (if_given Bodiless (not (has_function_word s sense word_inline leaf && not (has_storage s sense word_static leaf))) InlineDefinition leaf g h)) h
 
   named_gives : (at leaf : ℕ) (t : Ctype) (g : Given Sense) → G g → G (named_row w s sense at leaf t g)
   named_gives at leaf t g h =

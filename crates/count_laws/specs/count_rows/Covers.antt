@@ -23,9 +23,9 @@ use Rattle.count_laws.specs.count_rows.Counts.{items_total}
 abbrev pub IsIn : List ℕ → ℕ → Type 0
 IsIn list c = (k : ℕ) × (slice_get list k ≡ Some c)
 
--- a row that stands for one of its parts or is made over one, and one whose parts are used once each
+-- a row that is made over one of its parts, and one whose parts are used once each
 abbrev pub is_one : ℕ → Bool
-is_one production = (production == p_primary) || ((production == p_unary) || (production == p_cast))
+is_one production = (production == p_unary) || (production == p_cast)
 
 abbrev pub is_summed : ℕ → Bool
 is_summed production =

@@ -13,7 +13,7 @@ use Rattle.core_tree.specs.declared.node.Node.{Node}
 use Rattle.core_tree.specs.declared.node.Entity.{Entity}
 use Rattle.core_tree.specs.declared.node.Linkage.TheVariants.{Internal, Local}
 use Rattle.obj_made.specs.Uses.{is_literal}
-use Rattle.location_laws.specs.name_shapes.Bytes.{is_unit_byte, is_letter, IsMadeOf}
+use Rattle.location_laws.specs.name_shapes.Bytes.{is_unit_byte, is_letter, IsMadeOf, IsWord}
 use Rattle.c_senses.specs.Names.{source_of, numbered}
 use Rattle.c_senses.specs.Right.{Right}
 
@@ -33,10 +33,11 @@ pub record SamePlace (a b : Place) : Type 0 where
   pub line : a.line ≡ b.line
   pub column : a.column ≡ b.column
 
--- Entities have identifiers as names. Those of internal linkage have different names (C11 6.2.2p2), and objects
--- without linkage, literals among them, different places.
+-- Entities have identifiers as names, but for those of literals, which have none. Those of internal linkage have
+-- different names (C11 6.2.2p2), and objects without linkage, literals among them, different places.
 pub record HaveOwnNames (x : Unit) : Type 0 where
   pub letters : (e : ℕ) (y : Entity) → slice_get x.entities.items e ≡ Some y → IsMadeOf is_letter y.name
+  pub word : (e : ℕ) (y : Entity) → IsLocalOf x e y → IsWord y.name
   pub place : (e : ℕ) (y : Entity) → slice_get x.entities.items e ≡ Some y → IsNarrow y.place
   pub internal : (e f : ℕ) (y z : Entity)
       → slice_get x.entities.items e ≡ Some y

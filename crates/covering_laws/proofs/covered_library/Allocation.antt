@@ -1,5 +1,5 @@
 -- The rows of malloc, calloc and free.
-use Rattle.std.proofs.Common.{arith, ◌≡◌, ◌∙◌, ℕ, ◌+◌, ◌*◌, ◌%◌, ◌^◌, true, false, Bool, cond, List, [], ◌∷◌, Option, Some, None, Result, Ok, Err, slice_get, Contains, refl, sym, ap, subst}
+use Rattle.std.proofs.Common.{arith, ◌≡◌, ◌∙◌, inl, ℕ, ◌+◌, ◌*◌, ◌%◌, ◌^◌, true, false, Bool, cond, List, [], ◌∷◌, Option, Some, None, Result, Ok, Err, slice_get, Contains, refl, sym, ap, subst}
 use Rattle.std.specs.Option.{option_map}
 use Rattle.pta_base.specs.declared.effect.Effect.TheVariants.{GivesNew}
 use Rattle.c_types.specs.declared.key.ObjectKey.{ObjectKey}
@@ -35,7 +35,7 @@ use Rattle.covering_laws.specs.covered_memory.Spots.{spot_at, spot_from, spot}
 use Rattle.covering_laws.specs.covered_memory.Covered.{Sets, HasShape, MemoryIn}
 use Rattle.covering_laws.specs.covered_memory.Demands.{Grounds}
 use Rattle.covering_laws.proofs.covered_memory.Changes.{Begins, end_law}
-use Rattle.covering_laws.proofs.covered_memory.Stays.{same_memory}
+use Rattle.covering_laws.proofs.covered_memory.Stays.{heap_plain, same_memory}
 use Rattle.covering_laws.proofs.covered_rows.Places.{cell_held}
 use Rattle.covering_laws.proofs.covered_rows.Values.{sets, w'}
 use Rattle.covering_laws.proofs.covered_library.Effects.{gives_new_in}
@@ -69,7 +69,7 @@ abbrev made : ObjectKey → ℕ → Bool → Instance
 made key bytes zero = record { key = key; live = true; ty = None; bytes = bytes; zero = zero; cells = [] }
 
 abbrev begins : (g : Sets) (key : ObjectKey) (bytes : ℕ) (zero : Bool) → IsFresh g key → Begins g (made key bytes zero)
-begins g key bytes zero f = record { first = f.first; location = f.location; first_is = f.first_is; location_is = f.location_is; shape = f.shape; untyped = λ e. f.allocated }
+begins g key bytes zero f = record { first = f.first; location = f.location; first_is = f.first_is; location_is = f.location_is; shape = f.shape; untyped = λ e. inl f.allocated; further = λ x. absurd (heap_plain key f.allocated x) }
 
 module _ (p : Program) (space : List Location) (system : System) (is : SystemOf p (view_of space) system) (F : Family) (closed : IsClosed system F) (grounds : Grounds p.types space system)
     (number n : ℕ) (node : Node) (site : CallSite) (at : slice_get system.calls number ≡ Some site) (of_call : IsCallSite (w' p space system is F closed grounds) n node site)
@@ -92,7 +92,7 @@ module _ (p : Program) (space : List Location) (system : System) (is : SystemOf 
   pub allocated_in : (to : Ctype) → Contains function.effects GivesNew → type_at (trees_in p) n ≡ PointerTo to → (key : ObjectKey) (f : IsFresh g key) → Contains site.fresh (target, f.first)
       → (memory : List Instance) → MemoryIn g memory → (bytes : ℕ) (zero : Bool) (e : Effected) → allocated memory key bytes zero ≡ Ok e → IsCovered memory e
   allocated_in to listed tn key f fresh memory all bytes zero e h =
-      let r = gives_new_in p space system is F closed grounds number n node site at of_call target function is_target library is_library to listed tn memory (made key bytes zero) all (begins g key bytes zero f) tt fresh refl (start_spot g key f) in
+      let r = gives_new_in p space system is F closed grounds number n node site at of_call target function is_target library is_library to listed tn memory (made key bytes zero) all (begins g key bytes zero f) tt fresh (0, refl, omega arith) (start_spot g key f) in
       subst (IsCovered memory) (ok_one h) (record { leaves = r.0; value = r.1; stores = tt })
 
   -- malloc

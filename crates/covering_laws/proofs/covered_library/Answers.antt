@@ -35,7 +35,7 @@ use Rattle.ref_lib.specs.Effects.{answers}
 use Rattle.ref_elements.specs.Arguments.{argument}
 use Rattle.call_sites.specs.Calls.{IsCallSite}
 use Rattle.normal_form.specs.SystemOf.{SystemOf}
-use Rattle.covering_laws.specs.covered_memory.Spots.{spot, IsInTree}
+use Rattle.covering_laws.specs.covered_memory.Spots.{spot, room, IsInTree}
 use Rattle.covering_laws.specs.covered_memory.Covered.{Sets, MemoryIn, Leaves}
 use Rattle.covering_laws.specs.covered_memory.Demands.{Grounds}
 use Rattle.covering_laws.proofs.covered_memory.Stays.{same_memory}
@@ -107,12 +107,12 @@ module _ (p : Program) (space : List Location) (system : System) (is : SystemOf 
   -- from where the object is in memory, and its location among the call's objects
   pub named_by : (memory : List Instance) (position : ℕ) (path : List PathStep) (l : ℕ)
       → ((i : ℕ) → object_from position 0 memory ≡ Some i
-      → (inst : Instance) × (slice_get memory i ≡ Some inst) × IsInTree p.types (whole_of p.types inst) path × (spot p.types space inst.key path ≡ Some l))
+      → (inst : Instance) × (slice_get memory i ≡ Some inst) × IsInTree p.types (whole_of p.types inst) (room inst) path × (spot p.types space inst.key path ≡ Some l))
       → Contains site.fresh (target, l) → IsNamed memory position path
   named_by memory position path l there fresh = record { known = λ i e. (let o = there i e in (o.0, l, o.1, o.2, o.3, fresh)) }
 
   pub named_held : (to : Ctype) (position : ℕ) → Contains function.effects (GivesObject position) → type_at (trees_in p) n ≡ PointerTo to → (memory : List Instance) (path : List PathStep) (i : ℕ)
-      → ((inst : Instance) × (l : ℕ) × (slice_get memory i ≡ Some inst) × IsInTree p.types (whole_of p.types inst) path × (spot p.types space inst.key path ≡ Some l) × Contains site.fresh (target, l))
+      → ((inst : Instance) × (l : ℕ) × (slice_get memory i ≡ Some inst) × IsInTree p.types (whole_of p.types inst) (room inst) path × (spot p.types space inst.key path ≡ Some l) × Contains site.fresh (target, l))
       → HeldIn g w memory n (one_cell (Pointer i path false))
   named_held to position listed tn memory path i k =
       gives_object_in p space system is F closed grounds number n node site at of_call target function is_target library is_library to position listed tn memory i k.0 path k.1 k.2 k.3 k.4 k.5

@@ -1,8 +1,8 @@
 -- What an object that a call makes begins as, from what the program says of it.
-use Rattle.std.proofs.Common.{◌≡◌, ◌∙◌, ℕ, Bool, true, false, cond, List, [], ◌∷◌, Option, Some, None, IsSome, slice_get, Contains, refl, sym, ap, subst, arith, ◌+◌}
+use Rattle.std.proofs.Common.{◌≡◌, ◌∙◌, inl, ℕ, Bool, true, false, cond, List, [], ◌∷◌, Option, Some, None, IsSome, slice_get, Contains, refl, sym, ap, subst, arith, ◌+◌}
 use Rattle.obj_space.specs.declared.location.Location.{Location}
 use Rattle.std.specs.Option.{option_map}
-use Rattle.covering_laws.specs.covered_memory.Spots.{spot_at, spot_from, spot, IsInTree}
+use Rattle.covering_laws.specs.covered_memory.Spots.{spot_at, spot_from, spot, room_by, IsInTree}
 use Rattle.c_types.specs.declared.key.ObjectKey.{ObjectKey}
 use Rattle.c_types.specs.declared.term.PathStep.TheVariants.{Index}
 use Rattle.c_types.specs.declared.term.TypeId.{TypeId}
@@ -21,6 +21,7 @@ use Rattle.covering_laws.specs.covered_memory.Covered.{Sets, HasShape, InstanceI
 use Rattle.covering_laws.specs.covered_memory.Demands.{Grounds}
 use Rattle.covering_laws.proofs.covered_memory.Access.{shape_complete}
 use Rattle.covering_laws.proofs.covered_memory.Parts.{path_complete}
+use Rattle.covering_laws.proofs.covered_memory.Stays.{heap_plain}
 use Rattle.covering_laws.proofs.covered_memory.Changes.{Takes, typed_in}
 use Rattle.covering_laws.specs.covered_library.Calls.{IsFresh, IsScalars}
 use Rattle.covering_laws.proofs.covered_library.Allocation.{start_spot}
@@ -42,8 +43,8 @@ module _ (g : Sets) (system : System) (grounds : Grounds g.table g.space system)
       → (b : IsBegun g key ty bytes zero cells) × (b.begins.first ≡ f.first)
   begun_of key f None suits bytes zero cells = (
     record {
-      begins = record { first = f.first; location = f.location; first_is = f.first_is; location_is = f.location_is; shape = f.shape; untyped = λ e. f.allocated };
-      in_tree = refl;
+      begins = record { first = f.first; location = f.location; first_is = f.first_is; location_is = f.location_is; shape = f.shape; untyped = λ e. inl f.allocated; further = λ x. absurd (heap_plain key f.allocated x) };
+      in_tree = (0, refl, omega arith);
       spot_is = start_spot g key f;
     },
     refl,
@@ -51,12 +52,12 @@ module _ (g : Sets) (system : System) (grounds : Grounds g.table g.space system)
   begun_of key f (Some id) suits bytes zero cells =
       let bare : Instance = record { key = key; live = true; ty = None; bytes = bytes; zero = zero; cells = [] } in
       let inside : InstanceIn g [] (record { key = key; live = true; ty = None; bytes = bytes; zero = zero; cells = [] }) =
-      record { first = f.first; location = f.location; first_is = f.first_is; location_is = f.location_is; shape = f.shape; untyped = λ e. f.allocated; cells = tt } in
-      let typed = typed_in g system grounds [] bare id refl suits.0 inside suits.1 in
+      record { first = f.first; location = f.location; first_is = f.first_is; location_is = f.location_is; shape = f.shape; untyped = λ e. inl f.allocated; further = λ x. absurd (heap_plain key f.allocated x); cells = tt } in
+      let typed = typed_in g system grounds [] bare id refl f.allocated suits.0 inside suits.1 in
       let first : typed.1.first ≡ f.first = some_one (sym typed.1.first_is ∙ f.first_is) in (
         record {
-          begins = record { first = typed.1.first; location = typed.1.location; first_is = typed.1.first_is; location_is = typed.1.location_is; shape = typed.1.shape; untyped = typed.1.untyped };
-          in_tree = typed.0.in_tree (Index 0 ∷ []) refl;
+          begins = record { first = typed.1.first; location = typed.1.location; first_is = typed.1.first_is; location_is = typed.1.location_is; shape = typed.1.shape; untyped = typed.1.untyped; further = typed.1.further };
+          in_tree = typed.0.in_tree (Index 0 ∷ []) (0, refl, omega arith);
           spot_is = start_spot g key f ∙ ap (λ (k : ℕ). Some k) (sym first);
         },
         first,
@@ -127,8 +128,9 @@ module _ (g : Sets) (key : ObjectKey) (id : TypeId) (f : IsScalars g key id) (by
         shape = subst (λ (c : Content). HasShape g.table c (whole_of g.table (record { key = key; live = true; ty = Some id; bytes = bytes; zero = false; cells = cells }))) (sym f.content_is)
             (type_of g.table id.0, elements_in bytes (size_below (extent_in g.table (type_of g.table id.0))), whole_is, f.is_scalar, f.scalar_is);
         untyped = λ e. absurd (some_none e);
+        further = λ x. absurd (heap_plain key f.allocated x);
       };
-      in_tree = subst (λ (w : Option Ctype). IsInTree g.table w (Index 0 ∷ [])) (sym whole_is) refl;
+      in_tree = subst (λ (w : Option Ctype). IsInTree g.table w (room_by key bytes) (Index 0 ∷ [])) (sym whole_is) refl;
       spot_is = scalars_spot;
     },
     has,

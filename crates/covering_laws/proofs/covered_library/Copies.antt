@@ -1,12 +1,18 @@
 -- memcpy and memmove: the elements of one place are put under those of another.
-use Rattle.std.proofs.Common.{◌≡◌, ◌∙◌, ℕ, zero, suc, ◌+◌, ◌<◌, Bool, true, false, cond, List, ◌++◌, Option, Some, None, Result, Ok, Err, IsSome, slice_get, Contains, refl, sym, ap, subst}
+use Rattle.std.proofs.Common.{◌≡◌, ◌∙◌, inl, inr, ℕ, zero, suc, ◌+◌, ◌<◌, Bool, true, false, cond, List, [], ◌∷◌, ◌++◌, Option, Some, None, Result, Ok, Err, IsSome, IsTrue, slice_get, Contains, refl, sym, ap, subst}
 use Rattle.std.specs.Option.{option_map}
 use Rattle.std.proofs.lemmas.Bool.{false≢true}
 use Rattle.c_types.specs.declared.key.ObjectKey.{ObjectKey}
+use Rattle.c_types.specs.declared.key.ObjectKey.TheVariants.{Varargs as VarargsKey, Entity as EntityKey, Text as TextKey, Call as CallKey, Library as LibraryKey, Star as StarKey, Function as FunctionKey}
 use Rattle.c_types.specs.declared.term.PathStep.{PathStep}
+use Rattle.c_types.specs.declared.term.PathStep.TheVariants.{Index}
+use Rattle.c_types.specs.declared.term.Term.{Term}
+use Rattle.c_types.specs.declared.term.Term.TheVariants.{Array, Pointer as PointerTerm, Function as FunctionTerm, Structure, Union}
 use Rattle.c_types.specs.declared.term.TypeId.{TypeId}
-use Rattle.c_types.specs.Trees.{Ctype}
-use Rattle.c_types.specs.Table.{Table, type_of, extent_in}
+use Rattle.c_types.specs.Trees.{Ctype, ArrayOf}
+use Rattle.c_types.specs.Table.{Table, type_of, extent_in, size_below}
+use Rattle.c_types.specs.Made.{AreNamed}
+use Rattle.type_rules.proofs.term_types.Grown.{types_grown}
 use Rattle.sol_model.specs.declared.system.System.{System}
 use Rattle.sol_model.specs.Families.{Has, IsContained}
 use Rattle.sol_model.specs.Places.{nodes_of as system_nodes, deep}
@@ -18,26 +24,29 @@ use Rattle.ref_cells.specs.declared.cells.Reason.TheVariants.{DeadUse}
 use Rattle.ref_cells.specs.declared.cells.Cell.{Cell}
 use Rattle.ref_cells.specs.declared.cells.Cell.TheVariants.{Unset, Number, Null, Pointer, Function}
 use Rattle.ref_cells.specs.declared.instance.Instance.{Instance}
+use Rattle.ref_cells.specs.declared.wholes.Whole.{Whole}
+use Rattle.ref_cells.specs.declared.wholes.Whole.TheVariants.{One, Many}
 use Rattle.ref_cells.specs.Cells.{CellList}
-use Rattle.ref_cells.specs.Wholes.{whole_of, typed_whole, shape_of}
+use Rattle.ref_cells.specs.Wholes.{is_allocated, elements_in, whole_of, typed_whole, shape_of}
 use Rattle.ref_cells.specs.Values.{filled}
 use Rattle.ref_mem.specs.Reads.{opened, content}
 use Rattle.ref_mem.specs.Writes.{put_all, with_parts, type_or, typed_as}
 use Rattle.ref_elements.specs.declared.runs.Run.{Run}
 use Rattle.ref_elements.specs.declared.runs.Found.{Found}
 use Rattle.ref_elements.specs.Parts.{Parts, pointers_of, with_all}
-use Rattle.ref_elements.specs.Runs.{◌>>=◌, whole_id, run_from, element_path, with_run, found_as, live_at, found_at, content_in, content_at}
+use Rattle.ref_elements.specs.Runs.{◌>>=◌, whole_id, term_part, term_count, indexed, run_from, element_path, with_run, found_as, live_at, found_at, content_in, content_at}
 use Rattle.ref_copies.specs.Copies.{push_part, copied, target_run, target_for}
-use Rattle.covering_laws.specs.covered_memory.Spots.{spot, whole_part, IsInTree}
+use Rattle.covering_laws.specs.covered_memory.Spots.{spot, whole_part, IsFurther, room, IsInTree}
 use Rattle.covering_laws.specs.covered_memory.Covered.{Sets, PointsIn, CellIn, pointer_row, CellsIn, object_row, HasShape, InstanceIn, MemoryIn, GoesOn, Leaves}
 use Rattle.covering_laws.specs.covered_memory.Demands.{Grounds, IsFew}
 use Rattle.covering_laws.proofs.covered_memory.Cells.{each_change}
+use Rattle.covering_laws.proofs.covered_memory.Filled.{nowhere}
 use Rattle.covering_laws.proofs.covered_memory.Puts.{opened_each, part_along}
 use Rattle.covering_laws.proofs.covered_memory.Parts.{path_complete}
 use Rattle.covering_laws.proofs.covered_memory.Anchors.{spot_is}
-use Rattle.covering_laws.proofs.covered_memory.Stays.{goes_on}
-use Rattle.covering_laws.proofs.covered_memory.Access.{Target, shape_complete, filled_in, with_cells}
-use Rattle.covering_laws.proofs.covered_memory.Changes.{Takes, typed_in, change_law, PartsIn, puts_in}
+use Rattle.covering_laws.proofs.covered_memory.Stays.{goes_on, cells_out}
+use Rattle.covering_laws.proofs.covered_memory.Access.{Target, shape_complete, filled_in}
+use Rattle.covering_laws.proofs.covered_memory.Changes.{Takes, typed_in, change_law, PartsIn, parts_own}
 use Rattle.covering_laws.proofs.covered_library.Deep.{cells_copied}
 use Rattle.covering_laws.specs.covered_library.Calls.{StoresIn}
 use Rattle.covering_laws.proofs.covered_library.Stores.{parts_stored}
@@ -58,6 +67,36 @@ err_ok h = cc
 there : {X : Type 0} (o : Option X) → IsSome o → (x : X) × (o ≡ Some x)
 there None h = absurd (false≢true h)
 there (Some x) h = (x, refl)
+
+-- no array is its own element
+never_own : (t : Ctype) (n : Option ℕ) → t ≡ ArrayOf t n → ⊥
+never_own (ArrayOf of k) n e = never_own of k (let same : of ≡ ArrayOf of k = cc in same)
+never_own t n e = (let bad : t ≡ ArrayOf t n = e in cc)
+
+-- elements at an index of a whole that isn't one of many are those of an array
+element_of : (table : Table) → AreNamed table → (id : TypeId) (i : ℕ) (past : Bool) (run : Run) → run_from table (Some (One id)) (Index i ∷ []) past ≡ Some run
+    → (n : Option ℕ) × (type_of table id.0 ≡ ArrayOf (type_of table run.of.0) n)
+element_of table named id i past run e = by (slice_get table.terms id.0) refl e
+  where
+    by : (o : Option Term) → slice_get table.terms id.0 ≡ o → indexed past i (term_count o) (term_part table o (Index i)) ≡ Some run → (n : Option ℕ) × (type_of table id.0 ≡ ArrayOf (type_of table run.of.0) n)
+    by (Some (Array of (Some n))) is f =
+        (Some n, types_grown table id.0 (Array of (Some n)) named is ∙ ap (λ (r : Run). ArrayOf (type_of table r.of.0) (Some n)) (some_one f))
+    by (Some (Array of None)) is f = absurd (none_some f)
+    by (Some (PointerTerm to)) is f = absurd (none_some f)
+    by (Some (FunctionTerm a b c)) is f = absurd (none_some f)
+    by (Some (Structure tag)) is f = absurd (none_some f)
+    by (Some (Union tag)) is f = absurd (none_some f)
+    by (Some t) is f = absurd (none_some f)
+    by None is f = absurd (none_some f)
+
+further_plain : (key : ObjectKey) → IsFurther key → is_allocated key ≡ false
+further_plain (VarargsKey e) f = refl
+further_plain (EntityKey e) f = absurd f
+further_plain (TextKey n) f = absurd f
+further_plain (CallKey n) f = absurd f
+further_plain (LibraryKey k) f = absurd f
+further_plain (StarKey k) f = absurd f
+further_plain (FunctionKey k) f = absurd f
 
 -- where a target is, and what its elements are once it has a type
 pub record IsTarget (table : Table) (memory : List Instance) (place : Cell) (id : TypeId) (found : Found) : Type 0 where
@@ -109,6 +148,11 @@ target_inv table memory (Pointer i path past) id found e = by (slice_get memory 
     by (Some inst) at f = lives inst at inst.live f
 
 module _ (g : Sets) (system : System) (grounds : Grounds g.table g.space system) (memory : List Instance) (all : MemoryIn g memory) where
+  -- an instance that has a part has a type
+  part_plain : (inst : Instance) → InstanceIn g memory inst → (path : List PathStep) (part : Reached) → part_at g.table (whole_part (whole_of g.table inst)) path ≡ Some part → IsFurther inst.key → ⊥
+  part_plain inst inside path part is f =
+      none_some (sym (nowhere g.table path) ∙ (sym (ap (λ (t : Option TypeId). part_at g.table (whole_part (typed_whole g.table inst t)) path) (inside.further f).0) ∙ is))
+
   -- all cells of a part of an instance, at the rows of its own nodes
   pub source_cells : (inst : Instance) (inside : InstanceIn g memory inst) (path : List PathStep) (part : Reached) (t : Ctype) → part_at g.table (whole_part (whole_of g.table inst)) path ≡ Some part → part.ty ≡ t
       → (cells : CellList) → content g.table inst path t ≡ Some cells → CellsIn g memory (object_row inside.location.content inside.first) (Some part) cells
@@ -126,7 +170,8 @@ module _ (g : Sets) (system : System) (grounds : Grounds g.table g.space system)
           let listed : CellsIn g memory row (Some part) list =
           each_change (λ p c. CellIn g memory (pointer_row row (part_at g.table whole (path ++ p))) c) (λ p c. CellIn g memory (pointer_row row (part_at g.table (Some part) p)) c) list
           (λ p c x. subst (λ (q : Option Reached). CellIn g memory (pointer_row row q) c) (part_along g.table whole path p ∙ ap (λ (q : Option Reached). part_at g.table q p) part_is) x)
-          (opened_each g.table (λ p c. CellIn g memory (pointer_row row (part_at g.table whole p)) c) (whole_of g.table inst) path inst.cells list inside.cells is) in
+          (opened_each g.table (λ p c. CellIn g memory (pointer_row row (part_at g.table whole p)) c) (whole_of g.table inst) path inst.cells list
+          (cells_out g memory inst inside.location.content inside.first (part_plain inst inside path part part_is) inst.cells inside.cells) is) in
           subst (λ (cs : CellList). CellsIn g memory row (Some part) cs) (some_one f) (filled_in g system grounds memory row inst.zero t (Some part) list ty listed)
 
   -- the parts that are put, where each is covered at its place
@@ -144,12 +189,13 @@ module _ (g : Sets) (system : System) (grounds : Grounds g.table g.space system)
       by (Some cells) is (Ok ps) rest f next = subst (PartsIn g system grounds memory row whole) (ok_one f) (each k cells is, next ps rest)
 
   -- an instance that gets a type where it has none
-  pub typed_step : (a : Instance) (id : TypeId) (h : InstanceIn g memory a) → IsSome (extent_in g.table (type_of g.table id.0)) → (a.ty ≡ None → Takes g system grounds id h.location.content) → GoesOn g a (typed_as id a) × InstanceIn g memory (typed_as id a)
-  typed_step a id h complete takes = by a.ty refl
+  pub typed_step : (a : Instance) (id : TypeId) (h : InstanceIn g memory a) → IsSome (extent_in g.table (type_of g.table id.0)) → (a.ty ≡ None → IsTrue (is_allocated a.key)) → (a.ty ≡ None → Takes g system grounds id h.location.content)
+      → GoesOn g a (typed_as id a) × InstanceIn g memory (typed_as id a)
+  typed_step a id h complete heap takes = by a.ty refl
     where
       by : (o : Option TypeId) → a.ty ≡ o → GoesOn g a (typed_as id a) × InstanceIn g memory (typed_as id a)
       by None is =
-          subst (λ (x : Instance). GoesOn g a x × InstanceIn g memory x) (sym (ap (λ (t : Option TypeId). let r : Instance = record a { ty = type_or id t } in r) is)) (typed_in g system grounds memory a id is complete h (takes is))
+          subst (λ (x : Instance). GoesOn g a x × InstanceIn g memory x) (sym (ap (λ (t : Option TypeId). let r : Instance = record a { ty = type_or id t } in r) is)) (typed_in g system grounds memory a id is (heap is) complete h (takes is))
       by (Some own) is =
           let same : a ≡ typed_as id a = ap (λ (t : Option TypeId). let r : Instance = record a { ty = t } in r) is ∙ sym (ap (λ (t : Option TypeId). let r : Instance = record a { ty = type_or id t } in r) is) in
           subst (λ (x : Instance). GoesOn g a x × InstanceIn g memory x) same (goes_on g a, h)
@@ -191,10 +237,10 @@ module _ (g : Sets) (system : System) (grounds : Grounds g.table g.space system)
       source_points : PointsIn g memory (Some from) s.i s.path
       source_points = subst (CellIn g memory (Some from)) s.place_is other_in
 
-      source_tree : IsInTree g.table (Some (shape_of g.table (whole_id g.table s.inst s.id))) s.path
+      source_tree : IsInTree g.table (Some (shape_of g.table (whole_id g.table s.inst s.id))) (room s.inst) s.path
       source_tree =
-          subst (λ (w : Option Ctype). IsInTree g.table w s.path) source_whole
-          (subst (λ (x : Instance). IsInTree g.table (whole_of g.table x) s.path) (some_one (sym source_points.inst_is ∙ s.inst_is)) source_points.in_tree)
+          subst (λ (w : Option Ctype). IsInTree g.table w (room s.inst) s.path) source_whole
+          (subst (λ (x : Instance). IsInTree g.table (whole_of g.table x) (room x) s.path) (some_one (sym source_points.inst_is ∙ s.inst_is)) source_points.in_tree)
 
       source_part : (r : Reached) × (part_at g.table (Some (reached (shape_of g.table (whole_id g.table s.inst s.id)) 0 false)) s.path ≡ Some r)
       source_part = there (part_at g.table (Some (reached (shape_of g.table (whole_id g.table s.inst s.id)) 0 false)) s.path) source_tree
@@ -214,19 +260,37 @@ module _ (g : Sets) (system : System) (grounds : Grounds g.table g.space system)
       target_in : InstanceIn g memory t.inst
       target_in = all t.i t.inst t.inst_is
 
+      target_points : PointsIn g memory (Some to) t.i t.path
+      target_points = subst (CellIn g memory (Some to)) t.place_is place_in
+
+      -- what a variadic function is passed past its parameters is no target
+      never_further : IsFurther t.inst.key → t.inst.ty ≡ None → ⊥
+      never_further f none =
+          let tree : IsInTree g.table None (room t.inst) t.path =
+          subst (λ (o : Option TypeId). IsInTree g.table (typed_whole g.table t.inst o) (room t.inst) t.path) none
+          (subst (λ (x : Instance). IsInTree g.table (whole_of g.table x) (room x) t.path) (some_one (sym target_points.inst_is ∙ t.inst_is)) target_points.in_tree) in
+          let own_is : source.run.of ≡ t.own = some_one (sym (ap (type_or source.run.of) none) ∙ t.ty_is) in
+          let whole_is : whole_id g.table (typed_as source.run.of t.inst) t.own ≡ One t.own =
+          ap (λ (b : Bool). cond b (Many t.own (elements_in t.inst.bytes (size_below (extent_in g.table (type_of g.table t.own.0))))) (One t.own)) (further_plain t.inst.key f) in
+          let run : run_from g.table (Some (One t.own)) (Index tree.0 ∷ []) t.past ≡ Some target.run =
+          ap (λ (w : Whole). run_from g.table (Some w) (Index tree.0 ∷ []) t.past) (sym whole_is)
+          ∙ (ap (λ (p : List PathStep). run_from g.table (Some (whole_id g.table (typed_as source.run.of t.inst) t.own)) p t.past) (sym tree.1) ∙ t.run_is) in
+          let element = element_of g.table grounds.named t.own tree.0 t.past target.run run in
+          never_own (type_of g.table target.run.of.0) element.0 (same_types ∙ (ap (λ (x : TypeId). type_of g.table x.0) own_is ∙ element.1))
+
+      target_heap : t.inst.ty ≡ None → IsTrue (is_allocated t.inst.key)
+      target_heap none = elim (target_in.untyped none) [ inl heap ↦ heap | inr f ↦ absurd (never_further f none) ]
+
       step : GoesOn g t.inst (typed_as source.run.of t.inst) × InstanceIn g memory (typed_as source.run.of t.inst)
-      step = typed_step t.inst source.run.of target_in complete (takes t.i t.inst t.inst_is target_in)
+      step = typed_step t.inst source.run.of target_in complete target_heap (takes t.i t.inst t.inst_is target_in)
 
       target_whole : whole_of g.table (typed_as source.run.of t.inst) ≡ Some (shape_of g.table (whole_id g.table (typed_as source.run.of t.inst) t.own))
       target_whole = ap (typed_whole g.table (typed_as source.run.of t.inst)) t.ty_is ∙ whole_shape g.table (typed_as source.run.of t.inst) t.own
 
-      target_points : PointsIn g memory (Some to) t.i t.path
-      target_points = subst (CellIn g memory (Some to)) t.place_is place_in
-
-      target_tree : IsInTree g.table (Some (shape_of g.table (whole_id g.table (typed_as source.run.of t.inst) t.own))) t.path
+      target_tree : IsInTree g.table (Some (shape_of g.table (whole_id g.table (typed_as source.run.of t.inst) t.own))) (room t.inst) t.path
       target_tree =
-          subst (λ (w : Option Ctype). IsInTree g.table w t.path) target_whole
-          (step.0.in_tree t.path (subst (λ (x : Instance). IsInTree g.table (whole_of g.table x) t.path) (some_one (sym target_points.inst_is ∙ t.inst_is)) target_points.in_tree))
+          subst (λ (w : Option Ctype). IsInTree g.table w (room t.inst) t.path) target_whole
+          (step.0.in_tree t.path (subst (λ (x : Instance). IsInTree g.table (whole_of g.table x) (room x) t.path) (some_one (sym target_points.inst_is ∙ t.inst_is)) target_points.in_tree))
 
       target_part : (r : Reached) × (part_at g.table (Some (reached (shape_of g.table (whole_id g.table (typed_as source.run.of t.inst) t.own)) 0 false)) t.path ≡ Some r)
       target_part = there (part_at g.table (Some (reached (shape_of g.table (whole_id g.table (typed_as source.run.of t.inst) t.own)) 0 false)) t.path) target_tree
@@ -284,8 +348,7 @@ module _ (g : Sets) (system : System) (grounds : Grounds g.table g.space system)
           change_law g system grounds memory t.i (λ inst. with_parts g.table parts (typed_as source.run.of inst)) all
           (λ a0 at0 h0. subst (λ (x : Instance). GoesOn g x (with_parts g.table parts (typed_as source.run.of x)) × InstanceIn g memory (with_parts g.table parts (typed_as source.run.of x))) (some_one (sym t.inst_is ∙ at0)) (
             record { key = step.0.key; in_tree = step.0.in_tree; whole = step.0.whole },
-            with_cells g system grounds memory a step.1 (put_all g.table a.zero (whole_of g.table a) parts a.cells)
-                (puts_in g system grounds memory (object_row step.1.location.content step.1.first) (whole_part (whole_of g.table a)) a.zero (whole_of g.table a) parts a.cells put step.1.cells),
+            parts_own g system grounds memory (typed_as source.run.of t.inst) step.1 parts put,
           ))
 
       stored : StoresIn g (with_all g.table memory t.i source.run.of parts) (pointers_of t.i parts)

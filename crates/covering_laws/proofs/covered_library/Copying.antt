@@ -31,14 +31,14 @@ use Rattle.ref_elements.specs.Runs.{◌>>=◌, found_at, size_in, parts_of, with
 use Rattle.ref_elements.specs.Types.{same_type}
 use Rattle.ref_elements.proofs.SameTypes.{type_true}
 use Rattle.ref_copies.specs.Copies.{copied, target_for, alike, copy_to, copy_from, copy_row}
-use Rattle.call_sites.specs.Calls.{rest_of, IsCallSite}
+use Rattle.call_sites.specs.Calls.{IsCallSite}
 use Rattle.normal_form.specs.Assignments.{row_in}
 use Rattle.normal_form.specs.SystemOf.{SystemOf}
 use Rattle.covering_laws.specs.covered_memory.Covered.{Sets, InstanceIn, MemoryIn, Leaves}
 use Rattle.covering_laws.specs.covered_memory.Demands.{Grounds, IsFew}
 use Rattle.covering_laws.proofs.covered_memory.Changes.{Takes}
 use Rattle.covering_laws.proofs.covered_memory.Stays.{same_memory, value_stays}
-use Rattle.covering_laws.specs.covered_rows.Nodes.{HeldIn, node_row}
+use Rattle.covering_laws.specs.covered_rows.Nodes.{IsArgument, HeldIn, node_row}
 use Rattle.covering_laws.proofs.covered_rows.Places.{held_cell}
 use Rattle.covering_laws.proofs.covered_rows.Values.{sets, w'}
 use Rattle.covering_laws.proofs.covered_library.Effects.{edge_says, argument_is, gives_argument_in}
@@ -74,7 +74,7 @@ module _ (p : Program) (space : List Location) (system : System) (is : SystemOf 
   w = w' p space system is F closed grounds
 
   -- memcpy and memmove: what they leave is covered, and so is what they give
-  pub copy_row_in : (a b : ℕ) (ta tb to : Ctype) → Contains function.effects (GivesArgument 1) → Contains function.effects (Copies 1 2) → slice_get (rest_of node.children) 0 ≡ Some a → slice_get (rest_of node.children) 1 ≡ Some b
+  pub copy_row_in : (a b : ℕ) (ta tb to : Ctype) → Contains function.effects (GivesArgument 1) → Contains function.effects (Copies 1 2) → IsArgument (trees_in p) node 0 a → IsArgument (trees_in p) node 1 b
       → type_at (trees_in p) a ≡ PointerTo ta → type_at (trees_in p) b ≡ PointerTo tb → type_at (trees_in p) n ≡ PointerTo to
       → ((id : TypeId) → IsFew p.types (type_of p.types id.0))
       → ((id : TypeId) (i : ℕ) → kept_at (slice_get (nodes_of p.types (type_of p.types id.0)) i) ≡ true → i < system_nodes system (type_number (type_of p.types id.0)))

@@ -94,13 +94,13 @@ module _ (g : Sets) (system : System) (grounds : Grounds g.table g.space system)
         let k = from_own g.table a.part rest own (ap (λ (t : Ctype). part_at g.table (Some (reached t 0 false)) rest) (sym same) ∙ c.own_is) in
         let whole = k.0 in
         let d = k.1 in
-        let kept = kept_row_node g.table grounds.made b.part.ty rest own i.1 few (part_complete g system grounds memory IsFrom from other b) c.own_is (c.same ∙ i.3) in
+        let kept = kept_row_node g.table grounds.made b.part.ty rest own i.1 i.5 few (part_complete g system grounds memory IsFrom from other b) c.own_is (c.same ∙ i.3) in
         let source = sub_is g system grounds memory IsFrom from other b rest own i.0 c in
         let target = ap (λ (n : ℕ). node_from (slice_get system.locations target_at) target_at n own.node) (ap type_number same) ∙ sub_is g system grounds memory IsTo to path a rest own whole d in
         record {
           at = own_row g system grounds a whole.node;
           location = h.location;
-          row_is = row_is (own_row g system grounds a) (part_at g.table (Some a.part) rest) whole i.1 d.whole_is (sym d.same ∙ (c.same ∙ i.3));
+          row_is = row_is (own_row g system grounds a) (part_at g.table (Some a.part) rest) whole i.1 i.5 d.whole_is (sym d.same ∙ (c.same ∙ i.3));
           found_is = h.found_is;
           has = joined (own_row g system grounds a whole.node) (own_row g system grounds b i.0.node)
               (joined_in system (slice_get system.locations target_at) (slice_get system.locations source_at) target_at source_at (type_number b.part.ty) own.node

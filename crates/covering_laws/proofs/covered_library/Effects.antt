@@ -33,18 +33,18 @@ use Rattle.ref_cells.specs.declared.instance.Instance.{Instance}
 use Rattle.ref_cells.specs.Wholes.{whole_of}
 use Rattle.ref_mem.specs.Reads.{one_cell}
 use Rattle.ref_mem.specs.Writes.{write}
-use Rattle.call_sites.specs.Calls.{rest_of, IsCallSite}
+use Rattle.call_sites.specs.Calls.{head_of, rest_of, IsCallSite}
 use Rattle.normal_form.specs.Assignments.{row_in}
 use Rattle.normal_form.specs.Facts.{cell_list, parameter_rows, parameters_by}
 use Rattle.normal_form.specs.SystemOf.{SystemOf}
-use Rattle.covering_laws.specs.covered_memory.Spots.{spot, whole_part, IsInTree}
+use Rattle.covering_laws.specs.covered_memory.Spots.{spot, whole_part, room, IsInTree}
 use Rattle.covering_laws.specs.covered_memory.Covered.{Sets, CellIn, CellsIn, ValueIn, object_row, MemoryIn, Leaves}
 use Rattle.covering_laws.specs.covered_memory.Demands.{Grounds, Stores}
 use Rattle.covering_laws.proofs.covered_memory.Access.{write_law}
 use Rattle.covering_laws.proofs.covered_memory.Changes.{Begins, new_law}
 use Rattle.covering_laws.proofs.covered_memory.Fields.{copied_law}
-use Rattle.covering_laws.specs.covered_rows.Nodes.{HeldIn}
-use Rattle.covering_laws.proofs.covered_rows.Calls.{row_there, cell_there, call_says, call_gives}
+use Rattle.covering_laws.specs.covered_rows.Nodes.{IsArgument, HeldIn}
+use Rattle.covering_laws.proofs.covered_rows.Calls.{row_there, cell_there, argument_there, parameter_there, call_says, call_gives}
 use Rattle.covering_laws.proofs.covered_rows.Places.{start_spot, held_cell, cell_held}
 use Rattle.covering_laws.proofs.covered_rows.Values.{sets, w'}
 
@@ -53,9 +53,6 @@ some_one h = cc
 
 none_some : {X : Type 0} → {x : X} → ◌≡◌ {A = Option X} None (Some x) → ⊥
 none_some h = cc
-
-get_map : {X Y : Type 0} (f : X → Y) (xs : List X) (k : ℕ) (x : X) → slice_get xs k ≡ Some x → slice_get (map f xs) k ≡ Some (f x)
-get_map f xs k x e = slice_get-map f xs k ∙ ap (option_map f) e
 
 pub get_more : {X : Type 0} (xs ys : List X) (b : X) → slice_get (xs ++ b ∷ ys) (length xs) ≡ Some b
 get_more [] ys b = refl
@@ -103,9 +100,9 @@ module _ (p : Program) (space : List Location) (system : System) (is : SystemOf 
         call_gives p space system is F closed grounds number site at target function is_target a l
         (subst (λ (o : Option ℕ). TargetFact site target function o a l) (sym is_library) (effect, listed, e))
 
-    pub argument_is : (k a : ℕ) (to : Ctype) → slice_get (rest_of node.children) k ≡ Some a → type_at u a ≡ PointerTo to → argument_row site (suc k) ≡ Some (row_in w a)
+    pub argument_is : (k a : ℕ) (to : Ctype) → IsArgument (trees_in p) node k a → type_at u a ≡ PointerTo to → argument_row site (suc k) ≡ Some (row_in w a)
     argument_is k a to a_is ty =
-        ap (option_and_then first_row) (ap (λ (rows : List (List ℕ)). slice_get rows k) of_call.arguments ∙ get_map (value_rows u s) (rest_of node.children) k a a_is) ∙ pointer_first a to ty
+        ap (option_and_then first_row) (ap (λ (rows : List (List ℕ)). slice_get rows k) of_call.arguments ∙ argument_there u s n (head_of node.children) k a (rest_of node.children) a_is.1 a_is.0) ∙ pointer_first a to ty
 
     result_is : (to : Ctype) → type_at u n ≡ PointerTo to → first_row site.result ≡ Some (row_in w n)
     result_is to ty = ap first_row of_call.result ∙ pointer_first n to ty
@@ -115,7 +112,7 @@ module _ (p : Program) (space : List Location) (system : System) (is : SystemOf 
     number_in t memory row k = (tt, tt)
 
     -- The result has what an argument has, and a pointer that is moved in the argument's array.
-    pub gives_argument_in : (k a : ℕ) (to from : Ctype) → Contains function.effects (GivesArgument (suc k)) → slice_get (rest_of node.children) k ≡ Some a → type_at u a ≡ PointerTo from → type_at u n ≡ PointerTo to
+    pub gives_argument_in : (k a : ℕ) (to from : Ctype) → Contains function.effects (GivesArgument (suc k)) → IsArgument (trees_in p) node k a → type_at u a ≡ PointerTo from → type_at u n ≡ PointerTo to
         → (memory : List Instance) (c : Cell) → HeldIn g w memory a (one_cell c) → HeldIn g w memory n (one_cell c)
     gives_argument_in k a to from listed a_is ta tn memory c h =
         cell_held p space system is F closed grounds n to memory c tn
@@ -126,7 +123,7 @@ module _ (p : Program) (space : List Location) (system : System) (is : SystemOf 
     -- The result has the object of the call: a new instance of it leaves the memory covered, and a pointer to its first element is covered.
     pub gives_new_in : (to : Ctype) → Contains function.effects GivesNew → type_at u n ≡ PointerTo to → (memory : List Instance) (inst : Instance) → MemoryIn g memory → (b : Begins g inst)
         → CellsIn g memory (object_row b.location.content b.first) (whole_part (whole_of p.types inst)) inst.cells → Contains site.fresh (target, b.first)
-        → IsInTree p.types (whole_of p.types inst) (Index 0 ∷ []) → spot p.types space inst.key (Index 0 ∷ []) ≡ Some b.first
+        → IsInTree p.types (whole_of p.types inst) (room inst) (Index 0 ∷ []) → spot p.types space inst.key (Index 0 ∷ []) ≡ Some b.first
         → Leaves g memory (memory ++ inst ∷ []) × HeldIn g w (memory ++ inst ∷ []) n (one_cell (Pointer (length memory) (Index 0 ∷ []) false))
     gives_new_in to listed tn memory inst all b cells fresh in_tree there = (
       new_law g system grounds memory inst all b cells,
@@ -141,7 +138,7 @@ module _ (p : Program) (space : List Location) (system : System) (is : SystemOf 
 
     -- The result has a library object.
     pub gives_object_in : (to : Ctype) (object : ℕ) → Contains function.effects (GivesObject object) → type_at u n ≡ PointerTo to → (memory : List Instance) (i : ℕ) (inst : Instance) (path : List PathStep) (l : ℕ)
-        → slice_get memory i ≡ Some inst → IsInTree p.types (whole_of p.types inst) path → spot p.types space inst.key path ≡ Some l → Contains site.fresh (target, l) → HeldIn g w memory n (one_cell (Pointer i path false))
+        → slice_get memory i ≡ Some inst → IsInTree p.types (whole_of p.types inst) (room inst) path → spot p.types space inst.key path ≡ Some l → Contains site.fresh (target, l) → HeldIn g w memory n (one_cell (Pointer i path false))
     gives_object_in to object listed tn memory i inst path l here in_tree there fresh =
         cell_held p space system is F closed grounds n to memory (Pointer i path false) tn
         (record {
@@ -152,7 +149,7 @@ module _ (p : Program) (space : List Location) (system : System) (is : SystemOf 
         })
 
     -- A pointer that an argument holds is written through another one.
-    pub stores_into_in : (i j a b : ℕ) (ta tb to : Ctype) → Contains function.effects (StoresInto (suc i) (suc j)) → slice_get (rest_of node.children) i ≡ Some a → slice_get (rest_of node.children) j ≡ Some b
+    pub stores_into_in : (i j a b : ℕ) (ta tb to : Ctype) → Contains function.effects (StoresInto (suc i) (suc j)) → IsArgument (trees_in p) node i a → IsArgument (trees_in p) node j b
         → type_at u a ≡ PointerTo ta → type_at u b ≡ PointerTo tb → (memory after : List Instance) (place c : Cell) → MemoryIn g memory → HeldIn g w memory a (one_cell place) → HeldIn g w memory b (one_cell c)
         → write p.types memory place (PointerTo to) (one_cell c) ≡ Ok after → Leaves g memory after
     stores_into_in i j a b ta tb to listed a_is b_is tya tyb memory after place c all hp hc e =
@@ -172,10 +169,10 @@ module _ (p : Program) (space : List Location) (system : System) (is : SystemOf 
     -- A function with a body that is called back with two arguments gets them into its parameters: each is covered there.
     pub back_in : (k i j back f x l : ℕ) (called : Function) (key : ObjectKey) (ty tx : Ctype) → Contains function.effects (CallsBack (suc k) (Some (suc i, suc j)))
         → IsCalledBack system F site (suc k) (Some (suc i, suc j)) back called → called.library ≡ None → called.parameters ≡ parameters_by u s (EntityKey f)
-        → slice_get (rest_of node.children) i ≡ Some x → type_at u x ≡ PointerTo tx → slice_get (parameters_of u s f) 0 ≡ Some key → key_type u key ≡ PointerTo ty → first_from 0 space key ≡ Some l
+        → IsArgument (trees_in p) node i x → type_at u x ≡ PointerTo tx → slice_get (parameters_of u s f) 0 ≡ Some key → key_type u key ≡ PointerTo ty → first_from 0 space key ≡ Some l
         → (memory : List Instance) (c : Cell) → CellIn g memory (Some (row_in w x)) c → ValueIn g memory (λ z. l + z) (PointerTo ty) (one_cell c)
     back_in k i j back f x l called key ty tx listed is_back body parameters x_is tyx key_is key_ty first memory c h =
-        let own : slice_get called.parameters 0 ≡ Some (parameter_rows u s key) = ap (λ (rows : List (List ℕ)). slice_get rows 0) parameters ∙ get_map (parameter_rows u s) (parameters_of u s f) 0 key key_is in
+        let own : slice_get called.parameters 0 ≡ Some (parameter_rows u s key) = ap (λ (rows : List (List ℕ)). slice_get rows 0) parameters ∙ parameter_there u s f 0 key key_is in
         let to : parameter_row called 0 ≡ Some (l + 0) =
         ap (option_and_then first_row) own
         ∙ (ap (λ (o : Option ℕ). slice_get (cell_list (none_row u s) (unwrap_or o 0) (nodes_of p.types (key_type u key))) 0) first
@@ -188,10 +185,10 @@ module _ (p : Program) (space : List Location) (system : System) (is : SystemOf 
     -- The second argument of a call back, and the second parameter.
     pub back_second_in : (k i j back f x l : ℕ) (called : Function) (key : ObjectKey) (ty tx : Ctype) → Contains function.effects (CallsBack (suc k) (Some (suc i, suc j)))
         → IsCalledBack system F site (suc k) (Some (suc i, suc j)) back called → called.library ≡ None → called.parameters ≡ parameters_by u s (EntityKey f)
-        → slice_get (rest_of node.children) j ≡ Some x → type_at u x ≡ PointerTo tx → slice_get (parameters_of u s f) 1 ≡ Some key → key_type u key ≡ PointerTo ty → first_from 0 space key ≡ Some l
+        → IsArgument (trees_in p) node j x → type_at u x ≡ PointerTo tx → slice_get (parameters_of u s f) 1 ≡ Some key → key_type u key ≡ PointerTo ty → first_from 0 space key ≡ Some l
         → (memory : List Instance) (c : Cell) → CellIn g memory (Some (row_in w x)) c → ValueIn g memory (λ z. l + z) (PointerTo ty) (one_cell c)
     back_second_in k i j back f x l called key ty tx listed is_back body parameters x_is tyx key_is key_ty first memory c h =
-        let own : slice_get called.parameters 1 ≡ Some (parameter_rows u s key) = ap (λ (rows : List (List ℕ)). slice_get rows 1) parameters ∙ get_map (parameter_rows u s) (parameters_of u s f) 1 key key_is in
+        let own : slice_get called.parameters 1 ≡ Some (parameter_rows u s key) = ap (λ (rows : List (List ℕ)). slice_get rows 1) parameters ∙ parameter_there u s f 1 key key_is in
         let to : parameter_row called 1 ≡ Some (l + 0) =
         ap (option_and_then first_row) own
         ∙ (ap (λ (o : Option ℕ). slice_get (cell_list (none_row u s) (unwrap_or o 0) (nodes_of p.types (key_type u key))) 0) first
@@ -202,7 +199,7 @@ module _ (p : Program) (space : List Location) (system : System) (is : SystemOf 
         )
 
     -- A function that an argument holds, of the signature of the calls back, is one that is called back.
-    pub called_back : (k a : ℕ) (ta : Ctype) → slice_get (rest_of node.children) k ≡ Some a → type_at u a ≡ PointerTo ta → (memory : List Instance) (key : ObjectKey) → HeldIn g w memory a (one_cell (FunctionCell key))
+    pub called_back : (k a : ℕ) (ta : Ctype) → IsArgument (trees_in p) node k a → type_at u a ≡ PointerTo ta → (memory : List Instance) (key : ObjectKey) → HeldIn g w memory a (one_cell (FunctionCell key))
         → (back : ℕ) (called : Function) → slice_get system.functions back ≡ Some called → first_from 0 space key ≡ Some called.location → (passed : Option (ℕ × ℕ)) → called.signature ≡ back_signature passed
         → IsCalledBack system F site (suc k) passed back called
     called_back k a ta a_is tya memory key h back called known first passed agrees =

@@ -3,6 +3,7 @@ use Rattle.std.proofs.Common.{arith, ◌≡◌, ◌∙◌, ℕ, pos, ◌<◌, �
 use Rattle.std.proofs.lemmas.Bool.{false≢true}
 use Rattle.pta_base.specs.declared.effect.Effect.TheVariants.{GivesNew, GivesObject, Copies}
 use Rattle.c_types.specs.declared.key.ObjectKey.{ObjectKey}
+use Rattle.c_types.specs.declared.key.ObjectKey.TheVariants.{Varargs as VarargsKey}
 use Rattle.c_types.specs.declared.key.ObjectKey.TheVariants.{Entity as EntityKey, Text as TextKey, Call as CallKey, Library as LibraryKey, Star as StarKey, Function as FunctionKey}
 use Rattle.c_types.specs.declared.term.PathStep.{PathStep}
 use Rattle.c_types.specs.declared.term.PathStep.TheVariants.{Index, Member}
@@ -41,7 +42,7 @@ use Rattle.ref_elements.specs.Arguments.{count_of}
 use Rattle.ref_elements.specs.Objects.{is_odd, with_new, is_start, object_from}
 use Rattle.ref_elements.specs.Outcomes.{Effected, gives, null_value, start_value, pointers_in}
 use Rattle.ref_lib.specs.ref_alloc.Allocation.{is_live_heap, heap_at, ended, kept_elements, takes, regrown_in, regrown, regrown_at, realloc_of, realloc_row, all_number, ctype_set, ctype_in, ctype_row}
-use Rattle.call_sites.specs.Calls.{rest_of, IsCallSite}
+use Rattle.call_sites.specs.Calls.{IsCallSite}
 use Rattle.normal_form.specs.Assignments.{row_in}
 use Rattle.normal_form.specs.SystemOf.{SystemOf}
 use Rattle.covering_laws.specs.covered_memory.Spots.{whole_part}
@@ -50,7 +51,7 @@ use Rattle.covering_laws.specs.covered_memory.Demands.{Grounds, IsFew}
 use Rattle.covering_laws.proofs.covered_memory.Access.{with_cells}
 use Rattle.covering_laws.proofs.covered_memory.Changes.{end_law}
 use Rattle.covering_laws.proofs.covered_memory.Stays.{then_extends, value_stays, replaced}
-use Rattle.covering_laws.specs.covered_rows.Nodes.{HeldIn, node_row}
+use Rattle.covering_laws.specs.covered_rows.Nodes.{IsArgument, HeldIn, node_row}
 use Rattle.covering_laws.proofs.covered_rows.Places.{held_cell}
 use Rattle.covering_laws.proofs.covered_rows.Values.{sets, w'}
 use Rattle.covering_laws.proofs.covered_library.Effects.{edge_says, argument_is, get_more, gives_new_in}
@@ -81,6 +82,7 @@ heap_allocated (CallKey k) h = refl
 heap_allocated (StarKey k) h = refl
 heap_allocated (EntityKey k) h = absurd (false≢true h)
 heap_allocated (TextKey k) h = absurd (false≢true h)
+heap_allocated (VarargsKey k) h = absurd (false≢true h)
 heap_allocated (LibraryKey k) h = absurd (false≢true h)
 heap_allocated (FunctionKey k) h = absurd (false≢true h)
 
@@ -165,7 +167,7 @@ module _ (p : Program) (space : List Location) (system : System) (is : SystemOf 
   abbrev made : ObjectKey → Option TypeId → ℕ → CellList → Instance
   made key ty bytes cells = record { key = key; live = true; ty = ty; bytes = bytes; zero = false; cells = cells }
 
-  module _ (a : ℕ) (ta to : Ctype) (listed : Contains function.effects GivesNew) (copies : Contains function.effects (Copies 0 1)) (a_is : slice_get (rest_of node.children) 0 ≡ Some a) (tya : type_at (trees_in p) a ≡ PointerTo ta)
+  module _ (a : ℕ) (ta to : Ctype) (listed : Contains function.effects GivesNew) (copies : Contains function.effects (Copies 0 1)) (a_is : IsArgument (trees_in p) node 0 a) (tya : type_at (trees_in p) a ≡ PointerTo ta)
       (tn : type_at (trees_in p) n ≡ PointerTo to) (few : (id : TypeId) → IsFew p.types (type_of p.types id.0))
       (counts : (id : TypeId) (i : ℕ) → kept_at (slice_get (nodes_of p.types (type_of p.types id.0)) i) ≡ true → i < system_nodes system (type_number (type_of p.types id.0))) (key : ObjectKey) (a1 : Cell)
       (h1 : HeldIn (sets p space system is F closed grounds) (w' p space system is F closed grounds) memory a (one_cell a1)) where
@@ -181,7 +183,7 @@ module _ (p : Program) (space : List Location) (system : System) (is : SystemOf 
         (min (elements_in old.bytes (size_below (extent_in p.types (type_of p.types id.0)))) (elements_in bytes (size_below (extent_in p.types (type_of p.types id.0))))))
       where
         new_in : InstanceIn g memory (made key (Some id) bytes [])
-        new_in = record { first = b.begins.first; location = b.begins.location; first_is = b.begins.first_is; location_is = b.begins.location_is; shape = b.begins.shape; untyped = b.begins.untyped; cells = tt }
+        new_in = record { first = b.begins.first; location = b.begins.location; first_is = b.begins.first_is; location_is = b.begins.location_is; shape = b.begins.shape; untyped = b.begins.untyped; further = b.begins.further; cells = tt }
 
         old_in : InstanceIn g memory old
         old_in = all i old old_is
@@ -224,7 +226,7 @@ module _ (p : Program) (space : List Location) (system : System) (is : SystemOf 
             let b = begun i old (count_of a2) old_is taken (kept_elements p.types old (count_of a2) old.ty) in
             let empty : IsBegun (sets p space system is F closed grounds) key old.ty (count_of a2) false [] =
             record {
-              begins = record { first = b.0.begins.first; location = b.0.begins.location; first_is = b.0.begins.first_is; location_is = b.0.begins.location_is; shape = b.0.begins.shape; untyped = b.0.begins.untyped };
+              begins = record { first = b.0.begins.first; location = b.0.begins.location; first_is = b.0.begins.first_is; location_is = b.0.begins.location_is; shape = b.0.begins.shape; untyped = b.0.begins.untyped; further = b.0.begins.further };
               in_tree = b.0.in_tree;
               spot_is = b.0.spot_is;
             } in

@@ -1,8 +1,9 @@
 -- The objects of the library that are in memory: what a row names is covered.
-use Rattle.std.proofs.Common.{arith, ◌≡◌, ◌∙◌, ℕ, suc, ◌+◌, eqb-true, Bool, true, false, cond, List, [], ◌∷◌, Option, Some, None, slice_get, refl, sym, ap, subst}
+use Rattle.std.proofs.Common.{arith, ◌≡◌, ◌∙◌, inl, inr, ℕ, suc, ◌+◌, eqb-true, Bool, true, false, cond, List, [], ◌∷◌, Option, Some, None, slice_get, refl, sym, ap, subst}
 use Rattle.std.proofs.lemmas.Bool.{false≢true}
 use Rattle.c_types.specs.declared.key.ObjectKey.{ObjectKey}
 use Rattle.c_types.specs.declared.key.ObjectKey.TheVariants.{Entity as EntityKey, Text as TextKey, Call as CallKey, Library as LibraryKey, Star as StarKey, Function as FunctionKey}
+use Rattle.c_types.specs.declared.key.ObjectKey.TheVariants.{Varargs as VarargsKey}
 use Rattle.c_types.specs.declared.term.PathStep.TheVariants.{Index}
 use Rattle.c_types.specs.declared.term.TypeId.{TypeId}
 use Rattle.c_types.specs.Trees.{Ctype, ArrayOf}
@@ -17,7 +18,7 @@ use Rattle.obj_space.specs.View.{first_from}
 use Rattle.ref_cells.specs.declared.instance.Instance.{Instance}
 use Rattle.ref_cells.specs.Wholes.{is_allocated, elements_in, typed_whole, whole_of}
 use Rattle.ref_elements.specs.Objects.{is_object, object_from}
-use Rattle.covering_laws.specs.covered_memory.Spots.{spot_at, spot_from, spot, IsInTree}
+use Rattle.covering_laws.specs.covered_memory.Spots.{spot_at, spot_from, spot, IsFurther, room, IsInTree}
 use Rattle.covering_laws.specs.covered_memory.Covered.{Sets, HasShape, object_row, InstanceIn, MemoryIn}
 use Rattle.covering_laws.specs.covered_memory.Demands.{Grounds}
 use Rattle.covering_laws.proofs.covered_memory.Anchors.{spot_is}
@@ -35,6 +36,7 @@ is_the_object position (EntityKey k) h = absurd (false≢true h)
 is_the_object position (TextKey k) h = absurd (false≢true h)
 is_the_object position (CallKey k) h = absurd (false≢true h)
 is_the_object position (StarKey k) h = absurd (false≢true h)
+is_the_object position (VarargsKey k) h = absurd (false≢true h)
 is_the_object position (FunctionKey k) h = absurd (false≢true h)
 
 -- the instance that is found is one of that object
@@ -61,18 +63,22 @@ module _ (g : Sets) (system : System) (grounds : Grounds g.table g.space system)
 
   -- the object itself, where it isn't allocated
   pub place_named : is_allocated (LibraryKey position) ≡ false → (i : ℕ) → object_from position 0 memory ≡ Some i
-      → (inst : Instance) × (slice_get memory i ≡ Some inst) × IsInTree g.table (whole_of g.table inst) [] × (spot g.table g.space inst.key [] ≡ Some l)
+      → (inst : Instance) × (slice_get memory i ≡ Some inst) × IsInTree g.table (whole_of g.table inst) (room inst) [] × (spot g.table g.space inst.key [] ≡ Some l)
   place_named plain i h =
       let o = object_there position memory i h in
       (o.0, o.1, by o.0 o.2 (all i o.0 o.1) o.0.ty refl, start_spot g.table g.space o.0.key l (spot_first o.0.key o.2))
     where
-      by : (inst : Instance) → inst.key ≡ LibraryKey position → InstanceIn g memory inst → (t : Option TypeId) → inst.ty ≡ t → IsInTree g.table (whole_of g.table inst) []
-      by inst key inside None none = absurd (false≢true (sym plain ∙ (sym (ap is_allocated key) ∙ inside.untyped none)))
-      by inst key inside (Some id) typed = subst (λ (w : Option Ctype). IsInTree g.table w []) (sym (ap (typed_whole g.table inst) typed)) refl
+      by : (inst : Instance) → inst.key ≡ LibraryKey position → InstanceIn g memory inst → (t : Option TypeId) → inst.ty ≡ t → IsInTree g.table (whole_of g.table inst) (room inst) []
+      by inst key inside None none =
+          elim (inside.untyped none) [
+            | inl heap ↦ absurd (false≢true (sym plain ∙ (sym (ap is_allocated key) ∙ heap)))
+            | inr further ↦ absurd (subst IsFurther key further)
+          ]
+      by inst key inside (Some id) typed = subst (λ (w : Option Ctype). IsInTree g.table w (room inst) []) (sym (ap (typed_whole g.table inst) typed)) refl
 
   -- the first element of an object of scalars
   pub element_named : (location : Location) → slice_get g.space l ≡ Some location → (scalar : ℕ) → location.content ≡ Scalars scalar → (i : ℕ) → object_from position 0 memory ≡ Some i
-      → (inst : Instance) × (slice_get memory i ≡ Some inst) × IsInTree g.table (whole_of g.table inst) (Index 0 ∷ []) × (spot g.table g.space inst.key (Index 0 ∷ []) ≡ Some l)
+      → (inst : Instance) × (slice_get memory i ≡ Some inst) × IsInTree g.table (whole_of g.table inst) (room inst) (Index 0 ∷ []) × (spot g.table g.space inst.key (Index 0 ∷ []) ≡ Some l)
   element_named location location_is scalar content i h =
       let o = object_there position memory i h in
       let inside = all i o.0 o.1 in
@@ -85,13 +91,13 @@ module _ (g : Sets) (system : System) (grounds : Grounds g.table g.space system)
       (subst (HasShape g.table inside.location.content) shape.2 inside.shape) (Index 0 ∷ []) (reached shape.0 0 false) part in (
         o.0,
         o.1,
-        subst (λ (w : Option Ctype). IsInTree g.table w (Index 0 ∷ [])) (sym shape.2) refl,
+        subst (λ (w : Option Ctype). IsInTree g.table w (room o.0) (Index 0 ∷ [])) (sym shape.2) refl,
         there ∙ (ap (λ (c : Content). Some (object_row c inside.first 0)) content_is ∙ ap (λ (k : ℕ). Some k) (let e = same in omega arith)),
       )
 
   -- the first element of an allocated object of bytes
   pub blob_named : (location : Location) → slice_get g.space l ≡ Some location → location.content ≡ Blob → is_allocated (LibraryKey position) ≡ true → (i : ℕ) → object_from position 0 memory ≡ Some i
-      → (inst : Instance) × (slice_get memory i ≡ Some inst) × IsInTree g.table (whole_of g.table inst) (Index 0 ∷ []) × (spot g.table g.space inst.key (Index 0 ∷ []) ≡ Some l)
+      → (inst : Instance) × (slice_get memory i ≡ Some inst) × IsInTree g.table (whole_of g.table inst) (room inst) (Index 0 ∷ []) × (spot g.table g.space inst.key (Index 0 ∷ []) ≡ Some l)
   blob_named location location_is content heap i h =
       let o = object_there position memory i h in (
         o.0,
@@ -102,9 +108,9 @@ module _ (g : Sets) (system : System) (grounds : Grounds g.table g.space system)
             ∙ (ap (λ (c : Content). option_map (λ (n : ℕ). l + n) (node_in g.table c (Index 0 ∷ []))) content ∙ ap (λ (n : ℕ). Some n) (let e : l + 0 ≡ l = omega arith in e))),
       )
     where
-      by : (inst : Instance) → inst.key ≡ LibraryKey position → (t : Option TypeId) → inst.ty ≡ t → IsInTree g.table (whole_of g.table inst) (Index 0 ∷ [])
-      by inst key None none = subst (λ (w : Option Ctype). IsInTree g.table w (Index 0 ∷ [])) (sym (ap (typed_whole g.table inst) none)) refl
+      by : (inst : Instance) → inst.key ≡ LibraryKey position → (t : Option TypeId) → inst.ty ≡ t → IsInTree g.table (whole_of g.table inst) (room inst) (Index 0 ∷ [])
+      by inst key None none = subst (λ (w : Option Ctype). IsInTree g.table w (room inst) (Index 0 ∷ [])) (sym (ap (typed_whole g.table inst) none)) (0, refl, omega arith)
       by inst key (Some id) typed =
           let array : Ctype = ArrayOf (type_of g.table id.0) (Some (elements_in inst.bytes (size_below (extent_in g.table (type_of g.table id.0))))) in
-          subst (λ (w : Option Ctype). IsInTree g.table w (Index 0 ∷ []))
+          subst (λ (w : Option Ctype). IsInTree g.table w (room inst) (Index 0 ∷ []))
           (sym (ap (typed_whole g.table inst) typed ∙ ap (λ (b : Bool). Some (cond b (ArrayOf (type_of g.table id.0) (Some (elements_in inst.bytes (size_below (extent_in g.table (type_of g.table id.0)))))) (type_of g.table id.0))) (ap is_allocated key ∙ heap))) refl

@@ -25,8 +25,7 @@ use Rattle.covering_laws.specs.covered_memory.Covered.{Sets, CellIn, pointer_row
 use Rattle.covering_laws.specs.covered_memory.Demands.{Grounds}
 use Rattle.covering_laws.proofs.covered_memory.Cells.{each_change}
 use Rattle.covering_laws.proofs.covered_memory.Filled.{fills_all}
-use Rattle.covering_laws.proofs.covered_memory.Access.{with_cells}
-use Rattle.covering_laws.proofs.covered_memory.Changes.{Takes, change_law, PartsIn, puts_in}
+use Rattle.covering_laws.proofs.covered_memory.Changes.{change_law, PartsIn, parts_own}
 use Rattle.covering_laws.proofs.covered_library.Copies.{typed_step}
 use Rattle.covering_laws.specs.covered_library.Calls.{StoresIn}
 use Rattle.covering_laws.proofs.covered_library.Stores.{stores_append}
@@ -62,15 +61,14 @@ module _ (g : Sets) (system : System) (grounds : Grounds g.table g.space system)
 
   -- What is put points to nothing: the memory stays covered.
   pub quiet_law : (i : ℕ) (id : TypeId) (parts : Parts) → ArePartsQuiet parts → IsSome (extent_in g.table (type_of g.table id.0))
-      → ((a : Instance) → slice_get memory i ≡ Some a → (h : InstanceIn g memory a) → a.ty ≡ None → Takes g system grounds id h.location.content) → Leaves g memory (with_all g.table memory i id parts)
-  quiet_law i id parts quiet complete takes =
+      → ((a : Instance) → slice_get memory i ≡ Some a → a.ty ≡ None → ⊥) → Leaves g memory (with_all g.table memory i id parts)
+  quiet_law i id parts quiet complete typed =
       change_law g system grounds memory i (λ inst. with_parts g.table parts (typed_as id inst)) all
-      (λ a e h. let step = typed_step g system grounds memory all a id h complete (takes a e h) in
+      (λ a e h. let step = typed_step g system grounds memory all a id h complete (λ none. absurd (typed a e none)) (λ none. absurd (typed a e none)) in
       let row = object_row step.1.location.content step.1.first in
       let whole = whole_part (whole_of g.table (typed_as id a)) in (
         record { key = step.0.key; in_tree = step.0.in_tree; whole = step.0.whole },
-        with_cells g system grounds memory (typed_as id a) step.1 (put_all g.table a.zero (whole_of g.table (typed_as id a)) parts a.cells)
-            (puts_in g system grounds memory row whole a.zero (whole_of g.table (typed_as id a)) parts a.cells (quiet_parts row whole parts quiet) step.1.cells),
+        parts_own g system grounds memory (typed_as id a) step.1 parts (quiet_parts row whole parts quiet),
       ))
 
 -- what points to nothing is no pointer that is stored

@@ -17,6 +17,7 @@ use Rattle.covering_laws.specs.covered_memory.Spots.{whole_part}
 use Rattle.covering_laws.specs.covered_memory.Covered.{Sets, CellIn, pointer_row, CellsIn, object_row, InstanceIn}
 use Rattle.covering_laws.specs.covered_memory.Demands.{Grounds, IsFew}
 use Rattle.covering_laws.proofs.covered_memory.Cells.{each_append, each_prefixed, each_under}
+use Rattle.covering_laws.proofs.covered_memory.Stays.{cells_out, typed_plain}
 use Rattle.covering_laws.proofs.covered_memory.Access.{Target, filled_in}
 use Rattle.covering_laws.proofs.covered_library.Deep.{cells_copied}
 
@@ -31,7 +32,9 @@ module _ (g : Sets) (system : System) (grounds : Grounds g.table g.space system)
   new_row k = object_row new_in.location.content new_in.first k
 
   old_cells : EachCell (λ p c. CellIn g memory (pointer_row (object_row old_in.location.content old_in.first) (part_at g.table (Some (reached (ArrayOf t (Some m)) 0 false)) p)) c) old.cells
-  old_cells = subst (λ (w : Option Ctype). EachCell (λ p c. CellIn g memory (pointer_row (object_row old_in.location.content old_in.first) (part_at g.table (whole_part w) p)) c) old.cells) old_whole old_in.cells
+  old_cells =
+      subst (λ (w : Option Ctype). EachCell (λ p c. CellIn g memory (pointer_row (object_row old_in.location.content old_in.first) (part_at g.table (whole_part w) p)) c) old.cells) old_whole
+      (cells_out g memory old old_in.location.content old_in.first (typed_plain g memory old old_in (ArrayOf t (Some m)) old_whole) old.cells old_in.cells)
 
   two : Target g system grounds memory (λ l. l ≡ object_row old_in.location.content old_in.first 0) old (Index 0 ∷ [])
   two = record { inside = old_in; whole = ArrayOf t (Some m); whole_is = old_whole; part = reached t 0 false; part_is = refl; has = refl }

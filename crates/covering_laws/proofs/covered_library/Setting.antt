@@ -33,17 +33,17 @@ use Rattle.ref_elements.specs.Outcomes.{Effected, gives}
 use Rattle.ref_elements.specs.Parts.{puts, with_all}
 use Rattle.ref_elements.specs.Runs.{◌>>=◌, whole_id, found_as, live_at, found_at, size_in, parts_of, within}
 use Rattle.ref_copies.specs.Copies.{set_cells, set_parts, set_there, set_whole, zeroed, set_target, aimed_as, is_whole, is_all_bytes, set_at, set_row}
-use Rattle.call_sites.specs.Calls.{rest_of, IsCallSite}
+use Rattle.call_sites.specs.Calls.{IsCallSite}
 use Rattle.normal_form.specs.Assignments.{row_in}
 use Rattle.normal_form.specs.SystemOf.{SystemOf}
-use Rattle.covering_laws.specs.covered_memory.Spots.{IsInTree}
+use Rattle.covering_laws.specs.covered_memory.Spots.{room, IsInTree}
 use Rattle.covering_laws.specs.covered_memory.Covered.{Sets, PointsIn, CellIn, HasShape, MemoryIn, Leaves}
 use Rattle.covering_laws.specs.covered_memory.Demands.{Grounds}
 use Rattle.covering_laws.proofs.covered_memory.Access.{shape_complete}
 use Rattle.covering_laws.proofs.covered_memory.Parts.{path_complete}
 use Rattle.covering_laws.proofs.covered_memory.Changes.{zero_law}
 use Rattle.covering_laws.proofs.covered_memory.Stays.{same_memory, value_stays}
-use Rattle.covering_laws.specs.covered_rows.Nodes.{HeldIn, node_row}
+use Rattle.covering_laws.specs.covered_rows.Nodes.{IsArgument, HeldIn, node_row}
 use Rattle.covering_laws.proofs.covered_rows.Places.{held_cell}
 use Rattle.covering_laws.proofs.covered_rows.Values.{sets, w'}
 use Rattle.covering_laws.proofs.covered_library.Effects.{gives_argument_in}
@@ -80,9 +80,9 @@ module _ (g : Sets) (system : System) (grounds : Grounds g.table g.space system)
       let inside = all s.i s.inst s.inst_is in
       let whole : whole_of g.table s.inst ≡ Some (shape_of g.table (whole_id g.table s.inst s.id)) = ap (typed_whole g.table s.inst) s.ty_is ∙ whole_shape g.table s.inst s.id in
       let points : PointsIn g memory row s.i s.path = subst (CellIn g memory row) s.place_is place_in in
-      let tree : IsInTree g.table (Some (shape_of g.table (whole_id g.table s.inst s.id))) s.path =
-      subst (λ (w : Option Ctype). IsInTree g.table w s.path) whole
-      (subst (λ (x : Instance). IsInTree g.table (whole_of g.table x) s.path) (some_one (sym points.inst_is ∙ s.inst_is)) points.in_tree) in
+      let tree : IsInTree g.table (Some (shape_of g.table (whole_id g.table s.inst s.id))) (room s.inst) s.path =
+      subst (λ (w : Option Ctype). IsInTree g.table w (room s.inst) s.path) whole
+      (subst (λ (x : Instance). IsInTree g.table (whole_of g.table x) (room x) s.path) (some_one (sym points.inst_is ∙ s.inst_is)) points.in_tree) in
       let part = there (part_at g.table (Some (reached (shape_of g.table (whole_id g.table s.inst s.id)) 0 false)) s.path) tree in
       let ty = run_type g.table grounds.named (whole_id g.table s.inst s.id) s.path s.past found.run s.run_is 0 false part.0 part.1 in
       subst (λ (c : Ctype). IsSome (extent_in g.table c)) ty
@@ -126,14 +126,14 @@ module _ (p : Program) (space : List Location) (system : System) (is : SystemOf 
   w = w' p space system is F closed grounds
 
   -- the first argument is given, whatever is left
-  pub given_in : (k a : ℕ) (ta to : Ctype) → Contains function.effects (GivesArgument 1) → slice_get (rest_of node.children) 0 ≡ Some a → type_at (trees_in p) a ≡ PointerTo ta → type_at (trees_in p) n ≡ PointerTo to
+  pub given_in : (k a : ℕ) (ta to : Ctype) → Contains function.effects (GivesArgument 1) → IsArgument (trees_in p) node 0 a → type_at (trees_in p) a ≡ PointerTo ta → type_at (trees_in p) n ≡ PointerTo to
       → (a1 : Cell) → HeldIn g w memory a (one_cell a1) → (after : List Instance) → Leaves g memory after → HeldIn g w after n (one_cell a1)
   given_in k a ta to gives_it a_is tya tn a1 h1 after l =
       value_stays g memory after l.extends (node_row w n) (type_at (trees_in p) n) (one_cell a1)
       (gives_argument_in p space system is F closed grounds number n node site at of_call target function is_target library is_library 0 a to ta gives_it a_is tya tn memory a1 h1)
 
   -- memset
-  pub set_row_in : (a : ℕ) (ta to : Ctype) → Contains function.effects (GivesArgument 1) → slice_get (rest_of node.children) 0 ≡ Some a → type_at (trees_in p) a ≡ PointerTo ta → type_at (trees_in p) n ≡ PointerTo to
+  pub set_row_in : (a : ℕ) (ta to : Ctype) → Contains function.effects (GivesArgument 1) → IsArgument (trees_in p) node 0 a → type_at (trees_in p) a ≡ PointerTo ta → type_at (trees_in p) n ≡ PointerTo to
       → (a1 a2 a3 : Cell) → HeldIn g w memory a (one_cell a1) → (e : Effected) → set_row p.types memory a1 a2 a3 ≡ Ok e
       → IsCovered p space system is F closed grounds number n node site at of_call target function is_target library is_library memory e
   set_row_in a ta to gives_it a_is tya tn a1 a2 a3 h1 e r = by (count_of a3 == 0) r
@@ -170,7 +170,7 @@ module _ (p : Program) (space : List Location) (system : System) (is : SystemOf 
           (quiet_law g system grounds memory all found.number found.run.of (set_parts found.run (set_cells p.types (type_of p.types found.run.of.0) byte) 0 m)
           (set_parts_quiet found.run (set_cells p.types (type_of p.types found.run.of.0) byte) (set_quiet p.types (type_of p.types found.run.of.0) byte) 0 m)
           (run_complete g system grounds memory all (Some (row_in w a)) a1 found (held_cell p space system is F closed grounds a ta memory a1 tya h1) s)
-          (λ x x_is inside none. absurd (run_typed g system grounds memory all a1 found s x x_is none)))
+          (run_typed g system grounds memory all a1 found s))
           (quiet_stored g (with_all p.types memory found.number found.run.of (set_parts found.run (set_cells p.types (type_of p.types found.run.of.0) byte) 0 m)) found.number (set_parts found.run (set_cells p.types (type_of p.types found.run.of.0) byte) 0 m)
           (set_parts_quiet found.run (set_cells p.types (type_of p.types found.run.of.0) byte) (set_quiet p.types (type_of p.types found.run.of.0) byte) 0 m)) h
 

@@ -11,16 +11,17 @@ use Rattle.ref_cells.specs.Wholes.{whole_of}
 use Rattle.ref_elements.specs.Outcomes.{is_pointing, place_in, pointers_in}
 use Rattle.ref_elements.specs.Parts.{Parts, pointers_of}
 use Rattle.covering_laws.specs.covered_memory.Cells.{EachCell}
-use Rattle.covering_laws.specs.covered_memory.Spots.{spot, whole_part}
-use Rattle.covering_laws.specs.covered_memory.Covered.{Sets, CellIn, row_by, pointer_row, object_row, InstanceIn, Extends}
+use Rattle.covering_laws.specs.covered_memory.Spots.{spot, whole_part, IsFurther}
+use Rattle.covering_laws.specs.covered_memory.Covered.{Sets, CellIn, row_by, pointer_row, object_row, further_row, cell_row, InstanceIn, Extends}
 use Rattle.covering_laws.specs.covered_memory.Demands.{Grounds}
 use Rattle.covering_laws.specs.covered_library.Calls.{instance_row, StoresIn}
 use Rattle.c_types.specs.declared.key.ObjectKey.{ObjectKey}
+use Rattle.c_types.specs.declared.key.ObjectKey.TheVariants.{Varargs as VarargsKey, Entity as EntityKey, Text as TextKey, Call as CallKey, Library as LibraryKey, Star as StarKey, Function as FunctionKey}
 use Rattle.covering_laws.proofs.covered_memory.Anchors.{spot_is}
 use Rattle.covering_laws.proofs.covered_memory.Cells.{each_change}
 use Rattle.covering_laws.proofs.covered_memory.Changes.{PartsIn}
 use Rattle.covering_laws.proofs.covered_memory.Puts.{part_along}
-use Rattle.covering_laws.proofs.covered_memory.Stays.{cell_from_none, cell_stays}
+use Rattle.covering_laws.proofs.covered_memory.Stays.{cell_from_none, cell_stays, further_spot}
 
 module _ (g : Sets) (memory : List Instance) where
   by_type : (t : Ctype) (k : ℕ) (c : Cell) → CellIn g memory (row_by t k) c → CellIn g memory (Some k) c
@@ -29,7 +30,7 @@ module _ (g : Sets) (memory : List Instance) where
   by_type BoolType k c h = cell_from_none g memory (Some k) c h
   by_type (IntegerType size rank signed) k c h = cell_from_none g memory (Some k) c h
   by_type FloatingType k c h = cell_from_none g memory (Some k) c h
-  by_type VaListType k c h = cell_from_none g memory (Some k) c h
+  by_type VaListType k c h = h
   by_type (ArrayOf of n) k c h = cell_from_none g memory (Some k) c h
   by_type (FunctionFrom x y z) k c h = cell_from_none g memory (Some k) c h
   by_type (StructureOf tag) k c h = cell_from_none g memory (Some k) c h
@@ -80,10 +81,27 @@ module _ (g : Sets) (system : System) (grounds : Grounds g.table g.space system)
       (subst (λ (o : Option Reached). CellIn g memory (pointer_row (object_row h.location.content h.first) o) c) (sym (part_along g.table (whole_part (whole_of g.table x)) part.0 p)) e)))) put.0)))
       (parts_stored x h after extends i b b_is key rest put.1)
 
+  -- what is covered in an instance is covered at its place
+  own_spot : (inst : Instance) (h : InstanceIn g memory inst) (path : List PathStep) (c : Cell) → CellIn g memory (cell_row g.table inst h.location.content h.first path) c → CellIn g memory (spot g.table g.space inst.key path) c
+  own_spot inst h path c e = by inst.key (λ f. further_spot g memory inst h (h.further f).1 path) e
+    where
+      plain : CellIn g memory (pointer_row (object_row h.location.content h.first) (part_at g.table (whole_part (whole_of g.table inst)) path)) c → CellIn g memory (spot g.table g.space inst.key path) c
+      plain x = cell_spot inst h path c x
+
+      by : (key : ObjectKey) → (IsFurther key → spot g.table g.space inst.key path ≡ Some h.first)
+          → CellIn g memory (further_row key h.first (pointer_row (object_row h.location.content h.first) (part_at g.table (whole_part (whole_of g.table inst)) path))) c → CellIn g memory (spot g.table g.space inst.key path) c
+      by (VarargsKey n) at x = subst (λ (o : Option ℕ). CellIn g memory o c) (sym (at tt)) x
+      by (EntityKey n) at x = plain x
+      by (TextKey n) at x = plain x
+      by (CallKey n) at x = plain x
+      by (LibraryKey n) at x = plain x
+      by (StarKey n) at x = plain x
+      by (FunctionKey n) at x = plain x
+
   -- the cells of an instance that is covered
   pub own_stored : (inst : Instance) (h : InstanceIn g memory inst) (after : List Instance) → Extends g memory after → (i : ℕ) (b : Instance) → slice_get after i ≡ Some b → b.key ≡ inst.key → StoresIn g after (pointers_in i inst.cells)
   own_stored inst h after extends i b b_is key =
       pointers_stored g after i b b_is inst.cells
-      (each_change (λ p c. CellIn g memory (pointer_row (object_row h.location.content h.first) (part_at g.table (whole_part (whole_of g.table inst)) p)) c)
+      (each_change (λ p c. CellIn g memory (cell_row g.table inst h.location.content h.first p) c)
       (λ p c. CellIn g after (spot g.table g.space b.key p) c) inst.cells
-      (λ p c e. subst (λ (k : ObjectKey). CellIn g after (spot g.table g.space k p) c) (sym key) (cell_stays g memory after extends (spot g.table g.space inst.key p) c (cell_spot inst h p c e))) h.cells)
+      (λ p c e. subst (λ (k : ObjectKey). CellIn g after (spot g.table g.space k p) c) (sym key) (cell_stays g memory after extends (spot g.table g.space inst.key p) c (own_spot inst h p c e))) h.cells)

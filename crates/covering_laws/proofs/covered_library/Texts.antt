@@ -38,14 +38,14 @@ use Rattle.ref_elements.specs.Parts.{Parts}
 use Rattle.ref_texts.specs.Reading.{place_at, text_at, part_at, compared_at, compared_part}
 use Rattle.ref_texts.specs.Writing.{push_text, text_parts, with_text, writes, closed as closed_text, filled_up, text_cells, text_of}
 use Rattle.ref_texts.specs.Texts.{length_row, compare_row, compare_part_row, copy_text_row, add_text_row, copy_part_row, duplicated, duplicate_row, print_row, print_part_row, line_row, block_of, blocks_in, block_row}
-use Rattle.call_sites.specs.Calls.{rest_of, IsCallSite}
+use Rattle.call_sites.specs.Calls.{IsCallSite}
 use Rattle.normal_form.specs.SystemOf.{SystemOf}
-use Rattle.covering_laws.specs.covered_memory.Spots.{spot, whole_part, IsInTree}
+use Rattle.covering_laws.specs.covered_memory.Spots.{spot, whole_part, room, IsInTree}
 use Rattle.covering_laws.specs.covered_memory.Covered.{Sets, object_row, MemoryIn, Leaves}
 use Rattle.covering_laws.specs.covered_memory.Demands.{Grounds}
 use Rattle.covering_laws.proofs.covered_memory.Changes.{Begins, parts_law}
 use Rattle.covering_laws.proofs.covered_memory.Stays.{same_memory}
-use Rattle.covering_laws.specs.covered_rows.Nodes.{HeldIn}
+use Rattle.covering_laws.specs.covered_rows.Nodes.{IsArgument, HeldIn}
 use Rattle.covering_laws.proofs.covered_rows.Values.{sets, w'}
 use Rattle.covering_laws.proofs.covered_library.Effects.{gives_new_in}
 use Rattle.covering_laws.proofs.covered_library.Allocation.{IsCovered}
@@ -120,7 +120,8 @@ text_law g system grounds memory all (FunctionCell key) parts quiet = record { e
 -- what an object that a call makes begins as, whatever it has in it
 pub record IsBegun (g : Sets) (key : ObjectKey) (ty : Option TypeId) (bytes : ℕ) (zero : Bool) (cells : CellList) : Type 0 where
   pub begins : Begins g (record { key = key; live = true; ty = ty; bytes = bytes; zero = zero; cells = cells })
-  pub in_tree : IsInTree g.table (whole_of g.table (record { key = key; live = true; ty = ty; bytes = bytes; zero = zero; cells = cells })) (Index 0 ∷ [])
+  pub in_tree : IsInTree g.table (whole_of g.table (record { key = key; live = true; ty = ty; bytes = bytes; zero = zero; cells = cells }))
+      (room (record { key = key; live = true; ty = ty; bytes = bytes; zero = zero; cells = cells })) (Index 0 ∷ [])
   pub spot_is : spot g.table g.space key (Index 0 ∷ []) ≡ Some begins.first
 
 module _ (p : Program) (space : List Location) (system : System) (is : SystemOf p (view_of space) system) (F : Family) (closed : IsClosed system F) (grounds : Grounds p.types space system)
@@ -166,7 +167,7 @@ module _ (p : Program) (space : List Location) (system : System) (is : SystemOf 
       writes_in a1 0 (block_of word (count_of a2) (count_of a3)) (number_value result (pos (blocks_in (count_of a2) (block_of word (count_of a2) (count_of a3))))) (λ after l. (tt, tt)) e h
 
   -- the rows that give their first argument
-  module _ (a : ℕ) (ta to : Ctype) (gives_it : Contains function.effects (GivesArgument 1)) (a_is : slice_get (rest_of node.children) 0 ≡ Some a) (tya : type_at (trees_in p) a ≡ PointerTo ta) (tn : type_at (trees_in p) n ≡ PointerTo to)
+  module _ (a : ℕ) (ta to : Ctype) (gives_it : Contains function.effects (GivesArgument 1)) (a_is : IsArgument (trees_in p) node 0 a) (tya : type_at (trees_in p) a ≡ PointerTo ta) (tn : type_at (trees_in p) n ≡ PointerTo to)
       (a1 : Cell) (h1 : HeldIn (sets p space system is F closed grounds) (w' p space system is F closed grounds) memory a (one_cell a1)) where
     writes_given : (k : ℕ) (text : List ℤ) (e : Effected) → writes p.types memory a1 k text (one_cell a1) ≡ Ok e → IsCovered p space system is F closed grounds number n node site at of_call target function is_target library is_library memory e
     writes_given k text e h = writes_in a1 k text (one_cell a1) (λ after l. given_in p space system is F closed grounds number n node site at of_call target function is_target library is_library memory all 0 a ta to gives_it a_is tya tn a1 h1 after l) e h

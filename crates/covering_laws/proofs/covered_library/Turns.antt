@@ -39,17 +39,17 @@ use Rattle.ref_elements.specs.Outcomes.{Effected, gives, no_value, null_value, n
 use Rattle.ref_elements.specs.Parts.{Parts, pointers_of, with_all}
 use Rattle.ref_elements.specs.Runs.{◌>>=◌, whole_id, found_at, element_path, element_at, content_in, content_at, size_in, within}
 use Rattle.ref_copies.specs.Turns.{moved_in, moved, search_row, is_null, store_end, strtol_row, checked_array, array_at, compares, first_of, second_of, told, taken, swapped, swaps, sort_turn, sort_row, find_turn, find_row}
-use Rattle.call_sites.specs.Calls.{rest_of, IsCallSite}
+use Rattle.call_sites.specs.Calls.{IsCallSite}
 use Rattle.normal_form.specs.Assignments.{row_in}
 use Rattle.normal_form.specs.SystemOf.{SystemOf}
-use Rattle.covering_laws.specs.covered_memory.Spots.{spot, whole_part, IsInTree}
+use Rattle.covering_laws.specs.covered_memory.Spots.{spot, whole_part, room, IsInTree}
 use Rattle.covering_laws.specs.covered_memory.Covered.{Sets, Lands, PointsIn, CellIn, CellsIn, object_row, HasShape, InstanceIn, MemoryIn, Extends, Leaves}
 use Rattle.covering_laws.specs.covered_memory.Demands.{Grounds}
 use Rattle.covering_laws.proofs.covered_memory.Anchors.{spot_is}
 use Rattle.covering_laws.proofs.covered_memory.Changes.{PartsIn, parts_law}
 use Rattle.covering_laws.proofs.covered_memory.Fields.{copied_law}
 use Rattle.covering_laws.proofs.covered_memory.Stays.{cell_stays}
-use Rattle.covering_laws.specs.covered_rows.Nodes.{HeldIn}
+use Rattle.covering_laws.specs.covered_rows.Nodes.{IsArgument, HeldIn}
 use Rattle.covering_laws.proofs.covered_rows.Places.{held_cell, cell_held}
 use Rattle.covering_laws.proofs.covered_rows.Values.{sets, w'}
 use Rattle.covering_laws.proofs.covered_library.Effects.{edge_says, argument_is, gives_argument_in, stores_into_in}
@@ -97,7 +97,7 @@ module _ (g : Sets) (system : System) (grounds : Grounds g.table g.space system)
   part : (r : Reached) × (part_at g.table (Some (reached (shape_of g.table (whole_id g.table s.inst s.id)) 0 false)) s.path ≡ Some r)
   part =
       there (part_at g.table (Some (reached (shape_of g.table (whole_id g.table s.inst s.id)) 0 false)) s.path)
-      (subst (λ (w : Option Ctype). IsInTree g.table w s.path) whole (subst (λ (x : Instance). IsInTree g.table (whole_of g.table x) s.path) same points.in_tree))
+      (subst (λ (w : Option Ctype). IsInTree g.table w (room s.inst) s.path) whole (subst (λ (x : Instance). IsInTree g.table (whole_of g.table x) (room x) s.path) same points.in_tree))
 
   element_part : (k : ℕ) → part_at g.table (Some (reached (shape_of g.table (whole_id g.table s.inst s.id)) 0 false)) (element_path found.run k) ≡ Some part.0
   element_part k = run_parts g.table (Some (whole_id g.table s.inst s.id)) s.path s.past found.run s.run_is k (Some (reached (shape_of g.table (whole_id g.table s.inst s.id)) 0 false)) ∙ part.1
@@ -113,7 +113,7 @@ module _ (g : Sets) (system : System) (grounds : Grounds g.table g.space system)
   element_in k = record {
     inst = s.inst;
     inst_is = ap (slice_get memory) s.number_is ∙ s.inst_is;
-    in_tree = subst (λ (w : Option Ctype). IsInTree g.table w (element_path found.run k)) (sym whole) (subst (λ (o : Option Reached). IsSome o) (sym (element_part k)) refl);
+    in_tree = subst (λ (w : Option Ctype). IsInTree g.table w (room s.inst) (element_path found.run k)) (sym whole) (subst (λ (o : Option Reached). IsSome o) (sym (element_part k)) refl);
     lands = subst (λ (o : Option ℕ). Lands g.family row o) (ap (λ (x : Instance). spot g.table g.space x.key s.path) same ∙ (part_spot s.path part.1 ∙ sym (part_spot (element_path found.run k) (element_part k)))) points.lands;
   }
 
@@ -217,7 +217,7 @@ module _ (p : Program) (space : List Location) (system : System) (is : SystemOf 
           (element_in g system grounds memory all (Some (row_in w a)) a1 found (held_cell p space system is F closed grounds a ta memory a1 tya h1) (found_inv p.types memory a1 found found_is) ((word / 2) % found.run.room)))
 
   -- strchr, strrchr, strstr, memchr
-  pub search_row_in : (a : ℕ) (ta to : Ctype) → Contains function.effects (GivesArgument 1) → slice_get (rest_of node.children) 0 ≡ Some a → type_at (trees_in p) a ≡ PointerTo ta → type_at (trees_in p) n ≡ PointerTo to
+  pub search_row_in : (a : ℕ) (ta to : Ctype) → Contains function.effects (GivesArgument 1) → IsArgument (trees_in p) node 0 a → type_at (trees_in p) a ≡ PointerTo ta → type_at (trees_in p) n ≡ PointerTo to
       → (word : ℕ) (a1 : Cell) → HeldIn g w memory a (one_cell a1) → (e : Effected) → search_row p.types memory word a1 ≡ Ok e → IsCovered p space system is F closed grounds number n node site at of_call target function is_target library is_library memory e
   search_row_in a ta to gives_it a_is tya tn word a1 h1 e r = by (is_odd word) r
     where
@@ -229,7 +229,7 @@ module _ (p : Program) (space : List Location) (system : System) (is : SystemOf 
           (gives_argument_in p space system is F closed grounds number n node site at of_call target function is_target library is_library 0 a to ta gives_it a_is tya tn memory q.0 (moved_held a ta tya word a1 h1 q.0 q.1)) q.2
 
   -- the pointer that strtol stores
-  end_stored : (a b : ℕ) (ta tb : Ctype) → Contains function.effects (StoresInto 2 1) → slice_get (rest_of node.children) 0 ≡ Some a → slice_get (rest_of node.children) 1 ≡ Some b
+  end_stored : (a b : ℕ) (ta tb : Ctype) → Contains function.effects (StoresInto 2 1) → IsArgument (trees_in p) node 0 a → IsArgument (trees_in p) node 1 b
       → type_at (trees_in p) a ≡ PointerTo ta → type_at (trees_in p) b ≡ PointerTo tb → (place c : Cell) → IsPointer place → HeldIn g w memory a (one_cell c) → HeldIn g w memory b (one_cell place)
       → (after : List Instance) → Extends g memory after → StoresIn g after ((place, c) ∷ [])
   end_stored a b ta tb stores_it a_is b_is tya tyb (Pointer i path past) c pointer h1 h2 after extends =
@@ -248,7 +248,7 @@ module _ (p : Program) (space : List Location) (system : System) (is : SystemOf 
   end_stored a b ta tb stores_it a_is b_is tya tyb (FunctionCell key) c pointer h1 h2 after extends = absurd pointer
 
   -- strtol
-  pub strtol_row_in : (a b : ℕ) (ta tb : Ctype) → Contains function.effects (StoresInto 2 1) → slice_get (rest_of node.children) 0 ≡ Some a → slice_get (rest_of node.children) 1 ≡ Some b
+  pub strtol_row_in : (a b : ℕ) (ta tb : Ctype) → Contains function.effects (StoresInto 2 1) → IsArgument (trees_in p) node 0 a → IsArgument (trees_in p) node 1 b
       → type_at (trees_in p) a ≡ PointerTo ta → type_at (trees_in p) b ≡ PointerTo tb → (result : Ctype) (word : ℕ) (a1 a2 : Cell) → HeldIn g w memory a (one_cell a1) → HeldIn g w memory b (one_cell a2)
       → (e : Effected) → strtol_row p.types memory result word a1 a2 ≡ Ok e → IsCovered p space system is F closed grounds number n node site at of_call target function is_target library is_library memory e
   strtol_row_in a b ta tb stores_it a_is b_is tya tyb result word a1 a2 h1 h2 e r = by (is_null a2) r
@@ -325,7 +325,7 @@ module _ (p : Program) (space : List Location) (system : System) (is : SystemOf 
       by found s false f = turn found s (is_odd word) f
 
   -- bsearch: a turn of it
-  pub find_row_in : (a b : ℕ) (ta tb to : Ctype) → Contains function.effects (GivesArgument 2) → slice_get (rest_of node.children) 1 ≡ Some b
+  pub find_row_in : (a b : ℕ) (ta tb to : Ctype) → Contains function.effects (GivesArgument 2) → IsArgument (trees_in p) node 1 b
       → type_at (trees_in p) a ≡ PointerTo ta → type_at (trees_in p) b ≡ PointerTo tb → type_at (trees_in p) n ≡ PointerTo to
       → (word : ℕ) (a1 a2 a3 a4 a5 : Cell) → HeldIn g w memory a (one_cell a1) → HeldIn g w memory b (one_cell a2)
       → (e : Effected) → find_row p.types memory word a1 a2 a3 a4 a5 ≡ Ok e → IsCovered p space system is F closed grounds number n node site at of_call target function is_target library is_library memory e × BackIn g memory a5 (row_in w a) (row_in w b) e.outcome.next

@@ -28,15 +28,15 @@ use Rattle.ref_mem.specs.Reads.{opened, converted_cell, one_cell, scalar_value, 
 use Rattle.ref_mem.specs.Writes.{width_along, kept_cell, kept, with_value, written_in, write_found, write}
 use Rattle.covering_laws.specs.covered_memory.Cells.{EachCell}
 use Rattle.covering_laws.specs.covered_memory.Spots.{spot, whole_part}
-use Rattle.covering_laws.specs.covered_memory.Covered.{Sets, Lands, PointsIn, CellIn, row_by, pointer_row, CellsIn, ValueIn, object_row, HasShape, InstanceIn, MemoryIn, Leaves}
+use Rattle.covering_laws.specs.covered_memory.Covered.{Sets, Lands, PointsIn, CellIn, row_by, pointer_row, CellsIn, ValueIn, object_row, cell_row, HasShape, InstanceIn, MemoryIn, Leaves}
 use Rattle.covering_laws.specs.covered_memory.Demands.{Grounds, IsFew, LoadsAt, StoresAt, Loads, Stores}
 use Rattle.covering_laws.proofs.covered_memory.Cells.{each_change, each_mapped}
 use Rattle.covering_laws.proofs.covered_memory.Filled.{IsOf, fills_all, scalar_part}
 use Rattle.covering_laws.proofs.covered_memory.Puts.{part_along, put_each, opened_each}
-use Rattle.covering_laws.proofs.covered_memory.Parts.{repeated_some, path_complete, kept_row_node}
+use Rattle.covering_laws.proofs.covered_memory.Parts.{repeated_some, path_complete, MayPoint, kept_row_node}
 use Rattle.covering_laws.proofs.covered_memory.Anchors.{Both, from_whole, from_own, at_part, spot_is}
 use Rattle.covering_laws.proofs.covered_memory.Walks.{Reaches, reach_inv, Alike, alike_types}
-use Rattle.covering_laws.proofs.covered_memory.Stays.{cell_from_none, replaced}
+use Rattle.covering_laws.proofs.covered_memory.Stays.{cell_from_none, cells_in, cells_out, typed_plain, replaced}
 
 some_one : {X : Type 0} → {x y : X} → ◌≡◌ {A = Option X} (Some x) (Some y) → x ≡ y
 some_one h = cc
@@ -72,24 +72,29 @@ scalar_complete table (UnionOf tag) (inl h) = absurd h
 scalar_complete table (UnionOf tag) (inr h) = absurd h
 
 -- the row of a pointer, and the part that it is
-pub row_inv : (row : ℕ → ℕ) (o : Option Reached) (at : ℕ) → pointer_row row o ≡ Some at → (r : Reached) × (to : Ctype) × (o ≡ Some r) × (r.ty ≡ PointerTo to) × (row r.node ≡ at)
+pub row_inv : (row : ℕ → ℕ) (o : Option Reached) (at : ℕ) → pointer_row row o ≡ Some at → (r : Reached) × (to : Ctype) × (o ≡ Some r) × (r.ty ≡ to) × (row r.node ≡ at) × MayPoint to
 row_inv row None at e = absurd (none_some e)
 row_inv row (Some r) at e = by r.ty refl e
   where
-    by : (t : Ctype) → r.ty ≡ t → row_by t (row r.node) ≡ Some at → (q : Reached) × (to : Ctype) × (Some r ≡ Some q) × (q.ty ≡ PointerTo to) × (row q.node ≡ at)
-    by (PointerTo to) is f = (r, to, refl, is, some_one f)
+    by : (t : Ctype) → r.ty ≡ t → row_by t (row r.node) ≡ Some at → (q : Reached) × (to : Ctype) × (Some r ≡ Some q) × (q.ty ≡ to) × (row q.node ≡ at) × MayPoint to
+    by (PointerTo to) is f = (r, PointerTo to, refl, is, some_one f, tt)
     by VoidType is f = absurd (none_some f)
     by BoolType is f = absurd (none_some f)
     by (IntegerType size rank signed) is f = absurd (none_some f)
     by FloatingType is f = absurd (none_some f)
-    by VaListType is f = absurd (none_some f)
+    by VaListType is f = (r, VaListType, refl, is, some_one f, tt)
     by (ArrayOf of n) is f = absurd (none_some f)
     by (FunctionFrom a b c) is f = absurd (none_some f)
     by (StructureOf tag) is f = absurd (none_some f)
     by (UnionOf tag) is f = absurd (none_some f)
 
-pub row_is : (row : ℕ → ℕ) (o : Option Reached) (r : Reached) (to : Ctype) → o ≡ Some r → r.ty ≡ PointerTo to → pointer_row row o ≡ Some (row r.node)
-row_is row o r to e is = ap (pointer_row row) e ∙ ap (λ (t : Ctype). row_by t (row r.node)) is
+pub row_is : (row : ℕ → ℕ) (o : Option Reached) (r : Reached) (to : Ctype) → MayPoint to → o ≡ Some r → r.ty ≡ to → pointer_row row o ≡ Some (row r.node)
+row_is row o r to may e is = ap (pointer_row row) e ∙ (ap (λ (t : Ctype). row_by t (row r.node)) is ∙ by to may)
+  where
+    by : (t : Ctype) → MayPoint t → row_by t (row r.node) ≡ Some (row r.node)
+    by (PointerTo s) h = refl
+    by VaListType h = refl
+    by t h = absurd h
 
 module _ (g : Sets) (system : System) (grounds : Grounds g.table g.space system) where
   pub shape_complete : (content : Content) (t : Ctype) → HasShape g.table content (Some t) → IsSome (extent_in g.table t)
@@ -141,13 +146,13 @@ module _ (g : Sets) (system : System) (grounds : Grounds g.table g.space system)
         let f = from_whole g.table t.part rest i.0 (sym (below_is rest) ∙ i.2) in
         let own = f.0 in
         let b = f.1 in
-        let pointer : own.ty ≡ PointerTo i.1 = b.same ∙ i.3 in
+        let pointer : own.ty ≡ i.1 = b.same ∙ i.3 in
         record {
           at = row own.node;
           location = h.location;
-          row_is = row_is row (part_at g.table (Some (reached t.part.ty 0 false)) rest) own i.1 b.own_is pointer;
+          row_is = row_is row (part_at g.table (Some (reached t.part.ty 0 false)) rest) own i.1 i.5 b.own_is pointer;
           found_is = h.found_is;
-          has = loads own.node (kept_row_node g.table grounds.made t.part.ty rest own i.1 few part_complete b.own_is pointer)
+          has = loads own.node (kept_row_node g.table grounds.made t.part.ty rest own i.1 i.5 few part_complete b.own_is pointer)
               (own_row t t.part.node) (own_row t i.0.node) t.has (sub_is rest own i.0 b) h.location (subst (λ (k : ℕ). Has g.family k h.location) (sym i.4) h.has);
         }
 
@@ -162,9 +167,9 @@ module _ (g : Sets) (system : System) (grounds : Grounds g.table g.space system)
         record {
           at = own_row t whole.node;
           location = h.location;
-          row_is = row_is (own_row t) (part_at g.table (Some (reached t.whole 0 false)) (path ++ rest)) whole i.1 (below_is rest ∙ b.whole_is) (sym b.same ∙ i.3);
+          row_is = row_is (own_row t) (part_at g.table (Some (reached t.whole 0 false)) (path ++ rest)) whole i.1 i.5 (below_is rest ∙ b.whole_is) (sym b.same ∙ i.3);
           found_is = h.found_is;
-          has = stores i.0.node (kept_row_node g.table grounds.made t.part.ty rest i.0 i.1 few part_complete i.2 i.3)
+          has = stores i.0.node (kept_row_node g.table grounds.made t.part.ty rest i.0 i.1 i.5 few part_complete i.2 i.3)
               (own_row t t.part.node) (own_row t whole.node) t.has (sub_is rest i.0 whole b) h.location (subst (λ (k : ℕ). Has g.family k h.location) (sym i.4) h.has);
         }
 
@@ -197,7 +202,9 @@ module _ (g : Sets) (system : System) (grounds : Grounds g.table g.space system)
     cell_written row stores few rest Null h = tt
 
     own_cells : EachCell (λ p c. CellIn g memory (pointer_row (own_row t) (part_at g.table (Some (reached t.whole 0 false)) p)) c) inst.cells
-    own_cells = subst (λ (o : Option Ctype). EachCell (λ p c. CellIn g memory (pointer_row (own_row t) (part_at g.table (whole_part o) p)) c) inst.cells) t.whole_is t.inside.cells
+    own_cells =
+        subst (λ (o : Option Ctype). EachCell (λ p c. CellIn g memory (pointer_row (own_row t) (part_at g.table (whole_part o) p)) c) inst.cells) t.whole_is
+        (cells_out g memory inst t.inside.location.content t.inside.first (typed_plain g memory inst t.inside t.whole t.whole_is) inst.cells t.inside.cells)
 
     -- what is listed of the part is covered at the rows that load from it
     pub opened_read : (row : ℕ → ℕ) → LoadsAt g.table system g.family IsAt row t.part.ty → IsFew g.table t.part.ty → (o : Option Ctype) (list : CellList) → opened g.table o path inst.cells ≡ Some list
@@ -347,7 +354,12 @@ module _ (g : Sets) (system : System) (grounds : Grounds g.table g.space system)
       pointer_none (Member k) = refl
   value_in memory row marked VoidType t list v a e h = absurd (false≢true a)
   value_in memory row marked FloatingType t list v a e h = absurd (false≢true a)
-  value_in memory row marked VaListType t list v a e h = absurd (false≢true a)
+  value_in memory row marked VaListType t list v a e h =
+      scalar_in memory row VaListType t (cell_in marked VaListType list) v e (one_in memory row marked VaListType list (λ step. list_none step) h)
+    where
+      list_none : (step : PathStep) → step_from g.table (Some (reached VaListType 0 false)) step ≡ None
+      list_none (Index i) = refl
+      list_none (Member k) = refl
   value_in memory row marked (ArrayOf of n) t list v a e h = absurd (false≢true a)
   value_in memory row marked (FunctionFrom p q s) t list v a e h = absurd (false≢true a)
 
@@ -418,17 +430,23 @@ module _ (g : Sets) (system : System) (grounds : Grounds g.table g.space system)
       by (FunctionFrom a b c) = mapped (FunctionFrom a b c)
 
   -- an instance of which only the cells change
-  pub with_cells : (memory : List Instance) (inst : Instance) (inside : InstanceIn g memory inst) (list : CellList)
-      → CellsIn g memory (object_row inside.location.content inside.first) (whole_part (whole_of g.table inst)) list → InstanceIn g memory (record inst { cells = list })
-  with_cells memory inst inside list h = record {
+  pub with_own : (memory : List Instance) (inst : Instance) (inside : InstanceIn g memory inst) (list : CellList)
+      → EachCell (λ p c. CellIn g memory (cell_row g.table inst inside.location.content inside.first p) c) list → InstanceIn g memory (record inst { cells = list })
+  with_own memory inst inside list h = record {
     first = inside.first;
     location = inside.location;
     first_is = inside.first_is;
     location_is = inside.location_is;
     shape = inside.shape;
     untyped = inside.untyped;
+    further = inside.further;
     cells = h;
   }
+
+  pub with_cells : (memory : List Instance) (inst : Instance) (inside : InstanceIn g memory inst) (list : CellList)
+      → CellsIn g memory (object_row inside.location.content inside.first) (whole_part (whole_of g.table inst)) list → InstanceIn g memory (record inst { cells = list })
+  with_cells memory inst inside list h =
+      with_own memory inst inside list (cells_in g memory inst inside.location.content inside.first (λ f. (inside.further f).0) list h)
 
   pub record IsWritten (memory : List Instance) (place : Cell) (t : Ctype) (v : Value) (after : List Instance) : Type 0 where
     pub found : Ctype
@@ -485,32 +503,47 @@ module _ (g : Sets) (system : System) (grounds : Grounds g.table g.space system)
       let same : t.part ≡ f.0 = some_one f.1.whole_is in
       sub_is memory IsAt inst path t [] (reached t.part.ty 0 false) f.0 f.1 ∙ ap (λ (q : Reached). Some (own_row t q.node)) (sym same)
 
-  zero_kept : (to : Ctype) (i : ℕ) → kept_at (slice_get (nodes_of g.table (PointerTo to)) i) ≡ true → i ≡ 0
-  zero_kept to zero h = refl
-  zero_kept to (suc i) h = absurd (false≢true h)
+  -- what may point has one node, and that has a row
+  pub point_few : (t : Ctype) → MayPoint t → IsFew g.table t
+  point_few (PointerTo to) may = omega arith
+  point_few VaListType may = omega arith
+  point_few t may = absurd may
 
-  -- A pointer that is read, moved and written back leaves a covered memory covered.
-  pub update_law : (memory : List Instance) (place : Cell) (to : Ctype) (old new : Cell) (after : List Instance) (through : ℕ) → MemoryIn g memory → CellIn g memory (Some through) place
+  pub zero_kept : (t : Ctype) → MayPoint t → (i : ℕ) → kept_at (slice_get (nodes_of g.table t) i) ≡ true → i ≡ 0
+  zero_kept (PointerTo to) may zero h = refl
+  zero_kept (PointerTo to) may (suc i) h = absurd (false≢true h)
+  zero_kept VaListType may zero h = refl
+  zero_kept VaListType may (suc i) h = absurd (false≢true h)
+  zero_kept t may i h = absurd may
+
+  pub may_row : (t : Ctype) → MayPoint t → (k : ℕ) → row_by t k ≡ Some k
+  may_row (PointerTo to) may k = refl
+  may_row VaListType may k = refl
+  may_row t may k = absurd may
+
+  -- A pointer or list that is read, moved and written back leaves a covered memory covered.
+  pub update_law : (memory : List Instance) (place : Cell) (t : Ctype) → MayPoint t → (old new : Cell) (after : List Instance) (through : ℕ) → MemoryIn g memory → CellIn g memory (Some through) place
       → ((row : Option ℕ) → CellIn g memory row old → CellIn g memory row new)
-      → read g.table memory place (PointerTo to) ≡ Ok (one_cell old) → write g.table memory place (PointerTo to) (one_cell new) ≡ Ok after → Leaves g memory after
+      → read g.table memory place t ≡ Ok (one_cell old) → write g.table memory place t (one_cell new) ≡ Ok after → Leaves g memory after
   unfolding target_of found_at
-  update_law memory place to old new after through all h moves e k =
-      let inv = read_inv memory place (PointerTo to) (one_cell old) e in
-      let put_inv = write_inv memory place (PointerTo to) (one_cell new) after k in
+  update_law memory place t may old new after through all h moves e k =
+      let inv = read_inv memory place t (one_cell old) e in
+      let put_inv = write_inv memory place t (one_cell new) after k in
       let same : put_inv.found ≡ inv.found = ok_one (sym put_inv.found_is ∙ inv.found_is) in
-      let f = found_at memory through place (PointerTo to) inv.found all h inv.found_is in
+      let f = found_at memory through place t inv.found all h inv.found_is in
       let r = f.reaches in
       let at = own_row f.target f.target.part.node in
       let target = target_of memory r.inst r.path f.target.inside f.target.whole f.target.whole_is f.target.part f.target.part_is (λ l. l ≡ at) refl in
-      let sub : (m : ℕ) → sub_of system at (type_number (PointerTo to)) 0 ≡ Some m → at ≡ m =
+      let sub : (m : ℕ) → sub_of system at (type_number t) 0 ≡ Some m → at ≡ m =
       λ m x. some_one (sym (own_sub memory r.inst r.path (λ l. l ≡ at) target) ∙ (ap (λ (n : ℕ). sub_of system at n 0) (ap type_number f.ty ∙ f.alike.number) ∙ x)) in
-      let here : (i l m : ℕ) → kept_at (slice_get (nodes_of g.table (PointerTo to)) i) ≡ true → l ≡ at → sub_of system l (type_number (PointerTo to)) i ≡ Some m → at ≡ m =
-      λ i l m kept is x. sub m (ap (λ (j : ℕ). sub_of system at (type_number (PointerTo to)) j) (sym (zero_kept to i kept)) ∙ (ap (λ (j : ℕ). sub_of system j (type_number (PointerTo to)) i) (sym is) ∙ x)) in
-      let few : IsFew g.table (PointerTo to) = omega arith in
-      let loads : LoadsAt g.table system g.family (λ l. l ≡ at) (λ i. at) (PointerTo to) =
+      let here : (i l m : ℕ) → kept_at (slice_get (nodes_of g.table t) i) ≡ true → l ≡ at → sub_of system l (type_number t) i ≡ Some m → at ≡ m =
+      λ i l m kept is x. sub m (ap (λ (j : ℕ). sub_of system at (type_number t) j) (sym (zero_kept t may i kept)) ∙ (ap (λ (j : ℕ). sub_of system j (type_number t) i) (sym is) ∙ x)) in
+      let few : IsFew g.table t = point_few t may in
+      let loads : LoadsAt g.table system g.family (λ l. l ≡ at) (λ i. at) t =
       λ i kept l m is x a b. subst (λ (j : ℕ). Has g.family j a) (sym (here i l m kept is x)) b in
-      let stores : StoresAt g.table system g.family (λ l. l ≡ at) (λ i. at) (PointerTo to) =
+      let stores : StoresAt g.table system g.family (λ l. l ≡ at) (λ i. at) t =
       λ i kept l m is x a b. subst (λ (j : ℕ). Has g.family j a) (here i l m kept is x) b in
-      let own : ValueIn g memory (λ i. at) (PointerTo to) (one_cell old) = read_at_law memory (λ l. l ≡ at) place (PointerTo to) inv.found (λ i. at) (one_cell old) r target f.ty few loads inv.value_is in
-      write_at_law memory (λ l. l ≡ at) place (PointerTo to) inv.found (λ i. at) (one_cell new) after all r target f.ty few stores (moves (Some at) own.0, tt)
+      let own : ValueIn g memory (λ i. at) t (one_cell old) = read_at_law memory (λ l. l ≡ at) place t inv.found (λ i. at) (one_cell old) r target f.ty few loads inv.value_is in
+      let moved = moves (Some at) (subst (λ (o : Option ℕ). CellIn g memory o old) (may_row t may at) own.0) in
+      write_at_law memory (λ l. l ≡ at) place t inv.found (λ i. at) (one_cell new) after all r target f.ty few stores (subst (λ (o : Option ℕ). CellIn g memory o new) (sym (may_row t may at)) moved, tt)
       (subst (λ (s : Ctype). write_found g.table memory place ((one_cell new).cells) (Ok s) ≡ Ok after) same put_inv.after_is)

@@ -128,7 +128,7 @@ from_own table r rest own e = by r.inside refl
         (w, record { own_is = e; whole_is = is; same = refl; leads = both_leads table r rest own w e is (λ h. absurd (false≢true (sym h ∙ i))) (λ h. refl) })
 
 module _ (table : Table) (space : List Location) (system : System) (g : Grounds table space system) where
-  collapsed_from : (at : ℕ) (y : Location) (ty d : ℕ) → slice_get space at ≡ Some y → y.collapsed ≡ true → node_from (slice_get system.locations at) at ty d ≡ Some at
+  pub collapsed_from : (at : ℕ) (y : Location) (ty d : ℕ) → slice_get space at ≡ Some y → y.collapsed ≡ true → node_from (slice_get system.locations at) at ty d ≡ Some at
   collapsed_from at y ty d here c =
       let f = g.facts at y here in
       ap (λ (o : Option LocationFact). node_from o at ty d) f.1 ∙ ap (λ (b : Bool). cond b (Some at) (cond (eqb f.0.ty ty) (Some (at + d)) None)) (f.2.collapsed ∙ c)

@@ -1,5 +1,5 @@
 -- Instances that are made, ended, typed and cleared, and parts that are put into one.
-use Rattle.std.proofs.Common.{◌≡◌, ◌∙◌, inr, ℕ, Bool, true, false, cond, List, [], ◌∷◌, ◌++◌, Option, Some, None, IsSome, IsTrue, slice_get, refl, sym, ap, subst}
+use Rattle.std.proofs.Common.{◌≡◌, ◌∙◌, ◌⊎◌, inr, ℕ, Bool, true, false, cond, List, [], ◌∷◌, ◌++◌, Option, Some, None, IsSome, IsTrue, slice_get, refl, sym, ap, subst}
 use Rattle.c_types.specs.declared.term.PathStep.{PathStep}
 use Rattle.c_types.specs.declared.term.PathStep.TheVariants.{Index}
 use Rattle.c_types.specs.declared.term.TypeId.{TypeId}
@@ -16,15 +16,16 @@ use Rattle.ref_cells.specs.Cells.{CellList}
 use Rattle.ref_cells.specs.Puts.{put}
 use Rattle.ref_cells.specs.Wholes.{is_allocated, elements_in, typed_whole, whole_of}
 use Rattle.ref_mem.specs.Writes.{changed, put_all, with_parts}
-use Rattle.covering_laws.specs.covered_memory.Spots.{whole_part, IsInTree}
-use Rattle.covering_laws.specs.covered_memory.Covered.{Sets, CellIn, pointer_row, CellsIn, object_row, HasShape, InstanceIn, MemoryIn, GoesOn, Leaves}
+use Rattle.covering_laws.specs.covered_memory.Cells.{EachCell}
+use Rattle.covering_laws.specs.covered_memory.Spots.{whole_part, IsFurther, room, IsInTree}
+use Rattle.covering_laws.specs.covered_memory.Covered.{Sets, CellIn, pointer_row, CellsIn, object_row, cell_row, HasShape, InstanceIn, MemoryIn, GoesOn, Leaves}
 use Rattle.covering_laws.specs.covered_memory.Demands.{Grounds}
 use Rattle.covering_laws.proofs.covered_memory.Cells.{each_change}
 use Rattle.covering_laws.proofs.covered_memory.Filled.{nowhere}
 use Rattle.covering_laws.proofs.covered_memory.Puts.{put_each, part_along}
 use Rattle.covering_laws.proofs.covered_memory.Parts.{repeated_some}
-use Rattle.covering_laws.proofs.covered_memory.Stays.{same_memory, cell_from_none, replaced, one_more}
-use Rattle.covering_laws.proofs.covered_memory.Access.{with_cells}
+use Rattle.covering_laws.proofs.covered_memory.Stays.{heap_plain, same_memory, cell_from_none, own_in, own_out, cells_in, replaced, one_more}
+use Rattle.covering_laws.proofs.covered_memory.Access.{with_own}
 
 some_one : {X : Type 0} → {x y : X} → ◌≡◌ {A = Option X} (Some x) (Some y) → x ≡ y
 some_one h = cc
@@ -42,7 +43,8 @@ pub record Begins (g : Sets) (inst : Instance) : Type 0 where
   pub first_is : first_from 0 g.space inst.key ≡ Some first
   pub location_is : slice_get g.space first ≡ Some location
   pub shape : HasShape g.table location.content (whole_of g.table inst)
-  pub untyped : inst.ty ≡ None → IsTrue (is_allocated inst.key)
+  pub untyped : inst.ty ≡ None → IsTrue (is_allocated inst.key) ⊎ IsFurther inst.key
+  pub further : IsFurther inst.key → (inst.ty ≡ None) × (location.content ≡ Blob)
 
 module _ (g : Sets) (system : System) (grounds : Grounds g.table g.space system) where
   -- A new instance leaves a memory covered.
@@ -50,7 +52,16 @@ module _ (g : Sets) (system : System) (grounds : Grounds g.table g.space system)
       → Leaves g memory (memory ++ inst ∷ [])
   new_law memory inst all b cells =
       one_more g memory inst all
-      (record { first = b.first; location = b.location; first_is = b.first_is; location_is = b.location_is; shape = b.shape; untyped = b.untyped; cells = cells })
+      (record {
+        first = b.first;
+        location = b.location;
+        first_is = b.first_is;
+        location_is = b.location_is;
+        shape = b.shape;
+        untyped = b.untyped;
+        further = b.further;
+        cells = cells_in g memory inst b.location.content b.first (λ f. (b.further f).0) inst.cells cells;
+      })
 
   -- One instance changes.
   pub change_law : (memory : List Instance) (i : ℕ) (change : Instance → Instance) → MemoryIn g memory
@@ -67,7 +78,7 @@ module _ (g : Sets) (system : System) (grounds : Grounds g.table g.space system)
       change_law memory i (λ inst. record inst { live = false }) all
       (λ a e h. (
         record { key = refl; in_tree = λ p x. x; whole = λ t x. x },
-        record { first = h.first; location = h.location; first_is = h.first_is; location_is = h.location_is; shape = h.shape; untyped = h.untyped; cells = h.cells },
+        record { first = h.first; location = h.location; first_is = h.first_is; location_is = h.location_is; shape = h.shape; untyped = h.untyped; further = h.further; cells = h.cells },
       ))
 
   -- An instance gets the mark by which what isn't listed is zero.
@@ -76,7 +87,7 @@ module _ (g : Sets) (system : System) (grounds : Grounds g.table g.space system)
       change_law memory i (λ inst. record inst { zero = true }) all
       (λ a e h. (
         record { key = refl; in_tree = λ p x. x; whole = λ t x. x },
-        record { first = h.first; location = h.location; first_is = h.first_is; location_is = h.location_is; shape = h.shape; untyped = h.untyped; cells = h.cells },
+        record { first = h.first; location = h.location; first_is = h.first_is; location_is = h.location_is; shape = h.shape; untyped = h.untyped; further = h.further; cells = h.cells },
       ))
 
   -- Each cell of an instance becomes zero or null.
@@ -85,7 +96,7 @@ module _ (g : Sets) (system : System) (grounds : Grounds g.table g.space system)
       change_law memory i (λ inst. record inst { zero = true; cells = [] }) all
       (λ a e h. (
         record { key = refl; in_tree = λ p x. x; whole = λ t x. x },
-        record { first = h.first; location = h.location; first_is = h.first_is; location_is = h.location_is; shape = h.shape; untyped = h.untyped; cells = tt },
+        record { first = h.first; location = h.location; first_is = h.first_is; location_is = h.location_is; shape = h.shape; untyped = h.untyped; further = h.further; cells = tt },
       ))
 
   -- the type that an untyped instance gets is that of its object's elements
@@ -114,20 +125,20 @@ module _ (g : Sets) (system : System) (grounds : Grounds g.table g.space system)
   typed_shape (Typed other) a id n whole is complete takes (none, more) = absurd (none_some none)
   typed_shape (Elements other) a id n whole is complete takes (shape, more) = (inr (n, is ∙ ap (λ (t : Ctype). Some (ArrayOf t (Some n))) takes), more)
 
-  in_typed : (n : ℕ) (t : Ctype) (whole : Option Ctype) (path : List PathStep) → whole ≡ Some (ArrayOf t (Some n)) → path ≡ Index 0 ∷ [] → IsInTree g.table whole path
-  in_typed n t whole path is e =
-      subst (λ (w : Option Ctype). IsInTree g.table w path) (sym is) (subst (λ (p : List PathStep). IsInTree g.table (Some (ArrayOf t (Some n))) p) (sym e) refl)
+  in_typed : (n : ℕ) (t : Ctype) (whole : Option Ctype) (most : ℕ) (path : List PathStep) → whole ≡ Some (ArrayOf t (Some n)) → IsInTree g.table None most path → IsInTree g.table whole most path
+  in_typed n t whole most path is e =
+      subst (λ (w : Option Ctype). IsInTree g.table w most path) (sym is) (subst (λ (p : List PathStep). IsInTree g.table (Some (ArrayOf t (Some n))) most p) (sym e.1) refl)
 
-  -- an untyped instance that gets a type
-  pub typed_in : (memory : List Instance) (a : Instance) (id : TypeId) → a.ty ≡ None → IsSome (extent_in g.table (type_of g.table id.0)) → (h : InstanceIn g memory a) → Takes id h.location.content
-      → GoesOn g a (record a { ty = Some id }) × InstanceIn g memory (record a { ty = Some id })
-  typed_in memory a id none complete h takes =
+  -- an allocated instance without a type gets one
+  pub typed_in : (memory : List Instance) (a : Instance) (id : TypeId) → a.ty ≡ None → IsTrue (is_allocated a.key) → IsSome (extent_in g.table (type_of g.table id.0)) → (h : InstanceIn g memory a)
+      → Takes id h.location.content → GoesOn g a (record a { ty = Some id }) × InstanceIn g memory (record a { ty = Some id })
+  typed_in memory a id none heap complete h takes =
       let n = elements_in a.bytes (size_below (extent_in g.table (type_of g.table id.0))) in
-      let array = array_of a id (h.untyped none) in
+      let array = array_of a id heap in
       let before = untyped_whole a none in (
         record {
           key = refl;
-          in_tree = λ p x. in_typed n (type_of g.table id.0) (whole_with a id) p array (subst (λ (w : Option Ctype). IsInTree g.table w p) before x);
+          in_tree = λ p x. in_typed n (type_of g.table id.0) (whole_with a id) (room a) p array (subst (λ (w : Option Ctype). IsInTree g.table w (room a) p) before x);
           whole = λ t x. absurd (none_some (sym before ∙ x));
         },
         record {
@@ -137,20 +148,22 @@ module _ (g : Sets) (system : System) (grounds : Grounds g.table g.space system)
           location_is = h.location_is;
           shape = typed_shape h.location.content a id n (whole_with a id) array complete takes (subst (HasShape g.table h.location.content) before h.shape);
           untyped = λ e. absurd (some_none e);
-          cells = each_change (λ p c. CellIn g memory (pointer_row (object_row h.location.content h.first) (part_at g.table (whole_part (whole_of g.table a)) p)) c)
-              (λ p c. CellIn g memory (pointer_row (object_row h.location.content h.first) (part_at g.table (whole_part (whole_with a id)) p)) c) a.cells
-              (λ p c x. cell_from_none g memory (pointer_row (object_row h.location.content h.first) (part_at g.table (whole_part (whole_with a id)) p)) c
+          further = λ f. absurd (heap_plain a.key heap f);
+          cells = each_change (λ p c. CellIn g memory (cell_row g.table a h.location.content h.first p) c) (λ p c. CellIn g memory (cell_row g.table (record a { ty = Some id }) h.location.content h.first p) c) a.cells
+              (λ p c x. cell_from_none g memory (cell_row g.table (record a { ty = Some id }) h.location.content h.first p) c
               (subst (λ (o : Option Reached). CellIn g memory (pointer_row (object_row h.location.content h.first) o) c)
-              (ap (λ (w : Option Ctype). part_at g.table (whole_part w) p) before ∙ nowhere g.table p) x)) h.cells;
+              (ap (λ (w : Option Ctype). part_at g.table (whole_part w) p) before ∙ nowhere g.table p)
+              (own_out g memory a h.location.content h.first (heap_plain a.key heap) p c x))) h.cells;
         },
       )
 
-  -- An instance without a type gets one.
   pub type_law : (memory : List Instance) (i : ℕ) (id : TypeId) → MemoryIn g memory → IsSome (extent_in g.table (type_of g.table id.0))
-      → ((a : Instance) → slice_get memory i ≡ Some a → a.ty ≡ None) → ((a : Instance) → slice_get memory i ≡ Some a → (h : InstanceIn g memory a) → Takes id h.location.content)
+      → ((a : Instance) → slice_get memory i ≡ Some a → (a.ty ≡ None) × IsTrue (is_allocated a.key))
+      → ((a : Instance) → slice_get memory i ≡ Some a → (h : InstanceIn g memory a) → Takes id h.location.content)
       → Leaves g memory (changed memory i (slice_get memory i) (λ inst. record inst { ty = Some id }))
   type_law memory i id all complete untyped takes =
-      change_law memory i (λ inst. record inst { ty = Some id }) all (λ a e h. typed_in memory a id (untyped a e) complete h (takes a e h))
+      change_law memory i (λ inst. record inst { ty = Some id }) all
+      (λ a e h. (let u = untyped a e in typed_in memory a id u.0 u.1 complete h (takes a e h)))
 
   -- what is put into an instance: each part is covered where it stands
   abbrev pub PartsIn : List Instance → (ℕ → ℕ) → Option Reached → List (List PathStep × CellList) → Type 0
@@ -166,6 +179,26 @@ module _ (g : Sets) (system : System) (grounds : Grounds g.table g.space system)
       (each_change (λ p c. CellIn g memory (pointer_row row (part_at g.table (part_at g.table whole part.0) p)) c) (λ p c. CellIn g memory (pointer_row row (part_at g.table whole (part.0 ++ p))) c) part.1
       (λ p c x. subst (λ (o : Option Reached). CellIn g memory (pointer_row row o) c) (sym (part_along g.table whole part.0 p)) x) h.0) c)
 
+  puts_own : (memory : List Instance) (a : Instance) (h : InstanceIn g memory a) (parts : List (List PathStep × CellList))
+      → PartsIn memory (object_row h.location.content h.first) (whole_part (whole_of g.table a)) parts → (cells : CellList)
+      → EachCell (λ p c. CellIn g memory (cell_row g.table a h.location.content h.first p) c) cells
+      → EachCell (λ p c. CellIn g memory (cell_row g.table a h.location.content h.first p) c) (put_all g.table a.zero (whole_of g.table a) parts cells)
+  puts_own memory a h [] each cells c = c
+  puts_own memory a h (part ∷ rest) each cells c =
+      puts_own memory a h rest each.1 (put g.table a.zero (whole_of g.table a) part.0 part.1 cells)
+      (put_each g.table (λ p c. CellIn g memory (cell_row g.table a h.location.content h.first p) c) a.zero (whole_of g.table a) part.0 part.1 cells (λ p. tt)
+      (each_change (λ p c. CellIn g memory (pointer_row (object_row h.location.content h.first) (part_at g.table (part_at g.table (whole_part (whole_of g.table a)) part.0) p)) c)
+      (λ p c. CellIn g memory (cell_row g.table a h.location.content h.first (part.0 ++ p)) c) part.1
+      (λ p c x. own_in g memory a h.location.content h.first (λ f. (h.further f).0) (part.0 ++ p) c
+      (subst (λ (o : Option Reached). CellIn g memory (pointer_row (object_row h.location.content h.first) o) c) (sym (part_along g.table (whole_part (whole_of g.table a)) part.0 p)) x)) each.0) c)
+
+  -- an instance into which parts are put
+  pub parts_own : (memory : List Instance) (a : Instance) (h : InstanceIn g memory a) (parts : List (List PathStep × CellList))
+      → PartsIn memory (object_row h.location.content h.first) (whole_part (whole_of g.table a)) parts
+      → InstanceIn g memory (record a { cells = put_all g.table a.zero (whole_of g.table a) parts a.cells })
+  parts_own memory a h parts each =
+      with_own g system grounds memory a h (put_all g.table a.zero (whole_of g.table a) parts a.cells) (puts_own memory a h parts each a.cells h.cells)
+
   -- Parts are put into an instance.
   pub parts_law : (memory : List Instance) (i : ℕ) (parts : List (List PathStep × CellList)) → MemoryIn g memory
       → ((a : Instance) → slice_get memory i ≡ Some a → (h : InstanceIn g memory a) → PartsIn memory (object_row h.location.content h.first) (whole_part (whole_of g.table a)) parts)
@@ -174,6 +207,5 @@ module _ (g : Sets) (system : System) (grounds : Grounds g.table g.space system)
       change_law memory i (with_parts g.table parts) all
       (λ a e h. (
         record { key = refl; in_tree = λ p x. x; whole = λ t x. x },
-        with_cells g system grounds memory a h (put_all g.table a.zero (whole_of g.table a) parts a.cells)
-            (puts_in memory (object_row h.location.content h.first) (whole_part (whole_of g.table a)) a.zero (whole_of g.table a) parts a.cells (each a e h) h.cells),
+        parts_own memory a h parts (each a e h),
       ))

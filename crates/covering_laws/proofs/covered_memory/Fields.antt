@@ -1,5 +1,5 @@
 -- A place's parts are covered: a member at the row of its field, an element at the row of the whole.
-use Rattle.std.proofs.Common.{arith, ◌≡◌, ◌∙◌, ℕ, ◌+◌, ◌^◌, ◌<◌, Bool, true, false, cond, List, [], ◌∷◌, ◌++◌, length, Option, Some, None, IsSome, slice_get, unwrap_or, refl, sym, ap, subst}
+use Rattle.std.proofs.Common.{arith, ◌≡◌, ◌∙◌, ℕ, ◌+◌, ◌^◌, ◌<◌, ◌≤◌, Bool, true, false, cond, List, [], ◌∷◌, ◌++◌, length, Option, Some, None, IsSome, slice_get, unwrap_or, refl, sym, ap, subst}
 use Rattle.std.specs.Prelude.{option_and_then, is_some}
 use Rattle.std.proofs.lemmas.Bool.{lt-ltb}
 use Rattle.std.proofs.lemmas.Option.{slice_get_within}
@@ -28,7 +28,7 @@ use Rattle.ref_cells.specs.declared.cells.Cell.{Cell}
 use Rattle.ref_cells.specs.declared.cells.Cell.TheVariants.{Unset, Number, Null, Pointer, Function as FunctionCell}
 use Rattle.ref_cells.specs.declared.instance.Instance.{Instance}
 use Rattle.ref_cells.specs.Wholes.{whole_of}
-use Rattle.covering_laws.specs.covered_memory.Spots.{spot_at, spot_from, spot, IsInTree}
+use Rattle.covering_laws.specs.covered_memory.Spots.{room, spot_at, spot_from, spot, IsInTree}
 use Rattle.covering_laws.specs.covered_memory.Covered.{Sets, Lands, CellIn, object_row, HasShape, InstanceIn, MemoryIn}
 use Rattle.covering_laws.specs.covered_memory.Demands.{Grounds, IsFew}
 use Rattle.covering_laws.proofs.covered_memory.Puts.{part_along}
@@ -139,7 +139,7 @@ module _ (g : Sets) (system : System) (grounds : Grounds g.table g.space system)
         record {
           inst = p.inst;
           inst_is = p.inst_is;
-          in_tree = subst (λ (w : Option Ctype). IsInTree g.table w (path ++ step ∷ [])) (sym p.whole_is) (ap (λ (o : Option Reached). is_some o) along);
+          in_tree = subst (λ (w : Option Ctype). IsInTree g.table w (room p.inst) (path ++ step ∷ [])) (sym p.whole_is) (ap (λ (o : Option Reached). is_some o) along);
           lands = record { at = to; location = own_row q.node; row_is = refl; found_is = there; has = has };
         }
 
@@ -243,7 +243,7 @@ module _ (table : Table) where
   node_index (Typed id) front a b = ap (option_map (λ (r : Reached). r.node)) (part_index (Some (reached (type_of table id.0) 0 false)) front a b)
   node_index (Elements id) front a b = ap (option_map (λ (r : Reached). r.node)) (part_index (Some (reached (ArrayOf (type_of table id.0) None) 0 false)) front a b)
 
-  spot_index : (space : List Location) (key : ObjectKey) (front : List PathStep) (a b : ℕ) → spot table space key (front ++ Index a ∷ []) ≡ spot table space key (front ++ Index b ∷ [])
+  pub spot_index : (space : List Location) (key : ObjectKey) (front : List PathStep) (a b : ℕ) → spot table space key (front ++ Index a ∷ []) ≡ spot table space key (front ++ Index b ∷ [])
   spot_index space key front a b = by (first_from 0 space key)
     where
       at : (l : ℕ) (o : Option Location) → spot_at table l o (front ++ Index a ∷ []) ≡ spot_at table l o (front ++ Index b ∷ [])
@@ -255,17 +255,29 @@ module _ (table : Table) where
       by (Some l) = at l (slice_get space l)
 
 module _ (g : Sets) where
-  in_tree_index : (whole : Option Ctype) (front : List PathStep) (a b : ℕ) → (whole ≡ None → a ≡ b) → IsInTree g.table whole (front ++ Index a ∷ []) → IsInTree g.table whole (front ++ Index b ∷ [])
-  in_tree_index None front a b same h = subst (λ (k : ℕ). front ++ Index k ∷ [] ≡ Index 0 ∷ []) (same refl) h
-  in_tree_index (Some t) front a b same h = sym (ap is_some (part_index g.table (Some (reached t 0 false)) front a b)) ∙ h
+  index_is : (a i : ℕ) → ◌≡◌ {A = List PathStep} (Index a ∷ []) (Index i ∷ []) → a ≡ i
+  index_is a i e = (let same : Index a ≡ Index i = cc in cc)
+
+  index_only : (front : List PathStep) (a b i : ℕ) → front ++ Index a ∷ [] ≡ Index i ∷ [] → (front ++ Index b ∷ [] ≡ Index b ∷ []) × (a ≡ i)
+  index_only [] a b i e = (refl, index_is a i e)
+  index_only (x ∷ []) a b i e = absurd (let bad : ◌≡◌ {A = List PathStep} (x ∷ Index a ∷ []) (Index i ∷ []) = e in cc)
+  index_only (x ∷ y ∷ front) a b i e = absurd (let bad : ◌≡◌ {A = List PathStep} (x ∷ y ∷ (front ++ Index a ∷ [])) (Index i ∷ []) = e in cc)
+
+  -- the new index isn't greater where there is no type
+  in_tree_index : (whole : Option Ctype) (most : ℕ) (front : List PathStep) (a b : ℕ) → (whole ≡ None → b ≤ a) → IsInTree g.table whole most (front ++ Index a ∷ []) → IsInTree g.table whole most (front ++ Index b ∷ [])
+  in_tree_index None most front a b less h =
+      let le = less refl in
+      let same = index_only front a b h.0 h.1 in
+      (b, same.0, (let m = h.2 in let q = same.1 in omega arith))
+  in_tree_index (Some t) most front a b less h = sym (ap is_some (part_index g.table (Some (reached t 0 false)) front a b)) ∙ h
 
   -- A pointer that is moved in its array stays in the same rows.
   pub moved_law : (memory : List Instance) (row : Option ℕ) (i : ℕ) (front : List PathStep) (a b : ℕ) (past gone : Bool)
-      → ((inst : Instance) → slice_get memory i ≡ Some inst → whole_of g.table inst ≡ None → a ≡ b)
+      → ((inst : Instance) → slice_get memory i ≡ Some inst → whole_of g.table inst ≡ None → b ≤ a)
       → CellIn g memory row (Pointer i (front ++ Index a ∷ []) past) → CellIn g memory row (Pointer i (front ++ Index b ∷ []) gone)
-  moved_law memory row i front a b past gone same h = record {
+  moved_law memory row i front a b past gone less h = record {
     inst = h.inst;
     inst_is = h.inst_is;
-    in_tree = in_tree_index (whole_of g.table h.inst) front a b (same h.inst h.inst_is) h.in_tree;
+    in_tree = in_tree_index (whole_of g.table h.inst) (room h.inst) front a b (less h.inst h.inst_is) h.in_tree;
     lands = subst (Lands g.family row) (spot_index g.table g.space h.inst.key front a b) h.lands;
   }

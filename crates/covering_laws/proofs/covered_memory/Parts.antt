@@ -298,6 +298,12 @@ stripped (ArrayOf of n) = stripped of
 stripped t = t
 
 -- complete types, and their nodes
+-- a type whose cells may point
+abbrev pub MayPoint : Ctype → Type 0
+MayPoint (PointerTo to) = Unit {0}
+MayPoint VaListType = Unit {0}
+MayPoint t = ⊥
+
 module _ (table : Table) (made : IsMade table) where
   abbrev nodes : Ctype → List Ctype
   nodes t = nodes_of (extent_in table t)
@@ -392,20 +398,25 @@ module _ (table : Table) (made : IsMade table) where
       by None is g next = absurd (none_some (sym (nowhere table rest) ∙ g))
       by (Some q) is g next = next q.ty q.node q.inside (step_complete t node b step q h is) g
 
+  point_node : (t : Ctype) → MayPoint t → (slice_get (nodes t) 0 ≡ Some t) × (is_kept t ≡ true)
+  point_node (PointerTo to) h = (refl, refl)
+  point_node VaListType h = (refl, refl)
+  point_node t h = absurd h
+
   -- a pointer in a complete type is at a node that has a row: its own, or that of the union in which it lies
-  pub kept_node : (t : Ctype) (path : List PathStep) (r : Reached) (to : Ctype) → IsSome (extent_in table t) → part_at table (Some (reached t 0 false)) path ≡ Some r → r.ty ≡ PointerTo to
+  pub kept_node : (t : Ctype) (path : List PathStep) (r : Reached) (to : Ctype) → MayPoint to → IsSome (extent_in table t) → part_at table (Some (reached t 0 false)) path ≡ Some r → r.ty ≡ to
       → (b : Ctype) × (slice_get (nodes t) r.node ≡ Some b) × (is_kept b ≡ true)
-  kept_node t path r to h e is = by r.inside refl
+  kept_node t path r to may h e is = by r.inside refl
     where
       here : r.node + 0 ≡ r.node
       here = omega arith
 
       by : (b : Bool) → r.inside ≡ b → (b : Ctype) × (slice_get (nodes t) r.node ≡ Some b) × (is_kept b ≡ true)
       by false out = (
-        PointerTo to,
+        to,
         ap (slice_get (nodes t)) (sym here)
-            ∙ path_nodes table made t path r h e out 0 (PointerTo to) (ap (λ (s : Ctype). slice_get (nodes s) 0) is),
-        refl,
+            ∙ path_nodes table made t path r h e out 0 to (ap (λ (s : Ctype). slice_get (nodes s) 0) is ∙ (point_node to may).0),
+        (point_node to may).1,
       )
       by true i =
           let u = enters table t 0 path r e i in (
@@ -420,8 +431,8 @@ module _ (table : Table) (made : IsMade table) where
   few_nodes (Some e) h = ap (λ (b : Bool). cond b e.nodes []) (lt-ltb (length e.nodes) (2 ^ 24 + 1) (omega arith))
 
   -- so a load or store of the node is one of those of the type
-  pub kept_row_node : (t : Ctype) (path : List PathStep) (r : Reached) (to : Ctype) → IsFew table t → IsSome (extent_in table t) → part_at table (Some (reached t 0 false)) path ≡ Some r → r.ty ≡ PointerTo to
+  pub kept_row_node : (t : Ctype) (path : List PathStep) (r : Reached) (to : Ctype) → MayPoint to → IsFew table t → IsSome (extent_in table t) → part_at table (Some (reached t 0 false)) path ≡ Some r → r.ty ≡ to
       → kept_at (slice_get (row_nodes table t) r.node) ≡ true
-  kept_row_node t path r to few h e is =
-      let k = kept_node t path r to h e is in
+  kept_row_node t path r to may few h e is =
+      let k = kept_node t path r to may h e is in
       ap (λ (ns : List Ctype). kept_at (slice_get ns r.node)) (few_nodes (extent_in table t) few) ∙ (ap kept_at k.1 ∙ k.2)

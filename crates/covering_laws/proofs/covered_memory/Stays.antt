@@ -1,18 +1,26 @@
 -- What isn't touched stays covered, since each instance goes on as the same object.
-use Rattle.std.proofs.Common.{◌≡◌, ◌∙◌, ℕ, zero, suc, false, ◌⊎◌, inl, inr, List, [], ◌∷◌, ◌++◌, Option, Some, None, set, slice_get, refl, sym, ap, subst}
-use Rattle.std.proofs.lemmas.Bool.{cases_eq}
+use Rattle.std.proofs.Common.{arith, ◌≡◌, ◌∙◌, ℕ, zero, suc, ◌+◌, false, IsTrue, ◌⊎◌, inl, inr, List, [], ◌∷◌, ◌++◌, Option, Some, None, set, slice_get, refl, sym, ap, subst}
+use Rattle.std.specs.Option.{option_map}
+use Rattle.std.proofs.lemmas.Bool.{cases_eq, false≢true}
 use Rattle.c_types.specs.declared.key.ObjectKey.{ObjectKey}
+use Rattle.c_types.specs.declared.key.ObjectKey.TheVariants.{Varargs as VarargsKey, Entity as EntityKey, Text as TextKey, Call as CallKey, Library as LibraryKey, Star as StarKey, Function as FunctionKey}
 use Rattle.c_types.specs.declared.term.PathStep.{PathStep}
+use Rattle.c_types.specs.declared.term.TypeId.{TypeId}
 use Rattle.c_types.specs.Trees.{Ctype}
-use Rattle.obj_space.specs.Spots.{Reached, reached, part_at}
+use Rattle.obj_made.specs.declared.object.Content.{Content}
+use Rattle.obj_made.specs.declared.object.Content.TheVariants.{Blob}
+use Rattle.obj_space.specs.declared.location.Location.{Location}
+use Rattle.obj_space.specs.Spots.{Reached, reached, part_at, node_in}
+use Rattle.obj_space.proofs.Followed.{no_part}
 use Rattle.ref_cells.specs.declared.cells.Cell.{Cell}
 use Rattle.ref_cells.specs.declared.cells.Cell.TheVariants.{Unset, Number, Null, Pointer, Function}
 use Rattle.ref_cells.specs.declared.cells.Value.{Value}
 use Rattle.ref_cells.specs.declared.instance.Instance.{Instance}
 use Rattle.ref_cells.specs.Cells.{CellList}
-use Rattle.ref_cells.specs.Wholes.{whole_of}
-use Rattle.covering_laws.specs.covered_memory.Spots.{spot, whole_part}
-use Rattle.covering_laws.specs.covered_memory.Covered.{Sets, Lands, PointsIn, CellIn, pointer_row, CellsIn, ValueIn, object_row, InstanceIn, MemoryIn, GoesOn, Extends, Leaves}
+use Rattle.ref_cells.specs.Wholes.{is_allocated, typed_whole, whole_of}
+use Rattle.covering_laws.specs.covered_memory.Spots.{spot_at, spot_from, spot, whole_part, IsFurther}
+use Rattle.covering_laws.specs.covered_memory.Covered.{Sets, Lands, PointsIn, CellIn, pointer_row, CellsIn, ValueIn, object_row, further_row, cell_row, InstanceIn, MemoryIn, GoesOn, Extends, Leaves}
+use Rattle.covering_laws.specs.covered_memory.Cells.{EachCell}
 use Rattle.covering_laws.proofs.covered_memory.Cells.{each_change}
 
 some_one : {X : Type 0} → {x y : X} → ◌≡◌ {A = Option X} (Some x) (Some y) → x ≡ y
@@ -20,6 +28,26 @@ some_one h = cc
 
 none_some : {X : Type 0} → {x : X} → ◌≡◌ {A = Option X} None (Some x) → ⊥
 none_some h = cc
+
+-- what is allocated is no object of further arguments
+pub heap_plain : (key : ObjectKey) → IsTrue (is_allocated key) → IsFurther key → ⊥
+heap_plain (VarargsKey e) heap f = false≢true heap
+heap_plain (EntityKey e) heap f = f
+heap_plain (TextKey n) heap f = f
+heap_plain (CallKey n) heap f = f
+heap_plain (LibraryKey k) heap f = f
+heap_plain (StarKey k) heap f = f
+heap_plain (FunctionKey k) heap f = f
+
+-- any other object's cells are in the rows of their parts
+plain_row : (key : ObjectKey) (first : ℕ) (row : Option ℕ) → (IsFurther key → ⊥) → further_row key first row ≡ row
+plain_row (VarargsKey e) first row plain = absurd (plain tt)
+plain_row (EntityKey e) first row plain = refl
+plain_row (TextKey n) first row plain = refl
+plain_row (CallKey n) first row plain = refl
+plain_row (LibraryKey k) first row plain = refl
+plain_row (StarKey k) first row plain = refl
+plain_row (FunctionKey k) first row plain = refl
 
 module _ (g : Sets) where
   pub goes_on : (a : Instance) → GoesOn g a a
@@ -75,7 +103,9 @@ module _ (g : Sets) where
       location_is = h.location_is;
       shape = h.shape;
       untyped = h.untyped;
-      cells = cells_stay (object_row h.location.content h.first) (whole_part (whole_of g.table inst)) inst.cells h.cells;
+      further = h.further;
+      cells = each_change (λ p c. CellIn g old (cell_row g.table inst h.location.content h.first p) c) (λ p c. CellIn g new (cell_row g.table inst h.location.content h.first p) c) inst.cells
+          (λ p c. cell_stays (cell_row g.table inst h.location.content h.first p) c) h.cells;
     }
 
   -- where there is no row nothing is pointed to, so the cell is in any
@@ -85,6 +115,53 @@ module _ (g : Sets) where
   cell_from_none memory row Unset h = tt
   cell_from_none memory row (Number n) h = tt
   cell_from_none memory row Null h = tt
+
+  module _ (memory : List Instance) (inst : Instance) (content : Content) (first : ℕ) where
+    -- a cell that is covered in the row of its part is in its own, also where it has no part
+    pub own_in : (IsFurther inst.key → inst.ty ≡ None) → (p : List PathStep) (c : Cell) → CellIn g memory (pointer_row (object_row content first) (part_at g.table (whole_part (whole_of g.table inst)) p)) c
+        → CellIn g memory (cell_row g.table inst content first p) c
+    own_in further p c h = by inst.key (λ f. further f)
+      where
+        by : (key : ObjectKey) → (IsFurther key → inst.ty ≡ None) → CellIn g memory (further_row key first (pointer_row (object_row content first) (part_at g.table (whole_part (whole_of g.table inst)) p))) c
+        by (VarargsKey e) none =
+            cell_from_none memory (Some first) c
+            (subst (λ (o : Option ℕ). CellIn g memory o c)
+            (ap (λ (t : Option TypeId). pointer_row (object_row content first) (part_at g.table (whole_part (typed_whole g.table inst t)) p)) (none tt) ∙ ap (pointer_row (object_row content first)) (no_part g.table p)) h)
+        by (EntityKey e) none = h
+        by (TextKey n) none = h
+        by (CallKey n) none = h
+        by (LibraryKey k) none = h
+        by (StarKey k) none = h
+        by (FunctionKey k) none = h
+
+    -- a cell of any other object is covered in the row of its part
+    pub own_out : (IsFurther inst.key → ⊥) → (p : List PathStep) (c : Cell) → CellIn g memory (cell_row g.table inst content first p) c
+        → CellIn g memory (pointer_row (object_row content first) (part_at g.table (whole_part (whole_of g.table inst)) p)) c
+    own_out plain p c h =
+        subst (λ (o : Option ℕ). CellIn g memory o c) (plain_row inst.key first (pointer_row (object_row content first) (part_at g.table (whole_part (whole_of g.table inst)) p)) plain) h
+
+    pub cells_in : (IsFurther inst.key → inst.ty ≡ None) → (list : CellList) → CellsIn g memory (object_row content first) (whole_part (whole_of g.table inst)) list
+        → EachCell (λ p c. CellIn g memory (cell_row g.table inst content first p) c) list
+    cells_in further list h =
+        each_change (λ p c. CellIn g memory (pointer_row (object_row content first) (part_at g.table (whole_part (whole_of g.table inst)) p)) c) (λ p c. CellIn g memory (cell_row g.table inst content first p) c) list
+        (own_in further) h
+
+    pub cells_out : (IsFurther inst.key → ⊥) → (list : CellList) → EachCell (λ p c. CellIn g memory (cell_row g.table inst content first p) c) list
+        → CellsIn g memory (object_row content first) (whole_part (whole_of g.table inst)) list
+    cells_out plain list h =
+        each_change (λ p c. CellIn g memory (cell_row g.table inst content first p) c) (λ p c. CellIn g memory (pointer_row (object_row content first) (part_at g.table (whole_part (whole_of g.table inst)) p)) c) list
+        (own_out plain) h
+
+  -- what has a type is no object of further arguments
+  pub typed_plain : (memory : List Instance) (inst : Instance) → InstanceIn g memory inst → (whole : Ctype) → whole_of g.table inst ≡ Some whole → IsFurther inst.key → ⊥
+  typed_plain memory inst h whole is f = none_some (sym (ap (typed_whole g.table inst) (h.further f).0) ∙ is)
+
+  -- each place of what a variadic function is passed past its parameters is at the one location of its object
+  pub further_spot : (memory : List Instance) (inst : Instance) (h : InstanceIn g memory inst) → h.location.content ≡ Blob → (path : List PathStep) → spot g.table g.space inst.key path ≡ Some h.first
+  further_spot memory inst h blob path =
+      ap (λ (o : Option ℕ). spot_from g.table g.space o path) h.first_is
+      ∙ (ap (λ (o : Option Location). spot_at g.table h.first o path) h.location_is
+      ∙ (ap (λ (c : Content). option_map (λ (n : ℕ). h.first + n) (node_in g.table c path)) blob ∙ ap (λ (n : ℕ). Some n) (let e : h.first + 0 ≡ h.first = omega arith in e)))
 
   set_same : (xs : List Instance) (i : ℕ) (a b : Instance) → slice_get xs i ≡ Some a → slice_get (set xs i b) i ≡ Some b
   set_same [] i a b e = absurd (none_some e)

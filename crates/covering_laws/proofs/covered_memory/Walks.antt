@@ -225,6 +225,7 @@ module _ (table : Table) where
     parts = plain_parts (PointerTo a) (PointerTo b) (pointer_step a) (pointer_step b) (λ k. refl);
     few = λ h. h;
   }
+  alike_types VaListType VaListType e = same_alike VaListType VaListType refl
   alike_types (StructureOf a) (StructureOf b) e = same_alike (StructureOf a) (StructureOf b) (ap (λ (n : ℕ). StructureOf n) (tag_same a b e))
   alike_types (UnionOf a) (UnionOf b) e = same_alike (UnionOf a) (UnionOf b) (ap (λ (n : ℕ). UnionOf n) (tag_same a b e))
   alike_types found t e = absurd (false≢true e)

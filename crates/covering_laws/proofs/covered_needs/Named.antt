@@ -4,6 +4,7 @@ use Rattle.std.specs.List.{AllZip, list_any, enumerate_from}
 use Rattle.pta_base.specs.declared.effect.Effect.{Effect}
 use Rattle.c_types.specs.declared.key.ObjectKey.{ObjectKey}
 use Rattle.c_types.specs.declared.key.ObjectKey.TheVariants.{Entity as EntityKey, Text as TextKey, Call as CallKey, Library as LibraryKey, Star as StarKey, Function as FunctionKey}
+use Rattle.c_types.specs.declared.key.ObjectKey.TheVariants.{Varargs as VarargsKey}
 use Rattle.c_types.specs.declared.term.PathStep.TheVariants.{Index}
 use Rattle.core_tree.specs.declared.node.Node.{Node}
 use Rattle.core_tree.specs.Typed.{CoreTrees, trees_in}
@@ -27,7 +28,7 @@ use Rattle.ref_lib.specs.declared.rows.Row.TheVariants.{Makes, Writes}
 use Rattle.ref_lib.specs.Effects.{rows}
 use Rattle.covering_laws.specs.object_contents.Contents.{IsMadeOf}
 use Rattle.covering_laws.proofs.object_contents.Contents.{contents_known}
-use Rattle.covering_laws.specs.covered_memory.Spots.{spot, IsInTree}
+use Rattle.covering_laws.specs.covered_memory.Spots.{spot, room, IsInTree}
 use Rattle.covering_laws.specs.covered_memory.Covered.{MemoryIn}
 use Rattle.covering_laws.proofs.covered_memory.Firsts.{is_first}
 use Rattle.covering_laws.specs.covered_rows.Laws.{Solved, sets_in, setting_in}
@@ -177,6 +178,7 @@ library_key (TextKey j) k h = absurd (none_some h)
 library_key (CallKey j) k h = absurd (none_some h)
 library_key (LibraryKey j) k h = absurd (none_some h)
 library_key (StarKey j) k h = absurd (none_some h)
+library_key (VarargsKey j) k h = absurd (none_some h)
 
 module _ (s : Solved) (n : ℕ) (node : Node) (site : CallSite) (target : ℕ) (function : Function) (library : ℕ) (call : IsLibraryCall s n node site target function library) where
   abbrev u : CoreTrees
@@ -211,7 +213,7 @@ module _ (s : Solved) (n : ℕ) (node : Node) (site : CallSite) (target : ℕ) (
         (at.0, at.1, row.0, row.1, row.2)
 
     element_at : (position i : ℕ) → IsElements position → object_from position 0 memory ≡ Some i → (l : ℕ) → first_from 0 s.space (LibraryKey position) ≡ Some l
-        → (inst : Instance) × (slice_get memory i ≡ Some inst) × IsInTree s.program.types (whole_of s.program.types inst) (Index 0 ∷ []) × (spot s.program.types s.space inst.key (Index 0 ∷ []) ≡ Some l)
+        → (inst : Instance) × (slice_get memory i ≡ Some inst) × IsInTree s.program.types (whole_of s.program.types inst) (room inst) (Index 0 ∷ []) × (spot s.program.types s.space inst.key (Index 0 ∷ []) ≡ Some l)
     element_at position i elements h l first =
         let x = made_of position l first in
         elim (elements x.2 x.3) [

@@ -1,5 +1,5 @@
 -- Calls of functions with bodies: arguments are covered in the parameters, and what is returned at the call.
-use Rattle.std.proofs.Common.{arith, ◌≡◌, ◌∙◌, inl, inr, ℕ, zero, suc, ◌+◌, ◌<◌, true, Bool, List, [], ◌∷◌, length, map, Option, Some, None, slice_get, unwrap_or, Contains, refl, sym, ap, subst}
+use Rattle.std.proofs.Common.{arith, ◌≡◌, ◌∙◌, inl, inr, ℕ, zero, suc, ◌+◌, ◌<◌, true, Bool, List, [], ◌∷◌, ◌++◌, take, length, map, Option, Some, None, slice_get, unwrap_or, Contains, refl, sym, ap, subst}
 use Rattle.std.specs.Option.{option_map}
 use Rattle.std.proofs.lemmas.Bool.{false≢true}
 use Rattle.std.proofs.lemmas.Option.{slice_get-map, slice_get_within}
@@ -22,18 +22,18 @@ use Rattle.obj_space.specs.declared.location.Location.{Location}
 use Rattle.obj_space.specs.View.{SpaceView, first_from, view_of}
 use Rattle.row_numbers.specs.Kept.{nodes_of, kept_at, row_or, kept_row, row_list}
 use Rattle.row_numbers.specs.Functions.{number_of, key_type, parameters_of}
-use Rattle.row_numbers.specs.Setting.{Setting, row, none_row, result_row, result_nodes, value_rows}
+use Rattle.row_numbers.specs.Setting.{Setting, row, rest_row, none_row, result_row, result_nodes, value_rows}
 use Rattle.ref_cells.specs.declared.cells.Value.{Value}
 use Rattle.ref_cells.specs.declared.instance.Instance.{Instance}
-use Rattle.call_sites.specs.Calls.{rest_of, IsCallSite}
+use Rattle.call_sites.specs.Calls.{head_of, rest_of, variadic_count, rows_past, argument_rows, IsCallSite}
 use Rattle.normal_form.specs.Assignments.{row_in, copies, given_type, returned_by}
-use Rattle.normal_form.specs.Facts.{cell_list, parameter_rows, parameters_by}
+use Rattle.normal_form.specs.Facts.{cell_list, parameter_rows, further_rows, parameters_by}
 use Rattle.normal_form.specs.SystemOf.{SystemOf, by_call}
 use Rattle.covering_laws.specs.covered_types.Whole.{IsHeld}
 use Rattle.covering_laws.specs.covered_memory.Covered.{Sets, ValueIn}
 use Rattle.covering_laws.specs.covered_memory.Demands.{Grounds, IsWhole}
 use Rattle.covering_laws.proofs.covered_memory.Proper.{position_there}
-use Rattle.covering_laws.specs.covered_rows.Nodes.{IsNode, HeldIn}
+use Rattle.covering_laws.specs.covered_rows.Nodes.{IsNode, HeldIn, IsWithin}
 use Rattle.covering_laws.proofs.covered_rows.Lists.{zip_has}
 use Rattle.covering_laws.proofs.covered_rows.Demanded.{Copies, satisfied, by_statement, copies_say}
 use Rattle.covering_laws.proofs.covered_rows.Values.{sets, w', held, of_held, value_copied, value_passed}
@@ -59,6 +59,32 @@ cell_there none first nodes i h =
 
 get_map : {X Y : Type 0} (f : X → Y) (xs : List X) (k : ℕ) (x : X) → slice_get xs k ≡ Some x → slice_get (map f xs) k ≡ Some (f x)
 get_map f xs k x e = slice_get-map f xs k ∙ ap (option_map f) e
+
+get_front : {X : Type 0} (xs ys : List X) (k : ℕ) (x : X) → slice_get xs k ≡ Some x → slice_get (xs ++ ys) k ≡ Some x
+get_front [] ys k x h = absurd (none_some h)
+get_front (y ∷ xs) ys zero x h = h
+get_front (y ∷ xs) ys (suc k) x h = get_front xs ys k x h
+
+get_taken : {X : Type 0} (n : ℕ) (xs : List X) (k : ℕ) (x : X) → k < n → slice_get xs k ≡ Some x → slice_get (take n xs) k ≡ Some x
+get_taken zero xs k x lt h = absurd (omega (arith, lt))
+get_taken (suc n) [] k x lt h = h
+get_taken (suc n) (y ∷ xs) zero x lt h = h
+get_taken (suc n) (y ∷ xs) (suc k) x lt h = get_taken n xs k x (omega (arith, lt)) h
+
+-- the rows of an argument that has a parameter
+pub argument_there : (u : CoreTrees) (s : SpaceView) (n callee k a : ℕ) (arguments : List ℕ) → IsWithin u callee k → slice_get arguments k ≡ Some a → slice_get (argument_rows u s n callee arguments) k ≡ Some (value_rows u s a)
+argument_there u s n callee k a arguments within at = by (variadic_count (type_at u callee)) refl
+  where
+    by : (o : Option ℕ) → variadic_count (type_at u callee) ≡ o → slice_get (rows_past u s n o arguments) k ≡ Some (value_rows u s a)
+    by None e = get_map (value_rows u s) arguments k a at
+    by (Some count) e =
+        get_front (map (value_rows u s) (take count arguments)) ((rest_row u s n ∷ []) ∷ []) k (value_rows u s a)
+        (get_map (value_rows u s) (take count arguments) k a (get_taken count arguments k a (within count e) at))
+
+-- the rows of a parameter
+pub parameter_there : (u : CoreTrees) (s : SpaceView) (f k : ℕ) (key : ObjectKey) → slice_get (parameters_of u s f) k ≡ Some key → slice_get (parameters_by u s (EntityKey f)) k ≡ Some (parameter_rows u s key)
+parameter_there u s f k key at =
+    get_front (map (parameter_rows u s) (parameters_of u s f)) (further_rows u s f) k (parameter_rows u s key) (get_map (parameter_rows u s) (parameters_of u s f) k key at)
 
 module _ (p : Program) (space : List Location) (system : System) (is : SystemOf p (view_of space) system) (F : Family) (closed : IsClosed system F) (grounds : Grounds p.types space system) where
   abbrev g : Sets
@@ -90,16 +116,16 @@ module _ (p : Program) (space : List Location) (system : System) (is : SystemOf 
     edge_says a b e = call_says number site at target function is_target a b (subst (λ (o : Option ℕ). TargetEdge system F site target function o a b) (sym body) e)
 
     -- An argument is covered in the parameter's object.
-    pub parameter_in : (f k a l : ℕ) (key : ObjectKey) (t : Ctype) → function.parameters ≡ parameters_by u s (EntityKey f) → slice_get (rest_of node.children) k ≡ Some a → slice_get (parameters_of u s f) k ≡ Some key
+    pub parameter_in : (f k a l : ℕ) (key : ObjectKey) (t : Ctype) → IsWithin u (head_of node.children) k → function.parameters ≡ parameters_by u s (EntityKey f) → slice_get (rest_of node.children) k ≡ Some a → slice_get (parameters_of u s f) k ≡ Some key
         → key_type u key ≡ t → type_at u a ≡ t → first_from 0 space key ≡ Some l → IsWhole p.types t → (memory : List Instance) (v : Value) → HeldIn g w memory a v → ValueIn g memory (λ i. l + i) t v
-    parameter_in f k a l key t parameters a_is key_is key_ty ty first whole memory v h =
+    parameter_in f k a l key t within parameters a_is key_is key_ty ty first whole memory v h =
         value_copied g system grounds memory (kept_row (row_in w a) (nodes_of p.types t)) (λ i. l + i) t whole each v (of_held p space system is F closed grounds a t memory v ty h)
       where
         arguments : slice_get site.arguments k ≡ Some (value_rows u s a)
-        arguments = ap (λ (rows : List (List ℕ)). slice_get rows k) of_call.arguments ∙ get_map (value_rows u s) (rest_of node.children) k a a_is
+        arguments = ap (λ (rows : List (List ℕ)). slice_get rows k) of_call.arguments ∙ argument_there u s n (head_of node.children) k a (rest_of node.children) within a_is
 
         own : slice_get function.parameters k ≡ Some (parameter_rows u s key)
-        own = ap (λ (rows : List (List ℕ)). slice_get rows k) parameters ∙ get_map (parameter_rows u s) (parameters_of u s f) k key key_is
+        own = ap (λ (rows : List (List ℕ)). slice_get rows k) parameters ∙ parameter_there u s f k key key_is
 
         each : Copies p.types F (kept_row (row_in w a) (nodes_of p.types t)) (λ i. l + i) t
         each i kept =

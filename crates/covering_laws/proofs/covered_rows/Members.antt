@@ -114,13 +114,13 @@ module _ (p : Program) (space : List Location) (system : System) (is : SystemOf 
         let part = f.0 in
         let b = f.1 in
         let here : part_at p.types (Some (reached t 0 false)) path ≡ Some part = ap (λ (c : Ctype). part_at p.types (Some (reached c 0 false)) path) (sym own_ty) ∙ b.own_is in
-        let pointer : part.ty ≡ PointerTo i.1 = b.same ∙ i.3 in
+        let pointer : part.ty ≡ i.1 = b.same ∙ i.3 in
         record {
           at = kept_row (row_in w n) (nodes t) part.node;
           location = h.location;
-          row_is = row_is (kept_row (row_in w n) (nodes t)) (part_at p.types (Some (reached t 0 false)) path) part i.1 here pointer;
+          row_is = row_is (kept_row (row_in w n) (nodes t)) (part_at p.types (Some (reached t 0 false)) path) part i.1 i.5 here pointer;
           found_is = h.found_is;
-          has = contained part.node i.0.node b.leads (kept_row_node p.types grounds.made t path part i.1 whole_t.few whole_t.complete here pointer) h.location (subst (λ (z : ℕ). Has F z h.location) (sym i.4) h.has);
+          has = contained part.node i.0.node b.leads (kept_row_node p.types grounds.made t path part i.1 i.5 whole_t.few whole_t.complete here pointer) h.location (subst (λ (z : ℕ). Has F z h.location) (sym i.4) h.has);
         }
 
     cell_part : (memory : List Instance) (path : List PathStep) (c : Cell) → CellIn g memory (pointer_row (kept_row (row_in w v) (nodes s)) (part_at p.types (Some (reached s 0 false)) (MemberStep k ∷ path))) c

@@ -39,11 +39,11 @@ use Rattle.ref_mem.specs.Reads.{one_cell}
 use Rattle.normal_form.specs.declared.normal.Assignment.TheVariants.{Address, Copy, Field}
 use Rattle.normal_form.specs.Assignments.{row_in, is_pointer, pointed, value_of_kind}
 use Rattle.normal_form.specs.SystemOf.{SystemOf}
-use Rattle.covering_laws.specs.covered_memory.Spots.{spot_at, spot_from, spot, IsInTree}
+use Rattle.covering_laws.specs.covered_memory.Spots.{spot_at, spot_from, spot, room, IsInTree}
 use Rattle.covering_laws.specs.covered_memory.Covered.{Sets, CellIn, object_row, InstanceIn}
 use Rattle.covering_laws.specs.covered_memory.Demands.{Grounds, IsFew}
 use Rattle.covering_laws.proofs.covered_memory.Firsts.{is_first}
-use Rattle.covering_laws.proofs.covered_memory.Fields.{PointsTo, member_law, element_law, copied_law, moved_law}
+use Rattle.covering_laws.proofs.covered_memory.Fields.{PointsTo, member_law, element_law, copied_law}
 use Rattle.covering_laws.specs.covered_rows.Nodes.{IsNode, PlaceIn, HeldIn}
 use Rattle.covering_laws.proofs.covered_rows.Lists.{first_has}
 use Rattle.covering_laws.proofs.covered_rows.Demanded.{by_place, by_value, copy_says, address_says, field_says}
@@ -126,7 +126,7 @@ module _ (p : Program) (space : List Location) (system : System) (is : SystemOf 
       record {
         inst = inst;
         inst_is = at;
-        in_tree = subst (λ (t : Option Ctype). IsInTree p.types t []) (sym typed) refl;
+        in_tree = subst (λ (t : Option Ctype). IsInTree p.types t (room inst) []) (sym typed) refl;
         lands = record {
           at = row_in w n;
           location = inside.first;
@@ -204,20 +204,12 @@ module _ (p : Program) (space : List Location) (system : System) (is : SystemOf 
       cell_held n to memory (Pointer i (path ++ Index 0 ∷ []) past) ty
       (element_law g system grounds memory (row_in w q) i path (ArrayOf of k) h 0 (row_in w n) of k refl (passes n q Decay t (q ∷ []) node (first_has (Copy (row_in w n) (row_in w q)) [])) past)
 
-  -- PointerAdd: the pointer itself, and one to another element of its array
+  -- PointerAdd: the pointer itself
   pub add_in : (n v i : ℕ) (minus : Bool) (t to from : Ctype) → IsNode (trees_in p) n (PointerAdd minus) t (v ∷ i ∷ []) → type_at (trees_in p) n ≡ PointerTo to → type_at (trees_in p) v ≡ PointerTo from
       → (memory : List Instance) (c : Cell) → HeldIn g w memory v (one_cell c) → HeldIn g w memory n (one_cell c)
   add_in n v i minus t to from node ty tv memory c h =
       cell_held n to memory c ty
       (copied_law g system grounds memory (row_in w v) (row_in w n) c (passes n v (PointerAdd minus) t (v ∷ i ∷ []) node (first_has (Copy (row_in w n) (row_in w v)) [])) (held_cell v from memory c tv h))
-
-  pub add_moved_in : (n v i : ℕ) (minus : Bool) (t to from : Ctype) → IsNode (trees_in p) n (PointerAdd minus) t (v ∷ i ∷ []) → type_at (trees_in p) n ≡ PointerTo to → type_at (trees_in p) v ≡ PointerTo from
-      → (memory : List Instance) (j : ℕ) (front : List PathStep) (a b : ℕ) (past gone : Bool) → ((inst : Instance) → slice_get memory j ≡ Some inst → whole_of p.types inst ≡ None → a ≡ b)
-      → HeldIn g w memory v (one_cell (Pointer j (front ++ Index a ∷ []) past)) → HeldIn g w memory n (one_cell (Pointer j (front ++ Index b ∷ []) gone))
-  add_moved_in n v i minus t to from node ty tv memory j front a b past gone same h =
-      let own = add_in n v i minus t to from node ty tv memory (Pointer j (front ++ Index a ∷ []) past) h in
-      cell_held n to memory (Pointer j (front ++ Index b ∷ []) gone) ty
-      (moved_law g memory (Some (row_in w n)) j front a b past gone same (held_cell n to memory (Pointer j (front ++ Index a ∷ []) past) ty own))
 
   -- Convert of a pointer to a pointer
   pub convert_in : (n v : ℕ) (to from : Ctype) → IsNode (trees_in p) n Convert (PointerTo to) (v ∷ []) → type_at (trees_in p) n ≡ PointerTo to → type_at (trees_in p) v ≡ PointerTo from

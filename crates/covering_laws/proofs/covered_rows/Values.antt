@@ -46,9 +46,9 @@ module _ (g : Sets) (system : System) (grounds : Grounds g.table g.space system)
       record {
         at = to i.0.node;
         location = h.location;
-        row_is = row_is to (part_at g.table (Some (reached t 0 false)) path) i.0 i.1 i.2 i.3;
+        row_is = row_is to (part_at g.table (Some (reached t 0 false)) path) i.0 i.1 i.5 i.2 i.3;
         found_is = h.found_is;
-        has = more i.0.node (kept_row_node g.table grounds.made t path i.0 i.1 whole.few whole.complete i.2 i.3) h.location (subst (λ (k : ℕ). Has g.family k h.location) (sym i.4) h.has);
+        has = more i.0.node (kept_row_node g.table grounds.made t path i.0 i.1 i.5 whole.few whole.complete i.2 i.3) h.location (subst (λ (k : ℕ). Has g.family k h.location) (sym i.4) h.has);
       }
 
   cell_copied : (path : List PathStep) (c : Cell) → CellIn g memory (pointer_row from (part_at g.table (Some (reached t 0 false)) path)) c

@@ -2,7 +2,8 @@
 use Rattle.std.proofs.Common.{arith, ◌≡◌, inl, inr, ℕ, ◌≤◌, false, List, [], ◌∷◌, length, Option, Some, sym, subst}
 use Rattle.std.proofs.lemmas.Option.{slice_get_within}
 use Rattle.c_types.specs.declared.key.ObjectKey.{ObjectKey}
-use Rattle.c_types.specs.declared.key.ObjectKey.TheVariants.{Entity as EntityKey, Text as TextKey, Call as CallKey, Library as LibraryKey, Star as StarKey, Function as FunctionKey}
+use Rattle.c_types.specs.declared.key.ObjectKey.TheVariants.{Entity as EntityKey, Text as TextKey, Call as CallKey, Library as LibraryKey, Star as StarKey, Varargs as VarargsKey, Function as FunctionKey}
+use Rattle.c_types.specs.declared.term.PathStep.{PathStep}
 use Rattle.core_tree.specs.Typed.{Sort, NoNode, PlaceNode, ValueNode, StatementNode, sort_at, type_at}
 use Rattle.obj_space.specs.Spots.{Reached, reached, part_at}
 use Rattle.row_numbers.specs.Kept.{kept_row}
@@ -13,15 +14,13 @@ use Rattle.ref_cells.specs.declared.cells.Cell.TheVariants.{Unset, Number, Null,
 use Rattle.ref_cells.specs.declared.cells.Value.{Value}
 use Rattle.ref_cells.specs.declared.instance.Instance.{Instance}
 use Rattle.ref_cells.specs.Cells.{CellList}
-use Rattle.ref_cells.specs.Wholes.{whole_of}
 use Rattle.call_sites.specs.Calls.{rest_of}
 use Rattle.ref_state.specs.declared.items.Item.{Item}
 use Rattle.ref_state.specs.declared.items.Item.TheVariants.{Do, Wait, Library, Result}
 use Rattle.ref_state.specs.Values.{cell_of}
 use Rattle.normal_form.specs.Assignments.{row_in, given_type, type_nodes}
 use Rattle.covering_laws.specs.covered_memory.Cells.{EachCell}
-use Rattle.covering_laws.specs.covered_memory.Spots.{whole_part}
-use Rattle.covering_laws.specs.covered_memory.Covered.{Sets, CellIn, pointer_row, CellsIn, object_row}
+use Rattle.covering_laws.specs.covered_memory.Covered.{Sets, CellIn, pointer_row, CellsIn, cell_row}
 use Rattle.covering_laws.proofs.covered_memory.Cells.{each_change}
 use Rattle.covering_laws.specs.covered_rows.Nodes.{node_row}
 use Rattle.covering_laws.specs.covered_state.World.{World, trees_of, view_in, sets_of, setting_in}
@@ -40,9 +39,11 @@ module _ (g : Sets) (memory : List Instance) where
   cell_below row (Number n) h = tt
   cell_below row Null h = tt
 
+  pub rows_below : (row : List PathStep → Option ℕ) (cells : CellList) → EachCell (λ p c. CellIn g memory (row p) c) cells → AllBelow (length memory) cells
+  rows_below row cells h = each_change (λ p c. CellIn g memory (row p) c) (λ p c. NamesBelow (length memory) c) cells (λ p c x. cell_below (row p) c x) h
+
   pub cells_below : (row : ℕ → ℕ) (whole : Option Reached) (cells : CellList) → CellsIn g memory row whole cells → AllBelow (length memory) cells
-  cells_below row whole cells h =
-      each_change (λ p c. CellIn g memory (pointer_row row (part_at g.table whole p)) c) (λ p c. NamesBelow (length memory) c) cells (λ p c x. cell_below (pointer_row row (part_at g.table whole p)) c x) h
+  cells_below row whole cells h = rows_below (λ p. pointer_row row (part_at g.table whole p)) cells h
 
 module _ (world : World) (memory : List Instance) where
   -- a place is one cell
@@ -72,6 +73,7 @@ module _ (world : World) (memory : List Instance) where
   returned_below (CallKey n) v h = absurd h
   returned_below (LibraryKey n) v h = absurd h
   returned_below (StarKey n) v h = absurd h
+  returned_below (VarargsKey n) v h = absurd h
   returned_below (FunctionKey n) v h = absurd h
 
   -- a pending function's arguments, each of them an operand of its call, or what the function that calls back passes on
@@ -134,7 +136,7 @@ module _ (count : ℕ) where
 -- each pointer of a covered state names an instance that is there
 pub covered_exist : CoveredExist
 covered_exist world state covered = record {
-  memory = λ i inst at. (let h = covered.memory i inst at in cells_below (sets_of world) state.memory (object_row h.location.content h.first) (whole_part (whole_of world.program.types inst)) inst.cells h.cells);
+  memory = λ i inst at. (let h = covered.memory i inst at in rows_below (sets_of world) state.memory (cell_row world.program.types inst h.location.content h.first) inst.cells h.cells);
   frames = each_one (FrameIn world state.memory) (λ f. Each (ItemBelow (length state.memory)) f.items)
       (λ f h. each_one (ItemIn world state.memory f.function) (ItemBelow (length state.memory)) (item_below world state.memory f.function) f.items h.items) state.frames covered.frames;
 }

@@ -2,6 +2,7 @@
 use Rattle.std.proofs.Common.{inl, inr, ℕ, List, [], ◌∷◌, ◌++◌, Some}
 use Rattle.c_types.specs.declared.key.ObjectKey.{ObjectKey}
 use Rattle.c_types.specs.declared.key.ObjectKey.TheVariants.{Entity as EntityKey, Text as TextKey, Call as CallKey, Library as LibraryKey, Star as StarKey, Function as FunctionKey}
+use Rattle.c_types.specs.declared.key.ObjectKey.TheVariants.{Varargs as VarargsKey}
 use Rattle.core_tree.specs.Typed.{Sort, NoNode, PlaceNode, ValueNode, StatementNode, sort_at, type_at}
 use Rattle.row_numbers.specs.Kept.{kept_row}
 use Rattle.row_numbers.specs.Functions.{number_of}
@@ -54,6 +55,7 @@ module _ (world : World) (old new : List Instance) (extends : Extends (sets_of w
   returned_stays (CallKey n) v h = absurd h
   returned_stays (LibraryKey n) v h = absurd h
   returned_stays (StarKey n) v h = absurd h
+  returned_stays (VarargsKey n) v h = absurd h
   returned_stays (FunctionKey n) v h = absurd h
 
   arguments_stay : (nodes : List ℕ) (values : List Value) → ArgumentsIn world old nodes values → ArgumentsIn world new nodes values

@@ -13,9 +13,9 @@ use Rattle.core_tree.specs.declared.node.Node.{Node}
 use Rattle.core_tree.specs.declared.node.Op.{Op}
 use Rattle.core_tree.specs.declared.node.Op.TheVariants.{Plus, Minus, ShiftLeft, ShiftRight, Less, Greater, LessEqual, GreaterEqual, Equal, NotEqual, Complement, Not}
 use Rattle.core_tree.specs.declared.node.NodeKind.{NodeKind}
-use Rattle.core_tree.specs.declared.node.NodeKind.TheVariants.{Named, Text, Literal, FunctionName, Deref, Member, Number, NullValue, Fetch, AddressOf, Decay, PointerAdd, Convert, Upcast, Assign, Update, Choose, Sequence, CallNode, MemberOfValue, Arith}
+use Rattle.core_tree.specs.declared.node.NodeKind.TheVariants.{Named, Text, Literal, FunctionName, Deref, Member, Number, NullValue, Fetch, AddressOf, Decay, PointerAdd, Convert, Upcast, Assign, Update, Choose, Sequence, CallNode, MemberOfValue, VarArgs, NextArg, Arith}
 use Rattle.core_tree.specs.declared.node.Program.{Program}
-use Rattle.core_tree.specs.Typed.{CoreTrees, PlaceNode, ValueNode, StatementNode, IsPointer, IsScalar, IsAggregate, IsStored, IsPromoted, LacksLength, Holds, decayed, sort_of, type_at, trees_in}
+use Rattle.core_tree.specs.Typed.{CoreTrees, PlaceNode, ValueNode, StatementNode, IsPointer, IsScalar, IsAggregate, IsList, IsStored, IsPromoted, LacksLength, Holds, decayed, sort_of, type_at, trees_in}
 use Rattle.core_tree.specs.Rows.{RowOf, IsArray, Updates, Unary, Binary, Subtracts, Calls}
 use Rattle.core_tree.specs.Valid.{ValidProgram, ValueSized}
 use Rattle.type_rules.specs.Sizes.{HasSize, PointsToObject}
@@ -55,6 +55,10 @@ module _ (table : Table) where
   scalar_complete (StructureOf tag) (inr h) = absurd h
   scalar_complete (UnionOf tag) (inl h) = absurd h
   scalar_complete (UnionOf tag) (inr h) = absurd h
+
+  pub list_complete : (t : Ctype) → IsList t → IsComplete t
+  list_complete VaListType h = refl
+  list_complete t h = absurd h
 
   sized_by : (o : Option Extent) → IsSome (size_below o) → IsSome o
   sized_by None h = absurd (false≢true h)
@@ -180,13 +184,15 @@ module _ (p : Program) (valid : ValidProgram p) (made : IsMade p.types) (few : H
 
   stored_is : (node : Node) → sort_of node.kind ≡ ValueNode → ValueSized u node → IsStored (type_of p.types node.ty.0) → IsWhole p.types (type_of p.types node.ty.0)
   stored_is node sort sized (inl h) = record { complete = scalar_complete p.types (type_of p.types node.ty.0) h; few = few node.ty.0 }
-  stored_is node sort sized (inr h) = record { complete = sized_complete p.types (type_of p.types node.ty.0) (sized sort h); few = few node.ty.0 }
+  stored_is node sort sized (inr (inr h)) = record { complete = list_complete p.types (type_of p.types node.ty.0) h; few = few node.ty.0 }
+  stored_is node sort sized (inr (inl h)) = record { complete = sized_complete p.types (type_of p.types node.ty.0) (sized sort h); few = few node.ty.0 }
 
   -- what a node of a kind gives
   module _ (id : ℕ) (sized : IsAggregate (type_of p.types id) → HasSize p.types (type_of p.types id)) where
     stored_held : IsStored (type_of p.types id) → IsHeld p.types (type_of p.types id)
     stored_held (inl h) = scalar id h
-    stored_held (inr h) = complete id (sized_complete p.types (type_of p.types id) (sized h))
+    stored_held (inr (inr h)) = complete id (list_complete p.types (type_of p.types id) h)
+    stored_held (inr (inl h)) = complete id (sized_complete p.types (type_of p.types id) (sized h))
 
     updated : (op : Op) → Updates op (type_of p.types id) → IsHeld p.types (type_of p.types id)
     updated op (inl h) = scalar id (inl h.0)
@@ -231,6 +237,10 @@ module _ (p : Program) (valid : ValidProgram p) (made : IsMade p.types) (few : H
     value_of (Arith op) (a ∷ []) s row = scalar id (unary_scalar p.types op (type_at u a) (type_of p.types id) row.1)
     value_of (Arith op) (a ∷ b ∷ []) s row = scalar id (binary_scalar p.types op (type_at u a) (type_at u b) (type_of p.types id) row.2)
     value_of (Arith op) children s row = absurd row
+    value_of (VarArgs e) [] s row = complete id (list_complete p.types (type_of p.types id) row.0)
+    value_of (VarArgs e) children s row = absurd row
+    value_of NextArg (q ∷ []) s row = scalar id row.1
+    value_of NextArg children s row = absurd row
     value_of (Named e) children s row = absurd (place_value s)
     value_of (Text bytes) children s row = absurd (place_value s)
     value_of (Literal e) children s row = absurd (place_value s)

@@ -1,5 +1,5 @@
 -- What the nodes of a program with more types demand.
-use Rattle.std.proofs.Common.{◌≡◌, ◌∙◌, ℕ, ◌+◌, ◌<◌, ◌&&◌, cond, List, [], ◌∷◌, ◌++◌, length, Option, Some, None, slice_get, refl, ap}
+use Rattle.std.proofs.Common.{◌≡◌, ◌∙◌, ℕ, ◌+◌, ◌<◌, ◌&&◌, cond, List, [], ◌∷◌, ◌++◌, length, map, drop, Option, Some, None, slice_get, refl, ap}
 use Rattle.std.specs.List.{flat_map, range_with_len}
 use Rattle.std.specs.Option.{option_map}
 use Rattle.c_types.specs.declared.key.ObjectKey.TheVariants.{Entity as EntityKey}
@@ -13,21 +13,23 @@ use Rattle.type_rules.specs.Conversions.{result_of}
 use Rattle.core_tree.specs.declared.node.Node.{Node}
 use Rattle.core_tree.specs.declared.node.Entity.{Entity}
 use Rattle.core_tree.specs.declared.node.NodeKind.{NodeKind}
-use Rattle.core_tree.specs.declared.node.NodeKind.TheVariants.{Named, Text, Literal, FunctionName, Deref, Member, Fetch, AddressOf, Decay, PointerAdd, Convert, Upcast, Assign, Update, Choose, Sequence, MemberOfValue, Return, Initialise}
+use Rattle.core_tree.specs.declared.node.NodeKind.TheVariants.{Named, Text, Literal, FunctionName, Deref, Member, Fetch, AddressOf, Decay, PointerAdd, Convert, Upcast, Assign, Update, Choose, Sequence, CallNode, MemberOfValue, VarArgs, NextArg, Return, Initialise}
 use Rattle.core_tree.specs.declared.node.Program.{Program}
 use Rattle.core_tree.specs.Typed.{CoreTrees, type_at, trees_in}
 use Rattle.obj_space.specs.View.{SpaceView}
 use Rattle.row_numbers.specs.Numbers.{type_number}
 use Rattle.row_numbers.specs.Objects.{location_of}
 use Rattle.row_numbers.specs.Functions.{number_of, key_id}
-use Rattle.row_numbers.specs.Setting.{Setting, result_row}
+use Rattle.row_numbers.specs.Kept.{kept as kept_nodes, kept_row}
+use Rattle.row_numbers.specs.Setting.{Setting, list_row, rest_row, result_row}
+use Rattle.call_sites.specs.Calls.{variadic_count}
 use Rattle.normal_form.specs.declared.normal.Assignment.{Assignment}
-use Rattle.normal_form.specs.declared.normal.Assignment.TheVariants.{Address, Copy, Field}
-use Rattle.normal_form.specs.Assignments.{row_in, type_nodes, copies, spreads, loads, stores, passed_row, moved_row, is_pointer, convert_row, member_row, pointed, upcast_row, fetch_row, update_row, assign_row, choose_row, sequence_row, is_union_type, part_first, part_of_value, member_of_value_row, given_type, returned_by, return_row, path_node, target_node, spot, put_at, item_row, initialise_row, place_of_kind, value_of_kind, statement_of_kind, row_of_kind, node_assignments, assignments_by, assignments_at, assignments_of}
+use Rattle.normal_form.specs.declared.normal.Assignment.TheVariants.{Address, Copy, Load, Field}
+use Rattle.normal_form.specs.Assignments.{row_in, type_nodes, copies, spreads, loads, stores, passed_row, moved_row, is_pointer, convert_row, member_row, pointed, upcast_row, fetch_row, update_row, assign_row, choose_row, sequence_row, is_union_type, part_first, part_of_value, member_of_value_row, given_type, returned_by, return_row, next_arg_row, gathered_row, gathered_past, call_row, path_node, target_node, spot, put_at, item_row, initialise_row, place_of_kind, value_of_kind, statement_of_kind, row_of_kind, node_assignments, assignments_by, assignments_at, assignments_of}
 use Rattle.normal_form.specs.SystemOf.{setting_of}
 use Rattle.covering_laws.specs.grown_programs.Grown.{with_terms, MayFollow, IsKept, with_types}
 use Rattle.covering_laws.proofs.grown_programs.Types.{both, three, nodes_same, path_same, first_same}
-use Rattle.covering_laws.proofs.grown_programs.Numbers.{type_same, key_type_same, key_known, number_same, row_same, result_row_same}
+use Rattle.covering_laws.proofs.grown_programs.Numbers.{type_same, key_type_same, key_known, number_same, row_same, list_row_same, rest_row_same, result_row_same}
 
 flat_same : {X Y : Type 0} (f g : X → List Y) (xs : List X) → ((x : X) → f x ≡ g x) → flat_map f xs ≡ flat_map g xs
 flat_same f g [] h = refl
@@ -136,6 +138,36 @@ module _ (p : Program) (more : List Term) (made : IsMade p.types) (follow : MayF
   member_of_value_same n k t (v ∷ []) = ap (λ (c : Ctype). part_of_value w' n k t c v) (at_type v) ∙ part_same n k t (type_at u v) v
   member_of_value_same n k t (v ∷ x ∷ rest) = refl
 
+  -- operations on variadic lists
+  at_list : (n : ℕ) → list_row u' s n ≡ list_row u s n
+  at_list n = list_row_same p more made follow kept nodes_known entities_known s n
+
+  at_rest : (n : ℕ) → rest_row u' s n ≡ rest_row u s n
+  at_rest n = rest_row_same p more made follow kept nodes_known entities_known s n
+
+  next_same : (n : ℕ) (t : Ctype) (children : List ℕ) → next_arg_row w' n t children ≡ next_arg_row w n t children
+  next_same n t [] = refl
+  next_same n t (q ∷ []) =
+      both (λ (l r : ℕ). Load l r 7 0 ∷ loads (type_nodes w' t) (row_in w' n) l (type_number t)) (at_list n) (at_row q)
+      ∙ both (λ (ts : List Ctype) (a : ℕ). Load (list_row u s n) (row_in w q) 7 0 ∷ loads ts a (list_row u s n) (type_number t)) (at_nodes t) (at_row n)
+  next_same n t (q ∷ x ∷ rest) = refl
+
+  gathered_same : (n v : ℕ) → gathered_row w' n v ≡ gathered_row w n v
+  gathered_same n v =
+      three (λ (ts : List Ctype) (to r : ℕ). map (λ (i : ℕ). Copy to (kept_row r ts i)) (kept_nodes ts)) (ap (type_nodes w') (at_type v) ∙ at_nodes (type_at u v)) (at_rest n) (at_row v)
+
+  all_gathered_same : (n : ℕ) (values : List ℕ) → flat_map (gathered_row w' n) values ≡ flat_map (gathered_row w n) values
+  all_gathered_same n [] = refl
+  all_gathered_same n (v ∷ values) = both (λ (a b : List Assignment). a ++ b) (gathered_same n v) (all_gathered_same n values)
+
+  past_same : (n : ℕ) (o : Option ℕ) (values : List ℕ) → gathered_past w' n o values ≡ gathered_past w n o values
+  past_same n None values = refl
+  past_same n (Some count) values = all_gathered_same n (drop count values)
+
+  call_same : (n : ℕ) (children : List ℕ) → call_row w' n children ≡ call_row w n children
+  call_same n [] = refl
+  call_same n (c ∷ values) = ap (λ (t : Ctype). gathered_past w' n (variadic_count t) values) (at_type c) ∙ past_same n (variadic_count (type_at u c)) values
+
   given_same : (f : ℕ) → given_type w' f ≡ given_type w f
   given_same f = ap result_of (key_type_same p more made follow kept nodes_known entities_known (EntityKey f))
 
@@ -197,6 +229,9 @@ module _ (p : Program) (more : List Term) (made : IsMade p.types) (follow : MayF
   value_same n Choose t children = choose_same n t children
   value_same n Sequence t children = sequence_same n t children
   value_same n (MemberOfValue k) t children = member_of_value_same n k t children
+  value_same n CallNode t children = call_same n children
+  value_same n (VarArgs e) t children = addressed n _
+  value_same n NextArg t children = next_same n t children
   value_same n kind t children = refl
 
   statement_same : (n : ℕ) (kind : NodeKind) (children : List ℕ) → statement_of_kind w' n kind children ≡ statement_of_kind w n kind children

@@ -4,6 +4,7 @@ use Rattle.std.specs.Prelude.{sum}
 use Rattle.std.specs.Option.{option_map, option_map_or}
 use Rattle.c_types.specs.declared.key.ObjectKey.{ObjectKey}
 use Rattle.c_types.specs.declared.key.ObjectKey.TheVariants.{Entity as EntityKey, Text as TextKey, Call as CallKey, Library as LibraryKey, Star as StarKey, Function as FunctionKey}
+use Rattle.c_types.specs.declared.key.ObjectKey.TheVariants.{Varargs as VarargsKey}
 use Rattle.c_types.specs.declared.term.Term.{Term}
 use Rattle.c_types.specs.declared.term.TypeId.{TypeId}
 use Rattle.c_types.specs.Trees.{Ctype}
@@ -18,7 +19,9 @@ use Rattle.obj_space.specs.View.{SpaceView}
 use Rattle.row_numbers.specs.Kept.{nodes_of, kept_count, row_list}
 use Rattle.row_numbers.specs.Objects.{is_library}
 use Rattle.row_numbers.specs.Functions.{functions_below, functions_of, number_at, number_of, key_id, type_or_void, key_type}
-use Rattle.row_numbers.specs.Setting.{width_by, width, widths, result_nodes, result_widths, start_at, row, result_row, none_row, row_total, value_rows}
+use Rattle.core_tree.specs.declared.node.NodeKind.{NodeKind}
+use Rattle.core_tree.specs.declared.node.NodeKind.TheVariants.{CallNode}
+use Rattle.row_numbers.specs.Setting.{width_by, own_width, lead, lead_in, trail, trail_at, calls_further, width, widths, result_nodes, result_widths, start_at, list_row, rest_row, row, result_row, none_row, row_total, value_rows}
 use Rattle.covering_laws.specs.grown_programs.Grown.{with_terms, MayFollow, IsKept, with_types}
 use Rattle.covering_laws.proofs.grown_programs.Tables.{map_same}
 use Rattle.covering_laws.proofs.grown_programs.Types.{both, three, nodes_same}
@@ -82,6 +85,7 @@ module _ (p : Program) (more : List Term) (made : IsMade p.types) (follow : MayF
   key_known (CallKey n) id h = absurd (none_some h)
   key_known (LibraryKey k) id h = absurd (none_some h)
   key_known (StarKey k) id h = absurd (none_some h)
+  key_known (VarargsKey k) id h = absurd (none_some h)
 
   pub key_id_same : (key : ObjectKey) → key_id u' key ≡ key_id u key
   key_id_same (EntityKey e) = refl
@@ -90,6 +94,7 @@ module _ (p : Program) (more : List Term) (made : IsMade p.types) (follow : MayF
   key_id_same (CallKey n) = refl
   key_id_same (LibraryKey k) = refl
   key_id_same (StarKey k) = refl
+  key_id_same (VarargsKey k) = refl
 
   pub key_type_same : (key : ObjectKey) → key_type u' key ≡ key_type u key
   key_type_same key = ap (type_or_void new) (key_id_same key) ∙ void_by (key_id u key) (λ id h. key_known key id h)
@@ -107,12 +112,25 @@ module _ (p : Program) (more : List Term) (made : IsMade p.types) (follow : MayF
   number_same s f = number_by s (s.first (EntityKey f))
 
   -- rows by number
-  width_same : (n : ℕ) (node : Node) → slice_get p.nodes.items n ≡ Some node → width new node ≡ width table node
-  width_same n node is =
+  trail_same : (kind : NodeKind) (children : List ℕ) → trail u' kind children ≡ trail u kind children
+  trail_same CallNode (c ∷ arguments) = ap (λ (t : Ctype). trail_at (calls_further t)) (type_by c (slice_get p.nodes.items c) refl)
+  trail_same CallNode [] = refl
+  trail_same kind children = refl
+
+  own_width_same : (n : ℕ) (node : Node) → slice_get p.nodes.items n ≡ Some node → own_width new node ≡ own_width table node
+  own_width_same n node is =
       ap (λ (ts : List Ctype). width_by (sort_of node.kind) (kept_count ts)) (ap (nodes_of new) (kept.types node.ty.0 (nodes_known n node is)) ∙ nodes_same table more made follow kept (type_of table node.ty.0))
 
+  width_same : (n : ℕ) (node : Node) → slice_get p.nodes.items n ≡ Some node → width u' node ≡ width u node
+  width_same n node is =
+      ap (λ (k : ℕ). lead node.kind + k + trail u' node.kind node.children) (own_width_same n node is)
+      ∙ ap (λ (k : ℕ). lead node.kind + own_width table node + k) (trail_same node.kind node.children)
+
+  value_by : (n : ℕ) (o : Option Node) → slice_get p.nodes.items n ≡ o → kept_count (nodes_of new (type_in new o)) ≡ kept_count (nodes_of table (type_in table o))
+  value_by n o is = ap (λ (t : Ctype). kept_count (nodes_of new t)) (type_by n o is) ∙ ap kept_count (nodes_same table more made follow kept (type_in table o))
+
   widths_same : widths u' ≡ widths u
-  widths_same = map_same (width new) (width table) p.nodes.items width_same
+  widths_same = map_same (width u') (width u) p.nodes.items width_same
 
   pub result_nodes_same : (key : ObjectKey) → result_nodes u' key ≡ result_nodes u key
   result_nodes_same key = ap (λ (t : Ctype). nodes_of new (result_of t)) (key_type_same key) ∙ nodes_same table more made follow kept (result_of (key_type u key))
@@ -124,7 +142,17 @@ module _ (p : Program) (more : List Term) (made : IsMade p.types) (follow : MayF
 
   pub row_same : (s : SpaceView) (n : ℕ) → row u' s n ≡ row u s n
   unfolding row
-  row_same s n = ap (λ (ws : List ℕ). start_at s.count ws n) widths_same
+  row_same s n = ap (λ (ws : List ℕ). start_at s.count ws n + lead_in (slice_get p.nodes.items n)) widths_same
+
+  pub list_row_same : (s : SpaceView) (n : ℕ) → list_row u' s n ≡ list_row u s n
+  unfolding list_row
+  list_row_same s n = ap (λ (ws : List ℕ). start_at s.count ws n) widths_same
+
+  pub rest_row_same : (s : SpaceView) (n : ℕ) → rest_row u' s n ≡ rest_row u s n
+  unfolding rest_row
+  rest_row_same s n =
+      ap (λ (r : ℕ). r + kept_count (nodes_of new (type_at u' n))) (row_same s n)
+      ∙ ap (λ (k : ℕ). row u s n + k) (value_by n (slice_get p.nodes.items n) refl)
 
   pub result_row_same : (s : SpaceView) (number : ℕ) → result_row u' s number ≡ result_row u s number
   unfolding result_row

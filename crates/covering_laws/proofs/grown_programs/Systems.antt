@@ -1,10 +1,12 @@
 -- The system of a program is that of the program with more types.
-use Rattle.std.proofs.Common.{arith, ◌≡◌, ◌∙◌, ◌⊎◌, inl, inr, ℕ, zero, suc, ◌+◌, ◌-◌, ◌<◌, ◌≤◌, List, [], ◌∷◌, length, length-append, find, Option, Some, None, slice_get, unwrap_or, Contains, refl, sym, ap, subst}
+use Rattle.std.proofs.Common.{arith, ◌≡◌, ◌∙◌, ◌⊎◌, inl, inr, ℕ, zero, suc, ◌+◌, ◌-◌, ◌<◌, ◌≤◌, Bool, true, false, List, [], ◌∷◌, ◌++◌, take, length, length-append, find, Option, Some, None, slice_get, unwrap_or, Contains, refl, sym, ap, subst}
+use Rattle.std.specs.Prelude.{if◌then◌else◌}
 use Rattle.std.specs.List.{AllZip, cons_option, enumerate_from, range_with_len}
 use Rattle.std.specs.Option.{option_map}
 use Rattle.std.proofs.lemmas.Bool.{cases_lt}
 use Rattle.c_types.specs.declared.key.ObjectKey.{ObjectKey}
 use Rattle.c_types.specs.declared.key.ObjectKey.TheVariants.{Entity as EntityKey, Text as TextKey, Call as CallKey, Library as LibraryKey, Star as StarKey, Function as FunctionKey}
+use Rattle.c_types.specs.declared.key.ObjectKey.TheVariants.{Varargs as VarargsKey}
 use Rattle.c_types.specs.declared.term.Form.TheVariants.{Fixed, Variadic, Unspecified}
 use Rattle.c_types.specs.declared.term.Term.{Term}
 use Rattle.c_types.specs.declared.term.Term.TheVariants.{Function as FunctionTerm, Structure, Union}
@@ -35,9 +37,9 @@ use Rattle.row_numbers.specs.Around.{IsOwner, AreOwners}
 use Rattle.row_numbers.specs.Kept.{nodes_of, row_list}
 use Rattle.row_numbers.specs.Objects.{is_library}
 use Rattle.row_numbers.specs.Functions.{functions_of, function_at, parameters_of, key_id, type_or_void, key_type}
-use Rattle.row_numbers.specs.Setting.{Setting, value_rows}
+use Rattle.row_numbers.specs.Setting.{Setting, value_rows, takes_further}
 use Rattle.call_sites.specs.Signatures.{IsSignature, compares, ends, known, unknown, called_type, calling_type}
-use Rattle.call_sites.specs.Calls.{calls_upto, head_of, rest_of, givers_in, fresh_in, caller_by, ids_of, named_library, IsCallSite, IsSiteAt, AreCalls}
+use Rattle.call_sites.specs.Calls.{calls_upto, head_of, rest_of, givers_in, fresh_in, caller_by, ids_of, named_library, variadic_count, rows_past, argument_rows, IsCallSite, IsSiteAt, AreCalls}
 use Rattle.normal_form.specs.declared.normal.Assignment.{Assignment}
 use Rattle.normal_form.specs.Facts.{location_fact, location_facts, cell_list, parameter_rows, parameters_by, IsFunctionFact, AreFunctions, number_if}
 use Rattle.normal_form.specs.SystemOf.{Demands, by_node, by_call, by_library, by_start, setting_of, SystemOf}
@@ -46,7 +48,7 @@ use Rattle.covering_laws.proofs.object_contents.Contents.{contents_known}
 use Rattle.covering_laws.specs.grown_programs.Grown.{with_terms, IsSimple, MayFollow, IsKept, with_types, SystemsGrow}
 use Rattle.covering_laws.proofs.grown_programs.Tables.{map_same, tables_grow}
 use Rattle.covering_laws.proofs.grown_programs.Types.{both, three, nodes_same, facts_same}
-use Rattle.covering_laws.proofs.grown_programs.Numbers.{type_same, key_known, key_type_same, functions_same, number_same, row_same, result_row_same, none_row_same, total_same, value_rows_same, result_nodes_same}
+use Rattle.covering_laws.proofs.grown_programs.Numbers.{type_same, key_known, key_type_same, functions_same, number_same, row_same, rest_row_same, result_row_same, none_row_same, total_same, value_rows_same, result_nodes_same}
 use Rattle.covering_laws.proofs.grown_programs.Demanded.{assignments_same}
 use Rattle.covering_laws.proofs.grown_programs.Listed.{IsFunctionKey, function_there, first_at, library_found, call_there}
 
@@ -174,6 +176,7 @@ module _ (p : Program) (more : List Term) (valid : ValidProgram p) (made : IsMad
   key_some (CallKey n) function l first = absurd function
   key_some (LibraryKey k) function l first = absurd function
   key_some (StarKey k) function l first = absurd function
+  key_some (VarargsKey k) function l first = absurd function
 
   function_callable : (k : ℕ) (key : ObjectKey) → slice_get (functions_of u s) k ≡ Some key → IsCallable (called_type (key_type u key))
   function_callable k key at =
@@ -256,6 +259,18 @@ module _ (p : Program) (more : List Term) (valid : ValidProgram p) (made : IsMad
     caller_same (Some None) = refl
     caller_same (Some (Some f)) = number_same p more made follow kept nodes_known entities_known s f
 
+    past_same : (n : ℕ) (o : Option ℕ) (arguments : List ℕ) → rows_past u' s n o arguments ≡ rows_past u s n o arguments
+    past_same n None arguments = map_same (value_rows u' s) (value_rows u s) arguments (λ k a at. value_rows_same p more made follow kept nodes_known entities_known s a)
+    past_same n (Some count) arguments =
+        both (λ (front : List (List ℕ)) (r : ℕ). front ++ (r ∷ []) ∷ [])
+        (map_same (value_rows u' s) (value_rows u s) (take count arguments) (λ k a at. value_rows_same p more made follow kept nodes_known entities_known s a))
+        (rest_row_same p more made follow kept nodes_known entities_known s n)
+
+    arguments_same : (n callee : ℕ) (arguments : List ℕ) → argument_rows u' s n callee arguments ≡ argument_rows u s n callee arguments
+    arguments_same n callee arguments =
+        ap (λ (t : Ctype). rows_past u' s n (variadic_count t) arguments) (type_same p more made follow kept nodes_known entities_known callee)
+        ∙ past_same n (variadic_count (type_at u callee)) arguments
+
     site_more : (n : ℕ) (node : Node) → slice_get p.nodes.items n ≡ Some node → node.kind ≡ CallNode → (site : CallSite) → IsCallSite w n node site → IsCallSite w' n node site
     site_more n node there kind site h = record {
       caller = h.caller ∙ sym (caller_same (slice_get is.owners n));
@@ -267,7 +282,7 @@ module _ (p : Program) (more : List Term) (valid : ValidProgram p) (made : IsMad
           (subst (λ (k : NodeKind). RowOf u k (type_of table node.ty.0) node.children) kind (valid.trees.rows n node there))) h.signature);
       direct = h.direct;
       place = h.place;
-      arguments = h.arguments ∙ sym (map_same (value_rows u' s) (value_rows u s) (rest_of node.children) (λ k a at. value_rows_same p more made follow kept nodes_known entities_known s a));
+      arguments = h.arguments ∙ sym (arguments_same n (head_of node.children) (rest_of node.children));
       result = h.result ∙ sym (value_rows_same p more made follow kept nodes_known entities_known s n);
       fresh = h.fresh ∙ sym (ap (λ (keys : List ObjectKey). fresh_in s n (named_library u node) (givers_in keys)) (functions_same p more made follow kept nodes_known entities_known s s.count));
     }
@@ -283,7 +298,9 @@ module _ (p : Program) (more : List Term) (valid : ValidProgram p) (made : IsMad
         (ap (nodes_of new) (key_type_same p more made follow kept nodes_known entities_known key) ∙ nodes_same table more made follow kept (key_type u key))
 
     parameters_same : (key : ObjectKey) → parameters_by u' s key ≡ parameters_by u s key
-    parameters_same (EntityKey e) = map_same (parameter_rows u' s) (parameter_rows u s) (parameters_of u s e) (λ k key at. parameter_same key)
+    parameters_same (EntityKey e) =
+        both (λ (front rest : List (List ℕ)). front ++ rest) (map_same (parameter_rows u' s) (parameter_rows u s) (parameters_of u s e) (λ k key at. parameter_same key))
+        (ap (λ (t : Ctype). if takes_further t then (unwrap_or (s.first (VarargsKey e)) 0 ∷ []) ∷ [] else []) (key_type_same p more made follow kept nodes_known entities_known (EntityKey e)))
     parameters_same key = refl
 
     function_more : (k number : ℕ) (key : ObjectKey) → slice_get (functions_of u s) k ≡ Some key → (function : Function) → IsFunctionFact u s number key function → IsFunctionFact u' s number key function

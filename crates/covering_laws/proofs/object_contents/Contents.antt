@@ -24,7 +24,7 @@ use Rattle.obj_made.specs.declared.object.Content.{Content}
 use Rattle.obj_made.specs.declared.object.Content.TheVariants.{Function, Blob, Scalar, Scalars, Typed, Elements}
 use Rattle.obj_made.specs.declared.object.Object.{Object}
 use Rattle.obj_made.specs.Uses.{entity_number, is_allocator, is_named, is_starred}
-use Rattle.obj_made.specs.Made.{Made, Spot, by_place, in_order, made_at, spot_at, object_unless_declared, entity_made, entities_made, called_object, object_of_call, called_entity, object_of_kind, node_made, nodes_made, made_in_order, objects_in}
+use Rattle.obj_made.specs.Made.{Made, Spot, by_place, in_order, made_at, spot_at, object_unless_declared, entity_made, entities_made, called_object, object_of_call, called_entity, object_of_kind, node_made, nodes_made, has_varargs, varargs_object, varargs_spot, varargs_made, made_of_names, made_in_order, objects_in}
 use Rattle.obj_space.specs.declared.location.Location.{Location}
 use Rattle.obj_space.specs.Objects.{LibraryRow, named_object, function_if, functions_below, library_rows, library_object, library_objects_from, library_objects, is_needed, star_if, star_objects, library_part, objects_of, takes_arguments}
 use Rattle.obj_space.specs.Parts.{Part, parts_of, nodes_of}
@@ -114,6 +114,13 @@ module _ (p : Program) where
       made_append (node_made p n node) (nodes_made p (n + 1) ns) (kind_right (spot_at node.place (length p.entities.items + n)) n node here node.kind)
       (nodes_right (n + 1) ns (λ i x is. ap (slice_get p.nodes.items) (let z : (n + 1) + i ≡ n + suc i = omega arith in z) ∙ at (suc i) x is))
 
+  further_right : (e : ℕ) (es : List Entity) → ((i : ℕ) (x : Entity) → slice_get es i ≡ Some x → slice_get p.entities.items (e + i) ≡ Some x) → MadeRight (varargs_made p e es)
+  further_right e [] at = tt
+  further_right e (entity ∷ es) at =
+      let here : slice_get p.entities.items e ≡ Some entity = ap (slice_get p.entities.items) (let z : e ≡ e + 0 = omega arith in z) ∙ at 0 entity refl in
+      made_append (made_at (varargs_spot p e entity) (varargs_object p e entity)) (varargs_made p (e + 1) es) (if_right (varargs_spot p e entity) (has_varargs p.types entity) _ (λ is. (entity, here, refl, is)))
+      (further_right (e + 1) es (λ i x is. ap (slice_get p.entities.items) (let z : (e + 1) + i ≡ e + suc i = omega arith in z) ∙ at (suc i) x is))
+
   listed_right : (ms : Made) → MadeRight ms → AllRight (objects_in ms)
   listed_right [] h = tt
   listed_right (m ∷ ms) h = (h.0, listed_right ms h.1)
@@ -123,9 +130,11 @@ module _ (p : Program) where
       let first : Made = entities_made p 0 p.entities.items in
       let second : Made = nodes_made p 0 p.nodes.items in
       listed_right (made_in_order p)
+      (ordered (made_of_names p) (varargs_made p 0 p.entities.items)
       (ordered (in_order [] first) second
       (ordered [] first tt (entities_right 0 p.entities.items (λ i x is. ap (slice_get p.entities.items) (let z : 0 + i ≡ i = omega arith in z) ∙ is)))
       (nodes_right 0 p.nodes.items (λ i x is. ap (slice_get p.nodes.items) (let z : 0 + i ≡ i = omega arith in z) ∙ is)))
+      (further_right 0 p.entities.items (λ i x is. ap (slice_get p.entities.items) (let z : 0 + i ≡ i = omega arith in z) ∙ is)))
 
   function_right : (b : Bool) (k : ℕ) → is_named p.entities.items p.nodes.items k ≡ b → AllRight (function_if b k)
   function_right true k is = ((refl, is), tt)

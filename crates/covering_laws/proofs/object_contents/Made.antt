@@ -8,6 +8,7 @@ use Rattle.std.specs.Ordering.{match_ordering, nat_cmp, ordering_then}
 use Rattle.std.specs.BTreeMap.{insert_entry}
 use Rattle.std.proofs.lemmas.Cmp.{ranked}
 use Rattle.std.proofs.lemmas.Bool.{false≢true}
+use Rattle.std.proofs.lemmas.Option.{slice_get_within}
 use Rattle.std.proofs.lemmas.List.Concat.{flat_map-cons}
 use Rattle.c_types.specs.declared.key.ObjectKey.{ObjectKey}
 use Rattle.c_types.specs.declared.key.ObjectKey.TheVariants.{Call as CallKey}
@@ -26,7 +27,7 @@ use Rattle.obj_made.specs.declared.object.Content.{Content}
 use Rattle.obj_made.specs.declared.object.Content.TheVariants.{Scalars, Elements}
 use Rattle.obj_made.specs.declared.object.Object.{Object}
 use Rattle.obj_made.specs.Uses.{entity_number, is_allocator}
-use Rattle.obj_made.specs.Made.{Spot, by_place, Made, in_order, made_at, entities_made, allocated_content, elements_or_blob, typed_by, complete_in, pointed_in, conversion_above, called_object, object_of_call, called_entity, object_of_kind, node_object, node_made, nodes_made, spot_at, made_in_order, objects_in}
+use Rattle.obj_made.specs.Made.{Spot, by_place, Made, in_order, made_at, entities_made, allocated_content, elements_or_blob, typed_by, complete_in, pointed_in, conversion_above, called_object, object_of_call, called_entity, object_of_kind, node_object, node_made, nodes_made, varargs_object, varargs_spot, varargs_made, made_of_names, spot_at, made_in_order, objects_in}
 use Rattle.obj_made.proofs.Ordered.{in_order-append}
 use Rattle.obj_space.specs.Objects.{library_part}
 use Rattle.obj_space.specs.declared.location.Location.{Location}
@@ -118,8 +119,16 @@ module _ (p : Program) (n : ℕ) (own : Object) where
       subst (HasAt m own) (sym (in_order-append done (node_made p k y) (nodes_made p (k + 1) rest)))
       (nodes_at (in_order done (node_made p k y)) (k + 1) rest i x at (omega arith) object)
 
+  further_after : n < length p.nodes.items → (done : Made) (k : ℕ) (xs : List Entity) → HasAt m own done → HasAt m own (in_order done (varargs_made p k xs))
+  further_after lt done k [] h = h
+  further_after lt done k (x ∷ rest) h =
+      subst (HasAt m own) (sym (in_order-append done (made_at (varargs_spot p k x) (varargs_object p k x)) (varargs_made p (k + 1) rest)))
+      (further_after lt (in_order done (made_at (varargs_spot p k x) (varargs_object p k x))) (k + 1) rest (keep_at m own (varargs_spot p k x) (varargs_object p k x) done (λ same. omega arith) h))
+
   among : (x : Node) → slice_get p.nodes.items n ≡ Some x → node_object p n x ≡ Some own → HasAt m own (made_in_order p)
-  among x at object = nodes_at (in_order [] (entities_made p 0 p.entities.items)) 0 p.nodes.items n x at (omega arith) object
+  among x at object =
+      further_after (slice_get_within p.nodes.items n x at) (made_of_names p) 0 p.entities.items
+      (nodes_at (in_order [] (entities_made p 0 p.entities.items)) 0 p.nodes.items n x at (omega arith) object)
 
 -- a location of that object
 abbrev pub HasLocation : ObjectKey → List Location → Type 0

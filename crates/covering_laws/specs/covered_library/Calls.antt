@@ -32,11 +32,10 @@ use Rattle.ref_lib.specs.declared.rows.Elements.TheVariants.{CopyBytes, SetBytes
 use Rattle.ref_lib.specs.declared.rows.Texts.TheVariants.{CopyText, AddText, CopyPart, Duplicate, Line}
 use Rattle.ref_lib.specs.declared.rows.Row.{Row}
 use Rattle.ref_lib.specs.declared.rows.Row.TheVariants.{Makes, Moves, Writes}
-use Rattle.call_sites.specs.Calls.{rest_of}
 use Rattle.normal_form.specs.Assignments.{row_in}
-use Rattle.covering_laws.specs.covered_memory.Spots.{spot, IsInTree}
+use Rattle.covering_laws.specs.covered_memory.Spots.{spot, room, IsInTree}
 use Rattle.covering_laws.specs.covered_memory.Covered.{Sets, CellIn, HasShape, InstanceIn, Leaves}
-use Rattle.covering_laws.specs.covered_rows.Nodes.{HeldIn}
+use Rattle.covering_laws.specs.covered_rows.Nodes.{IsArgument, HeldIn}
 
 -- the row of a place in memory is that of its location
 abbrev pub instance_row : Sets → List PathStep → Option Instance → Option ℕ
@@ -98,7 +97,7 @@ IsPlaceOf g site target memory i path =
     (inst : Instance)
     × (l : ℕ)
     × (slice_get memory i ≡ Some inst)
-    × IsInTree g.table (whole_of g.table inst) path
+    × IsInTree g.table (whole_of g.table inst) (room inst) path
     × (spot g.table g.space inst.key path ≡ Some l)
     × Contains site.fresh (target, l)
 
@@ -136,7 +135,7 @@ module _ (c : Calling) where
   HasArgument k =
       (a : ℕ)
       × (t : Ctype)
-      × (slice_get (rest_of c.node.children) k ≡ Some a)
+      × IsArgument c.setting.trees c.node k a
       × (type_at c.setting.trees a ≡ PointerTo t)
       × HeldIn c.sets c.setting c.memory a (one_cell (argument c.arguments k))
 

@@ -1,7 +1,9 @@
 -- What it means that sets cover cells, values and a memory.
 use Rattle.std.specs.Prelude.{◌≡◌, ◌⊎◌, ℕ, ◌+◌, ⊤, false, IsTrue, IsSome, List, [], Option, Some, None, slice_get}
+use Rattle.c_types.specs.declared.key.ObjectKey.{ObjectKey}
+use Rattle.c_types.specs.declared.key.ObjectKey.TheVariants.{Varargs as VarargsKey}
 use Rattle.c_types.specs.declared.term.PathStep.{PathStep}
-use Rattle.c_types.specs.Trees.{Ctype, PointerTo, ArrayOf}
+use Rattle.c_types.specs.Trees.{Ctype, VaListType, PointerTo, ArrayOf}
 use Rattle.c_types.specs.Table.{Table, type_of, extent_in}
 use Rattle.sol_model.specs.Families.{Family, Has}
 use Rattle.obj_made.specs.declared.object.Content.{Content}
@@ -18,7 +20,7 @@ use Rattle.ref_cells.specs.Cells.{CellList}
 use Rattle.ref_cells.specs.Wholes.{is_allocated, whole_of}
 use Rattle.type_rules.specs.Kinds.{IsScalar}
 use Rattle.covering_laws.specs.covered_memory.Cells.{EachCell}
-use Rattle.covering_laws.specs.covered_memory.Spots.{spot, whole_part, IsInTree}
+use Rattle.covering_laws.specs.covered_memory.Spots.{spot, whole_part, IsFurther, room, IsInTree}
 
 -- a program's types and locations, with a set for each row
 pub record Sets : Type 0 where
@@ -39,7 +41,7 @@ pub record PointsIn (g : Sets) (memory : List Instance) (row : Option ℕ) (i : 
     (path : List PathStep) : Type 0 where
   pub inst : Instance
   pub inst_is : slice_get memory i ≡ Some inst
-  pub in_tree : IsInTree g.table (whole_of g.table inst) path
+  pub in_tree : IsInTree g.table (whole_of g.table inst) (room inst) path
   pub lands : Lands g.family row (spot g.table g.space inst.key path)
 
 -- What a cell points to is in a row's set. Where there is no row, it points to nothing.
@@ -48,16 +50,17 @@ CellIn g memory row (Pointer i path past) = PointsIn g memory row i path
 CellIn g memory row (FunctionCell key) = Lands g.family row (spot g.table g.space key [])
 CellIn g memory row cell = ⊤
 
--- the row of a part that is a pointer, where each node has a row
+-- the row of a part that is a pointer or a variadic list, where each node has a row
 abbrev pub row_by : Ctype → ℕ → Option ℕ
 row_by (PointerTo to) row = Some row
+row_by VaListType row = Some row
 row_by t row = None
 
 abbrev pub pointer_row : (ℕ → ℕ) → Option Reached → Option ℕ
 pointer_row row None = None
 pointer_row row (Some r) = row_by r.ty (row r.node)
 
--- the cells of a part: what each points to is in the row of its node, and only pointers point
+-- the cells of a part: what each points to is in the row of its node, and only pointers and lists point
 abbrev pub CellsIn : Sets → List Instance → (ℕ → ℕ) → Option Reached → CellList → Type 0
 CellsIn g memory row whole cells =
     EachCell (λ path cell. CellIn g memory (pointer_row row (part_at g.table whole path)) cell) cells
@@ -84,16 +87,29 @@ HasShape table (Elements id) whole =
     ((whole ≡ None) ⊎ ((n : ℕ) × (whole ≡ Some (ArrayOf (type_of table id.0) (Some n)))))
     × IsSome (extent_in table (type_of table id.0))
 
+-- what a variadic function is passed past its parameters is in the one row of its object, whatever it is
+abbrev pub further_row : ObjectKey → ℕ → Option ℕ → Option ℕ
+further_row (VarargsKey e) first row = Some first
+further_row key first row = row
+
+-- the row of a cell of an instance whose object begins at a location
+abbrev pub cell_row : Table → Instance → Content → ℕ → List PathStep → Option ℕ
+cell_row table inst content first path =
+    further_row inst.key first
+    (pointer_row (object_row content first) (part_at table (whole_part (whole_of table inst)) path))
+
 -- an instance is of an object of the program, has its type, or none yet, and its cells are in the rows of their
--- locations
+-- locations; what a variadic function is passed past its parameters has no type, and its object is a blob
 pub record InstanceIn (g : Sets) (memory : List Instance) (inst : Instance) : Type 0 where
   pub first : ℕ
   pub location : Location
   pub first_is : first_from 0 g.space inst.key ≡ Some first
   pub location_is : slice_get g.space first ≡ Some location
   pub shape : HasShape g.table location.content (whole_of g.table inst)
-  pub untyped : inst.ty ≡ None → IsTrue (is_allocated inst.key)
-  pub cells : CellsIn g memory (object_row location.content first) (whole_part (whole_of g.table inst)) inst.cells
+  pub untyped : inst.ty ≡ None → IsTrue (is_allocated inst.key) ⊎ IsFurther inst.key
+  pub further : IsFurther inst.key → (inst.ty ≡ None) × (location.content ≡ Blob)
+  pub cells : EachCell (λ path cell. CellIn g memory (cell_row g.table inst location.content first path) cell)
+      inst.cells
 
 -- each instance of a memory is covered
 abbrev pub MemoryIn : Sets → List Instance → Type 0
@@ -103,8 +119,8 @@ MemoryIn g memory = (i : ℕ) (inst : Instance) → slice_get memory i ≡ Some 
 pub record GoesOn (g : Sets) (old new : Instance) : Type 0 where
   pub key : new.key ≡ old.key
   pub in_tree : (path : List PathStep)
-      → IsInTree g.table (whole_of g.table old) path
-      → IsInTree g.table (whole_of g.table new) path
+      → IsInTree g.table (whole_of g.table old) (room old) path
+      → IsInTree g.table (whole_of g.table new) (room new) path
   pub whole : (t : Ctype) → whole_of g.table old ≡ Some t → whole_of g.table new ≡ Some t
 
 -- each instance of a memory goes on in another one, in its place

@@ -24,7 +24,7 @@ use Rattle.obj_space.specs.Objects.{LibraryRow, library_rows}
 use Rattle.obj_space.specs.Space.{locations_in}
 use Rattle.obj_space.specs.Spots.{type_made}
 use Rattle.obj_space.specs.View.{first_from}
-use Rattle.call_sites.specs.Calls.{head_of, rest_of, named_library}
+use Rattle.call_sites.specs.Calls.{head_of, named_library}
 use Rattle.ref_cells.specs.declared.cells.Value.{Value}
 use Rattle.ref_cells.specs.declared.instance.Instance.{Instance}
 use Rattle.ref_lib.specs.declared.rows.Making.TheVariants.{Malloc, Calloc, Realloc, Perhaps}
@@ -37,7 +37,7 @@ use Rattle.covering_laws.specs.grown_programs.Grown.{with_terms, with_types, May
 use Rattle.covering_laws.specs.covered_memory.Covered.{MemoryIn}
 use Rattle.covering_laws.specs.covered_memory.Demands.{Grounds}
 use Rattle.covering_laws.specs.covered_rows.Laws.{Solved, sets_in}
-use Rattle.covering_laws.specs.covered_rows.Nodes.{HeldIn}
+use Rattle.covering_laws.specs.covered_rows.Nodes.{IsArgument, HeldIn}
 use Rattle.covering_laws.specs.covered_library.Calls.{IsNamed, IsFresh, IsScalars, Calling, HasArgument}
 use Rattle.covering_laws.specs.covered_library.Laws.{IsLibraryCall}
 
@@ -171,7 +171,7 @@ CallsAreMade =
 abbrev pub ArgumentMet : Type 0
 ArgumentMet =
     (c : Calling) (k a : ℕ) (t : Ctype) (v : Value)
-    → slice_get (rest_of c.node.children) k ≡ Some a
+    → IsArgument c.setting.trees c.node k a
     → slice_get c.arguments k ≡ Some v
     → type_at c.setting.trees a ≡ PointerTo t
     → HeldIn c.sets c.setting c.memory a v

@@ -1,12 +1,13 @@
 -- That what a node's row gives is covered at the node.
-use Rattle.std.specs.Prelude.{◌≡◌, ℕ, ◌+◌, List, [], ◌∷◌, Some, None, Ok, Contains, slice_get}
+use Rattle.std.specs.Prelude.{◌≡◌, ℕ, ◌+◌, ◌≤◌, true, false, List, [], ◌∷◌, Some, None, Ok, Contains, length, slice_get}
 use Rattle.c_types.specs.declared.key.ObjectKey.{ObjectKey}
-use Rattle.c_types.specs.declared.key.ObjectKey.TheVariants.{Entity as EntityKey}
-use Rattle.c_types.specs.Trees.{Ctype, PointerTo, trees_at}
+use Rattle.c_types.specs.declared.key.ObjectKey.TheVariants.{Entity as EntityKey, Varargs as VarargsKey}
+use Rattle.c_types.specs.declared.term.PathStep.TheVariants.{Index}
+use Rattle.c_types.specs.Trees.{Ctype, VaListType, PointerTo, trees_at}
 use Rattle.c_types.specs.Table.{types_of}
 use Rattle.type_rules.specs.Conversions.{result_of}
 use Rattle.core_tree.specs.declared.node.Node.{Node}
-use Rattle.core_tree.specs.declared.node.NodeKind.TheVariants.{Fetch, Assign, Sequence, Return}
+use Rattle.core_tree.specs.declared.node.NodeKind.TheVariants.{Fetch, Assign, Sequence, CallNode, Return, VarArgs, NextArg}
 use Rattle.core_tree.specs.declared.node.Program.{Program}
 use Rattle.core_tree.specs.Typed.{trees_in, type_at}
 use Rattle.sol_model.specs.declared.system.System.{System}
@@ -19,22 +20,25 @@ use Rattle.obj_space.specs.declared.location.Location.{Location}
 use Rattle.obj_space.specs.View.{first_from, view_of}
 use Rattle.row_numbers.specs.Kept.{nodes_of, kept_row}
 use Rattle.row_numbers.specs.Functions.{function_keys, number_at, number_of, key_type, parameters_of}
-use Rattle.row_numbers.specs.Setting.{Setting, result_row}
+use Rattle.row_numbers.specs.Setting.{Setting, result_row, takes_further}
 use Rattle.ref_cells.specs.declared.cells.Cell.{Cell}
-use Rattle.ref_cells.specs.declared.cells.Cell.TheVariants.{Function as FunctionCell}
+use Rattle.ref_cells.specs.declared.cells.Cell.TheVariants.{Pointer, Function as FunctionCell}
 use Rattle.ref_cells.specs.declared.cells.Value.{Value}
 use Rattle.ref_cells.specs.declared.instance.Instance.{Instance}
+use Rattle.ref_cells.specs.Cells.{under}
+use Rattle.ref_state.specs.Values.{first_cell}
 use Rattle.ref_mem.specs.Reads.{read, one_cell}
 use Rattle.ref_mem.specs.Writes.{write}
 use Rattle.call_sites.specs.Signatures.{called_type, calling_type}
-use Rattle.call_sites.specs.Calls.{head_of, rest_of, ids_of, IsCallSite}
+use Rattle.call_sites.specs.Calls.{head_of, rest_of, ids_of, variadic_count, IsCallSite}
 use Rattle.normal_form.specs.Assignments.{given_type}
 use Rattle.normal_form.specs.Facts.{IsFunctionFact}
 use Rattle.normal_form.specs.SystemOf.{setting_of, SystemOf}
 use Rattle.covering_laws.specs.covered_types.Whole.{IsWhole, IsHeld}
-use Rattle.covering_laws.specs.covered_memory.Covered.{Sets, ValueIn, MemoryIn, Leaves}
+use Rattle.covering_laws.specs.covered_memory.Cells.{EachCell}
+use Rattle.covering_laws.specs.covered_memory.Covered.{Sets, CellIn, ValueIn, InstanceIn, MemoryIn, Leaves}
 use Rattle.covering_laws.specs.covered_memory.Demands.{Grounds}
-use Rattle.covering_laws.specs.covered_rows.Nodes.{IsNode, PlaceIn, HeldIn}
+use Rattle.covering_laws.specs.covered_rows.Nodes.{IsNode, PlaceIn, HeldIn, IsWithin}
 
 -- a program with its locations and its system, and a family that is closed for that
 pub record Solved : Type 0 where
@@ -116,6 +120,7 @@ ArgumentsCovered =
     (f k a l : ℕ) (key : ObjectKey) (t : Ctype) (memory : List Instance) (v : Value)
     → IsBodied s n node site target function
     → IsFunctionFact (trees_in s.program) (view_of s.space) target (EntityKey f) function
+    → IsWithin (trees_in s.program) (head_of node.children) k
     → slice_get (rest_of node.children) k ≡ Some a
     → slice_get (parameters_of (trees_in s.program) (view_of s.space) f) k ≡ Some key
     → key_type (trees_in s.program) key ≡ t
@@ -124,6 +129,48 @@ ArgumentsCovered =
     → IsWhole s.program.types t
     → HeldIn (sets_in s) (setting_in s) memory a v
     → ValueIn (sets_in s) memory (λ i. l + i) t v
+
+-- the list of what an activation was passed past its parameters is covered at the node that gives it
+abbrev pub VarArgsCovered : Type 0
+VarArgsCovered =
+    (s : Solved) (n e i : ℕ) (t : Ctype) (children : List ℕ) (memory : List Instance) (inst : Instance)
+    → IsNode (trees_in s.program) n (VarArgs e) t children
+    → type_at (trees_in s.program) n ≡ VaListType
+    → slice_get memory i ≡ Some inst
+    → InstanceIn (sets_in s) memory inst
+    → inst.key ≡ VarargsKey e
+    → HeldIn (sets_in s) (setting_in s) memory n (one_cell (Pointer i (Index 0 ∷ []) false))
+
+-- a pointer that the list at a covered place gives is covered at the node that takes it
+abbrev pub NextArgsCovered : Type 0
+NextArgsCovered =
+    (s : Solved) (n q e i k : ℕ) (to : Ctype) (memory : List Instance) (place : Cell) (inst : Instance)
+    → IsNode (trees_in s.program) n NextArg (PointerTo to) (q ∷ [])
+    → MemoryIn (sets_in s) memory
+    → PlaceIn (sets_in s) (setting_in s) memory q place
+    → read s.program.types memory place VaListType ≡ Ok (one_cell (Pointer i (Index k ∷ []) false))
+    → slice_get memory i ≡ Some inst
+    → inst.key ≡ VarargsKey e
+    → HeldIn (sets_in s) (setting_in s) memory n (one_cell (first_cell (under (Index k) inst.cells)))
+
+-- an argument past the parameters of a variadic function is covered in the object of all that
+abbrev pub FurtherCovered : Type 0
+FurtherCovered =
+    (s : Solved) (n : ℕ) (node : Node) (site : CallSite) (target : ℕ) (function : Function)
+    (f count k a l : ℕ) (memory : List Instance) (v : Value)
+    → IsBodied s n node site target function
+    → slice_get (trees_in s.program).nodes n ≡ Some node
+    → node.kind ≡ CallNode
+    → IsFunctionFact (trees_in s.program) (view_of s.space) target (EntityKey f) function
+    → variadic_count (type_at (trees_in s.program) (head_of node.children)) ≡ Some count
+    → takes_further (key_type (trees_in s.program) (EntityKey f)) ≡ true
+    → length (parameters_of (trees_in s.program) (view_of s.space) f) ≡ count
+    → first_from 0 s.space (VarargsKey f) ≡ Some l
+    → count ≤ k
+    → slice_get (rest_of node.children) k ≡ Some a
+    → IsWhole s.program.types (type_at (trees_in s.program) a)
+    → HeldIn (sets_in s) (setting_in s) memory a v
+    → EachCell (λ path cell. CellIn (sets_in s) memory (Some l) cell) v.cells
 
 -- what a function returns is covered at the call
 abbrev pub ResultsCovered : Type 0

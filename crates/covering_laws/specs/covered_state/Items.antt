@@ -22,7 +22,7 @@ use Rattle.normal_form.specs.Assignments.{given_type, type_nodes}
 use Rattle.covering_laws.specs.covered_types.Calls.{call_type}
 use Rattle.covering_laws.specs.covered_types.Whole.{IsHeld}
 use Rattle.covering_laws.specs.covered_memory.Cells.{EachCell}
-use Rattle.covering_laws.specs.covered_memory.Spots.{IsInTree}
+use Rattle.covering_laws.specs.covered_memory.Spots.{room, IsInTree}
 use Rattle.covering_laws.specs.covered_memory.Covered.{ValueIn}
 use Rattle.covering_laws.specs.covered_rows.Nodes.{PlaceIn, HeldIn}
 use Rattle.covering_laws.specs.covered_state.World.{World, trees_of, view_in, sets_of, setting_in, IsTargetAt, IsFunctionAt}
@@ -70,7 +70,7 @@ abbrev pub ExistsIn : World → List Instance → Cell → Type 0
 ExistsIn world memory (Pointer i path past) =
     (inst : Instance)
     × (slice_get memory i ≡ Some inst)
-    × IsInTree world.program.types (whole_of world.program.types inst) path
+    × IsInTree world.program.types (whole_of world.program.types inst) (room inst) path
 ExistsIn world memory cell = ⊤
 
 -- so is what the cells of values point to

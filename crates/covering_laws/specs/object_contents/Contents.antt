@@ -1,6 +1,8 @@
 -- What the objects of a program are made of.
 use Rattle.std.specs.Prelude.{◌≡◌, ℕ, IsSome, IsTrue, Some, None, slice_get}
 use Rattle.c_types.specs.declared.key.ObjectKey.{ObjectKey}
+use Rattle.c_types.specs.declared.key.ObjectKey.TheVariants.{Varargs as VarargsKey}
+use Rattle.obj_made.specs.Made.{has_varargs}
 use Rattle.c_types.specs.declared.key.ObjectKey.TheVariants.{Entity as EntityKey, Text as TextKey, Call as CallKey}
 use Rattle.c_types.specs.declared.key.ObjectKey.TheVariants.{Library as LibraryKey, Star as StarKey}
 use Rattle.c_types.specs.declared.key.ObjectKey.TheVariants.{Function as FunctionKey}
@@ -13,7 +15,7 @@ use Rattle.core_tree.specs.declared.node.NodeKind.TheVariants.{CallNode}
 use Rattle.core_tree.specs.declared.node.Program.{Program}
 use Rattle.core_tree.specs.declared.node.Storage.TheVariants.{Declared}
 use Rattle.obj_made.specs.declared.object.Content.{Content}
-use Rattle.obj_made.specs.declared.object.Content.TheVariants.{Function, Typed}
+use Rattle.obj_made.specs.declared.object.Content.TheVariants.{Function, Blob, Typed}
 use Rattle.obj_made.specs.Made.{entity_content, allocated_content, typed_by, conversion_above, called_entity}
 use Rattle.obj_made.specs.Uses.{entity_number, is_allocator, is_named, is_starred}
 use Rattle.obj_space.specs.declared.location.Location.{Location}
@@ -42,6 +44,8 @@ IsMadeOf p (TextKey n) content = (x : Node) × (slice_get p.nodes.items n ≡ So
 IsMadeOf p (CallKey n) content = IsCallMade p n content
 IsMadeOf p (LibraryKey k) content =
     (row : LibraryRow) × (slice_get library_rows k ≡ Some row) × (content ≡ row.content)
+IsMadeOf p (VarargsKey e) content =
+    (x : Entity) × (slice_get p.entities.items e ≡ Some x) × (content ≡ Blob) × IsTrue (has_varargs p.types x)
 IsMadeOf p (StarKey k) content =
     (content ≡ allocated_content k None) × IsTrue (is_starred p.entities.items p.nodes.items k)
 IsMadeOf p (FunctionKey k) content =

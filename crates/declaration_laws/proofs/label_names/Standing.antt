@@ -14,7 +14,7 @@ use Rattle.c_mentions.specs.declared.mentions.Mention.TheVariants as mention
 use Rattle.c_mentions.specs.Syntax as syntax
 use Rattle.c_mentions.specs.Declarators.{declarator}
 use Rattle.c_mentions.specs.Roles.{handed, in_declaration, by_specs, in_specs, in_type, is_alone, in_struct, in_enum, in_statement, selects, is_body, is_function}
-use Rattle.c_mentions.specs.Mentions.{mention_at, leaf_mention, name_used, label_used, is_type_word, is_exempt, end_mention, declarator_mention, enumerator_mention, at_leaf, name_declared, enumerator_leaf, name_at}
+use Rattle.c_mentions.specs.Mentions.{mention_at, leaf_mention, name_used, label_used, is_type_word, is_list_word, is_exempt, end_mention, declarator_mention, enumerator_mention, at_leaf, name_declared, enumerator_leaf, name_at}
 use Rattle.c_mentions.specs.Settings.{Standing, standing, standings, handed_down, outermost}
 
 module _ (tokens : List Token) (nodes : List Node) where
@@ -273,7 +273,7 @@ module _ (tokens : List Token) (nodes : List Node) where
 
     no_used : (name : List ℕ) (x y : ℕ) (in_body : Bool) → name_used name y in_body ≡ mention.Label x → ⊥
     unfolding name_used
-    no_used name x y in_body e = by (is_type_word name) e
+    no_used name x y in_body e = by (is_type_word name || is_list_word name) e
       where
         by : (b : Bool) → (if b then mention.Nothing else mention.Use y (is_exempt name in_body)) ≡ mention.Label x → ⊥
         by true e = cc

@@ -12,7 +12,7 @@ use Rattle.count_laws.specs.named_units.Named.{HaveNames}
 use Rattle.count_laws.specs.named_units.Named as own
 use Rattle.count_laws.proofs.named_units.Reading.{units_named, tags_known}
 use Rattle.declared_type_laws.proofs.right_nodes.Whole.{right_nodes_once}
-use Rattle.declared_type_laws.proofs.owned_locals.Reading.{right_owned}
+use Rattle.declared_type_laws.proofs.owned_locals.Reading.{right_owned, right_linked}
 use Rattle.declared_type_laws.specs.named_rest.Rest.{NamedWithRest}
 
 narrow : (place : Place) → own.IsNarrow place → IsNarrow place
@@ -41,6 +41,8 @@ named_whole tokens unit tree tag_number name u cut read right bytes made named =
         letters = h.entities.letters;
         place = λ e y at. narrow y.place (h.entities.place e y at);
         owned = right_owned tokens unit tree tag_number name u cut read right;
+        word = λ e y at. h.entities.word e y (local_of u e y at);
+        linked = right_linked tokens unit tree tag_number name u cut read right;
         internal = h.entities.internal;
         local = λ e f y z p q same. h.entities.local e f y z (local_of u e y p) (local_of u f z q) (one_place y.place z.place same);
         literal = λ e f y z p q a b same. h.entities.literal e f y z p q a b (one_place y.place z.place same);

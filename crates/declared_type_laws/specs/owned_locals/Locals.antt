@@ -1,5 +1,5 @@
 -- Names at file scope have linkage, and what has none stands in a function (C11 6.2.2).
-use Rattle.std.specs.Prelude.{ℕ, ◌≡◌, true, false, List, Some, length}
+use Rattle.std.specs.Prelude.{ℕ, ◌≡◌, ◌≢◌, true, false, List, Some, length, slice_get}
 use Rattle.c_lexer.specs.declared.Tokens.{Tokens}
 use Rattle.c_lexer.specs.Cut.{IsTokens}
 use Rattle.c_grammar.specs.declared.trees.Tree.{Tree}
@@ -7,6 +7,8 @@ use Rattle.c_grammar.specs.Productions.{p_external}
 use Rattle.c_parser.specs.c_units.Units.{IsUnit}
 use Rattle.core_tree.specs.declared.node.Unit.{Unit}
 use Rattle.core_tree.specs.declared.node.Entity.{Entity}
+use Rattle.core_tree.specs.declared.node.Linkage.TheVariants.{Local}
+use Rattle.core_tree.specs.declared.node.Storage.TheVariants.{FunctionBody}
 use Rattle.c_senses.specs.Names.{source_of, numbered}
 use Rattle.c_senses.specs.Tree.{is_a}
 use Rattle.c_senses.specs.Entities.{declaration_of, is_typedef, is_linked}
@@ -51,3 +53,15 @@ RightLocalsOwned =
     → (e : ℕ) (y : Entity)
     → IsLocalOf u e y
     → HasFunction u y
+
+-- what a unit that is right for a text defines as a function has linkage
+abbrev pub RightBodiesLinked : Type 0
+RightBodiesLinked =
+    (tokens : Tokens) (unit : ℕ) (tree : Tree) (tag_number : ℕ → ℕ) (name : List ℕ) (u : Unit)
+    → IsTokens tokens.text.now tokens.list.items
+    → IsUnit tokens unit tree
+    → Right (numbered tag_number (source_of tokens tree)) name u
+    → (e : ℕ) (y : Entity)
+    → slice_get u.entities.items e ≡ Some y
+    → y.storage ≡ FunctionBody
+    → y.linkage ≢ Local

@@ -4,7 +4,7 @@ use Rattle.std.specs.Prelude.{is_some, if◌then◌else◌}
 use Rattle.std.proofs.lemmas.Bool.{eqb-true}
 use Rattle.std.proofs.lemmas.List.{get_or-take}
 use Rattle.pta_base.specs.declared.kind.Kind.{Kind}
-use Rattle.pta_base.specs.declared.kind.Kind.TheVariants.{Operand, InlineDefinition, VariadicDefinition}
+use Rattle.pta_base.specs.declared.kind.Kind.TheVariants.{Operand, InlineDefinition}
 use Rattle.c_types.specs.Trees.{Ctype}
 use Rattle.c_grammar.specs.declared.trees.SyntaxNode.{SyntaxNode}
 use Rattle.c_grammar.specs.Productions.{p_field, p_declarator, p_abstract, p_either, p_parameter}
@@ -15,7 +15,7 @@ use Rattle.c_senses.specs.Tree.{Source, production_of, children_of, production_a
 use Rattle.c_senses.specs.World.{World, has_size}
 use Rattle.c_senses.specs.Given.{Given, Fits, Refuses, ◌>>=◌, given_if}
 use Rattle.c_senses.specs.Declarators.{is_declarator, is_outermost, outermost_of, base_type, derived, adjusted, inner_name, name_in, derivations, derives_well, type_fits, suffix_row, array_suffix, list_of, parameters_in}
-use Rattle.c_senses.specs.Entities.{initialiser_of, is_defined, words_go, is_same_again, has_one_linkage, internal_fits, is_name_complete, definition_row, result_of, is_void_type, is_variadic, has_function_word, has_storage, named_row, parameter_named, defined_parameter, is_parameter_complete, by_place}
+use Rattle.c_senses.specs.Entities.{initialiser_of, is_defined, words_go, is_same_again, has_one_linkage, internal_fits, is_name_complete, definition_row, result_of, is_void_type, has_function_word, has_storage, named_row, parameter_named, defined_parameter, is_parameter_complete, by_place}
 use Rattle.c_senses.specs.Sense.{Sense, Nothing, IsDeclarator, IsDerivation, Derivation, sense_in}
 use Rattle.c_senses.specs.Rows.{row_of, world_at, AreSenses, at_its_name, declarator_row}
 use Rattle.count_laws.proofs.passed.parsed_tree_laws.placed_laws.Rows.{declarators}
@@ -248,11 +248,8 @@ module _ (w : World) (s : Source) (sense : ℕ → Sense) (at : ℕ) where
   asked true kind node g h x later e = later e
   asked false kind node g h x later e = cc
 
-  abbrev third : ℕ → Ctype → Given Sense → Given Sense
-  third r t g = given_if (not (is_variadic w s sense t)) VariadicDefinition r g
-
   abbrev second : ℕ → Ctype → Given Sense → Given Sense
-  second r t g = given_if (not (has_function_word s sense word_inline r && not (has_storage s sense word_static r))) InlineDefinition r (third r t g)
+  second r t g = given_if (not (has_function_word s sense word_inline r && not (has_storage s sense word_static r))) InlineDefinition r g
 
   defined_asked : (r : ℕ) (t : Ctype) (g : Given Sense) (x : Sense) → definition_row w s sense t r g ≡ Fits x → g ≡ Fits x
   defined_asked r t g x e = by (is_defined s sense r) e
@@ -261,7 +258,7 @@ module _ (w : World) (s : Source) (sense : ℕ → Sense) (at : ℕ) where
       by false e = e
       by true e =
           asked (is_void_type w s sense (result_of w s sense t) || has_size w (result_of w s sense t)) Operand r g (second r t g) x
-          (λ f. asked (not (has_function_word s sense word_inline r && not (has_storage s sense word_static r))) InlineDefinition r g (third r t g) x (λ h. asked (not (is_variadic w s sense t)) VariadicDefinition r g g x (λ i. i) h) f) e
+          (λ f. asked (not (has_function_word s sense word_inline r && not (has_storage s sense word_static r))) InlineDefinition r g g x (λ h. h) f) e
 
   named_asked : (r : ℕ) (t : Ctype) (g : Given Sense) (x : Sense) → named_row w s sense at r t g ≡ Fits x → g ≡ Fits x
   named_asked r t g x e =

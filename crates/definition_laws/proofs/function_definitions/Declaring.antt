@@ -13,7 +13,7 @@ use Rattle.c_mentions.specs.declared.roles.Role.{Role}
 use Rattle.c_mentions.specs.declared.roles.Role.TheVariants as role
 use Rattle.c_mentions.specs.Syntax as syntax
 use Rattle.c_mentions.specs.Declarators.{declarator}
-use Rattle.c_mentions.specs.Mentions.{mention_at, leaf_mention, name_used, label_used, is_type_word, end_mention, declarator_mention, enumerator_mention, at_leaf, name_declared, enumerator_leaf, name_at, is_exempt}
+use Rattle.c_mentions.specs.Mentions.{mention_at, leaf_mention, name_used, label_used, is_type_word, is_list_word, end_mention, declarator_mention, enumerator_mention, at_leaf, name_declared, enumerator_leaf, name_at, is_exempt}
 use Rattle.c_mentions.specs.Roles.{handed, in_declaration, in_specs, in_type, in_struct, in_enum, in_statement}
 use Rattle.c_mentions.specs.Settings.{Standing, standings, outermost}
 use Rattle.c_mentions.specs.Symbols.{symbol_of}
@@ -43,7 +43,7 @@ module _ (tokens : List Token) (nodes : List Node) where
 
     no_use : (name : List ℕ) (at : ℕ) (in_body : Bool) → name_used name at in_body ≡ Declaring → ⊥
     unfolding name_used
-    no_use name at in_body e = by (is_type_word name) e
+    no_use name at in_body e = by (is_type_word name || is_list_word name) e
       where
         by : (b : Bool) → (if b then mention.Nothing else mention.Use at (is_exempt name in_body)) ≡ Declaring → ⊥
         by true e = cc

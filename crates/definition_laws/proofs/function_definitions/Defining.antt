@@ -341,4 +341,10 @@ module _ (s : Source) (tree : Tree s) (senses : List Sense) (are : AreSenses s s
     parameters = fn.ends.parameters;
     form = fn.ends.form;
     type = type_is;
+    declarator = o;
+    part = child_declarator;
+    outermost = reached.outermost;
+    steps = fn.derivations_are;
+    sense = fn.sense;
+    ends = sensed.further_ends fn.derivations_are fn.ends;
   }

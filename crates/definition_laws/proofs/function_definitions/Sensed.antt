@@ -5,7 +5,7 @@ use Rattle.c_lexer.specs.declared.Token.{Token}
 use Rattle.c_lexer.specs.declared.TokenKind.{TokenKind}
 use Rattle.c_types.specs.Trees.{Ctype, Ctypes, NoTypes, MoreTypes, FunctionFrom}
 use Rattle.c_types.specs.declared.term.Form.{Form}
-use Rattle.c_types.specs.declared.term.Form.TheVariants.{Fixed}
+use Rattle.c_types.specs.declared.term.Form.TheVariants.{Fixed, Variadic}
 use Rattle.c_grammar.specs.declared.trees.SyntaxNode.{SyntaxNode}
 use Rattle.c_grammar.specs.Reads.{Node, node_of, leaf}
 use Rattle.c_mentions.specs.Syntax as syntax
@@ -13,6 +13,7 @@ use Rattle.c_senses.specs.Tree.{Source, production_of, is_name, has_sign, is_ide
 use Rattle.c_senses.specs.Given.{Given, Fits}
 use Rattle.c_senses.specs.World.{World}
 use Rattle.c_senses.specs.Sense.{Sense, Nothing, IsDeclarator, IsDerivation, Parameter, Derivation, Pointing, Returning, sense_in}
+use Rattle.c_senses.specs.Entities.{takes_further, ends_further}
 use Rattle.c_senses.specs.Declarators.{suffixes, inner_derivations, inner_name, name_in, stars, derivations, derived, derived_once, list_of, is_void_alone}
 use Rattle.c_senses.specs.Rows.{AreSenses, row_of, world_at}
 use Rattle.count_laws.proofs.passed.parsed_tree_laws.placed_laws.Climbing.{Grown, row_at}
@@ -40,6 +41,19 @@ derived_last (x ∷ xs) ps form t = derived_last xs ps form (derived_once x t)
 
 pub derives_function : (ds : List Derivation) (t : Ctype) (h : Ends ds) → derived ds t ≡ FunctionFrom (derived h.before t) h.parameters h.form
 derives_function ds t h = ap (λ (l : List Derivation). derived l t) h.are ∙ derived_last h.before h.parameters h.form t
+
+-- it takes arguments past its parameters where its list ends so
+last_further : (xs : List Derivation) (ps : Ctypes) (form : Form) → ends_further (xs ++ Returning ps form ∷ []) ≡ takes_further (Returning ps form)
+last_further [] ps form = refl
+last_further (x ∷ []) ps form = refl
+last_further (x ∷ y ∷ xs) ps form = last_further (y ∷ xs) ps form
+
+form_variadic : (form : Form) (ps : Ctypes) → takes_further (Returning ps form) ≡ true → form ≡ Variadic
+form_variadic Variadic ps e = refl
+form_variadic form ps e = cc
+
+pub further_ends : (ds : List Derivation) (h : Ends ds) → ends_further ds ≡ true → h.form ≡ Variadic
+further_ends ds h e = form_variadic h.form h.parameters (sym (last_further h.before h.parameters h.form) ∙ (sym (ap ends_further h.are) ∙ e))
 
 module _ (s : Source) where
   kind_same : (o : Option Token) → syntax.kind_of o ≡ kind_of_token o

@@ -19,7 +19,7 @@ use Rattle.c_lexer.specs.Pieces.{Kind, run, sign, literal, Piece}
 use Rattle.c_lexer.specs.Meanings.{kind_meaning, keyword_meaning, word_meaning, number_meaning, lookup}
 use Rattle.c_lexer.specs.Laws.{Stands}
 use Rattle.c_grammar.specs.Names.{Names, is_type}
-use Rattle.c_grammar.specs.Terminals.{contains, is_wide, has_one_character, terminal_of_kind, terminal_of, takes, spelled, own_words, own_meaning, is_builtin, name_terminal}
+use Rattle.c_grammar.specs.Terminals.{contains, is_wide, has_one_character, terminal_of_kind, terminal_of, takes, spelled, own_words, list_words, own_meaning, is_builtin, name_terminal}
 
 left : (a b : Bool) → (a && b) ≡ true → a ≡ true
 left true b e = refl
@@ -95,7 +95,7 @@ IsName o = (t : Token) × (o ≡ Some t) × (t.kind ≡ Identifier)
 
 -- the terminals of names
 abbrev names_of : List ℕ
-names_of = 93 ∷ 94 ∷ 96 ∷ 97 ∷ 108 ∷ []
+names_of = 93 ∷ 94 ∷ 96 ∷ 97 ∷ 108 ∷ 109 ∷ 110 ∷ 111 ∷ []
 
 not_less : (y : ℕ) → nat_lt y 93 ≡ false → 93 ≤ y
 not_less y e = grind (arith, nat_tests, e)
@@ -154,15 +154,19 @@ own_large : list_all (λ e. nat_le 93 e.1) own_words ≡ true
 unfolding own_words
 own_large = refl
 
+list_large : list_all (λ e. nat_le 93 e.1) list_words ≡ true
+unfolding list_words
+list_large = refl
+
 name_large : (names : Names) (name : List ℕ) → nat_le 93 (name_terminal names name) ≡ true
 unfolding name_terminal
-name_large names name = named_large own_words own_large name _ (by (is_builtin name) (is_type names name))
+name_large names name = named_large own_words own_large name _ (by (is_builtin name) (is_type names name) (unwrap_or (own_meaning list_words name) 97) (named_large list_words list_large name 97 refl))
   where
-    by : (a b : Bool) → nat_le 93 (cond a (cond b 108 97) (cond b 94 93)) ≡ true
-    by true true = refl
-    by true false = refl
-    by false true = refl
-    by false false = refl
+    by : (a b : Bool) (d : ℕ) → nat_le 93 d ≡ true → nat_le 93 (cond a (cond b 108 d) (cond b 94 93)) ≡ true
+    by true true d h = refl
+    by true false d h = h
+    by false true d h = refl
+    by false false d h = refl
 
 is_first : (x y : ℕ) → contains (x ∷ []) y ≡ true → x ≡ y
 is_first x y h = by (nat_eq x y) refl h

@@ -3,7 +3,7 @@ use Rattle.std.proofs.Common.{◌≡◌, ◌<◌, ℕ, ◌||◌, nat_eq, Bool, t
 use Rattle.std.specs.Prelude.{is_some, if◌then◌else◌}
 use Rattle.std.proofs.lemmas.List.{get_or-take}
 use Rattle.pta_base.specs.declared.kind.Kind.{Kind}
-use Rattle.pta_base.specs.declared.kind.Kind.TheVariants.{Operand, InlineDefinition, VariadicDefinition}
+use Rattle.pta_base.specs.declared.kind.Kind.TheVariants.{Operand, InlineDefinition}
 use Rattle.c_lexer.specs.declared.TokenKind.TheVariants.{Identifier, Punctuator}
 use Rattle.c_types.specs.Trees.{Ctype}
 use Rattle.c_grammar.specs.Terminals.{contains}
@@ -35,11 +35,11 @@ fits_same e = cc
 
 module _ (w : World) (s : Source) (sense : ℕ → Sense) where
   definition_then : (t : Ctype) (name : ℕ) (g : Given Sense) (y : Sense) → definition_row w s sense t name g ≡ Fits y → g ≡ Fits y
-  definition_then t name g y e = by (is_defined s sense name) _ _ _ e
+  definition_then t name g y e = by (is_defined s sense name) _ _ e
     where
-      by : (b a c d : Bool) → (if b then given_if a Operand name (given_if c InlineDefinition name (given_if d VariadicDefinition name g)) else g) ≡ Fits y → g ≡ Fits y
-      by true a c d e = (given_then d VariadicDefinition name g y (given_then c InlineDefinition name _ y (given_then a Operand name _ y e).1).1).1
-      by false a c d e = e
+      by : (b a c : Bool) → (if b then given_if a Operand name (given_if c InlineDefinition name g) else g) ≡ Fits y → g ≡ Fits y
+      by true a c e = (given_then c InlineDefinition name g y (given_then a Operand name _ y e).1).1
+      by false a c e = e
 
   -- the row of a name says nothing but what it is given, and asks for its words
   pub named_then : (at name : ℕ) (t : Ctype) (g : Given Sense) (y : Sense) → named_row w s sense at name t g ≡ Fits y → (words_go w s sense (is_some (initialiser_of s sense at)) name ≡ true) × (internal_fits w s sense (is_some (initialiser_of s sense at) || is_defined s sense name) t name ≡ true) × (g ≡ Fits y)

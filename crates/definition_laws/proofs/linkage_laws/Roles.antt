@@ -19,7 +19,7 @@ use Rattle.c_mentions.specs.declared.roles.Role.TheVariants as role
 use Rattle.c_mentions.specs.declared.roles.TagUse.TheVariants as tag
 use Rattle.c_mentions.specs.Syntax as syntax
 use Rattle.c_mentions.specs.Declarators.{declarator, within, level}
-use Rattle.c_mentions.specs.Mentions.{mention_at, leaf_mention, name_used, label_used, is_type_word, end_mention, declarator_mention, enumerator_mention, at_leaf, name_declared, enumerator_leaf, name_at, is_exempt, linkage_of}
+use Rattle.c_mentions.specs.Mentions.{mention_at, leaf_mention, name_used, label_used, is_type_word, is_list_word, end_mention, declarator_mention, enumerator_mention, at_leaf, name_declared, enumerator_leaf, name_at, is_exempt, linkage_of}
 use Rattle.c_mentions.specs.Roles.{handed, in_declaration, by_specs, specified, in_specs, in_type, is_alone, in_struct, in_enum, in_statement, opened, block_scope, is_selected, selects, list_of, suffix_of}
 use Rattle.c_mentions.specs.Declarators as declarators
 use Rattle.count_laws.proofs.passed.parsed_tree_laws.nesting_laws.PassedOn.{found}
@@ -130,7 +130,7 @@ module _ (tokens : List Token) (nodes : List Node) where
 
     no_use : (name : List ℕ) (at : ℕ) (in_body : Bool) → name_used name at in_body ≡ Declaring → ⊥
     unfolding name_used
-    no_use name at in_body e = by (is_type_word name) e
+    no_use name at in_body e = by (is_type_word name || is_list_word name) e
       where
         by : (b : Bool) → (if b then mention.Nothing else mention.Use at (is_exempt name in_body)) ≡ Declaring → ⊥
         by true e = cc

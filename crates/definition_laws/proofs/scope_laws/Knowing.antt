@@ -19,7 +19,7 @@ use Rattle.c_mentions.specs.declared.mentions.Mention.{Mention}
 use Rattle.c_mentions.specs.declared.mentions.Mention.TheVariants as mention
 use Rattle.c_mentions.specs.Syntax as syntax
 use Rattle.c_mentions.specs.Declarators.{declarator, within, level, name_of, inner_of, is_inner}
-use Rattle.c_mentions.specs.Mentions.{mention_at, leaf_mention, name_used, label_used, is_type_word, end_mention, declarator_mention, enumerator_mention, at_leaf, name_declared, enumerator_leaf, name_at, is_exempt, linkage_of}
+use Rattle.c_mentions.specs.Mentions.{mention_at, leaf_mention, name_used, label_used, is_type_word, is_list_word, end_mention, declarator_mention, enumerator_mention, at_leaf, name_declared, enumerator_leaf, name_at, is_exempt, linkage_of}
 use Rattle.c_mentions.specs.Settings.{Standing, standings}
 use Rattle.c_mentions.specs.Symbols.{symbol_of}
 use Rattle.c_scope.specs.declared.kinds.Declared.{Declared}
@@ -440,7 +440,7 @@ module _ (tokens : List Token) (nodes : List Node) (before : (i c : ℕ) → Par
   module _ (text : List ℕ) (symbol : ℕ → ℕ) (n : ℕ) (s : Standing) where
     used_fits : (name : List ℕ) (at : ℕ) (in_body : Bool) → Fits n s (name_used name at in_body)
     unfolding name_used
-    used_fits name at in_body = by (is_type_word name)
+    used_fits name at in_body = by (is_type_word name || is_list_word name)
       where
         by : (b : Bool) → Fits n s (if b then mention.Nothing else mention.Use at (is_exempt name in_body))
         by true = tt

@@ -4,17 +4,22 @@ use Rattle.c_lexer.specs.declared.Tokens.{Tokens}
 use Rattle.c_lexer.specs.Cut.{IsTokens}
 use Rattle.c_types.specs.Trees.{Ctype, Ctypes, FunctionFrom}
 use Rattle.c_types.specs.declared.term.Form.{Form}
+use Rattle.c_types.specs.declared.term.Form.TheVariants.{Variadic}
 use Rattle.c_grammar.specs.declared.trees.Tree.{Tree}
+use Rattle.c_grammar.specs.Productions.{p_declarator}
 use Rattle.c_parser.specs.c_units.Units.{IsUnit}
-use Rattle.c_senses.specs.Tree.{Source}
+use Rattle.c_senses.specs.Tree.{Source, child_of}
 use Rattle.c_senses.specs.Names.{source_of, numbered}
-use Rattle.c_senses.specs.Sense.{Sense, sense_in}
+use Rattle.c_senses.specs.Sense.{Sense, Derivation, IsDeclarator, sense_in}
+use Rattle.c_senses.specs.Declarators.{outermost_of}
 use Rattle.c_senses.specs.Rows.{AreSenses}
 use Rattle.c_senses.specs.Entities.{declaration_of, declares_function, is_linked, own_type, defined_name}
+use Rattle.c_senses.specs.Entities.{ends_further}
 use Rattle.c_senses.specs.Right.{is_declaring}
 use Rattle.definition_laws.specs.linkage_laws.PassedOn.{is_definition}
 
--- the definition has a name, which it declares as a function, with linkage and of a function's type
+-- the definition has a name, which its declarator declares as a function, with linkage and of a function's type; one
+-- that ends in a list with `...` declares a variadic one
 pub record Defines (s : Source) (senses : List Sense) (d : ℕ) : Type 0 where
   pub name : ℕ
   pub named : defined_name s (sense_in senses) d ≡ Some name
@@ -26,6 +31,12 @@ pub record Defines (s : Source) (senses : List Sense) (d : ℕ) : Type 0 where
   pub parameters : Ctypes
   pub form : Form
   pub type : own_type s (sense_in senses) name ≡ Some (FunctionFrom result parameters form)
+  pub declarator : ℕ
+  pub part : child_of s p_declarator d ≡ Some declarator
+  pub outermost : outermost_of s name ≡ Some declarator
+  pub steps : List Derivation
+  pub sense : sense_in senses declarator ≡ IsDeclarator (Some name) steps
+  pub ends : ends_further steps ≡ true → form ≡ Variadic
 
 -- so does each in a unit that is read, whose rows all fit
 abbrev pub DefinitionsDeclare : Type 0

@@ -22,6 +22,7 @@ bare_world u = record {
   may_name = λ e. true;
   may_call = true;
   own_name = None;
+  further = λ leaf. None;
 }
 
 pub knows_itself : (u : Unit) → Knows (bare_world u) u

@@ -8,14 +8,13 @@ use Rattle.c_lexer.specs.declared.TokenKind.TheVariants.{Character, Text, End}
 use Rattle.c_senses.specs.Tree.{Source, place_at, spelling_at, kind_at}
 use Rattle.c_senses.specs.Given.{Given, Refuses}
 use Rattle.c_senses.specs.World.{World}
-use Rattle.c_senses.specs.Objects.{name_row}
 use Rattle.c_senses.specs.Sense.{Sense, fits}
-use Rattle.c_senses.specs.Expressions.{as_sense, passed, string_bytes}
+use Rattle.c_senses.specs.Expressions.{as_sense, passed, string_bytes, named_primary}
 use Rattle.expression_rows.specs.c_rows.Literals.{built_integer, character_core, built_text}
 
 module _ (w : World) (s : Source) (sense : ℕ → Sense) where
   abbrev pub built_primary_of : ℕ → ℕ → List ℕ → TokenKind → Given Sense
-  built_primary_of at first rest Identifier = as_sense (name_row w (place_at s first) at (w.meaning first))
+  built_primary_of at first rest Identifier = named_primary w s sense at first rest
   built_primary_of at first rest Integer = as_sense (built_integer at (place_at s first) (spelling_at s first))
   built_primary_of at first rest (Punctuator p) = passed sense at rest
   built_primary_of at first rest Character = fits (character_core (place_at s first) (spelling_at s first))

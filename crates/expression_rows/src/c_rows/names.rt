@@ -40,7 +40,7 @@ pub enum Named {
     NoValue,
 }
 
-// The name of an object whose type is no floating type and no variadic list, if it may stand there.
+// The name of an object whose type is no floating type, if it may stand there.
 fn plain_object(
     alloc: Global,
     unit: &mut Unit,
@@ -85,7 +85,7 @@ fn object_name(
 {
     match unit.types.term(ty) {
         Term::Floating => Err(CheckFault::Unsupported(Kind::Floating, at)),
-        Term::VaList => Err(CheckFault::Unsupported(Kind::Builtin, at)),
+        Term::VaList => plain_object(alloc, unit, place, at, entity, ty, allowed),
         Term::Void => plain_object(alloc, unit, place, at, entity, ty, allowed),
         Term::Bool => plain_object(alloc, unit, place, at, entity, ty, allowed),
         Term::Integer { .. } => plain_object(alloc, unit, place, at, entity, ty, allowed),

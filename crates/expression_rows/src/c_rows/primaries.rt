@@ -5,16 +5,19 @@ ghost use Rattle.c_lexer.specs.declared.TokenKind.TheVariants.{Identifier};
 ghost use Rattle.c_senses.specs.World.{World};
 ghost use Rattle.c_senses.specs.Tree.{kind_at};
 ghost use Rattle.c_senses.specs.Sense.{sense_in};
-ghost use Rattle.c_senses.specs.Expressions.{passed};
-ghost use Rattle.core_nodes.specs.Standing.{IsReady, Builds};
+ghost use Rattle.c_senses.specs.Expressions.{passed, named_primary};
+ghost use Rattle.core_nodes.specs.Standing.{IsReady, Builds, Knows};
+ghost use Rattle.expression_rows.specs.Fitting.{IdentifierFits};
 ghost use Rattle.c_results.specs.Standing.{senses_made, IsWithin, Rowed};
 ghost use Rattle.tree_reads.specs.Sources.{source_read};
-ghost use Rattle.expression_rows.specs.c_rows.Named.{NameFits, IsNamedWithin};
+ghost use Rattle.expression_rows.specs.c_rows.Named.{IsNamedWithin};
 ghost use Rattle.expression_rows.specs.c_rows.Built as spec;
 
+use crate::around::Around;
+use crate::c_rows::lists::list_row;
 use crate::c_rows::literals::{character, integer, string};
-use crate::c_rows::names::{Named, name_row};
-use crate::c_rows::parts::{passed_on, sensed};
+use crate::c_rows::names::name_row;
+use crate::c_rows::parts::{behind_first, passed_on, sensed};
 use c_lexer::TokenKind;
 use c_results::{Made, Results};
 use core_nodes::CheckFault;
@@ -41,9 +44,53 @@ fn enclosed(
     passed_on(alloc, results, children[1])
 }
 
-/// The row of a primary expression (C11 6.5.1): a name, by what its leaf means and the own name of the function around it; a
-/// constant; strings side by side; or what stands in parentheses. What a name means is asked of an identifier alone. An integer
-/// constant of 2^64 or more, and a string with an escape of 256 or more, which no token of a text is, aren't built.
+// A name alone, or an operation on variadic lists.
+fn named(
+    alloc: Global,
+    unit: &mut Unit,
+    syntax: &Syntax,
+    results: &Results,
+    at: u32,
+    children: &[u32],
+    around: &Around,
+) -> Result<Made, CheckFault>
+    requires ready { IsReady unit.old }
+    requires results { All (IsWithin unit.old) results.now }
+    requires named { IsNamedWithin unit.old around.now.first }
+    requires some { 0 < length children.now }
+    ensures ready { IsReady unit.new }
+    ensures builds { Builds unit.old unit.new }
+    ensures within { IfOk result (IsWithin unit.new) }
+    ensures row { (w : World) →
+        let s = source_read syntax.now in
+        let sense = sense_in (senses_made unit.old results.now) in
+        let first = get_or children.now 0 0 in
+        Knows w unit.old →
+        IdentifierFits w unit.old s sense first (drop 1 children.now) around.now →
+        Rowed unit.new result (named_primary w s sense at first (drop 1 children.now)) }
+{
+    let first = children[0];
+    if children.len() < 2 {
+        let place = place_of(syntax, first);
+        return sensed(name_row(alloc, unit, place, at, around.first, around.own_name));
+    }
+    let rest = behind_first(children);
+    list_row(
+        alloc,
+        unit,
+        syntax,
+        results,
+        at,
+        first,
+        rest,
+        around.further,
+    )
+}
+
+/// The row of a primary expression (C11 6.5.1): a name, by what its leaf means and the own name of the function around it; an operation
+/// on variadic lists (7.16.1), by what its second part names; a constant; strings side by side; or what stands in parentheses. What a
+/// name means is asked of an identifier alone. An integer constant of 2^64 or more, and a string with an escape of 256 or more, which no
+/// token of a text is, aren't built.
 pub fn primary_row(
     alloc: Global,
     unit: &mut Unit,
@@ -51,32 +98,30 @@ pub fn primary_row(
     results: &Results,
     at: u32,
     children: &[u32],
-    named: Named,
-    own_name: Option<&[u8]>,
+    around: &Around,
 ) -> Result<Made, CheckFault>
     requires ready { IsReady unit.old }
     requires results { All (IsWithin unit.old) results.now }
-    requires named { IsNamedWithin unit.old named }
+    requires named { IsNamedWithin unit.old around.now.first }
     ensures ready { IsReady unit.new }
     ensures builds { Builds unit.old unit.new }
     ensures within { IfOk result (IsWithin unit.new) }
     ensures row { (w : World) →
-        (let first = get_or children.now 0 0 in
-        0 < length children.now →
-        kind_at (source_read syntax.now) first ≡ Identifier →
-        NameFits w unit.old named (option_copied own_name.entry) (w.meaning first)) →
+        let s = source_read syntax.now in
         let sense = sense_in (senses_made unit.old results.now) in
-        Rowed unit.new result (spec.built_primary w (source_read syntax.now) sense at children.now) }
+        let first = get_or children.now 0 0 in
+        Knows w unit.old →
+        (0 < length children.now →
+        kind_at s first ≡ Identifier →
+        IdentifierFits w unit.old s sense first (drop 1 children.now) around.now) →
+        Rowed unit.new result (spec.built_primary w s sense at children.now) }
 {
     if children.is_empty() {
         return Err(CheckFault::BadOperand(at));
     }
     let first = children[0];
     match kind_of(syntax, first) {
-        TokenKind::Identifier => {
-            let place = place_of(syntax, first);
-            sensed(name_row(alloc, unit, place, at, named, own_name))
-        }
+        TokenKind::Identifier => named(alloc, unit, syntax, results, at, children, around),
         TokenKind::Punctuator(_) => enclosed(alloc, unit, results, at, children),
         TokenKind::Integer => sensed(integer(alloc, unit, syntax, at, first)),
         TokenKind::Character => sensed(character(alloc, unit, syntax, first)),

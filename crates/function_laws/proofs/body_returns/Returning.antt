@@ -12,7 +12,7 @@ use Rattle.core_tree.specs.declared.node.Node.{Node}
 use Rattle.core_tree.specs.declared.node.Entity.{Entity}
 use Rattle.core_tree.specs.declared.node.Storage.TheVariants.{FunctionBody}
 use Rattle.core_tree.specs.declared.node.NodeKind.{NodeKind}
-use Rattle.core_tree.specs.declared.node.NodeKind.TheVariants.{Named, Literal, FunctionName, Block, For, Return, Initialise}
+use Rattle.core_tree.specs.declared.node.NodeKind.TheVariants.{Named, Literal, FunctionName, VarArgs, Block, For, Return, Initialise}
 use Rattle.core_tree.specs.Typed.{trees_of, type_at, type_in}
 use Rattle.core_tree.specs.Range.{Under, entity_at}
 use Rattle.core_tree.specs.Rows.{IsFunction}
@@ -79,6 +79,7 @@ blind_return : Blind is_return
 blind_return (Named e) = refl
 blind_return (FunctionName e) = refl
 blind_return (Literal e) = refl
+blind_return (VarArgs e) = refl
 blind_return (Initialise e paths) = refl
 blind_return (Block es) = refl
 blind_return (For es c a) = refl

@@ -14,7 +14,7 @@ use Rattle.core_tree.specs.declared.node.Unit.{Unit}
 use Rattle.core_tree.specs.declared.node.Node.{Node}
 use Rattle.core_tree.specs.declared.node.Storage.TheVariants.{FunctionBody}
 use Rattle.core_tree.specs.declared.node.NodeKind.{NodeKind}
-use Rattle.core_tree.specs.declared.node.NodeKind.TheVariants.{Named, FunctionName, Literal, Block, For, Switch, Case, Default, Initialise}
+use Rattle.core_tree.specs.declared.node.NodeKind.TheVariants.{Named, FunctionName, Literal, VarArgs, Block, For, Switch, Case, Default, Initialise}
 use Rattle.core_tree.specs.Typed.{trees_of}
 use Rattle.core_tree.specs.Rows.{Has, Initialises, InitialisesIn, InitialisesEntity}
 use Rattle.core_tree.specs.Range.{here}
@@ -51,6 +51,7 @@ blind_switch : Blind is_switch
 blind_switch (Named e) = refl
 blind_switch (FunctionName e) = refl
 blind_switch (Literal e) = refl
+blind_switch (VarArgs e) = refl
 blind_switch (Initialise e paths) = refl
 blind_switch (Block es) = refl
 blind_switch (For es c a) = refl
@@ -60,6 +61,7 @@ blind_case : (x : Option ℤ) → Blind (is_case x)
 blind_case None (Named e) = refl
 blind_case None (FunctionName e) = refl
 blind_case None (Literal e) = refl
+blind_case None (VarArgs e) = refl
 blind_case None (Initialise e paths) = refl
 blind_case None (Block es) = refl
 blind_case None (For es c a) = refl
@@ -67,6 +69,7 @@ blind_case None kind = refl
 blind_case (Some n) (Named e) = refl
 blind_case (Some n) (FunctionName e) = refl
 blind_case (Some n) (Literal e) = refl
+blind_case (Some n) (VarArgs e) = refl
 blind_case (Some n) (Initialise e paths) = refl
 blind_case (Some n) (Block es) = refl
 blind_case (Some n) (For es c a) = refl

@@ -15,7 +15,7 @@ use Rattle.c_consts.specs.Wrapped.{converted}
 use Rattle.c_senses.specs.Tree.{Source, is_name, has_sign, word_at, place_at, spelling_at, children_at, first_where, any_where, child_of, nearest_above, numbers_from}
 use Rattle.c_senses.specs.Given.{Given, Fits, Refuses, ◌>>=◌, given_if}
 use Rattle.c_senses.specs.World.{World}
-use Rattle.c_senses.specs.Conversions.{OperandSort, Whole, Address, Aggregate, Other, operand_of, value_of_sort, fetched_or_decayed, is_fetched, promotion, conversion}
+use Rattle.c_senses.specs.Conversions.{OperandSort, Whole, Address, Aggregate, Other, operand_of, value_of_sort, fetched_or_decayed, is_fetched, promotion, conversion, is_list}
 use Rattle.c_senses.specs.Constants.{constant_in, is_whole}
 use Rattle.c_senses.specs.Places.{own_place}
 use Rattle.c_senses.specs.Sense.{Sense, IsCore, value_in}
@@ -214,17 +214,17 @@ sort_fits w v n c PlaceNode h = by (decayed (ctype_of c)) h
   where
     by : (o : Option Ctype) → IsFit (promoted_in w n (fetched_or_decayed w n c o)) → IsFit (promoted_in v n (fetched_or_decayed v n c o))
     by (Some pointer) h = fits_given (is_whole (operand_of pointer)) Operand n (promotion v (over Decay (place_of c) pointer c)) (given_fits (is_whole (operand_of pointer)) Operand n (promotion w (over Decay (place_of c) pointer c)) h)
-    by None h = fetched (is_fetched w (operand_of (ctype_of c))) h
+    by None h = fetched (is_fetched w (operand_of (ctype_of c)) || is_list (ctype_of c)) h
       where
         after : is_whole (operand_of (ctype_of c)) ≡ true → (b : Bool) → b ≡ true → IsFit (promoted_in v n (given_if b Operand n (Fits (over Fetch (place_of c) (ctype_of c) c))))
         after whole true e = fits_given (is_whole (operand_of (ctype_of c))) Operand n (promotion v (over Fetch (place_of c) (ctype_of c) c)) whole
         after whole false e = cc
 
-        fetched : (b : Bool) → IsFit (promoted_in w n (given_if b Operand n (Fits (over Fetch (place_of c) (ctype_of c) c)))) → IsFit (promoted_in v n (given_if (is_fetched v (operand_of (ctype_of c))) Operand n (Fits (over Fetch (place_of c) (ctype_of c) c))))
+        fetched : (b : Bool) → IsFit (promoted_in w n (given_if b Operand n (Fits (over Fetch (place_of c) (ctype_of c) c)))) → IsFit (promoted_in v n (given_if (is_fetched v (operand_of (ctype_of c)) || is_list (ctype_of c)) Operand n (Fits (over Fetch (place_of c) (ctype_of c) c))))
         fetched false h = absurd h
         fetched true h =
             let whole = given_fits (is_whole (operand_of (ctype_of c))) Operand n (promotion w (over Fetch (place_of c) (ctype_of c) c)) h in
-            after whole (is_fetched v (operand_of (ctype_of c))) (whole_fetched v (operand_of (ctype_of c)) whole)
+            after whole (is_fetched v (operand_of (ctype_of c)) || is_list (ctype_of c)) (ap (λ (b : Bool). b || is_list (ctype_of c)) (whole_fetched v (operand_of (ctype_of c)) whole))
 
 sense_fits : (w v : World) (n : ℕ) (x : Sense) → IsFit (promoted_in w n (value_in w n x)) → IsFit (promoted_in v n (value_in v n x))
 sense_fits w v n (IsCore c) h = sort_fits w v n c (core_sort c) h

@@ -106,6 +106,7 @@ module _ (s : Source) (senses : List Sense) (are : AreSenses s senses) (grew : I
   pub linked_fit : InternalFit s senses → LinkedFit s senses
   linked_fit fit = record {
     names = fit.names;
+    further = fit.further;
     initialisers = λ i lt p d leaf t is parent rest by_it name type lacks. initialiser_owned i lt p d leaf is parent rest by_it name;
     internals = fit.internals;
   }

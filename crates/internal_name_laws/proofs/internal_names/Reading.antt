@@ -1,17 +1,22 @@
 -- Internal names fit in the units that are read.
-use Rattle.std.proofs.Common.{◌≡◌, ◌<◌, ◌||◌, ◌⊎◌, inl, inr, ℕ, Bool, true, false, List, ◌∷◌, length, Option, Some, None, eq-eqb, refl, sym, ap, ◌∙◌, subst}
-use Rattle.std.specs.Prelude.{option_and_then}
-use Rattle.c_types.specs.Trees.{Ctype}
+use Rattle.std.proofs.Common.{◌≡◌, ◌<◌, ◌&&◌, ◌||◌, ◌⊎◌, inl, inr, ℕ, Bool, true, false, List, ◌∷◌, length, Option, Some, None, eq-eqb, refl, sym, ap, ◌∙◌, subst}
+use Rattle.std.specs.Prelude.{option_and_then, if◌then◌else◌}
+use Rattle.c_types.specs.Trees.{Ctype, FunctionFrom}
+use Rattle.c_types.specs.declared.term.Form.{Form}
+use Rattle.core_tree.specs.declared.node.Linkage.{Linkage}
+use Rattle.core_tree.specs.declared.node.Linkage.TheVariants.{External, Internal, Local}
 use Rattle.c_grammar.specs.Productions.{p_primary}
 use Rattle.c_grammar.specs.Terminals.{contains}
 use Rattle.c_scope.specs.declared.kinds.Declared.{Declared}
-use Rattle.c_senses.specs.Tree.{Source, is_a, children_at, paired}
+use Rattle.c_senses.specs.Tree.{Source, is_a, is_name, children_at, paired}
 use Rattle.c_senses.specs.Names.{source_of, numbered, has_linkage, ordinary_at}
 use Rattle.c_senses.specs.World.{Meaning}
-use Rattle.c_senses.specs.Entities.{is_linked, is_internal, has_earlier_length, meaning_of, type_behind, entity_of, named_by}
+use Rattle.c_senses.specs.Entities.{is_linked, is_internal, is_defined, internal_among, first_of, own_type, has_earlier_length, meaning_of, type_behind, entity_of, named_by}
+use Rattle.c_senses.specs.Right.{representative}
+use Rattle.c_senses.specs.Right as right
 use Rattle.c_senses.specs.Sense.{Sense, sense_in}
 use Rattle.c_senses.specs.Rows.{AreSenses}
-use Rattle.sense_laws.specs.Sound.{AgreesWith, MeaningFits}
+use Rattle.sense_laws.specs.Sound.{AgreesWith, MeaningFits, IsVariadicOf}
 use Rattle.function_laws.specs.passed.definition_laws.scope_laws.Scoped.{DeclaredOnce}
 use Rattle.function_laws.proofs.passed.definition_laws.scope_laws.Whole.{names_declared_once}
 use Rattle.parsed_tree_laws.proofs.placed_laws.Climbing.{Grown}
@@ -26,7 +31,10 @@ use Rattle.function_laws.proofs.passed.definition_laws.linkage_laws.Linked.{stan
 use Rattle.function_laws.proofs.passed.definition_laws.linkage_laws.Reading.{tree_is}
 use Rattle.declared_type_laws.proofs.passed.built_unit_laws.run_laws.Times.{known_at, world_of}
 use Rattle.declared_type_laws.proofs.plain_names.Fitting.{SomeFits, meaning_fits, found_node}
-use Rattle.declared_type_laws.specs.passed.built_unit_laws.built_rows.Rows.{types_declared}
+use Rattle.declared_type_laws.specs.passed.built_unit_laws.built_rows.Rows.{types_declared, literal_type}
+use Rattle.declared_type_laws.specs.known_entities.Further.{IsFurther}
+use Rattle.declared_type_laws.proofs.known_entities.Further.{further_found}
+use Rattle.function_laws.specs.passed.definition_laws.Definitions.{is_definition}
 use Rattle.declared_type_laws.specs.declared_once.PassedOn.{AreSettled}
 use Rattle.declared_type_laws.proofs.declared_once.PassedOn.{types_settled}
 use Rattle.declared_type_laws.specs.declared_once.Once.{IsDeclaredOnce}
@@ -37,7 +45,7 @@ use Rattle.internal_name_laws.proofs.internal_types.PassedOn.{found_at, behind_f
 use Rattle.declared_type_laws.specs.linked_scopes.Scoped.{AreScoped}
 use Rattle.declared_type_laws.proofs.linked_scopes.Reading.{linked_scoped}
 use Rattle.internal_name_laws.specs.internal_types.Internal.{IsEntityType}
-use Rattle.internal_name_laws.proofs.internal_types.Reading.{entity_types_known, internals_initialised}
+use Rattle.internal_name_laws.proofs.internal_types.Reading.{entity_types_known, internals_initialised, internals_typed}
 use Rattle.internal_name_laws.specs.internal_names.Fitting.{InternalsFit}
 use Rattle.internal_name_laws.proofs.internal_names.Order.{used}
 use Rattle.internal_name_laws.proofs.internal_names.Seen.{Entry, entry, row}
@@ -87,6 +95,34 @@ module _ (s : Source) (tree : Grown s) (grew : IsGrown s) (brought : IsBrought s
           name_fits i first rest d e m primary children (pair ∙ ap Some (sym node))
           (subst (λ (k : ℕ). (is_internal s G k ≡ true) ⊎ (has_earlier_length s (F i) k ≡ true)) (sym node) which) (ap (meaning_of s (F i)) node ∙ meant)
 
+-- the entity of a variadic function whose last parameter is found has a variadic type
+further_variadic : (s : Source) (senses : List Sense) → ((leaf : ℕ) → is_internal s (sense_in senses) leaf ≡ true → representative s senses (entity_of s (sense_in senses) leaf) ≡ leaf → is_defined s (sense_in senses) leaf ≡ true
+    → types_declared s senses (entity_of s (sense_in senses) leaf) ≡ own_type s (sense_in senses) leaf)
+    → (at leaf function : ℕ) → IsFurther s senses at leaf function → IsVariadicOf (types_declared s senses function)
+further_variadic s senses internals at leaf function x =
+    subst IsVariadicOf (sym (ap (types_declared s senses) (sym x.entity) ∙ (own (is_internal s G name) refl ∙ (x.defines.type ∙ ap (λ (form : Form). Some (FunctionFrom x.defines.result x.defines.parameters form)) x.form)))) tt
+  where
+    G : ℕ → Sense
+    G = sense_in senses
+
+    name : ℕ
+    name = x.defines.name
+
+    parts : (a b : Bool) → (a && b) ≡ true → a ≡ true
+    parts true b e = refl
+    parts false b e = cc
+
+    defined : is_defined s G name ≡ true
+    defined = ap (λ (o : Option ℕ). elim o as (λ _. Bool) [ None ↦ false | Some p ↦ is_definition s p ]) x.defines.declaration ∙ x.is
+
+    own : (b : Bool) → is_internal s G name ≡ b → types_declared s senses (entity_of s G name) ≡ own_type s G name
+    own true internal = internals name internal (x.represents internal) defined
+    own false plain =
+        ap (types_declared s senses) (ap (λ (b : Bool). if b then first_of s G name (internal_among s G s.declared.ordinary (ordinary_at s name)) else name) plain)
+        ∙ (ap (λ (b : Bool). if b then right.entity_type s senses name else literal_type s senses name) (parts (is_name s name) _ x.defines.declaring)
+        ∙ ap (λ (l : Linkage). elim l as (λ _. Option Ctype) [ Internal ↦ right.internal_type s senses name | _ ↦ own_type s G name ])
+        (ap (λ (b : Bool). if b then Internal else (if is_linked s G name then External else Local)) plain ∙ ap (λ (b : Bool). if b then External else Local) x.defines.linked))
+
 pub internals_fit : InternalsFit
 internals_fit tokens unit tree tag_number senses cut is are whole =
     let s : Source = numbered tag_number (source_of tokens tree) in
@@ -97,5 +133,8 @@ internals_fit tokens unit tree tag_number senses cut is are whole =
           names_fit s t.grown (grown tokens unit tree tag_number cut is) (units_bring tokens unit tree tag_number is) (units_ordered tokens unit tree tag_number cut is) (types_settled tokens unit tree tag_number cut is)
           (names_declared_once tokens tree tag_number (record { before = t.grown.before; single = t.grown.once; externals = t.nested.externals; units = t.nested.units })) (linked_scoped tokens unit tree tag_number cut is) senses are whole once
           (λ k h. stands_linked s t senses are whole k h) (internals_agree tokens unit tree tag_number senses cut is are whole) (λ k h. entity_types_known tokens unit tree tag_number senses cut is are whole k h) i first rest x m primary children pair linked which means;
+      further = λ i lt primary leaf function found.
+          further_variadic s senses (λ k internal represents defined. internals_typed tokens unit tree tag_number senses cut is are whole k internal represents defined) i leaf function
+          (further_found tokens unit tree tag_number senses cut is are whole i leaf function found);
       internals = internals_initialised tokens unit tree tag_number senses cut is are whole;
     }

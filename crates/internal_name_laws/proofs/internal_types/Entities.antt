@@ -148,3 +148,11 @@ module _ (s : Source) (senses : List Sense) (once : IsDeclaredOnce s senses) whe
 
     pub entity_typed : (leaf : ℕ) → is_internal s G leaf ≡ true → IsEntityType s senses leaf
     entity_typed leaf internal = let known = agreed.entity leaf internal in entity_type leaf internal (entity_of s G leaf) refl known.0 known.1
+
+    -- an internal function that is known by its definition has the type that this gives it
+    pub definition_typed : (leaf : ℕ) → is_internal s G leaf ≡ true → representative s senses (entity_of s G leaf) ≡ leaf → is_defined s G leaf ≡ true → types_declared s senses (entity_of s G leaf) ≡ own_type s G leaf
+    definition_typed leaf internal represents defined =
+        let e : ℕ = entity_of s G leaf in
+        declared_by e (agreed.entity leaf internal).0
+        ∙ (ap (λ (k : ℕ). if is_defined s G k then own_type s G k else option_map (with_one s senses) (all_together None (types_of s G (of_internal s senses (entity_of s G leaf))))) represents
+        ∙ ap (λ (b : Bool). if b then own_type s G leaf else option_map (with_one s senses) (all_together None (types_of s G (of_internal s senses (entity_of s G leaf))))) defined)

@@ -54,6 +54,7 @@ given_stands w entities s sense entity t (Fits (Places actions)) h typed = (type
 pub asked_fit : (s : Source) (senses : List Sense) → AreSenses s senses → IsGrown s → IsBrought s → TypesFit s senses → AskedElseFit (types_declared s senses) s senses
 asked_fit s senses are grown brought fit = record {
   names = fit.names;
+  further = fit.further;
   runs = λ i lt d is. declarations_run s senses are grown brought i lt d is;
   initials = λ i lt.
       let w : World = world_at s (take i senses) i in

@@ -78,6 +78,7 @@ module _ (s : Source) (senses : List Sense) (are : AreSenses s senses) (grew : I
   pub types_fit : TypesFit s senses
   types_fit = record {
     names = λ i lt primary. first_fits i lt primary (children_at s i) refl;
+    further = fit.further;
     objects = λ i lt p d leaf t actions is parent rest by_it name type placed.
         bool_cases _ (is_internal s (sense_in senses) leaf) (λ internal. fit.internals i lt p d leaf t actions is parent rest by_it name type placed internal)
         (λ plain.

@@ -21,13 +21,13 @@ use Rattle.c_senses.specs.Entities.{is_internal, has_earlier_length}
 use Rattle.c_senses.specs.Initialised.{new_length, most_elements, seen, outcome_of, name_of_declarator}
 use Rattle.c_senses.specs.Sense.{Sense, sense_in}
 use Rattle.c_senses.specs.Rows.{world_at}
-use Rattle.sense_laws.specs.Sound.{MeaningFits}
+use Rattle.sense_laws.specs.Sound.{MeaningFits, FurtherIsVariadic}
 use Rattle.declared_type_laws.specs.passed.built_unit_laws.built_units.Built.{IsBuilt}
 use Rattle.declared_type_laws.specs.passed.built_unit_laws.built_rows.Rows.{types_declared}
 
 -- the type that an internal name means agrees with its entity's, and so does that of an open array within its own
--- initialiser, whose length an earlier declaration has; and an internal object that is initialised has the type
--- that its declarations give together
+-- initialiser, whose length an earlier declaration has; a function whose last parameter is found is variadic; and an
+-- internal object that is initialised has the type that its declarations give together
 pub record InternalFit (s : Source) (senses : List Sense) : Type 0 where
   pub names : (i first : ℕ) (rest : List ℕ) (x : ℕ) (m : Meaning)
       → i < length senses
@@ -39,6 +39,10 @@ pub record InternalFit (s : Source) (senses : List Sense) : Type 0 where
       ⊎ (has_earlier_length s (sense_in (take i senses)) x ≡ true)
       → (world_at s (take i senses) i).meaning first ≡ Some m
       → MeaningFits (types_declared s senses) m
+  pub further : (i : ℕ)
+      → i < length senses
+      → is_a s p_primary i ≡ true
+      → FurtherIsVariadic (world_at s (take i senses) i) (types_declared s senses)
   pub internals : (i : ℕ)
       → i < length senses
       → (p declarator leaf : ℕ) (t : Ctype) (actions : List Action)

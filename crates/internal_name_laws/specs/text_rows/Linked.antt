@@ -22,13 +22,14 @@ use Rattle.c_senses.specs.Entities.{initialiser_for, is_linked, is_internal, has
 use Rattle.c_senses.specs.Initialised.{new_length, most_elements, seen, outcome_of, name_of_declarator}
 use Rattle.c_senses.specs.Sense.{Sense, sense_in}
 use Rattle.c_senses.specs.Rows.{world_at}
-use Rattle.sense_laws.specs.Sound.{MeaningFits}
+use Rattle.sense_laws.specs.Sound.{MeaningFits, FurtherIsVariadic}
 use Rattle.declared_type_laws.specs.passed.built_unit_laws.built_units.Built.{IsBuilt}
 use Rattle.declared_type_laws.specs.passed.built_unit_laws.literal_types.PassedOn.{types_declared}
 
 -- the type that an internal name means agrees with its entity's, and so does that of an open array within its own
--- initialiser, whose length an earlier declaration has; an open array's initialiser is the one of its name; and an
--- internal object that is initialised has the type that its declarations give together
+-- initialiser, whose length an earlier declaration has; a function whose last parameter is found is variadic; an open
+-- array's initialiser is the one of its name; and an internal object that is initialised has the type that its
+-- declarations give together
 pub record LinkedFit (s : Source) (senses : List Sense) : Type 0 where
   pub names : (i first : ℕ) (rest : List ℕ) (x : ℕ) (m : Meaning)
       → i < length senses
@@ -40,6 +41,10 @@ pub record LinkedFit (s : Source) (senses : List Sense) : Type 0 where
       ⊎ (has_earlier_length s (sense_in (take i senses)) x ≡ true)
       → (world_at s (take i senses) i).meaning first ≡ Some m
       → MeaningFits (types_declared s senses) m
+  pub further : (i : ℕ)
+      → i < length senses
+      → is_a s p_primary i ≡ true
+      → FurtherIsVariadic (world_at s (take i senses) i) (types_declared s senses)
   pub initialisers : (i : ℕ)
       → i < length senses
       → (p declarator leaf : ℕ) (t : Ctype)

@@ -20,16 +20,22 @@ use Rattle.c_senses.specs.Initialised.{new_length, most_elements, seen, outcome_
 use Rattle.c_senses.specs.Sense.{Sense, sense_in}
 use Rattle.c_senses.specs.Rows.{world_at}
 use Rattle.sense_laws.specs.Asked.{FirstFits}
+use Rattle.sense_laws.specs.Sound.{FurtherIsVariadic}
 use Rattle.declared_type_laws.specs.passed.built_unit_laws.built_units.Built.{IsBuilt}
 use Rattle.declared_type_laws.specs.passed.built_unit_laws.literal_types.PassedOn.{types_declared}
 
--- the type that a name means at a primary agrees with its entity's, and an object that is initialised has the type
--- of its declarator, with the length that the initialiser gives it
+-- the type that a name means at a primary agrees with its entity's, a function whose last parameter is found there is
+-- variadic, and an object that is initialised has the type of its declarator, with the length that the initialiser
+-- gives it
 pub record TypesFit (s : Source) (senses : List Sense) : Type 0 where
   pub names : (i : ℕ)
       → i < length senses
       → is_a s p_primary i ≡ true
       → FirstFits (world_at s (take i senses) i) (types_declared s senses) (children_at s i)
+  pub further : (i : ℕ)
+      → i < length senses
+      → is_a s p_primary i ≡ true
+      → FurtherIsVariadic (world_at s (take i senses) i) (types_declared s senses)
   pub objects : (i : ℕ)
       → i < length senses
       → (p declarator leaf : ℕ) (t : Ctype) (actions : List Action)

@@ -16,10 +16,10 @@ abbrev pub text_rows : List ℕ
 text_rows = 58 ∷ 245 ∷ []
 
 abbrev pub other_rows : List ℕ
-other_rows = 116 ∷ 246 ∷ 247 ∷ 248 ∷ []
+other_rows = 116 ∷ 246 ∷ 247 ∷ 248 ∷ 253 ∷ 254 ∷ 255 ∷ []
 
 abbrev pub inner_rows : List ℕ
-inner_rows = 249 ∷ 250 ∷ 251 ∷ []
+inner_rows = 249 ∷ 250 ∷ 251 ∷ 252 ∷ 256 ∷ 257 ∷ []
 
 abbrev pub choice_rows : List ℕ
 choice_rows = 47 ∷ inner_rows

@@ -18,7 +18,7 @@ use Rattle.c_lexer.specs.Pieces.{Kind, run, sign, literal, Piece}
 use Rattle.c_lexer.specs.Meanings.{kind_meaning, keyword_meaning, word_meaning, number_meaning, lookup}
 use Rattle.c_lexer.specs.Laws.{Stands}
 use Rattle.c_grammar.specs.Names.{Names, is_type}
-use Rattle.c_grammar.specs.Terminals.{contains, own_words, own_meaning, is_builtin, builtin_type, builtin_name, type_name, plain_name, name_terminal, is_wide, has_one_character, terminal_of_kind, terminal_of, terminals, takes, spelled}
+use Rattle.c_grammar.specs.Terminals.{contains, own_words, list_words, own_meaning, is_builtin, builtin_type, builtin_name, type_name, plain_name, name_terminal, is_wide, has_one_character, terminal_of_kind, terminal_of, terminals, takes, spelled}
 
 left : (a b : Bool) → (a && b) ≡ true → a ≡ true
 left true b e = refl
@@ -105,15 +105,19 @@ own_other : list_all (λ e. not (nat_eq e.1 101)) own_words ≡ true
 unfolding own_words
 own_other = refl
 
+list_other : list_all (λ e. not (nat_eq e.1 101)) list_words ≡ true
+unfolding list_words
+list_other = refl
+
 name_other : (names : Names) (name : List ℕ) → nat_eq (name_terminal names name) 101 ≡ false
 unfolding name_terminal
-name_other names name = named_other own_words own_other name _ (by (is_builtin name) (is_type names name))
+name_other names name = named_other own_words own_other name _ (by (is_builtin name) (is_type names name) (unwrap_or (own_meaning list_words name) builtin_name) (named_other list_words list_other name builtin_name refl))
   where
-    by : (a b : Bool) → nat_eq (cond a (cond b builtin_type builtin_name) (cond b type_name plain_name)) 101 ≡ false
-    by true true = refl
-    by true false = refl
-    by false true = refl
-    by false false = refl
+    by : (a b : Bool) (d : ℕ) → nat_eq d 101 ≡ false → nat_eq (cond a (cond b builtin_type d) (cond b type_name plain_name)) 101 ≡ false
+    by true true d h = refl
+    by true false d h = h
+    by false true d h = refl
+    by false false d h = refl
 
 -- a token that is a string, and not a wide one; and one that is none
 abbrev pub IsText : List ℕ → Option Token → Type 0

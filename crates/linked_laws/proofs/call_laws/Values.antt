@@ -10,7 +10,7 @@ use Rattle.core_tree.specs.declared.node.Unit.{Unit}
 use Rattle.core_tree.specs.declared.node.Program.{Program}
 use Rattle.core_tree.specs.declared.node.Node.{Node}
 use Rattle.core_tree.specs.declared.node.NodeKind.{NodeKind}
-use Rattle.core_tree.specs.declared.node.NodeKind.TheVariants.{Named, FunctionName, Literal, Block, For, Initialise, CallNode}
+use Rattle.core_tree.specs.declared.node.NodeKind.TheVariants.{Named, FunctionName, Literal, VarArgs, Block, For, Initialise, CallNode}
 use Rattle.core_tree.specs.Typed.{CoreTrees, ValueNode, sort_of, sort_in, sort_at, type_at, trees_in, trees_of}
 use Rattle.core_tree.specs.Rows.{Arguments, Calls, IsFurther, CallRow, RowOf}
 use Rattle.unit_link.specs.Linked.{Linked}
@@ -29,6 +29,7 @@ call_renamed : (f : ℕ → ℕ) (kind : NodeKind) → kind_renamed f kind ≡ C
 call_renamed f (Named e) h = cc
 call_renamed f (FunctionName e) h = cc
 call_renamed f (Literal e) h = cc
+call_renamed f (VarArgs e) h = cc
 call_renamed f (Block es) h = cc
 call_renamed f (For es c a) h = cc
 call_renamed f (Initialise e paths) h = cc

@@ -10,7 +10,7 @@ use Rattle.core_tree.specs.declared.node.Entity.{Entity}
 use Rattle.core_tree.specs.declared.node.Linkage.TheVariants.{External, Local}
 use Rattle.core_tree.specs.declared.node.Storage.TheVariants.{FunctionBody}
 use Rattle.core_tree.specs.declared.node.NodeKind.{NodeKind}
-use Rattle.core_tree.specs.declared.node.NodeKind.TheVariants.{Named, Literal, FunctionName, Block, CallNode, For, Case, Default, Label, Goto, Break, Continue, Return, Initialise}
+use Rattle.core_tree.specs.declared.node.NodeKind.TheVariants.{Named, Literal, FunctionName, VarArgs, Block, CallNode, For, Case, Default, Label, Goto, Break, Continue, Return, Initialise}
 use Rattle.core_tree.specs.Typed.{trees_in, trees_of}
 use Rattle.core_tree.specs.Range.{named_by}
 use Rattle.core_tree.specs.Linkages.{HasNoLinkage, MakesUnlinked}
@@ -96,6 +96,7 @@ module _ (units : List Unit) (p : Program) (linkable : AreLinkable units) (h : L
     pub in_owner_to : (i : ℕ) (kind : NodeKind) → IfSome (named_by kind) (λ e. e < length of.entities.items) → IsInOwner (trees_of of) i kind → IsInOwner (trees_in p) (place i) (kind_renamed (h.entity_numbers u) kind)
     in_owner_to i (Named e) within own = in_owner_of e i within own
     in_owner_to i (Literal e) within own = in_owner_of e i within own
+    in_owner_to i (VarArgs e) within own = in_body_to e i own
     in_owner_to i (FunctionName e) within own = tt
     in_owner_to i (Block es) within own = tt
     in_owner_to i (For es c a) within own = tt

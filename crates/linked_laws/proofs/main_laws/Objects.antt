@@ -15,7 +15,7 @@ use Rattle.core_tree.specs.declared.node.Storage.TheVariants.{FunctionBody}
 use Rattle.obj_made.specs.declared.object.Content.{Content}
 use Rattle.obj_made.specs.declared.object.Content.TheVariants.{Function}
 use Rattle.obj_made.specs.declared.object.Object.{Object}
-use Rattle.obj_made.specs.Made.{Spot, by_place, Made, in_order, entity_content, object_unless_declared, entity_object, made_at, entity_made, entities_made, node_object, node_made, nodes_made, spot_at, made_in_order, objects_in}
+use Rattle.obj_made.specs.Made.{Spot, by_place, Made, in_order, entity_content, object_unless_declared, entity_object, made_at, entity_made, entities_made, node_object, node_made, nodes_made, spot_at, varargs_object, varargs_spot, varargs_made, made_of_names, made_in_order, objects_in}
 use Rattle.obj_made.proofs.Ordered.{in_order-append}
 use Rattle.obj_space.specs.Objects.{library_part}
 use Rattle.c_types.specs.declared.key.ObjectKey.{ObjectKey}
@@ -93,6 +93,12 @@ module _ (p : Program) (e : ℕ) where
       subst (HasFunction e) (sym (in_order-append done (node_made p n x) (nodes_made p (n + 1) rest)))
       (nodes_after (in_order done (node_made p n x)) (n + 1) rest lt (keep_at e (spot_at x.place (length p.entities.items + n)) (node_object p n x) done (λ same. omega arith) h))
 
+  further_after : (done : Made) (k : ℕ) (xs : List Entity) → e < length p.entities.items → HasFunction e done → HasFunction e (in_order done (varargs_made p k xs))
+  further_after done k [] lt h = h
+  further_after done k (x ∷ rest) lt h =
+      subst (HasFunction e) (sym (in_order-append done (made_at (varargs_spot p k x) (varargs_object p k x)) (varargs_made p (k + 1) rest)))
+      (further_after (in_order done (made_at (varargs_spot p k x) (varargs_object p k x))) (k + 1) rest lt (keep_at e (varargs_spot p k x) (varargs_object p k x) done (λ same. omega arith) h))
+
   put_entity : (done : Made) (x : Entity) (storage : Storage) (object : Object) → storage ≡ FunctionBody → object.content ≡ entity_content storage x.ty → object.key ≡ EntityKey e → HasFunction e (in_order done (made_at (spot_at x.place e) (object_unless_declared storage object)))
   put_entity done x storage object is content key =
       subst (λ (o : Option Object). HasFunction e (in_order done (made_at (spot_at x.place e) o))) (sym (ap (λ (st : Storage). object_unless_declared st object) is))
@@ -112,7 +118,8 @@ module _ (p : Program) (e : ℕ) where
 
   whole : (x : Entity) → slice_get p.entities.items e ≡ Some x → x.storage ≡ FunctionBody → HasFunction e (made_in_order p)
   whole x at storage =
-      nodes_after (in_order [] (entities_made p 0 p.entities.items)) 0 p.nodes.items (slice_get_within p.entities.items e x at) (entities_at [] 0 p.entities.items e x at (omega arith) storage)
+      let lt = slice_get_within p.entities.items e x at in
+      further_after (made_of_names p) 0 p.entities.items lt (nodes_after (in_order [] (entities_made p 0 p.entities.items)) 0 p.nodes.items lt (entities_at [] 0 p.entities.items e x at (omega arith) storage))
 
   -- its location
   HasLocation : List Location → Type 0

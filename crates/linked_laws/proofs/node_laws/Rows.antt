@@ -7,9 +7,11 @@ use Rattle.c_types.specs.Table.{type_of}
 use Rattle.core_tree.specs.declared.node.Unit.{Unit}
 use Rattle.core_tree.specs.declared.node.Program.{Program}
 use Rattle.core_tree.specs.declared.node.NodeKind.{NodeKind}
-use Rattle.core_tree.specs.declared.node.NodeKind.TheVariants.{Named, FunctionName, Literal, Block, For, Initialise, Member, Upcast, Assign, Choose, Sequence, MemberOfValue}
+use Rattle.core_tree.specs.declared.node.NodeKind.TheVariants.{Named, FunctionName, Literal, Block, For, Initialise, Member, Upcast, Assign, Choose, Sequence, MemberOfValue, VarArgs, NextArg}
 use Rattle.core_tree.specs.Typed.{type_at, IsValue, trees_in, trees_of}
-use Rattle.core_tree.specs.Rows.{IsMember, IsFirst, IsArray, RowOf}
+use Rattle.core_tree.specs.Rows.{IsMember, IsFirst, IsArray, IsListPlace, RowOf}
+use Rattle.type_rules.specs.Kinds.{IsList}
+use Rattle.linked_laws.proofs.row_laws.Types.{list_to}
 use Rattle.type_rules.specs.Conversions.{IsFirstOf}
 use Rattle.link_model.specs.Units.{types_if}
 use Rattle.link_model.specs.Renamed.{renamed}
@@ -38,6 +40,7 @@ takes_renamed p f (FunctionName e) t children h = tt
 takes_renamed p f (Literal e) t children h = tt
 takes_renamed p f (Block es) t children h = tt
 takes_renamed p f (For es c a) t children h = tt
+takes_renamed p f (VarArgs e) t children h = tt
 takes_renamed p f (Initialise e paths) t children h = tt
 takes_renamed p f kind t children h = h
 
@@ -65,6 +68,9 @@ module _ (units : List Unit) (p : Program) (linkable : AreLinkable units) (table
   first_there c t lt m =
       subst (λ (a : Ctype). IsFirstOf p.types a (here t)) (sym (child_type units p h u of is c lt)) (first_moved (type_at (trees_of of) c) t m)
 
+  list_there : (c : ℕ) → c < length of.nodes.items → IsListPlace (trees_of of) c → IsListPlace (trees_in p) (at_place c)
+  list_there c lt v = (child_sort units p h u of is c lt ∙ v.0, subst IsList (sym (child_type units p h u of is c lt)) (list_to (h.numbers.tag u) (type_at (trees_of of) c) v.1))
+
   takes_there : (kind : NodeKind) (t : Ctype) (children : List ℕ) → ((k c : ℕ) → slice_get children k ≡ Some c → c < length of.nodes.items) → RowOf (trees_of of) kind t children
       → Takes (trees_in p) kind (here t) (map at_place children)
   takes_there (Member k) t (c ∷ []) lt row = member_there c k t (lt 0 c refl) row.1
@@ -74,6 +80,7 @@ module _ (units : List Unit) (p : Program) (linkable : AreLinkable units) (table
   takes_there Sequence t (a ∷ c ∷ []) lt row = value_there c t (lt 1 c refl) row.1
   takes_there (MemberOfValue k) t (c ∷ []) lt row =
       (child_sort units p h u of is c (lt 0 c refl) ∙ row.0, member_there c k t (lt 0 c refl) row.1, λ a. row.2 (array_back (h.numbers.tag u) t a))
+  takes_there NextArg t (c ∷ []) lt row = list_there c (lt 0 c refl) row.0
   takes_there kind t children lt row = tt
 
 all_at : (P : ℕ → Type 0) (xs : List ℕ) (k c : ℕ) → All P xs → slice_get xs k ≡ Some c → P c

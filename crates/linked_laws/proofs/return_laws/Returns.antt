@@ -12,7 +12,7 @@ use Rattle.core_tree.specs.declared.node.Program.{Program}
 use Rattle.core_tree.specs.declared.node.Node.{Node}
 use Rattle.core_tree.specs.declared.node.Entity.{Entity}
 use Rattle.core_tree.specs.declared.node.NodeKind.{NodeKind}
-use Rattle.core_tree.specs.declared.node.NodeKind.TheVariants.{Named, FunctionName, Literal, Block, For, Initialise, Return}
+use Rattle.core_tree.specs.declared.node.NodeKind.TheVariants.{Named, FunctionName, Literal, VarArgs, Block, For, Initialise, Return}
 use Rattle.core_tree.specs.declared.node.Storage.TheVariants.{FunctionBody}
 use Rattle.core_tree.specs.Typed.{ValueNode, sort_at, type_at, IsValue, trees_in, trees_of}
 use Rattle.core_tree.specs.Range.{Under, here, below, child_in}
@@ -58,6 +58,7 @@ return_renamed : (f : ℕ → ℕ) (kind : NodeKind) → kind_renamed f kind ≡
 return_renamed f (Named e) h = cc
 return_renamed f (FunctionName e) h = cc
 return_renamed f (Literal e) h = cc
+return_renamed f (VarArgs e) h = cc
 return_renamed f (Block es) h = cc
 return_renamed f (For es c a) h = cc
 return_renamed f (Initialise e paths) h = cc

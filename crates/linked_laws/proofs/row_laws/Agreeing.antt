@@ -10,6 +10,7 @@ use Rattle.std.proofs.lemmas.Option.{slice_get_within, slice_get-get_or}
 use Rattle.c_types.specs.declared.term.Form.{Form}
 use Rattle.c_types.specs.declared.term.Form.TheVariants.{Fixed, Variadic, Unspecified}
 use Rattle.c_types.specs.Trees.{Ctype, Ctypes, ArrayOf, FunctionFrom}
+use Rattle.type_rules.specs.Kinds.{IsVariadic}
 use Rattle.type_rules.specs.Conversions.{Agree}
 use Rattle.type_rules.specs.Sizes.{with_one}
 use Rattle.link_names.specs.declared.declared.Declared.{Declared}
@@ -114,6 +115,17 @@ linked_agrees true true d own t o k = with_one_agrees d t k
 linked_agrees true false d own t o k = agree_fits d t k
 linked_agrees false true d own t o k = with_one_agrees d t k
 linked_agrees false false d own t o k = agree_fits d t k
+
+-- a type that is variadic is so in the program, where it is the one of what makes the name
+pub linked_variadic : (body defined : Bool) (own t : Ctype) → IsVariadic own → Fits own t → IsVariadic (linked_type body defined own t)
+linked_variadic body defined (FunctionFrom r ps Variadic) t h fits = subst (λ (y : Ctype). IsVariadic (linked_type body defined (FunctionFrom r ps Variadic) y)) fits (by body defined)
+  where
+    by : (a b : Bool) → IsVariadic (linked_type a b (FunctionFrom r ps Variadic) (FunctionFrom r ps Variadic))
+    by true true = tt
+    by true false = tt
+    by false true = tt
+    by false false = tt
+linked_variadic body defined own t h fits = absurd h
 
 -- one declaration more
 fold_push : (f : Ctype → Ctype → Ctype) (a : Ctype) (xs : List Ctype) (t : Ctype) → fold f a (xs ++ t ∷ []) ≡ f (fold f a xs) t

@@ -1,5 +1,5 @@
 -- The types of names in the program.
-use Rattle.std.proofs.Common.{◌≡◌, ◌∙◌, ℕ, true, false, List, Contains, Option, Some, None, refl, sym, ap, subst, inl, inr}
+use Rattle.std.proofs.Common.{◌≡◌, ◌∙◌, ℕ, true, false, List, Contains, Option, Some, None, is_some, refl, sym, ap, subst, inl, inr}
 use Rattle.std.specs.List.{slice_get}
 use Rattle.std.specs.Option.{option_map, option_map_or}
 use Rattle.std.specs.Str.{bytes_eq}
@@ -7,6 +7,7 @@ use Rattle.std.specs.Cmp.Lexicographic.{bytes_decides}
 use Rattle.c_types.specs.declared.term.Form.TheVariants.{Fixed, Variadic, Unspecified}
 use Rattle.c_types.specs.Trees.{Ctype, VoidType, BoolType, IntegerType, FloatingType, VaListType, PointerTo, ArrayOf, FunctionFrom, StructureOf, UnionOf}
 use Rattle.c_types.specs.Table.{type_of}
+use Rattle.type_rules.specs.Kinds.{IsVariadic}
 use Rattle.type_rules.specs.Conversions.{Agree}
 use Rattle.core_tree.specs.declared.node.Unit.{Unit}
 use Rattle.core_tree.specs.declared.node.Program.{Program}
@@ -16,7 +17,7 @@ use Rattle.core_tree.specs.declared.node.Linkage.TheVariants.{External, Local}
 use Rattle.core_tree.specs.declared.node.Storage.{Storage}
 use Rattle.core_tree.specs.declared.node.Storage.TheVariants.{Static, Automatic, FunctionBody, Parameter, Declared as DeclaredOnly}
 use Rattle.core_tree.specs.Typed.{trees_in, trees_of}
-use Rattle.core_tree.specs.Rows.{IsEntityIn, IsEntityOf}
+use Rattle.core_tree.specs.Rows.{IsEntityIn, IsEntityOf, IsVariadicIn}
 use Rattle.core_tree.specs.Linkages.{IsUnlinked, IsOfDeclared, IsUseIn}
 use Rattle.core_tree.specs.Valid.{IsLocal}
 use Rattle.link_model.specs.Units.{item}
@@ -24,14 +25,15 @@ use Rattle.link_model.specs.Renamed.{renamed}
 use Rattle.link_model.specs.Merged.{moved}
 use Rattle.link_names.specs.declared.declared.Declared.{Declared}
 use Rattle.link_names.specs.Externals.{Joined, IsExternal, IsDeclaration, declared_as, item_of, declared_type, is_named, type_in, has_body, is_defined}
-use Rattle.link_names.specs.Together.{type_together}
+use Rattle.link_names.specs.Together.{type_together, maker_of, linked_type}
 use Rattle.linked_laws.proofs.link_laws.Wholeness.{maker_found}
 use Rattle.unit_link.specs.Linked.{Linked, joined}
 use Rattle.unit_link.specs.Needs.{AreLinkable}
 use Rattle.linked_laws.proofs.alike_laws.Origins.{own_type}
 use Rattle.linked_laws.proofs.embedded_laws.Entities.{IsNameOf, at_item, stands_at}
-use Rattle.linked_laws.proofs.row_laws.Types.{agree_to}
-use Rattle.linked_laws.proofs.row_laws.Agreeing.{Fits, linked_agrees, all_fit}
+use Rattle.linked_laws.proofs.embedded_laws.Bodies.{maker_is}
+use Rattle.linked_laws.proofs.row_laws.Types.{agree_to, variadic_to}
+use Rattle.linked_laws.proofs.row_laws.Agreeing.{Fits, linked_agrees, linked_variadic, all_fit}
 
 -- what has external linkage is no local
 external_by : (storage : Storage) (linkage : Linkage) → IsUnlinked storage linkage → linkage ≡ External → IsLocal storage → ⊥
@@ -118,3 +120,21 @@ module _ (units : List Unit) (p : Program) (linkable : AreLinkable units) (h : L
                 of_declared_agrees (h.numbers.tag u) (type_of of.types z.ty.0) t (type_of p.types s.entity.ty.0) its.2 (agrees_made m.declared m.of m.own s.entity m.name u f of z is z_at external (its.1 ∙ sym m.named))
             | inr other ↦ subst (Agree (moved h.numbers u t)) (sym other.type) (agree_to (h.numbers.tag u) t (type_of of.types x.ty.0) agrees)
           ])
+
+  -- the type of a variadic function with a body is variadic in the program
+  pub variadic_made : (u e : ℕ) (of : Unit) (x : Entity) → slice_get units u ≡ Some of → slice_get of.entities.items e ≡ Some x → is_some x.body ≡ true → IsVariadic (type_of of.types x.ty.0) → IsVariadicIn (trees_in p) (slice_get p.entities.items (h.entity_numbers u e))
+  variadic_made u e of x is at body variadic =
+      let s = stands_at units p linkable h u e of x is at in
+      let here : IsVariadic (moved h.numbers u (type_of of.types x.ty.0)) = variadic_to (h.numbers.tag u) (type_of of.types x.ty.0) variadic in
+      subst (λ (o : Option Entity). IsVariadicIn (trees_in p) o) (sym s.there)
+      (elim s.which [
+        | inl made ↦
+            let m = made.1 in
+            let item_is = maker_is units p h (item u e) x m.declared (at_item units p linkable h u e of x is at) made.0 body (ap (maker_of j h.declarations) (sym m.named) ∙ m.name.maker) in
+            let own : declared_type j m.declared ≡ moved h.numbers u (type_of of.types x.ty.0) = ap (type_in j) item_is ∙ own_type units p linkable h u of e x is at in
+            let fits = fits_together u e of x is at made.0 m.own.name (sym m.named) in
+            subst IsVariadic
+            (sym (m.name.type ∙ ap (λ (t : Ctype). linked_type (has_body units (item_of m.declared)) (is_defined j (item_of m.declared)) t (type_together j m.own.name h.declarations)) own))
+            (linked_variadic (has_body units (item_of m.declared)) (is_defined j (item_of m.declared)) (moved h.numbers u (type_of of.types x.ty.0)) (type_together j m.own.name h.declarations) here fits)
+        | inr other ↦ subst IsVariadic (sym other.type) here
+      ])

@@ -11,7 +11,7 @@ use Rattle.c_types.specs.Table.{type_of}
 use Rattle.c_types.specs.Made.{IsMade}
 use Rattle.type_rules.specs.Members.{tag_of, member_at, width_of}
 use Rattle.type_rules.specs.Sizes.{PointsToObject}
-use Rattle.type_rules.specs.Kinds.{IsScalar, IsPassed}
+use Rattle.type_rules.specs.Kinds.{IsScalar, IsList, IsPassed}
 use Rattle.type_rules.specs.Conversions.{IsFirstOf, Converts, decayed}
 use Rattle.core_tree.specs.declared.node.Unit.{Unit}
 use Rattle.core_tree.specs.declared.node.Program.{Program}
@@ -19,9 +19,9 @@ use Rattle.core_tree.specs.declared.node.Node.{Node}
 use Rattle.core_tree.specs.declared.node.Entity.{Entity}
 use Rattle.core_tree.specs.declared.node.Op.{Op}
 use Rattle.core_tree.specs.declared.node.NodeKind.{NodeKind}
-use Rattle.core_tree.specs.declared.node.NodeKind.TheVariants.{Named, Text, Literal, FunctionName, Deref, Member, Number, NullValue, Fetch, AddressOf, Decay, PointerAdd, Convert, Upcast, Assign, Update, Choose, Sequence, CallNode, MemberOfValue, Arith, Expression, Block, If, While, DoWhile, For, Switch, Case, Default, Label, Goto, Break, Continue, Return, Initialise, Skip}
+use Rattle.core_tree.specs.declared.node.NodeKind.TheVariants.{Named, Text, Literal, FunctionName, Deref, Member, Number, NullValue, Fetch, AddressOf, Decay, PointerAdd, Convert, Upcast, Assign, Update, Choose, Sequence, CallNode, MemberOfValue, Arith, VarArgs, NextArg, Expression, Block, If, While, DoWhile, For, Switch, Case, Default, Label, Goto, Break, Continue, Return, Initialise, Skip}
 use Rattle.core_tree.specs.Typed.{Sort, NoNode, PlaceNode, ValueNode, StatementNode, sort_in, sort_at, type_at, IsPlace, IsValue, IsStatement, IsInteger, trees_in, trees_of}
-use Rattle.core_tree.specs.Rows.{IsMember, width_at, place_bits, entity_type, IsNumeral, IsCondition, IsFurther, Arguments, Calls, Unary, Binary, InitialisesEntity, InitialisesIn, Initialises, InitialisesOneOf, IsFirstStatement, IsExpressionNode, IsOneExpression, ForFirst, InitialValues, RowOf, NamedRow, TextRow, LiteralRow, FunctionNameRow, DerefRow, MemberRow, NumberRow, NullRow, FetchRow, AddressRow, DecayRow, PointerAddRow, ConvertRow, UpcastRow, AssignRow, UpdateRow, ChooseRow, SequenceRow, CallRow, MemberOfValueRow, ArithRow, ExpressionRow, BlockRow, IfRow, WhileRow, DoWhileRow, ForCondition, ForAfter, ForParts, ForRow, SwitchRow, LabelledRow, LoneRow, ReturnRow}
+use Rattle.core_tree.specs.Rows.{IsMember, width_at, place_bits, entity_type, IsNumeral, IsCondition, IsVariadicIn, IsFurther, Arguments, Calls, Unary, Binary, InitialisesEntity, InitialisesIn, Initialises, InitialisesOneOf, IsFirstStatement, IsExpressionNode, IsOneExpression, ForFirst, InitialValues, RowOf, NamedRow, TextRow, LiteralRow, FunctionNameRow, DerefRow, MemberRow, NumberRow, NullRow, FetchRow, AddressRow, DecayRow, PointerAddRow, ConvertRow, UpcastRow, AssignRow, UpdateRow, ChooseRow, SequenceRow, CallRow, MemberOfValueRow, VarArgsRow, NextArgRow, ArithRow, ExpressionRow, BlockRow, IfRow, WhileRow, DoWhileRow, ForCondition, ForAfter, ForParts, ForRow, SwitchRow, LabelledRow, LoneRow, ReturnRow}
 use Rattle.core_tree.specs.Linkages.{HasNoLinkage, MakesUnlinked, UsesDeclared}
 use Rattle.link_model.specs.Renamed.{all_renamed}
 use Rattle.link_model.specs.Merged.{moved}
@@ -35,7 +35,7 @@ use Rattle.linked_laws.proofs.sized_laws.Whole.{sizes_kept}
 use Rattle.linked_laws.proofs.embedded_laws.Lists.{some_one, present, has_mapped, all_mapped}
 use Rattle.linked_laws.proofs.embedded_laws.Renaming.{initialises_to}
 use Rattle.linked_laws.proofs.embedded_laws.Entities.{stands_at}
-use Rattle.linked_laws.proofs.row_laws.Types.{integer_to, pointer_to, scalar_to, stored_to, passed_to, function_to, function_back, array_back, lacks_back, void_back, holds_to, decayed_to, converts_to, updates_to, unary_to, binary_to}
+use Rattle.linked_laws.proofs.row_laws.Types.{integer_to, pointer_to, scalar_to, list_to, stored_to, passed_to, function_to, function_back, array_back, lacks_back, void_back, holds_to, decayed_to, converts_to, updates_to, unary_to, binary_to}
 use Rattle.linked_laws.proofs.row_laws.Members.{width_moved}
 use Rattle.linked_laws.proofs.row_laws.Names.{use_agrees}
 use Rattle.linked_laws.proofs.embedded_laws.Inside.{local_linkage}
@@ -288,6 +288,18 @@ module _ (units : List Unit) (p : Program) (linkable : AreLinkable units) (table
   )
   arith_to op t children row = absurd row
 
+  var_args_to : (e : ℕ) (t : Ctype) (children : List ℕ) → (IsVariadicIn (trees_of of) (slice_get of.entities.items e) → IsVariadicIn (trees_in p) (slice_get p.entities.items (number e))) → VarArgsRow (trees_of of) e t children
+      → VarArgsRow (trees_in p) (number e) (here t) (map place children)
+  var_args_to e t [] made row = (list_to (h.numbers.tag u) t row.0, made row.1)
+  var_args_to e t (c ∷ rest) made row = absurd row
+
+  next_arg_to : (t : Ctype) (children : List ℕ) → NextArgRow (trees_of of) t children → NextArgRow (trees_in p) (here t) (map place children)
+  next_arg_to t (a ∷ []) row = (
+    (place_sort a row.0.0, subst IsList (sym (place_type a row.0.0)) (list_to (h.numbers.tag u) (type_at (trees_of of) a) row.0.1)),
+    scalar_to (h.numbers.tag u) t row.1,
+  )
+  next_arg_to t children row = absurd row
+
   -- ---- statements
   expression_to : (children : List ℕ) → ExpressionRow (trees_of of) children → ExpressionRow (trees_in p) (map place children)
   expression_to (v ∷ []) row = value_sort v row
@@ -377,6 +389,7 @@ module _ (units : List Unit) (p : Program) (linkable : AreLinkable units) (table
   HasInitial (Initialise e paths) children =
       InitialValues (trees_of of) (entity_type (trees_of of) (slice_get of.entities.items e)) paths children
       → InitialValues (trees_in p) (entity_type (trees_in p) (slice_get p.entities.items (number e))) paths (map place children)
+  HasInitial (VarArgs e) children = IsVariadicIn (trees_of of) (slice_get of.entities.items e) → IsVariadicIn (trees_in p) (slice_get p.entities.items (number e))
   HasInitial kind children = ⊤
 
   pub row_to : (kind : NodeKind) (t : Ctype) (children : List ℕ) → UsesDeclared (trees_of of) t kind → MakesUnlinked (trees_of of) kind → ((c : ℕ) → here (type_at (trees_of of) c) ≡ here t → type_at (trees_of of) c ≡ t) → HasInitial kind children
@@ -402,6 +415,8 @@ module _ (units : List Unit) (p : Program) (linkable : AreLinkable units) (table
   row_to CallNode t children declared unlinked once initial row = call_to t children row
   row_to (MemberOfValue k) t children declared unlinked once initial row = member_of_to k t children row
   row_to (Arith op) t children declared unlinked once initial row = arith_to op t children row
+  row_to (VarArgs e) t children declared unlinked once initial row = var_args_to e t children initial row
+  row_to NextArg t children declared unlinked once initial row = next_arg_to t children row
   row_to Expression t children declared unlinked once initial row = expression_to children row
   row_to (Block es) t children declared unlinked once initial row = block_to children row
   row_to If t children declared unlinked once initial row = if_to children row

@@ -3,7 +3,7 @@ use Rattle.std.proofs.Common.{◌≡◌, ℕ, ℤ, true, false, Some, None, refl
 use Rattle.std.specs.Option.{option_map}
 use Rattle.c_types.specs.declared.term.Form.TheVariants.{Fixed, Variadic, Unspecified}
 use Rattle.c_types.specs.Trees.{Ctype, VoidType, BoolType, IntegerType, FloatingType, VaListType, PointerTo, ArrayOf, FunctionFrom, StructureOf, UnionOf}
-use Rattle.type_rules.specs.Kinds.{IsInteger, IsPointer, IsScalar, IsAggregate, IsArray, IsFunction, IsStored, IsPromoted, IsPassed, IsComparable, LacksLength}
+use Rattle.type_rules.specs.Kinds.{IsInteger, IsPointer, IsScalar, IsAggregate, IsArray, IsFunction, IsList, IsVariadic, IsStored, IsPromoted, IsPassed, IsComparable, LacksLength}
 use Rattle.type_rules.specs.Conversions.{Agree, Converts, decayed}
 use Rattle.type_rules.specs.Numbers.{Holds}
 use Rattle.core_tree.specs.declared.node.Op.{Op}
@@ -35,9 +35,18 @@ module _ (f : ℕ → ℕ) where
   aggregate_back (UnionOf tag) h = tt
   aggregate_back t h = absurd h
 
+  pub list_to : (t : Ctype) → IsList t → IsList (renamed f t)
+  list_to VaListType h = tt
+  list_to t h = absurd h
+
+  pub variadic_to : (t : Ctype) → IsVariadic t → IsVariadic (renamed f t)
+  variadic_to (FunctionFrom r ps Variadic) h = tt
+  variadic_to t h = absurd h
+
   pub stored_to : (t : Ctype) → IsStored t → IsStored (renamed f t)
   stored_to t (inl h) = inl (scalar_to t h)
-  stored_to t (inr h) = inr (aggregate_to t h)
+  stored_to t (inr (inl h)) = inr (inl (aggregate_to t h))
+  stored_to t (inr (inr h)) = inr (inr (list_to t h))
 
   pub promoted_to : (t : Ctype) → IsPromoted t → IsPromoted (renamed f t)
   promoted_to (IntegerType size rank signed) h = h
@@ -48,6 +57,7 @@ module _ (f : ℕ → ℕ) where
   passed_to (PointerTo to) h = tt
   passed_to (StructureOf tag) h = tt
   passed_to (UnionOf tag) h = tt
+  passed_to VaListType h = tt
   passed_to t h = absurd h
 
   comparable_to : (t : Ctype) → IsComparable t → IsComparable (renamed f t)

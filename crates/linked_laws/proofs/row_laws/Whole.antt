@@ -1,5 +1,5 @@
 -- Each node of a linked program stands in its row.
-use Rattle.std.proofs.Common.{◌≡◌, ◌∙◌, ℕ, ◌<◌, List, Option, Some, None, refl, sym, ap, subst, inl, inr}
+use Rattle.std.proofs.Common.{◌≡◌, ◌∙◌, ℕ, ◌<◌, true, List, Option, Some, None, is_some, refl, sym, ap, subst, inl, inr}
 use Rattle.std.specs.List.{slice_get}
 use Rattle.c_types.specs.Trees.{Ctype}
 use Rattle.c_types.specs.Table.{type_of}
@@ -7,11 +7,12 @@ use Rattle.c_types.specs.Made.{IsMade}
 use Rattle.core_tree.specs.declared.node.Unit.{Unit}
 use Rattle.core_tree.specs.declared.node.Program.{Program}
 use Rattle.core_tree.specs.declared.node.Node.{Node}
+use Rattle.core_tree.specs.declared.node.Entity.{Entity}
 use Rattle.core_tree.specs.declared.node.NodeKind.{NodeKind}
-use Rattle.core_tree.specs.declared.node.NodeKind.TheVariants.{Initialise}
+use Rattle.core_tree.specs.declared.node.NodeKind.TheVariants.{VarArgs, Initialise}
 use Rattle.core_tree.specs.Typed.{type_in, type_at, trees_in, trees_of}
-use Rattle.core_tree.specs.Rows.{RowOf}
-use Rattle.core_tree.specs.Valid.{InRow, InRows}
+use Rattle.core_tree.specs.Rows.{IsVariadicIn, RowOf}
+use Rattle.core_tree.specs.Valid.{InRow, InRows, UnderBody, InBodyOf, IsInOwner}
 use Rattle.link_model.specs.declared.item.Item.{Item}
 use Rattle.link_model.specs.Units.{item, types_if}
 use Rattle.link_model.specs.Partition.{HasTags}
@@ -28,6 +29,7 @@ use Rattle.linked_laws.specs.row_laws.Rows.{LinkedInRows}
 use Rattle.linked_laws.proofs.row_laws.Apart.{type_tags, renamed_once}
 use Rattle.linked_laws.proofs.row_laws.Rows.{HasInitial, row_to}
 use Rattle.linked_laws.proofs.row_laws.Initial.{initial_to}
+use Rattle.linked_laws.proofs.row_laws.Names.{variadic_made}
 use Rattle.linked_laws.proofs.row_laws.Fixed.{fixed_statics}
 
 module _ (units : List Unit) (p : Program) (linkable : AreLinkable units) (tables : AreTables units) (filled : AreFilled units) (made : IsMade p.types) (h : Linked units p) where
@@ -54,8 +56,18 @@ module _ (units : List Unit) (p : Program) (linkable : AreLinkable units) (table
     once : (id c : ℕ) → moved h.numbers u (type_at (trees_of of) c) ≡ moved h.numbers u (type_of of.types id) → type_at (trees_of of) c ≡ type_of of.types id
     once id c e = renamed_once (h.numbers.tag u) of.types.tags tag_once (type_at (trees_of of) c) (type_of of.types id) (child_tags c) (type_tags of.types id (tables.named u of is)) e
 
+    bodied : (i : ℕ) (o : Option ℕ) → UnderBody (trees_of of) o i → is_some o ≡ true
+    bodied i None up = absurd up
+    bodied i (Some b) up = refl
+
+    -- the list of a function's further arguments stands in its body
+    variadic : (i e : ℕ) (o : Option Entity) → slice_get of.entities.items e ≡ o → InBodyOf (trees_of of) o i → IsVariadicIn (trees_of of) o → IsVariadicIn (trees_in p) (slice_get p.entities.items (h.entity_numbers u e))
+    variadic i e None at inside is_variadic = absurd inside
+    variadic i e (Some x) at inside is_variadic = variadic_made units p linkable h u e of x is at (bodied i x.body inside.1) is_variadic
+
     has_initial : (i : ℕ) (x : Node) → slice_get of.nodes.items i ≡ Some x → (kind : NodeKind) → x.kind ≡ kind → HasInitial units p linkable tables made h u of is kind x.children
     has_initial i x at (Initialise e paths) kind = initial_to units p linkable tables filled h u of is i e paths x at kind
+    has_initial i x at (VarArgs e) kind = variadic i e (slice_get of.entities.items e) refl (subst (IsInOwner (trees_of of) i) kind ((linkable.valid u of is).trees.in_owner i x at))
     has_initial i x at other kind = tt
 
   pub rows : InRows (trees_in p)

@@ -6,17 +6,17 @@ use Rattle.core_tree.specs.declared.node.Unit.{Unit}
 use Rattle.core_tree.specs.declared.node.Program.{Program}
 use Rattle.core_tree.specs.declared.node.NodeKind.{NodeKind}
 use Rattle.core_tree.specs.declared.node.NodeKind.TheVariants.{Member, Upcast, Assign, Choose, Sequence}
-use Rattle.core_tree.specs.declared.node.NodeKind.TheVariants.{MemberOfValue}
+use Rattle.core_tree.specs.declared.node.NodeKind.TheVariants.{MemberOfValue, NextArg}
 use Rattle.core_tree.specs.Typed.{CoreTrees, ValueNode, sort_at, type_at, IsValue, trees_in}
 use Rattle.core_tree.specs.Range.{EachNode}
-use Rattle.core_tree.specs.Rows.{IsMember, IsFirst, IsArray}
+use Rattle.core_tree.specs.Rows.{IsMember, IsFirst, IsArray, IsListPlace}
 use Rattle.unit_link.specs.Linked.{Linked}
 use Rattle.unit_link.specs.Needs.{AreLinkable}
 use Rattle.linked_laws.specs.merged_laws.Merged.{AreTables}
 
 -- what a node of that kind and type takes of its children: a member's whole has it, a pointer is to a structure
--- with a first member, and what an assignment stores, a choice chooses and a sequence ends with is a value of the
--- node's type
+-- with a first member, what an assignment stores, a choice chooses and a sequence ends with is a value of the node's
+-- type, and a next argument is taken from a place of a list
 abbrev pub Takes : CoreTrees → NodeKind → Ctype → List ℕ → Type 0
 Takes u (Member k) t (p ∷ []) = IsMember u (type_at u p) k t
 Takes u Upcast t (v ∷ []) = IsFirst u (type_at u v) t
@@ -24,6 +24,7 @@ Takes u Assign t (p ∷ v ∷ []) = IsValue u v t
 Takes u Choose t (c ∷ a ∷ b ∷ []) = IsValue u a t × IsValue u b t
 Takes u Sequence t (a ∷ b ∷ []) = IsValue u b t
 Takes u (MemberOfValue k) t (v ∷ []) = (sort_at u v ≡ ValueNode) × IsMember u (type_at u v) k t × (IsArray t → ⊥)
+Takes u NextArg t (p ∷ []) = IsListPlace u p
 Takes u kind t children = ⊤
 
 pub record HasRows (p : Program) : Type 0 where

@@ -8,7 +8,7 @@ use Rattle.std.specs.Str.{bytes_eq}
 use Rattle.std.specs.Cmp.Lexicographic.{bytes_decides}
 use Rattle.std.proofs.lemmas.Bool.{cases_Bool, false≢true, eqb-true}
 use Rattle.c_types.specs.declared.key.ObjectKey.{ObjectKey}
-use Rattle.c_types.specs.declared.key.ObjectKey.TheVariants.{Entity as EntityKey, Text as TextKey, Call as CallKey, Library as LibraryKey, Star as StarKey, Function as FunctionKey}
+use Rattle.c_types.specs.declared.key.ObjectKey.TheVariants.{Entity as EntityKey, Text as TextKey, Call as CallKey, Library as LibraryKey, Star as StarKey, Function as FunctionKey, Varargs as VarargsKey}
 use Rattle.core_tree.specs.declared.node.Program.{Program}
 use Rattle.core_tree.specs.declared.node.Node.{Node}
 use Rattle.core_tree.specs.declared.node.Entity.{Entity}
@@ -50,14 +50,19 @@ pub record IsObject (p : Program) (o : Object) : Type 0 where
   pub text : (s : List ℕ) → o.name ++ s ≡ text_of shape s
   pub source : IsSource p row_number o.key shape
 
+-- the library's objects come behind all that tokens make
+abbrev pub library_rank : Program → ℕ
+library_rank p = length p.entities.items + length p.nodes.items + length p.entities.items
+
 -- the order of objects' numbers
 abbrev pub rank : Program → ObjectKey → ℕ
 rank p (EntityKey e) = e
 rank p (TextKey n) = length p.entities.items + n
 rank p (CallKey n) = length p.entities.items + n
-rank p (FunctionKey k) = length p.entities.items + length p.nodes.items + k
-rank p (LibraryKey k) = length p.entities.items + length p.nodes.items + (100 + k)
-rank p (StarKey k) = length p.entities.items + length p.nodes.items + (200 + k)
+rank p (VarargsKey e) = length p.entities.items + length p.nodes.items + e
+rank p (FunctionKey k) = library_rank p + k
+rank p (LibraryKey k) = library_rank p + (100 + k)
+rank p (StarKey k) = library_rank p + (200 + k)
 
 abbrev pub Ascend : Program → Object → Object → Type 0
 Ascend p a b = rank p a.key < rank p b.key
@@ -200,7 +205,7 @@ module _ (p : Program) (h : HasNames p) where
   }
 
   abbrev pub start : ℕ
-  start = length p.entities.items + length p.nodes.items
+  start = library_rank p
 
   -- ---- functions
   function_ranked : (k : ℕ) (b : Bool) → is_named p.entities.items p.nodes.items k ≡ b → AreRanked (start + k) (start + suc k) (function_if b k)

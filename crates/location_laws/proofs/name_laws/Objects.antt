@@ -8,7 +8,8 @@ use Rattle.std.specs.Str.{bytes_eq}
 use Rattle.std.specs.Cmp.Lexicographic.{bytes_decides}
 use Rattle.std.proofs.lemmas.Option.{slice_get-get_or}
 use Rattle.pta_base.specs.declared.place.Place.{Place}
-use Rattle.c_types.specs.declared.key.ObjectKey.TheVariants.{Entity as EntityKey, Text as TextKey, Call as CallKey}
+use Rattle.c_types.specs.declared.key.ObjectKey.TheVariants.{Entity as EntityKey, Text as TextKey, Call as CallKey, Varargs as VarargsKey}
+use Rattle.c_types.specs.Table.{type_of}
 use Rattle.core_tree.specs.declared.node.Program.{Program}
 use Rattle.core_tree.specs.declared.node.Node.{Node}
 use Rattle.core_tree.specs.declared.node.NodeKind.{NodeKind}
@@ -21,12 +22,12 @@ use Rattle.core_tree.specs.declared.node.Storage.TheVariants.{Static, Automatic,
 use Rattle.lib_summaries.specs.Table.{rows, summary_of}
 use Rattle.obj_made.specs.declared.object.Content.{Content}
 use Rattle.obj_made.specs.declared.object.Object.{Object}
-use Rattle.obj_made.specs.Spelling.{unit_name, linked_in, linked_name, function_named, owner_name, placed_name, stands_twice, told_apart, local_name, declared_in, entity_name}
+use Rattle.obj_made.specs.Spelling.{unit_name, linked_in, linked_name, function_named, owner_name, placed_name, stands_twice, told_apart, local_name, declared_in, entity_name, varargs_name}
 use Rattle.obj_made.specs.Uses.{is_literal, entity_number, number_of_name, is_allocator, function_entity, direct_callee}
-use Rattle.obj_made.specs.Made.{Spot, entity_content, object_unless_declared, made_at, entity_made, spot_at, typed_by, conversion_above, allocated_content, called_object, object_of_call, entity_by, called_entity, object_of_kind, node_made}
+use Rattle.obj_made.specs.Made.{Spot, entity_content, object_unless_declared, made_at, entity_made, spot_at, typed_by, conversion_above, allocated_content, called_object, object_of_call, entity_by, called_entity, object_of_kind, node_made, has_body, is_variadic, has_varargs, varargs_object, varargs_spot}
 use Rattle.location_laws.specs.name_shapes.Bytes.{is_unit_byte, is_base_byte, is_letter, IsMadeOf}
-use Rattle.location_laws.specs.name_shapes.Shapes.{Nothing, Inner, head_text, at_text, IsSpot, IsAt, IsHead, IsShape}
-use Rattle.location_laws.proofs.name_shapes.Cutting.{weaker, letter_base}
+use Rattle.location_laws.specs.name_shapes.Shapes.{Nothing, Inner, Further, head_text, at_text, IsSpot, IsAt, IsHead, IsShape}
+use Rattle.location_laws.proofs.name_shapes.Cutting.{both, weaker, letter_base}
 use Rattle.location_laws.specs.name_laws.Named.{IsPlace, IsEntity, IsNode, ByLiteral, IsLocalObject, HasOwner, IsText, HasNames}
 use Rattle.location_laws.proofs.name_laws.Lists.{Every}
 use Rattle.location_laws.proofs.name_laws.Sources.{shape_of, spot_of, plain, placed, unit_by, unit_before, at_if}
@@ -116,13 +117,12 @@ module _ (p : Program) (h : HasNames p) where
       let z = o.entity in
       let twice = stands_twice p.entities.items x in
       let owner : owner_name p.names.items p.entities.items x.owner ≡ linked_name p.names.items z = ap (owner_name p.names.items p.entities.items) o.owner ∙ ap (function_named p.names.items) o.entity_is in
-      let letters = h.entities.letters e x own.entity in
       record {
         shape = shape_of (unit_before p z) z.name (Inner x.name (at_if twice x.place));
         right = record {
           unit = unit_right z z.linkage (h.entities.unit o.function z o.entity_is);
           base = weaker is_letter is_base_byte z.name letter_base (h.entities.letters o.function z o.entity_is);
-          tail = (letters, at_right p twice x.place (h.entities.place e x own.entity));
+          tail = (h.entities.word e x own, at_right p twice x.place (h.entities.place e x own.entity));
         };
         text = λ s.
             inner_text (owner_name p.names.items p.entities.items x.owner) x.name (told_apart twice x.place) s (at_text (at_if twice x.place) s) (told_text twice x.place s)
@@ -250,3 +250,28 @@ module _ (p : Program) (h : HasNames p) where
 
   pub node_made_by : (n : ℕ) (node : Node) → IsNode p n node → Every IsMadeBy (node_made p n node)
   node_made_by n node at = kind_by n node at (spot_at node.place (length p.entities.items + n)) refl node.kind refl
+
+  -- ---- what functions are passed past their parameters
+  further_right : (e : ℕ) (x : Entity) (content : Content) → IsEntity p e x → x.linkage ≢ Local → IsObject p (record { key = VarargsKey e; name = varargs_name p.names.items x; content = content })
+  further_right e x content at linked = record {
+    shape = shape_of (unit_before p x) x.name Further;
+    right = record { unit = unit_right x x.linkage (h.entities.unit e x at); base = weaker is_letter is_base_byte x.name letter_base (h.entities.letters e x at); tail = tt };
+    text = λ s. append_assoc (linked_name p.names.items x) (codes "/...") s ∙ linked_text x x.linkage (codes "/..." ++ s) linked;
+    source = record { class = 8; class_is = refl; body = record { number = e; entity = x; entity_is = at; key_is = refl; linked = linked; shape_is = refl } };
+  }
+
+  body_is : (storage : Storage) → has_body storage ≡ true → storage ≡ FunctionBody
+  body_is FunctionBody e = refl
+  body_is Static e = cc
+  body_is Automatic e = cc
+  body_is Parameter e = cc
+  body_is Declared e = cc
+
+  further_by : (e : ℕ) (x : Entity) (b : Bool) (content : Content) → IsEntity p e x → (b ≡ true → x.storage ≡ FunctionBody)
+      → Every IsMadeBy (made_at (varargs_spot p e x) (if b then Some (record { key = VarargsKey e; name = varargs_name p.names.items x; content = content }) else None))
+  further_by e x true content at f = (record { object = further_right e x content at (h.entities.linked e x at (f refl)); number = refl }, tt)
+  further_by e x false content at f = tt
+
+  pub varargs_made_by : (e : ℕ) (x : Entity) → IsEntity p e x → Every IsMadeBy (made_at (varargs_spot p e x) (varargs_object p e x))
+  varargs_made_by e x at =
+      further_by e x (has_varargs p.types x) Content.Blob at (λ its. body_is x.storage (both (has_body x.storage) (is_variadic (type_of p.types x.ty.0)) its).0)

@@ -11,13 +11,13 @@ use Rattle.core_tree.specs.declared.node.Program.{Program}
 use Rattle.core_tree.specs.declared.node.Node.{Node}
 use Rattle.core_tree.specs.declared.node.Entity.{Entity}
 use Rattle.obj_made.specs.declared.object.Object.{Object}
-use Rattle.obj_made.specs.Made.{Spot, by_place, Made, in_order, entity_object, made_at, entity_made, entities_made, spot_at, node_object, node_made, nodes_made, made_in_order, objects_in}
+use Rattle.obj_made.specs.Made.{Spot, by_place, Made, in_order, entity_object, made_at, entity_made, entities_made, spot_at, node_object, node_made, nodes_made, last_place, varargs_object, varargs_spot, varargs_made, made_of_names, made_in_order, objects_in}
 use Rattle.obj_made.proofs.Ordered.{in_order-append}
 use Rattle.obj_space.specs.Objects.{library_part, objects_of}
 use Rattle.location_laws.specs.name_laws.Named.{IsEntity, IsNode, HasNames}
 use Rattle.location_laws.proofs.name_laws.Lists.{Every, Pairs, every_weaker, every_append, every_map, pairs_weaker, pairs_append, pairs_map}
-use Rattle.location_laws.proofs.name_laws.Library.{IsObject, rank, From, Below, Ascend, library_right}
-use Rattle.location_laws.proofs.name_laws.Objects.{IsMadeBy, entity_made_by, node_made_by}
+use Rattle.location_laws.proofs.name_laws.Library.{IsObject, library_rank, rank, From, Below, Ascend, library_right}
+use Rattle.location_laws.proofs.name_laws.Objects.{IsMadeBy, entity_made_by, node_made_by, varargs_made_by}
 
 ranks_equal : (a b : ℕ) (o : Ordering) → o ≡ nat_cmp a b → o ≡ Equal → a ≡ b
 ranks_equal a b Less h e = cc
@@ -103,15 +103,28 @@ module _ (p : Program) (h : HasNames p) where
       subst (λ m. AreMade m (in_order done (node_made p n x ++ nodes_made p (n + 1) rest))) (omega arith)
       (subst (AreMade (length p.entities.items + (n + 1 + length rest))) (sym (in_order-append done (node_made p n x) (nodes_made p (n + 1) rest))) all)
 
+  further_right : (e : ℕ) (xs : List Entity) (done : Made) → ((i : ℕ) (x : Entity) → slice_get xs i ≡ Some x → IsEntity p (e + i) x) → AreMade (length p.entities.items + length p.nodes.items + e) done
+      → AreMade (length p.entities.items + length p.nodes.items + (e + length xs)) (in_order done (varargs_made p e xs))
+  further_right e [] done f a = subst (λ m. AreMade m done) (omega arith) a
+  further_right e (x ∷ rest) done f a =
+      let here : IsEntity p e x = subst (λ m. IsEntity p m x) (omega arith) (f 0 x refl) in
+      let put : Made = made_at (varargs_spot p e x) (varargs_object p e x) in
+      let one = put_made (last_place x.place e p.entities.items) (length p.entities.items + length p.nodes.items + e) (varargs_object p e x) done (varargs_made_by p h e x here) a in
+      let all = further_right (e + 1) rest (in_order done put) (λ i y at. subst (λ m. IsEntity p m y) (omega arith) (f (suc i) y at))
+      (subst (λ m. AreMade m (in_order done put)) (omega arith) one) in
+      subst (λ m. AreMade m (in_order done (put ++ varargs_made p (e + 1) rest))) (omega arith)
+      (subst (AreMade (length p.entities.items + length p.nodes.items + (e + 1 + length rest))) (sym (in_order-append done put (varargs_made p (e + 1) rest))) all)
+
   none_made : AreMade 0 []
   none_made = record { each = tt; less = tt; apart = tt }
 
-  all_made : AreMade (length p.entities.items + length p.nodes.items) (made_in_order p)
+  all_made : AreMade (library_rank p) (made_in_order p)
   all_made =
       let entities = entities_right 0 p.entities.items [] (λ i x at. subst (λ n. IsEntity p n x) (omega arith) at) none_made in
       let nodes = nodes_right 0 p.nodes.items (in_order [] (entities_made p 0 p.entities.items)) (λ i x at. subst (λ n. IsNode p n x) (omega arith) at)
       (subst (λ n. AreMade n (in_order [] (entities_made p 0 p.entities.items))) (omega arith) entities) in
-      subst (λ n. AreMade n (made_in_order p)) (omega arith) nodes
+      let further = further_right 0 p.entities.items (made_of_names p) (λ i x at. subst (λ n. IsEntity p n x) (omega arith) at) (subst (λ n. AreMade n (made_of_names p)) (omega arith) nodes) in
+      subst (λ n. AreMade n (made_in_order p)) (omega arith) further
 
   -- ---- all objects
   abbrev pub KeysDiffer : Object → Object → Type 0
@@ -137,12 +150,12 @@ module _ (p : Program) (h : HasNames p) where
       by [] e a = tt
       by (m ∷ rest) (x, xs) (here, more) = (one m rest x xs here, by rest xs more)
 
-  below_all : Every (Below p (length p.entities.items + length p.nodes.items)) (objects_in (made_in_order p))
+  below_all : Every (Below p (library_rank p)) (objects_in (made_in_order p))
   below_all =
       let all = all_made in
-      every_map (Below p (length p.entities.items + length p.nodes.items)) (λ (m : Spot × Object). m.1) (made_in_order p) (by (made_in_order p) all.each all.less)
+      every_map (Below p (library_rank p)) (λ (m : Spot × Object). m.1) (made_in_order p) (by (made_in_order p) all.each all.less)
     where
-      by : (made : Made) → Every (IsMadeBy p h) made → Every (IsLess (length p.entities.items + length p.nodes.items)) made → Every (λ m. Below p (length p.entities.items + length p.nodes.items) m.1) made
+      by : (made : Made) → Every (IsMadeBy p h) made → Every (IsLess (library_rank p)) made → Every (λ m. Below p (library_rank p) m.1) made
       by [] e l = tt
       by (m ∷ rest) (x, xs) (lt, less) = ((let number = x.number in omega arith), by rest xs less)
 
@@ -159,5 +172,5 @@ module _ (p : Program) (h : HasNames p) where
         each = every_append (IsObject p) (objects_in (made_in_order p)) (library_part p) made.each library.each;
         differ = pairs_append KeysDiffer (objects_in (made_in_order p)) (library_part p) made.differ
             (pairs_weaker (Ascend p) KeysDiffer (library_part p) (λ a b lt same. (let ranks = ap (rank p) same in omega arith)) library.ascend)
-            (far (length p.entities.items + length p.nodes.items) (objects_in (made_in_order p)) (library_part p) below_all library.from);
+            (far (library_rank p) (objects_in (made_in_order p)) (library_part p) below_all library.from);
       }

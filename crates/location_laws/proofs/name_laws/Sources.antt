@@ -11,7 +11,7 @@ use Rattle.std.proofs.lemmas.List.Sums.{sum_by-cons}
 use Rattle.std.proofs.lemmas.Option.{slice_get-get_or}
 use Rattle.pta_base.specs.declared.place.Place.{Place}
 use Rattle.c_types.specs.declared.key.ObjectKey.{ObjectKey}
-use Rattle.c_types.specs.declared.key.ObjectKey.TheVariants.{Entity as EntityKey, Text as TextKey, Call as CallKey, Library as LibraryKey, Star as StarKey, Function as FunctionKey}
+use Rattle.c_types.specs.declared.key.ObjectKey.TheVariants.{Entity as EntityKey, Text as TextKey, Call as CallKey, Library as LibraryKey, Star as StarKey, Function as FunctionKey, Varargs as VarargsKey}
 use Rattle.core_tree.specs.declared.node.Program.{Program}
 use Rattle.core_tree.specs.declared.node.Node.{Node}
 use Rattle.core_tree.specs.declared.node.NodeKind.TheVariants.{CallNode}
@@ -21,7 +21,7 @@ use Rattle.core_tree.specs.declared.node.Linkage.TheVariants.{External, Internal
 use Rattle.core_tree.specs.declared.node.Storage.TheVariants.{Declared}
 use Rattle.obj_made.specs.Spelling.{unit_name, is_key, local_key_in, local_key, locals_of, twice_in, stands_twice}
 use Rattle.obj_made.specs.Uses.{number_of_name}
-use Rattle.location_laws.specs.name_shapes.Shapes.{Spot, Tail, Nothing, Inner, Placed, AnyCall, Shape}
+use Rattle.location_laws.specs.name_shapes.Shapes.{Spot, Tail, Nothing, Inner, Further, Placed, AnyCall, Shape}
 use Rattle.location_laws.specs.name_laws.Named.{IsPlace, IsEntity, IsNode, ByLiteral, IsLocalObject, IsText, HasNames}
 
 abbrev pub shape_of : Option (List ℕ) → List ℕ → Tail → Shape
@@ -134,6 +134,15 @@ pub record IsStarObject (key : ObjectKey) (shape : Shape) : Type 0 where
   pub key_is : key ≡ StarKey number
   pub shape_is : shape ≡ shape_of None name AnyCall
 
+-- what a function is passed past its parameters
+pub record IsFurtherObject (p : Program) (key : ObjectKey) (shape : Shape) : Type 0 where
+  pub number : ℕ
+  pub entity : Entity
+  pub entity_is : IsEntity p number entity
+  pub key_is : key ≡ VarargsKey number
+  pub linked : entity.linkage ≢ Local
+  pub shape_is : shape ≡ shape_of (unit_before p entity) entity.name Further
+
 -- ---- classes of names
 abbrev pub plain_class : List ℕ → ℕ
 plain_class [] = 0
@@ -146,6 +155,7 @@ abbrev pub class_by : Option (List ℕ) → List ℕ → Tail → ℕ
 class_by None base Nothing = plain_class base
 class_by (Some unit) base Nothing = 1
 class_by unit base (Inner name at) = 2
+class_by unit base Further = 8
 class_by unit base (Placed place spot) = placed_class base
 class_by unit base AnyCall = 7
 
@@ -162,6 +172,7 @@ Body p numbers key shape (suc (suc (suc (suc zero)))) = IsLiteralObject p key sh
 Body p numbers key shape (suc (suc (suc (suc (suc zero))))) = IsTextObject p key shape
 Body p numbers key shape (suc (suc (suc (suc (suc (suc zero)))))) = IsCallObject p key shape
 Body p numbers key shape (suc (suc (suc (suc (suc (suc (suc zero))))))) = IsStarObject key shape
+Body p numbers key shape (suc (suc (suc (suc (suc (suc (suc (suc zero)))))))) = IsFurtherObject p key shape
 Body p numbers key shape n = ⊥
 
 pub record IsSource (p : Program) (numbers : List ℕ → ℕ) (key : ObjectKey) (shape : Shape) : Type 0 where
@@ -357,6 +368,12 @@ module _ (p : Program) (h : HasNames p) where
       let (line, column) = spots_same a.entity.place b.entity.place (sym (ap (λ w. at_if w a.entity.place) one) ∙ (ats ∙ ap (λ w. at_if w b.entity.place) two)) in
       absurd (ne (h.apart.local a.number b.number a.entity b.entity a.entity_is b.entity_is (a.owner_is ∙ sym owner) names line column))
 
+  furthers : (key other : ObjectKey) (s t : Shape) → s ≡ t → IsFurtherObject p key s → IsFurtherObject p other t → key ≡ other
+  furthers key other s t e a b =
+      let shapes = sym a.shape_is ∙ (e ∙ b.shape_is) in
+      let n = owners a.number b.number a.entity b.entity a.entity.linkage b.entity.linkage a.entity_is b.entity_is refl refl a.linked b.linked (units shapes) (bases shapes) in
+      a.key_is ∙ (ap VarargsKey n ∙ sym b.key_is)
+
   same_body : (numbers : List ℕ → ℕ) (key other : ObjectKey) (s t : Shape) (c : ℕ) → s ≡ t → Body p numbers key s c → Body p numbers other t c → key ≡ other
   same_body numbers key other s t zero e a b = plains key other s t e a b
   same_body numbers key other s t (suc zero) e a b = internals key other s t e a b
@@ -366,7 +383,8 @@ module _ (p : Program) (h : HasNames p) where
   same_body numbers key other s t (suc (suc (suc (suc (suc zero))))) e a b = texts key other s t e a b
   same_body numbers key other s t (suc (suc (suc (suc (suc (suc zero)))))) e a b = calls key other s t e a b
   same_body numbers key other s t (suc (suc (suc (suc (suc (suc (suc zero))))))) e a b = stars key other s t e a b
-  same_body numbers key other s t (suc (suc (suc (suc (suc (suc (suc (suc n)))))))) e a b = absurd a
+  same_body numbers key other s t (suc (suc (suc (suc (suc (suc (suc (suc zero)))))))) e a b = furthers key other s t e a b
+  same_body numbers key other s t (suc (suc (suc (suc (suc (suc (suc (suc (suc n))))))))) e a b = absurd a
 
   -- objects of one name are one object
   pub same_key : (numbers : List ℕ → ℕ) (key other : ObjectKey) (s t : Shape) → IsSource p numbers key s → IsSource p numbers other t → s ≡ t → key ≡ other

@@ -8,7 +8,7 @@ use Rattle.std.specs.Char.{digit_value}
 use Rattle.std.proofs.lemmas.Bool.{false≢true, ne_eqb}
 use Rattle.std.proofs.lemmas.Str.Parse.{digit_from_value}
 use Rattle.std.proofs.lemmas.Fmt.{decimal_is_IsNumeral}
-use Rattle.location_laws.specs.name_shapes.Bytes.{is_head, is_unit_byte, is_base_byte, is_letter, IsMadeOf, Stops}
+use Rattle.location_laws.specs.name_shapes.Bytes.{is_head, is_unit_byte, is_base_byte, is_letter, IsMadeOf, IsWord, Stops}
 
 pub both : (a b : Bool) → (a && b) ≡ true → (a ≡ true) × (b ≡ true)
 both true b h = (refl, h)
@@ -59,6 +59,10 @@ letter_base c h = (both (is_base_byte c) (not (nat_eq c 35) && not (nat_eq c 60)
 
 pub letter_head : (c : ℕ) → is_letter c ≡ true → is_head c ≡ true
 letter_head c h = base_head c (letter_base c h)
+
+pub word_letters : (name : List ℕ) → IsWord name → IsMadeOf is_letter name
+word_letters [] h = absurd h
+word_letters (c ∷ rest) h = h
 
 -- digits
 pub other : (c n : ℕ) → (c ≡ n → ⊥) → not (nat_eq c n) ≡ true

@@ -5,9 +5,9 @@ use Rattle.std.specs.List.{list_all}
 use Rattle.std.specs.Fmt.{decimal}
 use Rattle.std.proofs.lemmas.Bool.{false≢true}
 use Rattle.std.proofs.lemmas.Fmt.{decimal_injective}
-use Rattle.location_laws.specs.name_shapes.Bytes.{is_head, is_unit_byte, is_base_byte, is_letter, IsMadeOf, Stops, Begins, IsSuffix}
-use Rattle.location_laws.specs.name_shapes.Shapes.{Spot, Tail, Nothing, Inner, Placed, AnyCall, Shape, head_text, spot_text, at_text, tail_text, text_of, IsSpot, IsAt, IsHead, IsTail, IsShape}
-use Rattle.location_laws.proofs.name_shapes.Cutting.{both, cut, weaker, unit_head, base_head, letter_head, decimal_base}
+use Rattle.location_laws.specs.name_shapes.Bytes.{is_head, is_unit_byte, is_base_byte, is_letter, IsMadeOf, IsWord, Stops, Begins, IsSuffix}
+use Rattle.location_laws.specs.name_shapes.Shapes.{Spot, Tail, Nothing, Inner, Further, Placed, AnyCall, Shape, head_text, spot_text, at_text, tail_text, text_of, IsSpot, IsAt, IsHead, IsTail, IsShape}
+use Rattle.location_laws.proofs.name_shapes.Cutting.{both, cut, weaker, unit_head, base_head, letter_head, word_letters, decimal_base}
 
 head_is : (x y : ℕ) (s t : List ℕ) → x ∷ s ≡ y ∷ t → x ≡ y
 head_is x y s t e = cc
@@ -49,8 +49,9 @@ no_colon (c ∷ a) h =
 
 tail_colon : (tail : Tail) (s : List ℕ) → IsTail tail → IsSuffix s → colon_first (tail_text tail s) ≡ false
 tail_colon Nothing s h k = no_colon s k.bytes
-tail_colon (Inner name None) s (letters, at) k = passed name s (weaker is_letter is_head name letter_head letters) ∙ no_colon s k.bytes
-tail_colon (Inner name (Some spot)) s (letters, at) k = passed name (64 ∷ spot_text spot s) (weaker is_letter is_head name letter_head letters)
+tail_colon (Inner name None) s (word, at) k = passed name s (weaker is_letter is_head name letter_head (word_letters name word)) ∙ no_colon s k.bytes
+tail_colon (Inner name (Some spot)) s (word, at) k = passed name (64 ∷ spot_text spot s) (weaker is_letter is_head name letter_head (word_letters name word))
+tail_colon Further s h k = no_colon s k.bytes
 tail_colon (Placed unit spot) s h k = refl
 tail_colon AnyCall s h k = refl
 
@@ -72,6 +73,7 @@ suffix_letters (c ∷ rest) h = ap is_letter h
 tail_stops : (tail : Tail) (s : List ℕ) → Begins s → Stops is_base_byte (tail_text tail s)
 tail_stops Nothing s h = suffix_stops s h
 tail_stops (Inner name at) s h = refl
+tail_stops Further s h = refl
 tail_stops (Placed unit spot) s h = refl
 tail_stops AnyCall s h = refl
 
@@ -109,6 +111,14 @@ no_star (c ∷ unit) rest s h e =
     let here = (both (is_unit_byte c) (list_all is_unit_byte unit) h).0 in
     false≢true (ap is_unit_byte (sym star) ∙ here)
 
+-- an identifier doesn't begin with a dot
+no_word : (name rest t : List ℕ) → IsWord name → name ++ rest ≡ 46 ∷ t → ⊥
+no_word [] rest t h e = h
+no_word (c ∷ name) rest t h e =
+    let dot = head_is c 46 (name ++ rest) t e in
+    let here = (both (is_letter c) (list_all is_letter name) h).0 in
+    false≢true (ap is_letter (sym dot) ∙ here)
+
 unit_cut : (a b s t : List ℕ) → IsMadeOf is_unit_byte a → IsMadeOf is_unit_byte b → a ++ (58 ∷ s) ≡ b ++ (58 ∷ t) → (a ≡ b) × (s ≡ t)
 unit_cut a b s t ha hb e =
     let (ab, rest) = cut is_unit_byte a b (58 ∷ s) (58 ∷ t) ha hb refl refl e in
@@ -117,18 +127,26 @@ unit_cut a b s t ha hb e =
 same_tail : (a b : Tail) (s t : List ℕ) → IsTail a → IsTail b → Begins s → Begins t → tail_text a s ≡ tail_text b t → (a ≡ b) × (s ≡ t)
 same_tail Nothing Nothing s t ha hb hs ht e = (refl, e)
 same_tail Nothing (Inner name at) s t ha hb hs ht e = absurd (no_dot s (name ++ at_text at t) 47 (λ n. omega arith) hs e)
+same_tail Nothing Further s t ha hb hs ht e = absurd (no_dot s (46 ∷ 46 ∷ 46 ∷ t) 47 (λ n. omega arith) hs e)
 same_tail Nothing (Placed unit spot) s t ha hb hs ht e = absurd (no_dot s (unit ++ (58 ∷ spot_text spot t)) 64 (λ n. omega arith) hs e)
 same_tail Nothing AnyCall s t ha hb hs ht e = absurd (no_dot s (42 ∷ t) 64 (λ n. omega arith) hs e)
 same_tail (Inner name at) Nothing s t ha hb hs ht e = absurd (no_dot t (name ++ at_text at s) 47 (λ n. omega arith) ht (sym e))
 same_tail (Inner x at) (Inner y there) s t (hx, ha) (hy, hb) hs ht e =
     let more = rest_is 47 47 (x ++ at_text at s) (y ++ at_text there t) e in
-    let (names, rest) = cut is_letter x y (at_text at s) (at_text there t) hx hy (at_stops at s hs) (at_stops there t ht) more in
+    let (names, rest) = cut is_letter x y (at_text at s) (at_text there t) (word_letters x hx) (word_letters y hy) (at_stops at s hs) (at_stops there t ht) more in
     let (places, ends) = same_at at there s t ha hb hs ht rest in
     (ap (λ n. Inner n at) names ∙ ap (Inner y) places, ends)
+same_tail (Inner name at) Further s t (word, ha) hb hs ht e = absurd (no_word name (at_text at s) (46 ∷ 46 ∷ t) word (rest_is 47 47 (name ++ at_text at s) (46 ∷ 46 ∷ 46 ∷ t) e))
 same_tail (Inner name at) (Placed unit spot) s t ha hb hs ht e = absurd (apart 47 64 (name ++ at_text at s) (unit ++ (58 ∷ spot_text spot t)) (λ n. omega arith) e)
 same_tail (Inner name at) AnyCall s t ha hb hs ht e = absurd (apart 47 64 (name ++ at_text at s) (42 ∷ t) (λ n. omega arith) e)
+same_tail Further Nothing s t ha hb hs ht e = absurd (no_dot t (46 ∷ 46 ∷ 46 ∷ s) 47 (λ n. omega arith) ht (sym e))
+same_tail Further (Inner name at) s t ha (word, hb) hs ht e = absurd (no_word name (at_text at t) (46 ∷ 46 ∷ s) word (sym (rest_is 47 47 (46 ∷ 46 ∷ 46 ∷ s) (name ++ at_text at t) e)))
+same_tail Further Further s t ha hb hs ht e = (refl, rest_is 46 46 s t (rest_is 46 46 (46 ∷ s) (46 ∷ t) (rest_is 46 46 (46 ∷ 46 ∷ s) (46 ∷ 46 ∷ t) (rest_is 47 47 (46 ∷ 46 ∷ 46 ∷ s) (46 ∷ 46 ∷ 46 ∷ t) e))))
+same_tail Further (Placed unit spot) s t ha hb hs ht e = absurd (apart 47 64 (46 ∷ 46 ∷ 46 ∷ s) (unit ++ (58 ∷ spot_text spot t)) (λ n. omega arith) e)
+same_tail Further AnyCall s t ha hb hs ht e = absurd (apart 47 64 (46 ∷ 46 ∷ 46 ∷ s) (42 ∷ t) (λ n. omega arith) e)
 same_tail (Placed unit spot) Nothing s t ha hb hs ht e = absurd (no_dot t (unit ++ (58 ∷ spot_text spot s)) 64 (λ n. omega arith) ht (sym e))
 same_tail (Placed unit spot) (Inner name at) s t ha hb hs ht e = absurd (apart 64 47 (unit ++ (58 ∷ spot_text spot s)) (name ++ at_text at t) (λ n. omega arith) e)
+same_tail (Placed unit spot) Further s t ha hb hs ht e = absurd (apart 64 47 (unit ++ (58 ∷ spot_text spot s)) (46 ∷ 46 ∷ 46 ∷ t) (λ n. omega arith) e)
 same_tail (Placed u x) (Placed v y) s t (hu, hx) (hv, hy) hs ht e =
     let more = rest_is 64 64 (u ++ (58 ∷ spot_text x s)) (v ++ (58 ∷ spot_text y t)) e in
     let (units, rest) = unit_cut u v (spot_text x s) (spot_text y t) hu hv more in
@@ -138,6 +156,7 @@ same_tail (Placed u x) AnyCall s t (hu, hx) hb hs ht e =
     absurd (no_star u (spot_text x s) t hu (rest_is 64 64 (u ++ (58 ∷ spot_text x s)) (42 ∷ t) e))
 same_tail AnyCall Nothing s t ha hb hs ht e = absurd (no_dot t (42 ∷ s) 64 (λ n. omega arith) ht (sym e))
 same_tail AnyCall (Inner name at) s t ha hb hs ht e = absurd (apart 64 47 (42 ∷ s) (name ++ at_text at t) (λ n. omega arith) e)
+same_tail AnyCall Further s t ha hb hs ht e = absurd (apart 64 47 (42 ∷ s) (46 ∷ 46 ∷ 46 ∷ t) (λ n. omega arith) e)
 same_tail AnyCall (Placed v y) s t ha (hv, hy) hs ht e =
     absurd (no_star v (spot_text y t) s hv (sym (rest_is 64 64 (42 ∷ s) (v ++ (58 ∷ spot_text y t)) e)))
 same_tail AnyCall AnyCall s t ha hb hs ht e = (refl, rest_is 42 42 s t (rest_is 64 64 (42 ∷ s) (42 ∷ t) e))

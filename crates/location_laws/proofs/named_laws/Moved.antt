@@ -11,7 +11,7 @@ use Rattle.core_tree.specs.declared.node.Unit.{Unit}
 use Rattle.core_tree.specs.declared.node.Program.{Program}
 use Rattle.core_tree.specs.declared.node.Node.{Node}
 use Rattle.core_tree.specs.declared.node.NodeKind.{NodeKind}
-use Rattle.core_tree.specs.declared.node.NodeKind.TheVariants.{Named, Text, Literal, FunctionName, CallNode, Block, For, Initialise}
+use Rattle.core_tree.specs.declared.node.NodeKind.TheVariants.{Named, Text, Literal, FunctionName, CallNode, Block, For, Initialise, VarArgs}
 use Rattle.core_tree.specs.declared.node.Entity.{Entity}
 use Rattle.core_tree.specs.declared.node.Linkage.{Linkage}
 use Rattle.core_tree.specs.declared.node.Linkage.TheVariants.{External, Internal, Local}
@@ -30,7 +30,7 @@ use Rattle.unit_link.specs.Linked.{entity_of, IsMovedEntity, IsLinkedName, Linke
 use Rattle.unit_link.specs.Needs.{AreLinkable}
 use Rattle.linked_laws.proofs.Origins.{NodeFrom, node_from, entity_from}
 use Rattle.obj_made.specs.Uses.{is_number, literal_entity, is_literal}
-use Rattle.location_laws.specs.name_shapes.Bytes.{is_letter, IsMadeOf}
+use Rattle.location_laws.specs.name_shapes.Bytes.{is_letter, IsMadeOf, IsWord}
 use Rattle.location_laws.specs.name_laws.Named.{IsPlace, AreUnitNames, IsEntity, IsNode, ByLiteral, IsLocalObject, HasOwner, AreEntities, AreToldApart, IsText, AreNodes}
 use Rattle.location_laws.specs.named_laws.Units.{IsNarrow, IsLocalOf, SamePlace, IsNamedUnit, AreNamedUnits}
 use Rattle.linked_laws.proofs.embedded_laws.Bodies.{one_body}
@@ -71,6 +71,7 @@ call_back : (f : ℕ → ℕ) (kind : NodeKind) → kind_renamed f kind ≡ Call
 call_back f (Named e) h = cc
 call_back f (FunctionName e) h = cc
 call_back f (Literal e) h = cc
+call_back f (VarArgs e) h = cc
 call_back f (Block es) h = cc
 call_back f (For es condition after) h = cc
 call_back f (Initialise e paths) h = cc
@@ -274,7 +275,7 @@ module _ (units : List Unit) (p : Program) (links : AreLinkable units) (each : A
   }
 
   pub entities_right : AreEntities p
-  entities_right = record { letters = letters; unit = unit; place = place; owned = owned }
+  entities_right = record { letters = letters; unit = unit; place = place; owned = owned; word = word; linked = linked }
     where
       letters : (e : ℕ) (x : Entity) → IsEntity p e x → IsMadeOf is_letter x.name
       letters e x at =
@@ -294,6 +295,16 @@ module _ (units : List Unit) (p : Program) (links : AreLinkable units) (each : A
           let f = entity_from units p h e x at in
           place_right f.unit f.of f.own.place x.place f.of_is (numbered_unit f.unit f.of f.number f.own f.of_is f.own_is).1 f.moved.place
           ((each f.unit f.of f.of_is).entities.place f.number f.own f.own_is)
+
+      word : (e : ℕ) (x : Entity) → IsLocalObject p e x → IsWord x.name
+      word e x l =
+          let f = local_from e x l in
+          subst IsWord (sym f.moved.name) ((each f.at.unit f.of f.of_is).entities.word f.at.number f.own (local_of e x l f))
+
+      linked : (e : ℕ) (x : Entity) → IsEntity p e x → x.storage ≡ FunctionBody → x.linkage ≢ Local
+      linked e x at body =
+          let f = entity_from units p h e x at in
+          λ local. (each f.unit f.of f.of_is).entities.linked f.number f.own f.own_is (sym f.moved.storage ∙ body) (sym f.moved.linkage ∙ local)
 
       owned : (e : ℕ) (x : Entity) → IsLocalObject p e x → x.storage ≢ DeclaredOnly → HasOwner p x
       owned e x l here =

@@ -20,12 +20,12 @@ use Rattle.core_tree.specs.declared.node.Storage.TheVariants.{Static, Automatic,
 use Rattle.obj_made.specs.declared.object.Content.{Content}
 use Rattle.obj_made.specs.declared.object.Object.{Object}
 use Rattle.obj_made.specs.Uses.{entity_number, is_allocator, is_named, is_starred}
-use Rattle.obj_made.specs.Made.{Spot, by_place, Made, in_order, object_unless_declared, entity_object, made_at, entity_made, entities_made, spot_at, called_object, object_of_call, called_entity, object_of_kind, node_object, node_made, nodes_made, made_in_order, objects_in}
+use Rattle.obj_made.specs.Made.{Spot, by_place, Made, in_order, object_unless_declared, entity_object, made_at, entity_made, entities_made, spot_at, called_object, object_of_call, called_entity, object_of_kind, node_object, node_made, nodes_made, has_varargs, last_place, varargs_object, varargs_spot, varargs_made, made_of_names, made_in_order, objects_in}
 use Rattle.obj_made.proofs.Ordered.{in_order-append}
 use Rattle.obj_space.specs.Objects.{function_if, function_object, functions_below, LibraryRow, library_rows, is_needed, library_object, library_objects_from, library_objects, star_if, star_object, star_objects, takes_arguments, library_part, objects_of}
 use Rattle.location_laws.specs.name_laws.Named.{IsEntity, IsNode}
 use Rattle.location_laws.proofs.name_laws.Lists.{Every, Pairs, every_weaker, every_append, every_map, pairs_weaker, pairs_append, pairs_map, pairs_at}
-use Rattle.location_laws.proofs.name_laws.Library.{rank, Ascend, From, Below, across}
+use Rattle.location_laws.proofs.name_laws.Library.{library_rank, rank, Ascend, From, Below, across}
 
 ranks_equal : (a b : ℕ) (o : Ordering) → o ≡ nat_cmp a b → o ≡ Equal → a ≡ b
 ranks_equal a b Less h e = cc
@@ -140,15 +140,29 @@ module _ (p : Program) where
       subst (λ m. AreMade m (in_order done (node_made p n x ++ nodes_made p (n + 1) rest))) (omega arith)
       (subst (AreMade (length p.entities.items + (n + 1 + length rest))) (sym (in_order-append done (node_made p n x) (nodes_made p (n + 1) rest))) all)
 
+  further_by : (e : ℕ) (x : Entity) (b : Bool) (o : Object) → rank p o.key ≡ length p.entities.items + length p.nodes.items + e → Every IsMadeBy (made_at (varargs_spot p e x) (if b then Some o else None))
+  further_by e x true o is = (sym is, tt)
+  further_by e x false o is = tt
+
+  further_right : (e : ℕ) (xs : List Entity) (done : Made) → AreMade (length p.entities.items + length p.nodes.items + e) done → AreMade (length p.entities.items + length p.nodes.items + (e + length xs)) (in_order done (varargs_made p e xs))
+  further_right e [] done a = subst (λ m. AreMade m done) (omega arith) a
+  further_right e (x ∷ rest) done a =
+      let put : Made = made_at (varargs_spot p e x) (varargs_object p e x) in
+      let one = put_made (last_place x.place e p.entities.items) (length p.entities.items + length p.nodes.items + e) (varargs_object p e x) done (further_by e x (has_varargs p.types x) _ refl) a in
+      let all = further_right (e + 1) rest (in_order done put) (subst (λ m. AreMade m (in_order done put)) (omega arith) one) in
+      subst (λ m. AreMade m (in_order done (put ++ varargs_made p (e + 1) rest))) (omega arith)
+      (subst (AreMade (length p.entities.items + length p.nodes.items + (e + 1 + length rest))) (sym (in_order-append done put (varargs_made p (e + 1) rest))) all)
+
   none_made : AreMade 0 []
   none_made = record { each = tt; less = tt; apart = tt }
 
-  all_made : AreMade (length p.entities.items + length p.nodes.items) (made_in_order p)
+  all_made : AreMade (library_rank p) (made_in_order p)
   all_made =
       let entities = entities_right 0 p.entities.items [] (λ i x at. subst (λ n. IsEntity p n x) (omega arith) at) none_made in
       let nodes = nodes_right 0 p.nodes.items (in_order [] (entities_made p 0 p.entities.items)) (λ i x at. subst (λ n. IsNode p n x) (omega arith) at)
       (subst (λ n. AreMade n (in_order [] (entities_made p 0 p.entities.items))) (omega arith) entities) in
-      subst (λ n. AreMade n (made_in_order p)) (omega arith) nodes
+      let further = further_right 0 p.entities.items (made_of_names p) (subst (λ n. AreMade n (made_of_names p)) (omega arith) nodes) in
+      subst (λ n. AreMade n (made_in_order p)) (omega arith) further
 
   -- ---- the library's objects
   record AreRanked (low high : ℕ) (objects : List Object) : Type 0 where
@@ -177,7 +191,7 @@ module _ (p : Program) where
   }
 
   abbrev start : ℕ
-  start = length p.entities.items + length p.nodes.items
+  start = library_rank p
 
   function_ranked : (k : ℕ) (b : Bool) → AreRanked (start + k) (start + suc k) (function_if b k)
   function_ranked k true = one_ranked (start + k) (start + suc k) _ (omega arith) (omega arith)

@@ -9,10 +9,10 @@ use Rattle.core_tree.specs.declared.node.NodeKind.{NodeKind}
 use Rattle.core_tree.specs.declared.node.NodeKind.TheVariants.{Text, CallNode}
 use Rattle.core_tree.specs.declared.node.Entity.{Entity}
 use Rattle.core_tree.specs.declared.node.Linkage.TheVariants.{External, Internal, Local}
-use Rattle.core_tree.specs.declared.node.Storage.TheVariants.{Declared}
+use Rattle.core_tree.specs.declared.node.Storage.TheVariants.{FunctionBody, Declared}
 use Rattle.obj_made.specs.Uses.{is_literal}
 use Rattle.obj_space.specs.Space.{DistinctNames, locations_in}
-use Rattle.location_laws.specs.name_shapes.Bytes.{is_unit_byte, is_letter, IsMadeOf}
+use Rattle.location_laws.specs.name_shapes.Bytes.{is_unit_byte, is_letter, IsMadeOf, IsWord}
 
 -- members of one structure or union have different names, which are identifiers
 pub record AreMembers (members : List MemberTerm) : Type 0 where
@@ -64,12 +64,14 @@ pub record HasOwner (p : Program) (x : Entity) : Type 0 where
   pub entity_is : IsEntity p function entity
   pub linked : entity.linkage ≢ Local
 
--- identifiers, and where they stand
+-- identifiers, and where they stand; a local has one, and a function that is defined has linkage
 pub record AreEntities (p : Program) : Type 0 where
   pub letters : (e : ℕ) (x : Entity) → IsEntity p e x → IsMadeOf is_letter x.name
   pub unit : (e : ℕ) (x : Entity) → IsEntity p e x → x.unit < length p.names.items
   pub place : (e : ℕ) (x : Entity) → IsEntity p e x → IsPlace p x.place
   pub owned : (e : ℕ) (x : Entity) → IsLocalObject p e x → x.storage ≢ Declared → HasOwner p x
+  pub word : (e : ℕ) (x : Entity) → IsLocalObject p e x → IsWord x.name
+  pub linked : (e : ℕ) (x : Entity) → IsEntity p e x → x.storage ≡ FunctionBody → x.linkage ≢ Local
 
 -- Objects and functions of external linkage are told apart by their names, those of internal linkage by unit and
 -- name, locals by function, name, line and column, and literals by their places.

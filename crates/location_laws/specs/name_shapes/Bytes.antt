@@ -22,6 +22,11 @@ is_letter c = is_base_byte c && (not (nat_eq c 35) && not (nat_eq c 60))
 abbrev pub IsMadeOf : (ℕ → Bool) → List ℕ → Type 0
 IsMadeOf test name = list_all test name ≡ true
 
+-- an identifier has a byte at least
+abbrev pub IsWord : List ℕ → Type 0
+IsWord [] = ⊥
+IsWord (c ∷ rest) = IsMadeOf is_letter (c ∷ rest)
+
 -- the text is empty, or its first byte fails the test
 abbrev pub Stops : (ℕ → Bool) → List ℕ → Type 0
 Stops test [] = ⊤

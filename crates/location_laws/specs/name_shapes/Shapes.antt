@@ -1,18 +1,19 @@
 -- The parts of an object's name, and the text that they make.
 use Rattle.std.specs.Prelude.{ℕ, ◌^◌, ◌<◌, ◌≡◌, ⊤, List, ◌∷◌, ◌++◌, Option, Some, None}
 use Rattle.std.specs.Fmt.{decimal}
-use Rattle.location_laws.specs.name_shapes.Bytes.{is_unit_byte, is_base_byte, is_letter, IsMadeOf, IsSuffix}
+use Rattle.location_laws.specs.name_shapes.Bytes.{is_unit_byte, is_base_byte, IsMadeOf, IsWord, IsSuffix}
 
 -- a line and a column
 pub record Spot : Type 0 where
   pub line : ℕ
   pub column : ℕ
 
--- what stands behind an object's own name: nothing; a slash, a local's name and maybe its place; the place of an
--- unnamed object; or the star of all calls
+-- what stands behind an object's own name: nothing; a slash, a local's name and maybe its place; a slash and three dots,
+-- for what a function is passed past its parameters; the place of an unnamed object; or the star of all calls
 pub data Tail : Type 0 where
   Nothing : Tail
   Inner : List ℕ → Option Spot → Tail
+  Further : Tail
   Placed : List ℕ → Spot → Tail
   AnyCall : Tail
 
@@ -38,6 +39,7 @@ at_text (Some spot) rest = 64 ∷ spot_text spot rest
 abbrev pub tail_text : Tail → List ℕ → List ℕ
 tail_text Nothing rest = rest
 tail_text (Inner name at) rest = 47 ∷ (name ++ at_text at rest)
+tail_text Further rest = 47 ∷ 46 ∷ 46 ∷ 46 ∷ rest
 tail_text (Placed unit spot) rest = 64 ∷ (unit ++ (58 ∷ spot_text spot rest))
 tail_text AnyCall rest = 64 ∷ 42 ∷ rest
 
@@ -60,7 +62,8 @@ IsHead (Some unit) = IsMadeOf is_unit_byte unit
 
 abbrev pub IsTail : Tail → Type 0
 IsTail Nothing = ⊤
-IsTail (Inner name at) = IsMadeOf is_letter name × IsAt at
+IsTail (Inner name at) = IsWord name × IsAt at
+IsTail Further = ⊤
 IsTail (Placed unit spot) = IsMadeOf is_unit_byte unit × IsSpot spot
 IsTail AnyCall = ⊤
 

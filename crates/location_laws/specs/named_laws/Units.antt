@@ -15,7 +15,7 @@ use Rattle.obj_made.specs.Uses.{is_literal}
 use Rattle.obj_space.specs.Space.{DistinctNames, locations_in}
 use Rattle.unit_link.specs.Linked.{Linked}
 use Rattle.unit_link.specs.Needs.{AreLinkable}
-use Rattle.location_laws.specs.name_shapes.Bytes.{is_unit_byte, is_letter, IsMadeOf}
+use Rattle.location_laws.specs.name_shapes.Bytes.{is_unit_byte, is_letter, IsMadeOf, IsWord}
 use Rattle.location_laws.specs.name_laws.Named.{AreMembers, IsText, HasNames}
 
 -- numbers of 32 bits
@@ -44,11 +44,17 @@ pub record SamePlace (a b : Place) : Type 0 where
   pub column : a.column ≡ b.column
 
 -- Entities have identifiers as names. Those of internal linkage have different names (C11 6.2.2p2), and objects
--- without linkage, literals among them, different places. A local stands in a function that the unit defines.
+-- without linkage, literals among them, different places. A local has an identifier, and stands in a function that the
+-- unit defines. What is defined as a function has linkage.
 pub record AreUnitEntities (x : Unit) : Type 0 where
   pub letters : (e : ℕ) (y : Entity) → slice_get x.entities.items e ≡ Some y → IsMadeOf is_letter y.name
   pub place : (e : ℕ) (y : Entity) → slice_get x.entities.items e ≡ Some y → IsNarrow y.place
   pub owned : (e : ℕ) (y : Entity) → IsLocalOf x e y → HasFunction x y
+  pub word : (e : ℕ) (y : Entity) → IsLocalOf x e y → IsWord y.name
+  pub linked : (e : ℕ) (y : Entity)
+      → slice_get x.entities.items e ≡ Some y
+      → y.storage ≡ FunctionBody
+      → y.linkage ≢ Local
   pub internal : (e f : ℕ) (y z : Entity)
       → slice_get x.entities.items e ≡ Some y
       → slice_get x.entities.items f ≡ Some z

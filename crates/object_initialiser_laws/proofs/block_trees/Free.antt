@@ -282,6 +282,7 @@ module _ (tokens : Tokens) (unit : ℕ) (tree : Tree) (tag_number : ℕ → ℕ)
     row_free : (n : ℕ) → n < length senses → O n → ((c : ℕ) → O c → OfSense s O (IsFree leaf) (sense_in (take n senses) c)) → RowGives (IsFree leaf) (world_at s (take n senses) n) s (sense_in (take n senses)) n (children_at s n)
     row_free n lt off each = record {
       names = λ c has. use_gives (sense_in (take n senses)) c (off_closed.parts n c has off);
+      lists = λ entity function place at type asked e. tt;
       objects = λ declarator l by_it named paths values fixed same. no_initialiser n declarator l (world_at s (take n senses) n) off by_it named same;
       initials = λ q above paths values over fixed same. no_opening (world_at s (take n senses) n) (sense_in (take n senses)) q over same;
       literals = λ q above type initial over. tt;

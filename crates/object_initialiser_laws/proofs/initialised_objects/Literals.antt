@@ -2,7 +2,7 @@
 use Rattle.std.proofs.Common.{◌≡◌, ◌<◌, ◌==◌, ℕ, zero, suc, Bool, true, false, ◌&&◌, ◌||◌, not, List, length, Option, Some, None, refl, sym, ap, ◌∙◌, subst}
 use Rattle.std.specs.Prelude.{⊤, option_and_then, option_map, if◌then◌else◌}
 use Rattle.pta_base.specs.declared.kind.Kind.TheVariants.{Operand}
-use Rattle.c_types.specs.Trees.{Ctype, FloatingType, VaListType}
+use Rattle.c_types.specs.Trees.{Ctype, FloatingType}
 use Rattle.c_grammar.specs.Productions.{p_type_name, p_items, p_cast, p_unary}
 use Rattle.core_tree.specs.declared.node.NodeKind.{NodeKind}
 use Rattle.core_tree.specs.declared.node.NodeKind.TheVariants.{Literal}
@@ -60,7 +60,6 @@ module _ (w : World) (s : Source) (sense : ℕ → Sense) where
 
   as_typed : (at : ℕ) (t : Ctype) (g : Given Core) → Gives IsObjectCore g → Gives IsObjectCore (typed at t g)
   as_typed at FloatingType g h = tt
-  as_typed at VaListType g h = tt
   as_typed at t g h = h
 
   literal_gives : (at p : ℕ) (t : Ctype) → Gives IsObjectCore (literal_of w s sense at p t)

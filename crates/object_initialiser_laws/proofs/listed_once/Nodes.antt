@@ -7,7 +7,7 @@ use Rattle.c_grammar.specs.Terminals.{contains}
 use Rattle.core_tree.specs.declared.node.Unit.{Unit}
 use Rattle.core_tree.specs.declared.node.Node.{Node}
 use Rattle.core_tree.specs.declared.node.NodeKind.{NodeKind}
-use Rattle.core_tree.specs.declared.node.NodeKind.TheVariants.{Named, FunctionName, Literal, Initialise, Block, For}
+use Rattle.core_tree.specs.declared.node.NodeKind.TheVariants.{Named, FunctionName, Literal, VarArgs, Initialise, Block, For}
 use Rattle.core_tree.specs.Rows.{Has}
 use Rattle.core_tree.specs.Range.{listed_by, listed_in}
 use Rattle.c_senses.specs.Tree.{Source, is_a, children_at}
@@ -170,6 +170,7 @@ module _ (s : Source) (senses : List Sense) (m : Numbering) (d e : ℕ) (one : (
   of_block (Named x) es place h has = absurd (let g : Named x ≡ Block es = h in cc)
   of_block (FunctionName x) es place h has = absurd (let g : FunctionName x ≡ Block es = h in cc)
   of_block (Literal x) es place h has = absurd (let g : Literal x ≡ Block es = h in cc)
+  of_block (VarArgs x) es place h has = absurd (let g : VarArgs x ≡ Block es = h in cc)
   of_block (Initialise x paths) es place h has = absurd (let g : Initialise x paths ≡ Block es = h in cc)
   of_block kind es place h has = absurd (let g : kind ≡ Block es = h in cc)
 
@@ -179,6 +180,7 @@ module _ (s : Source) (senses : List Sense) (m : Numbering) (d e : ℕ) (one : (
   of_for (Named z) es x y place h has = absurd (let g : Named z ≡ For es x y = h in cc)
   of_for (FunctionName z) es x y place h has = absurd (let g : FunctionName z ≡ For es x y = h in cc)
   of_for (Literal z) es x y place h has = absurd (let g : Literal z ≡ For es x y = h in cc)
+  of_for (VarArgs z) es x y place h has = absurd (let g : VarArgs z ≡ For es x y = h in cc)
   of_for (Initialise z paths) es x y place h has = absurd (let g : Initialise z paths ≡ For es x y = h in cc)
   of_for kind es x y place h has = absurd (let g : kind ≡ For es x y = h in cc)
 

@@ -8,7 +8,7 @@ use Rattle.core_tree.specs.declared.node.Unit.{Unit}
 use Rattle.core_tree.specs.declared.node.Node.{Node}
 use Rattle.core_tree.specs.declared.node.Entity.{Entity}
 use Rattle.core_tree.specs.declared.node.NodeKind.{NodeKind}
-use Rattle.core_tree.specs.declared.node.NodeKind.TheVariants.{Named, FunctionName, Literal, Initialise, Block, For}
+use Rattle.core_tree.specs.declared.node.NodeKind.TheVariants.{Named, FunctionName, Literal, VarArgs, Initialise, Block, For}
 use Rattle.core_tree.specs.Typed.{trees_of}
 use Rattle.core_tree.specs.Range.{OncePlaced, entity_at, listed_by, listed_in}
 use Rattle.c_consts.specs.Core.{Core, Cores, Of, NoCores, MoreCores, cores_under, core_in}
@@ -55,6 +55,7 @@ module _ (s : Source) (senses : List Sense) (are : AreSenses s senses) (families
   row_once : (n : ℕ) → n < length senses → All n → ((c : ℕ) → All c → OfSense s All Once (sense_in (take n senses) c)) → RowGives Once (world_at s (take n senses) n) s (sense_in (take n senses)) n (children_at s n)
   row_once n lt near each = record {
     names = λ leaf has. names_free _;
+    lists = λ entity function place at type asked e. tt;
     objects = λ declarator leaf by named paths values fixed. tt;
     initials = λ q above paths values over fixed. tt;
     literals = λ q above type initial over. tt;
@@ -138,6 +139,7 @@ module _ (s : Source) (senses : List Sense) (are : AreSenses s senses) (families
       of_block (Named x) es h le = absurd (let g : Named x ≡ Block es = h in cc)
       of_block (FunctionName x) es h le = absurd (let g : FunctionName x ≡ Block es = h in cc)
       of_block (Literal x) es h le = absurd (let g : Literal x ≡ Block es = h in cc)
+      of_block (VarArgs x) es h le = absurd (let g : VarArgs x ≡ Block es = h in cc)
       of_block (Initialise x paths) es h le = absurd (let g : Initialise x paths ≡ Block es = h in cc)
       of_block kind es h le = absurd (let g : kind ≡ Block es = h in cc)
 
@@ -147,6 +149,7 @@ module _ (s : Source) (senses : List Sense) (are : AreSenses s senses) (families
       of_for (Named z) es x y h le = absurd (let g : Named z ≡ For es x y = h in cc)
       of_for (FunctionName z) es x y h le = absurd (let g : FunctionName z ≡ For es x y = h in cc)
       of_for (Literal z) es x y h le = absurd (let g : Literal z ≡ For es x y = h in cc)
+      of_for (VarArgs z) es x y h le = absurd (let g : VarArgs z ≡ For es x y = h in cc)
       of_for (Initialise z paths) es x y h le = absurd (let g : Initialise z paths ≡ For es x y = h in cc)
       of_for kind es x y h le = absurd (let g : kind ≡ For es x y = h in cc)
 

@@ -33,9 +33,10 @@ use Rattle.built_unit_laws.proofs.parameter_bodies.Bare.{parameters_bare}
 use Rattle.built_unit_laws.proofs.lasting_literals.Lasting.{literals_last}
 use Rattle.built_unit_laws.specs.built_units.Built.{IsBuilt}
 use Rattle.static_value_laws.proofs.built_filled.Filling.{built_are_filled}
-use Rattle.owner_laws.specs.Owners.{LeftsStand, DefinitionsNamed}
+use Rattle.owner_laws.specs.Owners.{LeftsStand, DefinitionsNamed, FurtherKnown}
 use Rattle.owner_laws.proofs.Defined.{FunctionTree, function_tree}
 use Rattle.owner_laws.proofs.Below.{Near, Stands, around_is, trees_stand}
+use Rattle.internal_name_laws.proofs.internal_names.PassedOn.{further_known}
 use Rattle.owner_laws.proofs.Walk.{stood, under_further, literal_is}
 use Rattle.owner_laws.proofs.Fixed.{literal_global}
 use Rattle.owner_laws.proofs.Whole.{grown_of, made_of}
@@ -127,6 +128,9 @@ module _
     listed : ParametersListed tokens tree s
     listed = parameters_listed tokens unit tree tag_number cut is
 
+    further : FurtherKnown s senses
+    further = further_known tokens unit tree tag_number senses cut is built.are_senses built.whole
+
     filled : IsFilled u
     filled = built_are_filled tokens unit tree tag_number name u is built
 
@@ -144,7 +148,7 @@ module _
       A = Stands tokens tree tag_number grown lefts listed senses made.are_senses t.external t.definition
 
       tree_held : OfSense s N A (IsCore t.core)
-      tree_held = subst (λ (x : Sense). OfSense s N A x) t.sensed (trees_stand tokens tree tag_number grown lefts listed senses made.are_senses t.external t.definition t.block (part t.part))
+      tree_held = subst (λ (x : Sense). OfSense s N A x) t.sensed (trees_stand tokens tree tag_number grown lefts listed senses made.are_senses t.external t.definition further t.block (part t.part))
 
       leaf_near : N leaf
       leaf_near = by (stood A m u top n under (t.core, t.stands, tree_held))

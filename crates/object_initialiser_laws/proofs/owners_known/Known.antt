@@ -6,6 +6,7 @@ use Rattle.static_value_laws.proofs.built_filled.Filling.{built_are_filled}
 use Rattle.owner_laws.proofs.left_laws.Left.{lefts_stand}
 use Rattle.owner_laws.proofs.passed.definition_laws.parameter_lists.Whole.{parameters_listed}
 use Rattle.owner_laws.specs.Owners.{IsOwnable}
+use Rattle.internal_name_laws.proofs.internal_names.PassedOn.{further_known}
 use Rattle.owner_laws.proofs.Whole.{owners_built}
 use Rattle.owner_laws.proofs.list_laws.Whole.{lists_built}
 use Rattle.object_initialiser_laws.specs.owners_known.Known.{HasOwners, OwnersKnown}
@@ -18,7 +19,8 @@ owners_known tokens unit tree tag_number name u cut is built names h =
     let whole = ownable u h (built_are_filled tokens unit tree tag_number name u is built) in
     let lefts = lefts_stand tokens unit tree tag_number is in
     let listed = parameters_listed tokens unit tree tag_number cut is in
+    let further = further_known tokens unit tree tag_number built.senses cut is built.are_senses built.whole in
     record {
-      in_owner = owners_built tokens unit tree tag_number name u cut is built listed lefts names whole;
-      lists = lists_built tokens unit tree tag_number name u cut is built listed lefts names whole;
+      in_owner = owners_built tokens unit tree tag_number name u cut is built listed lefts names further whole;
+      lists = lists_built tokens unit tree tag_number name u cut is built listed lefts names further whole;
     }

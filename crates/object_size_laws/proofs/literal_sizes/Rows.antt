@@ -89,7 +89,6 @@ module _ (s : Source) (senses : List Sense) (i p : ℕ) where
 
     as_typed : (at : ℕ) (x : Ctype) (g : Given Core) → Gives IsFitting g → Gives IsFitting (typed at x g)
     as_typed at FloatingType g h = tt
-    as_typed at VaListType g h = tt
     as_typed at x g h = h
 
   -- the type of a core is fit

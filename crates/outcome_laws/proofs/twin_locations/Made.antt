@@ -12,7 +12,7 @@ use Rattle.core_tree.specs.declared.node.Node.{Node}
 use Rattle.core_tree.specs.declared.node.Entity.{Entity}
 use Rattle.core_tree.specs.declared.node.Program.{Program}
 use Rattle.obj_made.specs.declared.object.Object.{Object}
-use Rattle.obj_made.specs.Made.{Spot, spot_at, by_place, Made, in_order, entity_object, made_at, entity_made, entities_made, node_object, node_made, nodes_made, made_in_order, objects_in}
+use Rattle.obj_made.specs.Made.{Spot, spot_at, by_place, Made, in_order, entity_object, made_at, entity_made, entities_made, node_object, node_made, nodes_made, last_place, varargs_object, varargs_spot, varargs_made, made_in_order, objects_in}
 use Rattle.obj_made.proofs.Ordered.{in_order-append}
 use Rattle.outcome_laws.proofs.twin_locations.Options.{some_one, none_some}
 use Rattle.outcome_laws.proofs.twin_locations.Members.{Member, member_left, member_right, member_split, member_map, map_member}
@@ -140,11 +140,21 @@ module _ (p : Program) where
       rise_append k (entity_made p k x) (entities_made p (k + 1) rest) more
       (made_rises x.place k (entity_object p k x) (entities_made p (k + 1) rest ++ more) (entities_rise (k + 1) rest more (subst (λ n. Rise n more) next h)))
 
-  nodes_rise : (k n : ℕ) (xs : List Node) → k ≡ length p.entities.items + n → Rise k (nodes_made p n xs)
-  nodes_rise k n [] is = tt
-  nodes_rise k n (x ∷ rest) is =
-      rise_less k (length p.entities.items + n) (nodes_made p n (x ∷ rest)) (omega (arith, is))
-      (made_rises x.place (length p.entities.items + n) (node_object p n x) (nodes_made p (n + 1) rest) (nodes_rise ((length p.entities.items + n) + 1) (n + 1) rest (omega arith)))
+  nodes_rise : (k n : ℕ) (xs : List Node) (more : Made) → k ≡ length p.entities.items + n → Rise (length p.entities.items + (n + length xs)) more → Rise k (nodes_made p n xs ++ more)
+  nodes_rise k n [] more is h = rise_less k (length p.entities.items + (n + 0)) more (omega (arith, is)) h
+  nodes_rise k n (x ∷ rest) more is h =
+      let next : length p.entities.items + (n + length (x ∷ rest)) ≡ length p.entities.items + (n + 1 + length rest) = omega arith in
+      rise_append k (node_made p n x) (nodes_made p (n + 1) rest) more
+      (rise_less k (length p.entities.items + n) (node_made p n x ++ (nodes_made p (n + 1) rest ++ more)) (omega (arith, is))
+      (made_rises x.place (length p.entities.items + n) (node_object p n x) (nodes_made p (n + 1) rest ++ more)
+      (nodes_rise ((length p.entities.items + n) + 1) (n + 1) rest more (omega arith) (subst (λ j. Rise j more) next h))))
+
+  further_rise : (k e : ℕ) (xs : List Entity) → k ≡ length p.entities.items + length p.nodes.items + e → Rise k (varargs_made p e xs)
+  further_rise k e [] is = tt
+  further_rise k e (x ∷ rest) is =
+      let number = length p.entities.items + length p.nodes.items + e in
+      rise_less k number (varargs_made p e (x ∷ rest)) (omega (arith, is))
+      (made_rises (last_place x.place e p.entities.items) number (varargs_object p e x) (varargs_made p (e + 1) rest) (further_rise (number + 1) (e + 1) rest (omega arith)))
 
   at_made : (spot : Spot) (o : Option Object) (x : Spot × Object) → Member (made_at spot o) x → o ≡ Some x.1
   at_made spot None x h = absurd h
@@ -201,26 +211,60 @@ module _ (p : Program) where
       let (spot, there) = from_node (n + 1) rest i x o at (ap (λ k. node_object p k x) next ∙ is) in
       (spot, member_right (node_made p n y) (nodes_made p (n + 1) rest) (spot, o) there)
 
-  -- an entity makes the object, or a node does
+  further_from : (k : ℕ) (xs : List Entity) (m : Spot × Object) → Member (varargs_made p k xs) m → (i : ℕ) × (x : Entity) × (slice_get xs i ≡ Some x) × (varargs_object p (k + i) x ≡ Some m.1)
+  further_from k [] m h = absurd h
+  further_from k (x ∷ rest) m h = elim (member_split (made_at (varargs_spot p k x) (varargs_object p k x)) (varargs_made p (k + 1) rest) m h) [
+    | inl here ↦
+        let same : k ≡ k + 0 = omega arith in
+        (0, x, refl, sym (ap (λ n. varargs_object p n x) same) ∙ at_made (varargs_spot p k x) (varargs_object p k x) m here)
+    | inr later ↦
+        let (i, y, at, is) = further_from (k + 1) rest m later in
+        let next : k + suc i ≡ (k + 1) + i = omega arith in
+        (suc i, y, at, ap (λ n. varargs_object p n y) next ∙ is)
+  ]
+
+  from_further : (k : ℕ) (xs : List Entity) (i : ℕ) (x : Entity) (o : Object) → slice_get xs i ≡ Some x → varargs_object p (k + i) x ≡ Some o → (spot : Spot) × Member (varargs_made p k xs) (spot, o)
+  from_further k [] i x o at is = absurd (none_some at)
+  from_further k (y ∷ rest) zero x o at is =
+      let same : k ≡ k + 0 = omega arith in
+      let own : varargs_object p k y ≡ Some o = ap (λ n. varargs_object p n y) same ∙ (ap (varargs_object p (k + 0)) (some_one at) ∙ is) in
+      let spot = varargs_spot p k y in
+      (spot, member_left (made_at spot (varargs_object p k y)) (varargs_made p (k + 1) rest) (spot, o) (made_there spot (varargs_object p k y) o own))
+  from_further k (y ∷ rest) (suc i) x o at is =
+      let next : (k + 1) + i ≡ k + suc i = omega arith in
+      let (spot, there) = from_further (k + 1) rest i x o at (ap (λ n. varargs_object p n x) next ∙ is) in
+      (spot, member_right (made_at (varargs_spot p k y) (varargs_object p k y)) (varargs_made p (k + 1) rest) (spot, o) there)
+
+  -- an entity makes the object, or a node does; a variadic function makes a second one
   pub data IsMadeOf (o : Object) : Type 0 where
     by_entity : (e : ℕ) (x : Entity) → slice_get p.entities.items e ≡ Some x → entity_object p e x ≡ Some o → IsMadeOf o
     by_node : (n : ℕ) (x : Node) → slice_get p.nodes.items n ≡ Some x → node_object p n x ≡ Some o → IsMadeOf o
+    by_further : (e : ℕ) (x : Entity) → slice_get p.entities.items e ≡ Some x → varargs_object p e x ≡ Some o → IsMadeOf o
 
-  pub whole : made_in_order p ≡ in_order [] (entities_made p 0 p.entities.items ++ nodes_made p 0 p.nodes.items)
-  whole = sym (in_order-append [] (entities_made p 0 p.entities.items) (nodes_made p 0 p.nodes.items))
+  -- all that is made, in the order of its numbers
+  abbrev pub all_made : Made
+  all_made = (entities_made p 0 p.entities.items ++ nodes_made p 0 p.nodes.items) ++ varargs_made p 0 p.entities.items
 
-  pub whole_rises : Rise 0 (entities_made p 0 p.entities.items ++ nodes_made p 0 p.nodes.items)
-  whole_rises = entities_rise 0 p.entities.items (nodes_made p 0 p.nodes.items) (nodes_rise (0 + length p.entities.items) 0 p.nodes.items (omega arith))
+  pub whole : made_in_order p ≡ in_order [] all_made
+  whole =
+      sym (in_order-append [] (entities_made p 0 p.entities.items ++ nodes_made p 0 p.nodes.items) (varargs_made p 0 p.entities.items)
+      ∙ ap (λ (made : Made). in_order made (varargs_made p 0 p.entities.items)) (in_order-append [] (entities_made p 0 p.entities.items) (nodes_made p 0 p.nodes.items)))
+
+  pub whole_rises : Rise 0 all_made
+  whole_rises =
+      rise_append 0 (entities_made p 0 p.entities.items) (nodes_made p 0 p.nodes.items) (varargs_made p 0 p.entities.items)
+      (entities_rise 0 p.entities.items (nodes_made p 0 p.nodes.items ++ varargs_made p 0 p.entities.items)
+      (nodes_rise (0 + length p.entities.items) 0 p.nodes.items (varargs_made p 0 p.entities.items) (omega arith)
+      (further_rise (length p.entities.items + (0 + length p.nodes.items)) 0 p.entities.items (omega arith))))
 
   pub made_of : (o : Object) → Member (objects_in (made_in_order p)) o → IsMadeOf o
   made_of o there =
       let (m, at, is) = member_map (λ (m : Spot × Object). m.1) (made_in_order p) o there in
-      let split = nothing_else 0 [] (entities_made p 0 p.entities.items ++ nodes_made p 0 p.nodes.items) m tt whole_rises (subst (λ (made : Made). Member made m) whole at) in
+      let split = nothing_else 0 [] all_made m tt whole_rises (subst (λ (made : Made). Member made m) whole at) in
       subst IsMadeOf is (by m split)
     where
-      by : (m : Spot × Object) → Member {X = Spot × Object} [] m ⊎ Member (entities_made p 0 p.entities.items ++ nodes_made p 0 p.nodes.items) m → IsMadeOf m.1
-      by m (inl none) = absurd none
-      by m (inr some) = elim (member_split (entities_made p 0 p.entities.items) (nodes_made p 0 p.nodes.items) m some) [
+      of_names : (m : Spot × Object) → Member (entities_made p 0 p.entities.items ++ nodes_made p 0 p.nodes.items) m → IsMadeOf m.1
+      of_names m some = elim (member_split (entities_made p 0 p.entities.items) (nodes_made p 0 p.nodes.items) m some) [
         | inl entity ↦
             let (i, x, x_at, made) = entity_from 0 p.entities.items m entity in
             let same : i ≡ 0 + i = omega arith in
@@ -231,17 +275,35 @@ module _ (p : Program) where
             by_node i x x_at (ap (λ n. node_object p n x) same ∙ made)
       ]
 
-  put_object : (spot : Spot) (o : Object) → Member (entities_made p 0 p.entities.items ++ nodes_made p 0 p.nodes.items) (spot, o) → Member (objects_in (made_in_order p)) o
+      by : (m : Spot × Object) → Member {X = Spot × Object} [] m ⊎ Member all_made m → IsMadeOf m.1
+      by m (inl none) = absurd none
+      by m (inr some) = elim (member_split (entities_made p 0 p.entities.items ++ nodes_made p 0 p.nodes.items) (varargs_made p 0 p.entities.items) m some) [
+        | inl named ↦ of_names m named
+        | inr further ↦
+            let (i, x, x_at, made) = further_from 0 p.entities.items m further in
+            let same : i ≡ 0 + i = omega arith in
+            by_further i x x_at (ap (λ n. varargs_object p n x) same ∙ made)
+      ]
+
+  put_object : (spot : Spot) (o : Object) → Member all_made (spot, o) → Member (objects_in (made_in_order p)) o
   put_object spot o there =
       map_member (λ (m : Spot × Object). m.1) (made_in_order p) (spot, o)
-      (subst (λ (made : Made). Member made (spot, o)) (sym whole) (all_there 0 [] (entities_made p 0 p.entities.items ++ nodes_made p 0 p.nodes.items) (spot, o) tt whole_rises (inr there)))
+      (subst (λ (made : Made). Member made (spot, o)) (sym whole) (all_there 0 [] all_made (spot, o) tt whole_rises (inr there)))
 
   pub of_made : (o : Object) → IsMadeOf o → Member (objects_in (made_in_order p)) o
   of_made o (by_entity e x at is) =
       let same : 0 + e ≡ e = omega arith in
       let (spot, there) = from_entity 0 p.entities.items e x o at (ap (λ n. entity_object p n x) same ∙ is) in
-      put_object spot o (member_left (entities_made p 0 p.entities.items) (nodes_made p 0 p.nodes.items) (spot, o) there)
+      put_object spot o
+      (member_left (entities_made p 0 p.entities.items ++ nodes_made p 0 p.nodes.items) (varargs_made p 0 p.entities.items) (spot, o)
+      (member_left (entities_made p 0 p.entities.items) (nodes_made p 0 p.nodes.items) (spot, o) there))
   of_made o (by_node n x at is) =
       let same : 0 + n ≡ n = omega arith in
       let (spot, there) = from_node 0 p.nodes.items n x o at (ap (λ k. node_object p k x) same ∙ is) in
-      put_object spot o (member_right (entities_made p 0 p.entities.items) (nodes_made p 0 p.nodes.items) (spot, o) there)
+      put_object spot o
+      (member_left (entities_made p 0 p.entities.items ++ nodes_made p 0 p.nodes.items) (varargs_made p 0 p.entities.items) (spot, o)
+      (member_right (entities_made p 0 p.entities.items) (nodes_made p 0 p.nodes.items) (spot, o) there))
+  of_made o (by_further e x at is) =
+      let same : 0 + e ≡ e = omega arith in
+      let (spot, there) = from_further 0 p.entities.items e x o at (ap (λ n. varargs_object p n x) same ∙ is) in
+      put_object spot o (member_right (entities_made p 0 p.entities.items ++ nodes_made p 0 p.nodes.items) (varargs_made p 0 p.entities.items) (spot, o) there)

@@ -143,7 +143,7 @@ module _ (p q : Program) (to back : Numbers) (l : LeadsTo p q to back) where
       any_at (λ (node : Node). is_number (to.entity e) (literal_entity node.kind)) q.nodes.items (to.node i) y there
       (is_the_number (to.entity e) (literal_entity y.kind) (ap literal_entity kind))
 
-  linked_same : (x y : Entity) → SameEntity p.types q.types to x y → linked_name q.names.items y ≡ linked_name p.names.items x
+  pub linked_same : (x y : Entity) → SameEntity p.types q.types to x y → linked_name q.names.items y ≡ linked_name p.names.items x
   linked_same x y s =
       ap (λ (names : List (List ℕ)). linked_in names y.linkage y.unit y.name) l.names
       ∙ (ap (λ (k : Linkage). linked_in p.names.items k y.unit y.name) s.linkage

@@ -5,7 +5,7 @@ use Rattle.std.specs.List.{slice_get}
 use Rattle.std.specs.Option.{option_map}
 use Rattle.std.proofs.lemmas.Option.{slice_get_within}
 use Rattle.pta_base.specs.declared.place.Place.{Place}
-use Rattle.c_types.specs.declared.key.ObjectKey.TheVariants.{Entity as EntityKey, Text as TextKey, Call as CallKey}
+use Rattle.c_types.specs.declared.key.ObjectKey.TheVariants.{Entity as EntityKey, Text as TextKey, Call as CallKey, Varargs as VarargsKey}
 use Rattle.c_types.specs.declared.term.MemberTerm.{MemberTerm}
 use Rattle.c_types.specs.declared.term.Term.{Term}
 use Rattle.c_types.specs.declared.term.TypeId.{TypeId}
@@ -22,11 +22,11 @@ use Rattle.core_tree.specs.declared.node.Program.{Program}
 use Rattle.link_model.specs.Renamed.{renamed}
 use Rattle.link_model.specs.Partition.{HasTags}
 use Rattle.unit_link.specs.Places.{kind_renamed}
-use Rattle.obj_made.specs.declared.object.Content.TheVariants.{Typed}
+use Rattle.obj_made.specs.declared.object.Content.TheVariants.{Blob, Typed}
 use Rattle.obj_made.specs.declared.object.Object.{Object}
-use Rattle.obj_made.specs.Spelling.{placed_name, entity_name}
+use Rattle.obj_made.specs.Spelling.{placed_name, entity_name, varargs_name}
 use Rattle.obj_made.specs.Uses.{is_literal, entity_number, is_allocator}
-use Rattle.obj_made.specs.Made.{entity_content, object_unless_declared, entity_object, conversion_above, typed_by, allocated_content, called_object, object_of_call, called_entity, object_of_kind, node_object}
+use Rattle.obj_made.specs.Made.{entity_content, object_unless_declared, entity_object, conversion_above, typed_by, allocated_content, called_object, object_of_call, called_entity, object_of_kind, node_object, has_varargs, varargs_object}
 use Rattle.obj_space.specs.Parts.{Part, parts_of}
 use Rattle.outcome_laws.specs.twin_programs.One.{Numbers, SameEntity, SameNode, LeadsTo}
 use Rattle.outcome_laws.specs.twin_locations.Same.{key_moved}
@@ -36,7 +36,8 @@ use Rattle.outcome_laws.proofs.twin_locations.Parts.{parts_alike, complete_alike
 use Rattle.outcome_laws.proofs.twin_locations.Calls.{type_under, called_there, types_same}
 use Rattle.outcome_laws.proofs.twin_locations.Names.{name_same}
 use Rattle.outcome_laws.proofs.twin_locations.Cells.{cell_of, cell_moved, one_cell, cells, cells_renamed, pointed_cells, cells_by, cells_allocated}
-use Rattle.outcome_laws.proofs.twin_locations.Made.{IsMadeOf, by_entity, by_node}
+use Rattle.outcome_laws.proofs.twin_locations.Further.{has_same, further_name}
+use Rattle.outcome_laws.proofs.twin_locations.Made.{IsMadeOf, by_entity, by_node, by_further}
 
 -- an object is the same, but for these numbers
 pub record SameObject (p q : Program) (to : Numbers) (o d : Object) : Type 0 where
@@ -232,7 +233,39 @@ module _ (p q : Program) (to back : Numbers) (l : LeadsTo p q to back) (r : Lead
       by y there same round CallNode e h = call_twin n x y o there round same e h
       by y there same round kind e h = absurd (none_some h)
 
+  -- what a function is passed past its parameters
+  further_view : (b : Bool) (o d : Object) → (if b then Some o else None) ≡ Some d → (b ≡ true) × (o ≡ d)
+  further_view true o d h = (refl, some_one h)
+  further_view false o d h = absurd (none_some h)
+
+  pub record FurtherTwin (e : ℕ) (x : Entity) (o : Object) : Type 0 where
+    pub twin : Entity
+    pub there : slice_get q.entities.items (to.entity e) ≡ Some twin
+    pub like : SameEntity p.types q.types to x twin
+    pub object : Object
+    pub object_is : varargs_object q (to.entity e) twin ≡ Some object
+    pub same : SameObject p q to o object
+
+  pub further_twin : (e : ℕ) (x : Entity) (o : Object) → slice_get p.entities.items e ≡ Some x → varargs_object p e x ≡ Some o → FurtherTwin e x o
+  further_twin e x o at is =
+      let (y, there, same) = l.entities e x at in
+      let (has, mine) = further_view (has_varargs p.types x) (record { key = VarargsKey e; name = varargs_name p.names.items x; content = Blob }) o is in
+      let d : Object = record { key = VarargsKey (to.entity e); name = varargs_name q.names.items y; content = Blob } in
+      record {
+        twin = y;
+        there = there;
+        like = same;
+        object = d;
+        object_is = ap (λ (b : Bool). if b then Some d else None) (has_same p q to back l x y same ∙ has);
+        same = record {
+          key = ap (λ (c : Object). key_moved to c.key) mine;
+          name = further_name p q to back l x y same ∙ ap (λ (c : Object). c.name) mine;
+          nodes = ap (λ (c : Object). map (cell_moved to.tag) (cells p.types c.content)) mine;
+        };
+      }
+
   -- what tokens make is made in the other program
   pub made_twin : (o : Object) → IsMadeOf p o → HasTwin o
   made_twin o (by_entity e x at is) = (let t = entity_twin e x o at is in (t.object, by_entity (to.entity e) t.twin t.there t.object_is, t.same))
   made_twin o (by_node n x at is) = (let t = node_twin n x o at is in (t.made.0, by_node (to.node n) t.twin t.there t.made.1, t.made.2))
+  made_twin o (by_further e x at is) = (let t = further_twin e x o at is in (t.object, by_further (to.entity e) t.twin t.there t.object_is, t.same))

@@ -1,7 +1,8 @@
 -- Programs that are one, but for numbers, have the same locations.
-use Rattle.std.proofs.Common.{◌≡◌, ◌∙◌, ◌++◌, ℕ, false, List, Some, slice_get, refl, sym, ap, subst, inl, inr}
+use Rattle.std.proofs.Common.{◌≡◌, ◌∙◌, ◌++◌, ℕ, Bool, true, false, List, Some, None, slice_get, refl, sym, ap, subst, inl, inr}
+use Rattle.std.specs.Prelude.{if◌then◌else◌}
 use Rattle.c_types.specs.declared.key.ObjectKey.{ObjectKey}
-use Rattle.c_types.specs.declared.key.ObjectKey.TheVariants.{Entity as EntityKey, Function as FunctionKey}
+use Rattle.c_types.specs.declared.key.ObjectKey.TheVariants.{Entity as EntityKey, Function as FunctionKey, Varargs as VarargsKey}
 use Rattle.c_types.specs.Made.{IsMade, AreNamed}
 use Rattle.c_types.specs.Table.{Table}
 use Rattle.core_tree.specs.declared.node.Node.{Node}
@@ -13,11 +14,11 @@ use Rattle.core_tree.specs.declared.node.Program.{Program}
 use Rattle.link_merge.proofs.Own.{type_tags}
 use Rattle.link_merge.proofs.Terms.{type_is}
 use Rattle.obj_made.specs.declared.object.Content.{Content}
-use Rattle.obj_made.specs.declared.object.Content.TheVariants.{Function}
+use Rattle.obj_made.specs.declared.object.Content.TheVariants.{Function, Blob}
 use Rattle.obj_made.specs.declared.object.Object.{Object}
-use Rattle.obj_made.specs.Spelling.{entity_name}
+use Rattle.obj_made.specs.Spelling.{entity_name, varargs_name}
 use Rattle.obj_made.specs.Uses.{is_literal}
-use Rattle.obj_made.specs.Made.{entity_content, entity_object, node_object, object_unless_declared, object_of_kind, called_entity, made_in_order, objects_in}
+use Rattle.obj_made.specs.Made.{entity_content, entity_object, node_object, object_unless_declared, object_of_kind, called_entity, has_varargs, varargs_object, made_in_order, objects_in}
 use Rattle.obj_space.specs.declared.location.Location.{Location}
 use Rattle.obj_space.specs.Objects.{named_object, library_name, library_part, objects_of}
 use Rattle.obj_space.specs.Space.{locations_by, locations_of, locations_in}
@@ -26,7 +27,7 @@ use Rattle.outcome_laws.specs.twin_locations.Same.{key_moved, SameLocation, Loca
 use Rattle.outcome_laws.proofs.twin_locations.Options.{some_one, none_some}
 use Rattle.outcome_laws.proofs.twin_locations.Members.{Member, member_at, at_member, member_left, member_right, member_split, map_member, member_flat, flat_member}
 use Rattle.outcome_laws.proofs.twin_locations.Cells.{Cell, cells, cell_moved, cell_at, at_cell}
-use Rattle.outcome_laws.proofs.twin_locations.Made.{IsMadeOf, by_entity, by_node, made_of, of_made}
+use Rattle.outcome_laws.proofs.twin_locations.Made.{IsMadeOf, by_entity, by_node, by_further, made_of, of_made}
 use Rattle.outcome_laws.proofs.twin_locations.Library.{library_same}
 use Rattle.outcome_laws.proofs.twin_locations.Objects.{SameObject, IsKnownTable, made_twin, allocates_view, unless_there}
 use Rattle.outcome_laws.proofs.twin_locations.Fixed.{IsLibraryObject, function, fixed, star, library_view, library_twin}
@@ -105,6 +106,13 @@ module _ (p : Program) where
       by CallNode h = (let key = ap (λ (c : Object). c.key) (allocates_view p n x (called_entity p.nodes.items p.entities.items x) o h).object in ((λ e same. absurd (cc)), (λ k same. absurd (cc))))
       by kind h = absurd (none_some h)
 
+  further_key : (e : ℕ) (x : Entity) (o : Object) → varargs_object p e x ≡ Some o → o.key ≡ VarargsKey e
+  further_key e x o is = by (has_varargs p.types x) (record { key = VarargsKey e; name = varargs_name p.names.items x; content = Blob }) refl is
+    where
+      by : (b : Bool) (c : Object) → c.key ≡ VarargsKey e → (if b then Some c else None) ≡ Some o → o.key ≡ VarargsKey e
+      by true c key h = ap (λ (d : Object). d.key) (sym (some_one h)) ∙ key
+      by false c key h = absurd (none_some h)
+
   -- all objects of a function's key are one, which is a function
   record IsOneFunction (key : ObjectKey) : Type 0 where
     object : Object
@@ -129,6 +137,7 @@ module _ (p : Program) where
           let one : y ≡ x = some_one (sym y_at ∙ (ap (slice_get p.entities.items) same ∙ at)) in
           some_one (sym y_is ∙ (ap (λ (n : ℕ). entity_object p n y) same ∙ (ap (entity_object p e) one ∙ is)))
       by (by_node n y y_at y_is) = absurd ((node_key n y o y_is).0 e key)
+      by (by_further f y y_at y_is) = (let other = further_key f y o y_is in absurd (cc))
 
   library_each : (k : ℕ) (o : Object) → Member (objects_of p) o → o.key ≡ FunctionKey k → o ≡ named_object (FunctionKey k) (library_name k) Function
   unfolding IsNodeKey
@@ -145,6 +154,7 @@ module _ (p : Program) where
       by : IsMadeOf p o → o ≡ named_object (FunctionKey k) (library_name k) Function
       by (by_entity f y y_at y_is) = (let same = entity_key f y o y_is in absurd (cc))
       by (by_node n y y_at y_is) = absurd ((node_key n y o y_is).1 k key)
+      by (by_further f y y_at y_is) = (let other = further_key f y o y_is in absurd (cc))
 
   one_object : (key : ObjectKey) → IsFunctionKey p key → IsOneFunction key
   one_object key (own e x at storage) =

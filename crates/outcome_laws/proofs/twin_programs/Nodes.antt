@@ -5,7 +5,7 @@ use Rattle.std.proofs.lemmas.List.Sums.{sum_by-cons}
 use Rattle.std.proofs.lemmas.Option.{slice_get_within}
 use Rattle.c_types.specs.Table.{type_of}
 use Rattle.core_tree.specs.declared.node.NodeKind.{NodeKind}
-use Rattle.core_tree.specs.declared.node.NodeKind.TheVariants.{Named, Literal, FunctionName, Block, For, Initialise}
+use Rattle.core_tree.specs.declared.node.NodeKind.TheVariants.{Named, Literal, VarArgs, FunctionName, Block, For, Initialise}
 use Rattle.core_tree.specs.declared.node.Node.{Node}
 use Rattle.core_tree.specs.declared.node.Unit.{Unit}
 use Rattle.core_tree.specs.declared.node.Program.{Program}
@@ -99,6 +99,8 @@ kinds_there P f g to same (FunctionName d) (FunctionName e) h = ap FunctionName 
 kinds_there P f g to same (FunctionName d) y h = absurd (cc)
 kinds_there P f g to same (Literal d) (Literal e) h = ap Literal (same d e h)
 kinds_there P f g to same (Literal d) y h = absurd (cc)
+kinds_there P f g to same (VarArgs d) (VarArgs e) h = ap VarArgs (same d e h)
+kinds_there P f g to same (VarArgs d) y h = absurd (cc)
 kinds_there P f g to same (Initialise d paths) (Initialise e others) h = ap (λ (n : ℕ). Initialise n others) (same d e h.0) ∙ ap (λ ps. Initialise (to (f d)) ps) (sym h.1)
 kinds_there P f g to same (Initialise d paths) y h = absurd (cc)
 kinds_there P f g to same (Block ds) (Block es) h = ap Block (paired_maps P f g to same ds es h)

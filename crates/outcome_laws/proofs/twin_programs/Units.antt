@@ -7,7 +7,7 @@ use Rattle.std.proofs.lemmas.List.Elements.{All-head, All-tail}
 use Rattle.c_types.specs.Table.{type_of}
 use Rattle.c_types.specs.Made.{AreNamed}
 use Rattle.core_tree.specs.declared.node.NodeKind.{NodeKind}
-use Rattle.core_tree.specs.declared.node.NodeKind.TheVariants.{Named, Literal, FunctionName, Block, For, Initialise}
+use Rattle.core_tree.specs.declared.node.NodeKind.TheVariants.{Named, Literal, VarArgs, FunctionName, Block, For, Initialise}
 use Rattle.core_tree.specs.declared.node.Node.{Node}
 use Rattle.core_tree.specs.declared.node.Entity.{Entity}
 use Rattle.core_tree.specs.declared.node.Unit.{Unit}
@@ -27,6 +27,7 @@ abbrev pub KindsPaired : (ℕ → ℕ → Type 0) → NodeKind → NodeKind → 
 KindsPaired P (Named e) (Named f) = P e f
 KindsPaired P (FunctionName e) (FunctionName f) = P e f
 KindsPaired P (Literal e) (Literal f) = P e f
+KindsPaired P (VarArgs e) (VarArgs f) = P e f
 KindsPaired P (Initialise e paths) (Initialise f others) = P e f × (paths ≡ others)
 KindsPaired P (Block es) (Block fs) = AllPaired P es fs
 KindsPaired P (For es c a) (For fs d b) = AllPaired P es fs × (c ≡ d) × (a ≡ b)
@@ -142,6 +143,9 @@ module _ (one other : Numbering) (u v : Unit) where
   kinds_paired (Literal d) (Literal e) (Literal f) x y i j = record { pair = record { leaf = d; first = x; second = y }; here = i.0; there = j.0 }
   kinds_paired (Literal d) (Literal e) b x y i j = absurd (cc)
   kinds_paired (Literal d) a b x y i j = absurd (cc)
+  kinds_paired (VarArgs d) (VarArgs e) (VarArgs f) x y i j = record { pair = record { leaf = d; first = x; second = y }; here = i.0; there = j.0 }
+  kinds_paired (VarArgs d) (VarArgs e) b x y i j = absurd (cc)
+  kinds_paired (VarArgs d) a b x y i j = absurd (cc)
   kinds_paired (Initialise d paths) (Initialise e p) (Initialise f q) x y i j = (record { pair = record { leaf = d; first = x.0; second = y.0 }; here = i.0; there = j.0 }, sym x.1 ∙ y.1)
   kinds_paired (Initialise d paths) (Initialise e p) b x y i j = absurd (cc)
   kinds_paired (Initialise d paths) a b x y i j = absurd (cc)
@@ -372,6 +376,7 @@ kinds_more : (P S : ℕ → ℕ → Type 0) → ((e f : ℕ) → P e f → S e f
 kinds_more P S f (Named d) (Named e) h = f d e h
 kinds_more P S f (FunctionName d) (FunctionName e) h = f d e h
 kinds_more P S f (Literal d) (Literal e) h = f d e h
+kinds_more P S f (VarArgs d) (VarArgs e) h = f d e h
 kinds_more P S f (Initialise d paths) (Initialise e others) h = (f d e h.0, h.1)
 kinds_more P S f (Block ds) (Block es) h = paired_more P S f ds es h
 kinds_more P S f (For ds c a) (For es d b) h = (paired_more P S f ds es h.0, h.1, h.2)

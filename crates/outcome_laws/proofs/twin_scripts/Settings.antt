@@ -141,18 +141,21 @@ numbered_view None before f h = absurd (none_some h)
 numbered_view (Some key) before f h = (key, refl)
 
 -- ---- classes of locations
-four_moved : (f : ℕ → ℕ) (n : ℕ) → (number_moved f n == 4) ≡ (n == 4)
-four_moved f n = elim (cases_Bool (nat_lt n 8)) [
-  | inl its ↦ ap (λ (b : Bool). (if b then n else 8 + f (n - 8)) == 4) its
+small_moved : (f : ℕ → ℕ) (n k : ℕ) → k < 8 → (number_moved f n == k) ≡ (n == k)
+small_moved f n k small = elim (cases_Bool (nat_lt n 8)) [
+  | inl its ↦ ap (λ (b : Bool). (if b then n else 8 + f (n - 8)) == k) its
   | inr isnt ↦
-      let past : 8 + f (n - 8) == 4 ≡ false = grind (arith, nat_tests) in
-      let far : n == 4 ≡ false = grind (arith, nat_tests) in
-      ap (λ (b : Bool). (if b then n else 8 + f (n - 8)) == 4) isnt ∙ (past ∙ sym far)
+      let past : 8 + f (n - 8) == k ≡ false = grind (arith, nat_tests) in
+      let far : n == k ≡ false = grind (arith, nat_tests) in
+      ap (λ (b : Bool). (if b then n else 8 + f (n - 8)) == k) isnt ∙ (past ∙ sym far)
 ]
 
 line_same : (to : Numbers) (x y : Location) → SameLocation to x y → has_line y ≡ has_line x
 line_same to x y s =
-    ap (λ (b : Bool). b || (y.ty == 4)) s.collapsed ∙ (ap (λ (n : ℕ). x.collapsed || (n == 4)) s.ty ∙ ap (λ (b : Bool). x.collapsed || b) (four_moved to.tag x.ty))
+    ap (λ (b : Bool). b || (y.ty == 4) || (y.ty == 7)) s.collapsed
+    ∙ (ap (λ (n : ℕ). x.collapsed || (n == 4) || (n == 7)) s.ty
+    ∙ (ap (λ (b : Bool). x.collapsed || b || (number_moved to.tag x.ty == 7)) (small_moved to.tag x.ty 4 (omega arith))
+    ∙ ap (λ (b : Bool). x.collapsed || (x.ty == 4) || b) (small_moved to.tag x.ty 7 (omega arith))))
 
 module _ (p q : Program) (to back : Numbers) (l : LeadsTo p q to back) (lead : LocationsLead p q to) (one other : System)
     (s : SystemOf p (view_of (locations_in p)) one) (z : SystemOf q (view_of (locations_in q)) other) where

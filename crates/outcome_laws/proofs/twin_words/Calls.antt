@@ -16,7 +16,7 @@ use Rattle.c_types.specs.Made.{AreNamed}
 use Rattle.c_types.proofs.Grow.{grown_length}
 use Rattle.core_tree.specs.declared.node.Node.{Node}
 use Rattle.core_tree.specs.declared.node.NodeKind.{NodeKind}
-use Rattle.core_tree.specs.declared.node.NodeKind.TheVariants.{Named, FunctionName, Literal, Block, For, Initialise, Text, Convert, CallNode}
+use Rattle.core_tree.specs.declared.node.NodeKind.TheVariants.{Named, FunctionName, Literal, VarArgs, Block, For, Initialise, Text, Convert, CallNode}
 use Rattle.core_tree.specs.declared.node.Entity.{Entity}
 use Rattle.core_tree.specs.declared.node.Program.{Program}
 use Rattle.core_tree.specs.Typed.{trees_in}
@@ -249,6 +249,7 @@ module _ (p q : Program) (to back : Numbers) (l : LeadsTo p q to back) (r : Lead
   kinds_same n x y (Named e) at there round same = refl
   kinds_same n x y (FunctionName e) at there round same = refl
   kinds_same n x y (Literal e) at there round same = refl
+  kinds_same n x y (VarArgs e) at there round same = refl
   kinds_same n x y (Block es) at there round same = refl
   kinds_same n x y (For es c a) at there round same = refl
   kinds_same n x y (Initialise e paths) at there round same = refl

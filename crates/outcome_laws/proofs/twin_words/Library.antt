@@ -13,6 +13,7 @@ use Rattle.std.proofs.lemmas.Bool.{cases_Bool, eqb-true, eq-eqb, false≢true}
 use Rattle.std.proofs.lemmas.Option.{slice_get_within}
 use Rattle.c_types.specs.declared.key.ObjectKey.{ObjectKey}
 use Rattle.c_types.specs.declared.key.ObjectKey.TheVariants.{Entity as EntityKey, Text as TextKey, Call as CallKey, Library as LibraryKey, Star as StarKey, Function as FunctionKey}
+use Rattle.c_types.specs.declared.key.ObjectKey.TheVariants.{Varargs as VarargsKey}
 use Rattle.c_types.specs.Trees.{Ctype}
 use Rattle.c_types.specs.Table.{Table, type_of}
 use Rattle.core_tree.specs.declared.node.Node.{Node}
@@ -31,7 +32,8 @@ use Rattle.obj_made.specs.declared.object.Content.{Content}
 use Rattle.obj_made.specs.declared.object.Content.TheVariants.{Function, Blob, Scalar, Scalars, Typed, Elements}
 use Rattle.obj_made.specs.declared.object.Object.{Object}
 use Rattle.obj_made.specs.Uses.{entity_number, is_allocator}
-use Rattle.obj_made.specs.Made.{Spot, by_place, Made, in_order, object_unless_declared, entity_object, made_at, entities_made, called_object, object_of_call, called_entity, object_of_kind, node_object, nodes_made, made_in_order, objects_in}
+use Rattle.obj_made.specs.Made.{Spot, by_place, Made, in_order, object_unless_declared, entity_object, made_at, entities_made, called_object, object_of_call, called_entity, object_of_kind, node_object, nodes_made, made_in_order, objects_in, has_varargs, varargs_object, varargs_spot, varargs_made, made_of_names}
+use Rattle.obj_made.specs.Spelling.{varargs_name}
 use Rattle.obj_space.specs.declared.location.Location.{Location}
 use Rattle.obj_space.specs.Parts.{parts_of}
 use Rattle.obj_space.specs.Found.{same_object, kind_of, number_of}
@@ -61,6 +63,7 @@ kinds_one (TextKey e) (TextKey f) k n = ap TextKey n
 kinds_one (CallKey e) (CallKey f) k n = ap CallKey n
 kinds_one (LibraryKey e) (LibraryKey f) k n = ap LibraryKey n
 kinds_one (StarKey e) (StarKey f) k n = ap StarKey n
+kinds_one (VarargsKey e) (VarargsKey f) k n = ap VarargsKey n
 kinds_one (FunctionKey e) (FunctionKey f) k n = ap FunctionKey n
 kinds_one a b k n = absurd (omega (arith, k))
 
@@ -180,9 +183,17 @@ module _ (p : Program) where
   nodes_own n [] = tt
   nodes_own n (x ∷ rest) = own_append _ (nodes_made p (n + 1) rest) (made_own _ (node_object p n x) (kind_own n x x.kind)) (nodes_own (n + 1) rest)
 
+  further_own : (k : ℕ) (xs : List Entity) → AllOwn (varargs_made p k xs)
+  further_own k [] = tt
+  further_own k (x ∷ rest) =
+      own_append (made_at (varargs_spot p k x) (varargs_object p k x)) (varargs_made p (k + 1) rest)
+      (made_own (varargs_spot p k x) (varargs_object p k x) (own_if (has_varargs p.types x) (record { key = VarargsKey k; name = varargs_name p.names.items x; content = Blob }) tt)) (further_own (k + 1) rest)
+
   pub all_own : AllOwn (made_in_order p)
   all_own =
-      in_order_own (in_order [] (entities_made p 0 p.entities.items)) (nodes_made p 0 p.nodes.items) (in_order_own [] (entities_made p 0 p.entities.items) tt (entities_own 0 p.entities.items)) (nodes_own 0 p.nodes.items)
+      in_order_own (made_of_names p) (varargs_made p 0 p.entities.items)
+      (in_order_own (in_order [] (entities_made p 0 p.entities.items)) (nodes_made p 0 p.nodes.items) (in_order_own [] (entities_made p 0 p.entities.items) tt (entities_own 0 p.entities.items)) (nodes_own 0 p.nodes.items))
+      (further_own 0 p.entities.items)
 
   pub member_own : (made : Made) (o : Object) → AllOwn made → Member (objects_in made) o → IsOwn o.key
   member_own [] o h m = absurd m

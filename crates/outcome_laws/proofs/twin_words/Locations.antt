@@ -10,7 +10,7 @@ use Rattle.std.proofs.lemmas.Cmp.{ranked}
 use Rattle.std.proofs.lemmas.List.{length-map}
 use Rattle.std.proofs.lemmas.Option.{slice_get_within}
 use Rattle.pta_base.specs.declared.place.Place.{Place}
-use Rattle.c_types.specs.declared.key.ObjectKey.TheVariants.{Library as LibraryKey}
+use Rattle.c_types.specs.declared.key.ObjectKey.TheVariants.{Library as LibraryKey, Varargs as VarargsKey}
 use Rattle.c_types.specs.declared.term.TypeId.{TypeId}
 use Rattle.c_types.specs.Table.{Table, type_of}
 use Rattle.core_tree.specs.declared.node.Node.{Node}
@@ -21,8 +21,9 @@ use Rattle.core_tree.specs.declared.node.Program.{Program}
 use Rattle.obj_made.specs.declared.object.Content.{Content}
 use Rattle.obj_made.specs.declared.object.Content.TheVariants.{Function, Blob, Scalar, Scalars, Typed, Elements}
 use Rattle.obj_made.specs.declared.object.Object.{Object}
+use Rattle.obj_made.specs.Spelling.{varargs_name}
 use Rattle.obj_made.specs.Uses.{is_named, is_starred}
-use Rattle.obj_made.specs.Made.{Spot, spot_at, by_place, Made, in_order, entity_content, object_unless_declared, entity_object, made_at, entity_made, entities_made, node_object, node_made, nodes_made, made_in_order, objects_in}
+use Rattle.obj_made.specs.Made.{Spot, spot_at, by_place, Made, in_order, entity_content, object_unless_declared, entity_object, made_at, entity_made, entities_made, node_object, node_made, nodes_made, last_place, has_varargs, varargs_object, varargs_spot, varargs_made, made_of_names, made_in_order, objects_in}
 use Rattle.obj_made.proofs.Ordered.{in_order-append}
 use Rattle.obj_space.specs.Parts.{parts_of}
 use Rattle.obj_space.specs.Objects.{named_object, function_if, function_object, functions_below, LibraryRow, library_rows, is_needed, library_object, library_objects_from, library_objects, star_if, star_object, star_objects, takes_arguments, library_part, objects_of}
@@ -33,6 +34,7 @@ use Rattle.outcome_laws.proofs.twin_words.Sums.{some_one, none_some, sum-cons, s
 use Rattle.outcome_laws.proofs.twin_words.Calls.{content_size, object_size, node_size_same}
 use Rattle.outcome_laws.proofs.twin_words.Tables.{parts_there}
 use Rattle.outcome_laws.proofs.twin_words.Uses.{named_same, arguments_same, starred_same}
+use Rattle.outcome_laws.proofs.twin_locations.Further.{has_same}
 
 -- how many locations objects have
 total : Table → List Object → ℕ
@@ -193,16 +195,54 @@ nothing : (table : Table) → made_total table [] ≡ 0
 unfolding made_total
 nothing table = refl
 
+-- ---- what functions are passed past their parameters
+abbrev one_if : Bool → ℕ
+one_if has = if has then 1 else 0
+
+further_sizes : Table → List Entity → List ℕ
+further_sizes table xs = map (λ (x : Entity). one_if (has_varargs table x)) xs
+
+further_size : (p : Program) (e : ℕ) (x : Entity) → object_size p.types (varargs_object p e x) ≡ one_if (has_varargs p.types x)
+further_size p e x = by (has_varargs p.types x)
+  where
+    by : (b : Bool) → object_size p.types (if b then Some (record { key = VarargsKey e; name = varargs_name p.names.items x; content = Blob }) else None) ≡ one_if b
+    by true = refl
+    by false = refl
+
+further_follow : (p : Program) (k : ℕ) (xs : List Entity) (done : Made) → Below (length p.entities.items + length p.nodes.items + k) done
+    → Follows p.types (length p.entities.items + length p.nodes.items + (k + length xs)) done (in_order done (varargs_made p k xs)) (sum (further_sizes p.types xs))
+unfolding further_sizes
+further_follow p k [] done h = record { below = below_more (length p.entities.items + length p.nodes.items + k) (length p.entities.items + length p.nodes.items + (k + 0)) done (omega arith) h; sum_is = omega arith }
+further_follow p k (x ∷ rest) done h =
+    let start : ℕ = length p.entities.items + length p.nodes.items in
+    let first = put_one p.types (last_place x.place k p.entities.items) (start + k) (varargs_object p k x) done h in
+    let now = in_order done (made_at (varargs_spot p k x) (varargs_object p k x)) in
+    let later = further_follow p (k + 1) rest now (below_more ((start + k) + 1) (start + (k + 1)) now (omega arith) first.below) in
+    let whole : in_order done (varargs_made p k (x ∷ rest)) ≡ in_order now (varargs_made p (k + 1) rest) = in_order-append done (made_at (varargs_spot p k x) (varargs_object p k x)) (varargs_made p (k + 1) rest) in
+    let one = further_size p k x in
+    let all = sum-cons (one_if (has_varargs p.types x)) (map (λ (y : Entity). one_if (has_varargs p.types y)) rest) in
+    let a = first.sum_is in
+    let b = later.sum_is in
+    let same : made_total p.types (in_order done (varargs_made p k (x ∷ rest))) ≡ made_total p.types (in_order now (varargs_made p (k + 1) rest)) = ap (made_total p.types) whole in
+    record {
+      below = subst (λ (m : Made). Below (start + (k + suc (length rest))) m) (sym whole) (below_more (start + ((k + 1) + length rest)) (start + (k + suc (length rest))) (in_order now (varargs_made p (k + 1) rest)) (omega arith) later.below);
+      sum_is = omega (arith, same, one, all, a, b);
+    }
+
 -- all that tokens make
-made_sum : (p : Program) → made_total p.types (made_in_order p) ≡ sum (entity_sizes p.types p.entities.items) + sum (node_sizes p 0 p.nodes.items)
+made_sum : (p : Program) → made_total p.types (made_in_order p) ≡ (sum (entity_sizes p.types p.entities.items) + sum (node_sizes p 0 p.nodes.items)) + sum (further_sizes p.types p.entities.items)
 made_sum p =
     let first = entities_follow p 0 p.entities.items [] tt in
     let middle = in_order [] (entities_made p 0 p.entities.items) in
     let second = nodes_follow p 0 p.nodes.items middle (below_more (0 + length p.entities.items) (length p.entities.items + 0) middle (omega arith) first.below) in
+    let named = made_of_names p in
+    let third = further_follow p 0 p.entities.items named
+    (below_more (length p.entities.items + (0 + length p.nodes.items)) (length p.entities.items + length p.nodes.items + 0) named (omega arith) second.below) in
     let a = first.sum_is in
     let b = second.sum_is in
+    let c = third.sum_is in
     let none : made_total p.types [] ≡ 0 = nothing p.types in
-    omega (arith, a, b, none)
+    omega (arith, a, b, c, none)
 
 -- ---- the library
 -- objects that are made of no type of the table
@@ -321,6 +361,18 @@ at_nodes p n (x ∷ xs) (suc i) a at =
     let e : n + suc i ≡ (n + 1) + i = omega arith in
     (y, there, ap (λ m. object_size p.types (node_object p m y)) e ∙ is)
 
+at_further : (table : Table) (xs : List Entity) (i a : ℕ) → slice_get (further_sizes table xs) i ≡ Some a → (x : Entity) × (slice_get xs i ≡ Some x) × (one_if (has_varargs table x) ≡ a)
+unfolding further_sizes
+at_further table [] i a at = absurd (none_some at)
+at_further table (x ∷ xs) zero a at = (x, refl, some_one at)
+at_further table (x ∷ xs) (suc i) a at = at_further table xs i a at
+
+further_at : (table : Table) (xs : List Entity) (i : ℕ) (x : Entity) → slice_get xs i ≡ Some x → slice_get (further_sizes table xs) i ≡ Some (one_if (has_varargs table x))
+unfolding further_sizes
+further_at table [] i x at = absurd (none_some at)
+further_at table (y ∷ xs) zero x at = ap (λ (z : Entity). Some (one_if (has_varargs table z))) (some_one at)
+further_at table (y ∷ xs) (suc i) x at = further_at table xs i x at
+
 nodes_at : (p : Program) (n : ℕ) (xs : List Node) (i : ℕ) (x : Node) → slice_get xs i ≡ Some x → slice_get (node_sizes p n xs) i ≡ Some (object_size p.types (node_object p (n + i) x))
 unfolding node_sizes
 nodes_at p n [] i x at = absurd (none_some at)
@@ -356,13 +408,22 @@ module _ (p q : Program) (to back : Numbers) (l : LeadsTo p q to back) (r : Lead
       ∙ (node_size_same p q to back l r sound other_sound i x y x_at there round same ∙ ap (λ m. object_size p.types (node_object p m x)) (sym zero_is)) in
       nodes_at q 0 q.nodes.items (to.node i) y there ∙ ap Some (size ∙ is)
 
+  further_there : (i a : ℕ) → slice_get (further_sizes p.types p.entities.items) i ≡ Some a → slice_get (further_sizes q.types q.entities.items) (to.entity i) ≡ Some a
+  further_there i a at =
+      let (x, x_at, is) = at_further p.types p.entities.items i a at in
+      let (y, there, same) = l.entities i x x_at in
+      further_at q.types q.entities.items (to.entity i) y there ∙ ap Some (ap one_if (has_same p q to back l x y same) ∙ is)
+
+  further_round : (i a : ℕ) → slice_get (further_sizes p.types p.entities.items) i ≡ Some a → back.entity (to.entity i) ≡ i
+  further_round i a at = (let (x, x_at, is) = at_further p.types p.entities.items i a at in l.entity_back i (slice_get_within p.entities.items i x x_at))
+
   entity_round : (i a : ℕ) → slice_get (entity_sizes p.types p.entities.items) i ≡ Some a → back.entity (to.entity i) ≡ i
   entity_round i a at = (let (x, x_at, is) = at_sizes p.types p.entities.items i a at in l.entity_back i (slice_get_within p.entities.items i x x_at))
 
   node_round : (i a : ℕ) → slice_get (node_sizes p 0 p.nodes.items) i ≡ Some a → back.node (to.node i) ≡ i
   node_round i a at = (let (x, x_at, is) = at_nodes p 0 p.nodes.items i a at in l.node_back i (slice_get_within p.nodes.items i x x_at))
 
-located_sum : (p : Program) → length (locations_in p) ≡ (sum (entity_sizes p.types p.entities.items) + sum (node_sizes p 0 p.nodes.items)) + length (library_part p)
+located_sum : (p : Program) → length (locations_in p) ≡ (sum (entity_sizes p.types p.entities.items) + sum (node_sizes p 0 p.nodes.items) + sum (further_sizes p.types p.entities.items)) + length (library_part p)
 unfolding locations_in
 located_sum p =
     let whole = located_total p.types (objects_of p) in
@@ -380,7 +441,10 @@ as_many_locations p q to back l r sound other_sound =
     let nodes : sum (node_sizes p 0 p.nodes.items) ≡ sum (node_sizes q 0 q.nodes.items) =
     sum_same (node_sizes p 0 p.nodes.items) (node_sizes q 0 q.nodes.items) to.node back.node
     (node_there p q to back l r sound other_sound) (node_there q p back to r l other_sound sound) (node_round p q to back l r sound other_sound) (node_round q p back to r l other_sound sound) in
+    let further : sum (further_sizes p.types p.entities.items) ≡ sum (further_sizes q.types q.entities.items) =
+    sum_same (further_sizes p.types p.entities.items) (further_sizes q.types q.entities.items) to.entity back.entity
+    (further_there p q to back l r sound other_sound) (further_there q p back to r l other_sound sound) (further_round p q to back l r sound other_sound) (further_round q p back to r l other_sound sound) in
     let library : length (library_part q) ≡ length (library_part p) = ap (λ (os : List Object). length os) (library_same p q to back l r) in
     let one = located_sum p in
     let other = located_sum q in
-    omega (arith, entities, nodes, library, one, other)
+    omega (arith, entities, nodes, further, library, one, other)

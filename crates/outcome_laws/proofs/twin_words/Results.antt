@@ -1,23 +1,23 @@
 -- Programs that are one have as many rows.
 use Rattle.std.proofs.Common.{arith, ◌≡◌, ◌∙◌, ◌+◌, ◌<◌, ◌≤◌, ◌⊎◌, ℕ, true, false, List, [], ◌∷◌, map, Option, Some, None, refl, sym, ap, subst, inl, inr}
-use Rattle.std.specs.Prelude.{sum, if◌then◌else◌, ◌==◌}
+use Rattle.std.specs.Prelude.{sum, if◌then◌else◌, ◌==◌, All, length}
 use Rattle.std.specs.List.{slice_get, filter_map, cons_option, enumerate_from, range_with_len}
 use Rattle.std.specs.Option.{option_map, option_map_or}
 use Rattle.std.proofs.lemmas.Bool.{eqb-true, eq-eqb, false≢true}
-use Rattle.std.proofs.lemmas.Option.{slice_get_within}
+use Rattle.std.proofs.lemmas.Option.{slice_get_within, slice_get_cases}
 use Rattle.c_types.specs.declared.key.ObjectKey.{ObjectKey}
 use Rattle.c_types.specs.declared.key.ObjectKey.TheVariants.{Entity as EntityKey, Function as FunctionKey}
-use Rattle.c_types.specs.Trees.{Ctype, FunctionFrom}
+use Rattle.c_types.specs.Trees.{Ctype, PointerTo, FunctionFrom}
 use Rattle.c_types.specs.Table.{Table, type_of}
 use Rattle.type_rules.specs.Conversions.{result_of}
 use Rattle.core_tree.specs.declared.node.Node.{Node}
 use Rattle.core_tree.specs.declared.node.NodeKind.{NodeKind}
-use Rattle.core_tree.specs.declared.node.NodeKind.TheVariants.{Named, FunctionName, Literal, Block, For, Initialise}
+use Rattle.core_tree.specs.declared.node.NodeKind.TheVariants.{Named, FunctionName, Literal, VarArgs, Block, For, Initialise, CallNode}
 use Rattle.core_tree.specs.declared.node.Entity.{Entity}
 use Rattle.core_tree.specs.declared.node.Storage.{Storage}
 use Rattle.core_tree.specs.declared.node.Storage.TheVariants.{FunctionBody}
 use Rattle.core_tree.specs.declared.node.Program.{Program}
-use Rattle.core_tree.specs.Typed.{CoreTrees, Sort, sort_of, trees_in}
+use Rattle.core_tree.specs.Typed.{CoreTrees, Sort, sort_of, type_in, type_at, trees_in}
 use Rattle.link_model.specs.Renamed.{renamed}
 use Rattle.link_model.specs.Partition.{HasTags}
 use Rattle.link_merge.proofs.Own.{type_tags}
@@ -28,7 +28,7 @@ use Rattle.row_numbers.specs.declared.functions.Role.TheVariants.{Defined}
 use Rattle.row_numbers.specs.Kept.{kept_count, nodes_of}
 use Rattle.row_numbers.specs.Objects.{library_id}
 use Rattle.row_numbers.specs.Functions.{has_body, key_if, keys_in, begins_at, object_at, function_keys, functions_below, type_or_void, key_type}
-use Rattle.row_numbers.specs.Setting.{width_by, width, widths, result_nodes, result_widths, none_row, row_total}
+use Rattle.row_numbers.specs.Setting.{width_by, takes_further, calls_further, own_width, lead, trail, trail_at, width, widths, result_nodes, result_widths, none_row, row_total}
 use Rattle.linked_laws.proofs.main_laws.Objects.{body_begins}
 use Rattle.outcome_laws.specs.twin_programs.One.{Numbers, SameNode, LeadsTo}
 use Rattle.outcome_laws.specs.twin_words.Words.{IsSound}
@@ -44,25 +44,76 @@ pub sort_same : (f : ℕ → ℕ) (kind : NodeKind) → sort_of (kind_renamed f 
 sort_same f (Named e) = refl
 sort_same f (FunctionName e) = refl
 sort_same f (Literal e) = refl
+sort_same f (VarArgs e) = refl
 sort_same f (Block es) = refl
 sort_same f (For es c a) = refl
 sort_same f (Initialise e paths) = refl
 sort_same f kind = refl
 
+pub lead_same : (f : ℕ → ℕ) (kind : NodeKind) → lead (kind_renamed f kind) ≡ lead kind
+lead_same f (Named e) = refl
+lead_same f (FunctionName e) = refl
+lead_same f (Literal e) = refl
+lead_same f (VarArgs e) = refl
+lead_same f (Block es) = refl
+lead_same f (For es c a) = refl
+lead_same f (Initialise e paths) = refl
+lead_same f kind = refl
+
+pub takes_same : (f : ℕ → ℕ) (t : Ctype) → takes_further (renamed f t) ≡ takes_further t
+takes_same f (FunctionFrom result parameters form) = refl
+takes_same f t = refl
+
+pub calls_same : (f : ℕ → ℕ) (t : Ctype) → calls_further (renamed f t) ≡ calls_further t
+calls_same f (PointerTo to) = takes_same f to
+calls_same f t = refl
+
 module _ (p q : Program) (to back : Numbers) (l : LeadsTo p q to back) (r : LeadsTo q p back to) (sound : IsSound p) (other_sound : IsSound q) where
-  pub width_same : (x y : Node) → SameNode p.types q.types to x y → width q.types y ≡ width p.types x
-  width_same x y s =
+  own_same : (x y : Node) → SameNode p.types q.types to x y → own_width q.types y ≡ own_width p.types x
+  own_same x y s =
       ap (λ (k : Sort). width_by k (kept_count (nodes_of q.types (type_of q.types y.ty.0)))) (ap sort_of s.kind ∙ sort_same to.entity x.kind)
       ∙ ap (width_by (sort_of x.kind)) (kept_there p q to back l r sound other_sound x.ty.0 y.ty.0 s.type)
 
+  -- the type of a node in both
+  at_same : (c : ℕ) → c < length p.nodes.items → type_at (trees_in q) (to.node c) ≡ renamed to.tag (type_at (trees_in p) c)
+  at_same c lt = elim (slice_get_cases p.nodes.items c).1 [
+    | inl known ↦
+        let (y, there, same) = l.nodes c known.0 known.2 in
+        ap (type_in q.types) there ∙ (same.type ∙ sym (ap (λ (o : Option Node). renamed to.tag (type_in p.types o)) known.2))
+    | inr past ↦ (let far = past.0 in absurd (omega (arith, far, lt)))
+  ]
+
+  trail_same : (n : ℕ) (x : Node) (kind : NodeKind) (children : List ℕ) → n < length p.nodes.items → All (λ c. c < n) children
+      → trail (trees_in q) (kind_renamed to.entity kind) (map to.node children) ≡ trail (trees_in p) kind children
+  trail_same n x CallNode [] lt all = refl
+  trail_same n x CallNode (c ∷ arguments) lt all =
+      ap (λ (t : Ctype). trail_at (calls_further t)) (at_same c (let less : c < n = all 0 0 (omega arith) in omega (arith, less, lt))) ∙ ap trail_at (calls_same to.tag (type_at (trees_in p) c))
+  trail_same n x (Named e) children lt all = refl
+  trail_same n x (FunctionName e) children lt all = refl
+  trail_same n x (Literal e) children lt all = refl
+  trail_same n x (VarArgs e) children lt all = refl
+  trail_same n x (Block es) children lt all = refl
+  trail_same n x (For es c a) children lt all = refl
+  trail_same n x (Initialise e paths) children lt all = refl
+  trail_same n x kind children lt all = refl
+
+  pub width_same : (n : ℕ) (x y : Node) → slice_get p.nodes.items n ≡ Some x → SameNode p.types q.types to x y → width (trees_in q) y ≡ width (trees_in p) x
+  width_same n x y at s =
+      let before = ap lead s.kind ∙ lead_same to.entity x.kind in
+      let own = own_same x y s in
+      let behind : trail (trees_in q) y.kind y.children ≡ trail (trees_in p) x.kind x.children =
+      ap (λ (k : NodeKind). trail (trees_in q) k y.children) s.kind
+      ∙ (ap (trail (trees_in q) (kind_renamed to.entity x.kind)) s.children ∙ trail_same n x x.kind x.children (slice_get_within p.nodes.items n x at) (sound.range.children n x at)) in
+      omega (arith, before, own, behind)
+
   pub width_there : (i a : ℕ) → slice_get (widths (trees_in p)) i ≡ Some a → slice_get (widths (trees_in q)) (to.node i) ≡ Some a
   width_there i a at =
-      let (x, x_at, is) = unmapped_at (width p.types) p.nodes.items i a at in
+      let (x, x_at, is) = unmapped_at (width (trees_in p)) p.nodes.items i a at in
       let (y, there, same) = l.nodes i x x_at in
-      mapped_at (width q.types) q.nodes.items (to.node i) y there ∙ ap Some (width_same x y same ∙ is)
+      mapped_at (width (trees_in q)) q.nodes.items (to.node i) y there ∙ ap Some (width_same i x y x_at same ∙ is)
 
   pub width_round : (i a : ℕ) → slice_get (widths (trees_in p)) i ≡ Some a → back.node (to.node i) ≡ i
-  width_round i a at = (let (x, x_at, is) = unmapped_at (width p.types) p.nodes.items i a at in l.node_back i (slice_get_within p.nodes.items i x x_at))
+  width_round i a at = (let (x, x_at, is) = unmapped_at (width (trees_in p)) p.nodes.items i a at in l.node_back i (slice_get_within p.nodes.items i x x_at))
 
 -- ---- functions
 -- a function with a body, or one of the library

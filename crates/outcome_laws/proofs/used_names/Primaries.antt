@@ -24,7 +24,7 @@ use Rattle.core_node_laws.specs.near_nodes.Holding.{Holds, AreOf, OfSense, Meani
 use Rattle.core_node_laws.proofs.near_nodes.Nearness.{AllNear, all_near}
 use Rattle.core_node_laws.proofs.near_nodes.Giving.{Gives, if_given, if_holds}
 use Rattle.core_node_laws.proofs.near_nodes.Values.{typed_kept}
-use Rattle.core_node_laws.proofs.near_nodes.Expressions.{as_sense_kept}
+use Rattle.core_node_laws.proofs.near_nodes.Expressions.{as_sense_kept, list_row_kept}
 use Rattle.core_node_laws.proofs.near_nodes.Types.{type_kept, specs_kept, struct_kept, enum_kept}
 use Rattle.core_node_laws.proofs.near_nodes.Rows.{row_kept}
 use Rattle.outcome_laws.specs.used_names.Uses.{using}
@@ -74,7 +74,9 @@ module _ (used : ℕ → Place → Type 0) where
     passed_placed at (c ∷ rest) = each c
 
     primary_of_placed : (at first : ℕ) (rest : List ℕ) (kind : TokenKind) → (kind ≡ Identifier → MeansAt (place_at s first) (w.meaning first)) → Good (primary_of w s sense at first rest kind)
-    primary_of_placed at first rest Identifier means =
+    primary_of_placed at first (c ∷ rest) Identifier means =
+        list_row_kept (Placed used) w s sense Anywhere (λ i here. each i) (λ entity function place list type asked e. tt) at first (c ∷ rest) (all_near Anywhere (c ∷ rest) (λ i has. tt))
+    primary_of_placed at first [] Identifier means =
         as_sense_kept s Anywhere (Placed used) w (name_row w (place_at s first) at (w.meaning first)) (name_placed w (place_at s first) at (w.meaning first) (means refl))
     primary_of_placed at first rest Integer means = (tt, tt)
     primary_of_placed at first rest Character means = (tt, tt)
@@ -105,6 +107,7 @@ module _ (used : ℕ → Place → Type 0) where
       other_placed names =
           let gives : RowGives (Placed used) w s sense at children = record {
             names = names;
+            lists = λ entity function place at type asked e. tt;
             objects = λ declarator l by_it named paths values fixed. tt;
             initials = λ q above paths values over fixed. tt;
             literals = λ q above type initial over. tt;

@@ -14,7 +14,7 @@ use Rattle.c_mentions.specs.declared.roles.Role.TheVariants as role
 use Rattle.c_mentions.specs.Syntax.{production_at, children_at, children_of, first_child, is_name, token_at}
 use Rattle.c_mentions.specs.Declarators.{declarator}
 use Rattle.c_mentions.specs.Roles.{handed, in_declaration, by_specs, in_statement}
-use Rattle.c_mentions.specs.Mentions.{mention_at, leaf_mention, name_used, label_used, is_type_word, is_exempt, end_mention, declarator_mention, enumerator_mention, at_leaf, name_declared, enumerator_leaf, name_at}
+use Rattle.c_mentions.specs.Mentions.{mention_at, leaf_mention, name_used, label_used, is_type_word, is_list_word, is_exempt, end_mention, declarator_mention, enumerator_mention, at_leaf, name_declared, enumerator_leaf, name_at}
 use Rattle.c_mentions.specs.Settings.{Standing, handed_down, standing, standings}
 use Rattle.c_mentions.specs.Symbols.{symbol_of}
 use Rattle.c_scope.specs.Resolves.{happenings_from}
@@ -102,7 +102,7 @@ module _ (tokens : List Token) (nodes : List Node) where
 
     used_fits : (n : ℕ) (name : List ℕ) (at : ℕ) (in_body : Bool) → StandsUsing n → Fit n (name_used name at in_body)
     unfolding name_used
-    used_fits n name at in_body own = by (is_type_word name)
+    used_fits n name at in_body own = by (is_type_word name || is_list_word name)
       where
         by : (b : Bool) → Fit n (if b then mention.Nothing else mention.Use at (is_exempt name in_body))
         by true = tt

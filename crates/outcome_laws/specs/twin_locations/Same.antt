@@ -1,6 +1,7 @@
 -- Locations of programs that are one, but for numbers: the same names, classes and objects.
 use Rattle.std.specs.Prelude.{ℕ, ◌≡◌, ◌+◌, ◌-◌, nat_lt, if◌then◌else◌, Some, slice_get}
 use Rattle.c_types.specs.declared.key.ObjectKey.{ObjectKey}
+use Rattle.c_types.specs.declared.key.ObjectKey.TheVariants.{Varargs}
 use Rattle.c_types.specs.declared.key.ObjectKey.TheVariants.{Entity, Text, Call, Function}
 use Rattle.c_types.specs.Made.{IsMade, AreNamed}
 use Rattle.core_tree.specs.declared.node.Entity.{Entity as EntityOf}
@@ -19,6 +20,7 @@ abbrev pub key_moved : Numbers → ObjectKey → ObjectKey
 key_moved to (Entity e) = Entity (to.entity e)
 key_moved to (Text n) = Text (to.node n)
 key_moved to (Call n) = Call (to.node n)
+key_moved to (Varargs e) = Varargs (to.entity e)
 key_moved to key = key
 
 -- a location is the same, but for these numbers

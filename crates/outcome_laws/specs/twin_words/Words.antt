@@ -4,6 +4,7 @@ use Rattle.c_types.specs.Made.{IsMade, AreNamed}
 use Rattle.core_tree.specs.declared.node.Unit.{Unit}
 use Rattle.core_tree.specs.declared.node.Program.{Program}
 use Rattle.core_tree.specs.Typed.{trees_in}
+use Rattle.core_tree.specs.Range.{InRange}
 use Rattle.unit_link.specs.Linked.{Linked}
 use Rattle.obj_space.specs.Space.{locations_in}
 use Rattle.obj_space.specs.View.{view_of}
@@ -12,10 +13,11 @@ use Rattle.constraints.specs.System.{word_total}
 use Rattle.outcome_laws.specs.fault_laws.Twins.{AreAllTwins}
 use Rattle.outcome_laws.specs.twin_programs.One.{AreAllRooted, AreOne}
 
--- a table that was made, and in which each term comes behind its types
+-- a table that was made, in which each term comes behind its types, and nodes and entities whose numbers are in range
 pub record IsSound (p : Program) : Type 0 where
   pub made : IsMade p.types
   pub named : AreNamed p.types
+  pub range : InRange (trees_in p)
 
 abbrev pub AsManyLocations : Type 0
 AsManyLocations =

@@ -16,7 +16,7 @@ use Rattle.c_grammar.specs.Names.{Names, is_type, no_names}
 use Rattle.c_grammar.specs.Productions.{p_unit, p_declaration, p_statement}
 use Rattle.c_grammar.specs.Words.{word_for}
 use Rattle.c_grammar.specs.Table.{table, row}
-use Rattle.c_grammar.specs.Terminals.{contains, takes, own_words, own_meaning, is_builtin, builtin_type, builtin_name, type_name, plain_name, name_terminal, is_wide, has_one_character, terminal_of_kind, terminal_of, spelled}
+use Rattle.c_grammar.specs.Terminals.{contains, takes, own_words, list_words, own_meaning, is_builtin, builtin_type, builtin_name, type_name, plain_name, name_terminal, is_wide, has_one_character, terminal_of_kind, terminal_of, spelled}
 use Rattle.c_grammar.specs.Tree.{makes_node}
 use Rattle.c_grammar.specs.Reads.{Node, node_of, leaf}
 use Rattle.c_parser.specs.Parse.{begin}
@@ -48,15 +48,19 @@ own_high : list_all (λ e. nat_le 93 e.1) own_words ≡ true
 unfolding own_words
 own_high = refl
 
+list_high : list_all (λ e. nat_le 93 e.1) list_words ≡ true
+unfolding list_words
+list_high = refl
+
 name_high : (n : Names) (name : List ℕ) → nat_le 93 (name_terminal n name) ≡ true
 unfolding name_terminal
-name_high n name = high own_words own_high name _ (by (is_builtin name) (is_type n name))
+name_high n name = high own_words own_high name _ (by (is_builtin name) (is_type n name) (unwrap_or (own_meaning list_words name) builtin_name) (high list_words list_high name builtin_name refl))
   where
-    by : (a b : Bool) → nat_le 93 (cond a (cond b builtin_type builtin_name) (cond b type_name plain_name)) ≡ true
-    by true true = refl
-    by true false = refl
-    by false true = refl
-    by false false = refl
+    by : (a b : Bool) (d : ℕ) → nat_le 93 d ≡ true → nat_le 93 (cond a (cond b builtin_type d) (cond b type_name plain_name)) ≡ true
+    by true true d h = refl
+    by true false d h = h
+    by false true d h = refl
+    by false false d h = refl
 
 is_one : (x y : ℕ) → contains (x ∷ []) y ≡ true → x ≡ y
 is_one x y h = by (nat_eq x y) refl h

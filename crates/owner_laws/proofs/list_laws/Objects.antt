@@ -40,6 +40,7 @@ module _ (s : Source) (grown : IsGrown s) (lefts : LeftsStand s) (senses : List 
       near_kept Free s senses (B n) are (closed s grown lefts n)
       (λ m lt near each. record {
         names = λ leaf has. meaning_free Free (λ c. tt) _;
+        lists = λ entity function place at type asked e. tt;
         objects = λ declarator leaf by named paths values fixed. tt;
         initials = λ q above paths values over fixed. tt;
         literals = λ q above type initial over. tt;
@@ -141,6 +142,7 @@ module _ (s : Source) (grown : IsGrown s) (lefts : LeftsStand s) (senses : List 
     row_lists : (n : ℕ) → n < length senses → B p n → ((c : ℕ) → B p c → OfSense s (B p) Lists (sense_in (take n senses) c)) → RowGives Lists (world_at s (take n senses) n) s (sense_in (take n senses)) n (children_at s n)
     row_lists n lt near each = record {
       names = λ leaf has. names_free _;
+      lists = λ entity function place at type asked e. tt;
       objects = λ declarator leaf by named paths values fixed. tt;
       initials = λ q above paths values over fixed. tt;
       literals = λ q above type initial over. tt;

@@ -30,7 +30,7 @@ use Rattle.definition_laws.specs.scope_laws.Scoped.{ParametersListed}
 use Rattle.core_node_laws.specs.standing_laws.Standing.{IsGrown, IsMade}
 use Rattle.core_node_laws.proofs.standing_laws.Bodies.{Above, above}
 use Rattle.definition_laws.proofs.passed.built_unit_laws.lasting_literals.Lasting.{literals_last}
-use Rattle.owner_laws.specs.Owners.{LeftsStand, DefinitionsNamed, IsOwnable}
+use Rattle.owner_laws.specs.Owners.{LeftsStand, DefinitionsNamed, FurtherKnown, IsOwnable}
 use Rattle.owner_laws.proofs.Defined.{FunctionTree, EntityOf, entity_of_leaf, some_same}
 use Rattle.owner_laws.proofs.Naming.{clash}
 use Rattle.owner_laws.proofs.Unnamed.{declared_held, literal_unnamed}
@@ -100,7 +100,7 @@ right_true false b e = cc
 module _
     (tokens : Tokens) (tree : Tree) (tag_number : ℕ → ℕ) (senses : List Sense) (numbering : Numbering) (u : Unit) (grown : IsGrown (numbered tag_number (source_of tokens tree))) (made : IsMade (numbered tag_number (source_of tokens tree)) senses numbering u)
     (once : (c d e : ℕ) → numbering c ≡ Some e → numbering d ≡ Some e → c ≡ d) (listed : ParametersListed tokens tree (numbered tag_number (source_of tokens tree))) (lefts : LeftsStand (numbered tag_number (source_of tokens tree)))
-    (names : DefinitionsNamed (numbered tag_number (source_of tokens tree)) senses) (ownable : IsOwnable u) (within : (d e : ℕ) → numbering d ≡ Some e → e < length u.entities.items)
+    (names : DefinitionsNamed (numbered tag_number (source_of tokens tree)) senses) (further : FurtherKnown (numbered tag_number (source_of tokens tree)) senses) (ownable : IsOwnable u) (within : (d e : ℕ) → numbering d ≡ Some e → e < length u.entities.items)
   where
     abbrev s : Source
     s = numbered tag_number (source_of tokens tree)
@@ -167,7 +167,7 @@ module _
             sym (ap (λ (x : Declares). x.storage) same) ∙ storage_is s grown senses made.are_senses made.whole row.node d row.blockish row.below row.world row.automatic stands
 
     listable : (f b n : ℕ) (entity : Entity) (at : entity_at (trees_of u) f ≡ Some entity) (storage : entity.storage ≡ FunctionBody) (body : entity.body ≡ Some b) (under : Under (trees_of u) b n) (node : Node) (there : node_at (trees_of u) n ≡ Some node)
-        → (t : FunctionTree s senses numbering u grown made names f b) → owners.t tokens tree tag_number senses numbering u grown made once listed lefts names ownable f b n entity at storage body under node there ≡ t
+        → (t : FunctionTree s senses numbering u grown made names f b) → owners.t tokens tree tag_number senses numbering u grown made once listed lefts names further ownable f b n entity at storage body under node there ≡ t
         → (d e : ℕ) → IsListedThere s grown lefts senses made.are_senses made.whole t.external d → numbering d ≡ Some e → IsListable (trees_of u) n e
     listable f b n entity at storage body under node there t same d e (near, name, row) number = by (entity_there d e number)
       where
@@ -185,24 +185,24 @@ module _
 
             owned : InOwnersBody (trees_of u) x.owner n
             owned =
-                owners.local_at tokens tree tag_number senses numbering u grown made once listed lefts names ownable f b n entity at storage body under node there e d x number stands (subst IsLocal (sym automatic) tt)
-                (λ off. subst (λ (y : FunctionTree s senses numbering u grown made names f b). owners.N_of tokens tree tag_number senses numbering u grown made once listed lefts names ownable f b y d) (sym same) near)
+                owners.local_at tokens tree tag_number senses numbering u grown made once listed lefts names further ownable f b n entity at storage body under node there e d x number stands (subst IsLocal (sym automatic) tt)
+                (λ off. subst (λ (y : FunctionTree s senses numbering u grown made names f b). owners.N_of tokens tree tag_number senses numbering u grown made once listed lefts names further ownable f b y d) (sym same) near)
 
     in_function : (f b n : ℕ) (entity : Entity) (at : entity_at (trees_of u) f ≡ Some entity) (storage : entity.storage ≡ FunctionBody) (body : entity.body ≡ Some b) (under : Under (trees_of u) b n) (node : Node) (there : node_at (trees_of u) n ≡ Some node)
         → All (λ e. IsListable (trees_of u) n e) (listed_by node.kind)
     in_function f b n entity at storage body under node there = by (stood (L t.external) numbering u b n under (t.core, t.stands, tree_held))
       where
         t : FunctionTree s senses numbering u grown made names f b
-        t = owners.t tokens tree tag_number senses numbering u grown made once listed lefts names ownable f b n entity at storage body under node there
+        t = owners.t tokens tree tag_number senses numbering u grown made once listed lefts names further ownable f b n entity at storage body under node there
 
         L : ℕ → Core → Type 0
         L p = Lists s grown lefts senses made.are_senses made.whole p
 
         tree_held : Holds (L t.external) t.core
-        tree_held = core_held (subst (λ (x : Sense). OfSense s (λ i. owners.N_of tokens tree tag_number senses numbering u grown made once listed lefts names ownable f b t i) (L t.external) x) t.sensed
+        tree_held = core_held (subst (λ (x : Sense). OfSense s (λ i. owners.N_of tokens tree tag_number senses numbering u grown made once listed lefts names further ownable f b t i) (L t.external) x) t.sensed
             (trees_list s grown lefts senses made.are_senses made.whole t.external t.block (part t.part)))
           where
-            core_held : OfSense s (λ i. owners.N_of tokens tree tag_number senses numbering u grown made once listed lefts names ownable f b t i) (L t.external) (IsCore t.core) → Holds (L t.external) t.core
+            core_held : OfSense s (λ i. owners.N_of tokens tree tag_number senses numbering u grown made once listed lefts names further ownable f b t i) (L t.external) (IsCore t.core) → Holds (L t.external) t.core
             core_held h = h
 
         lists : (kind : NodeKind) (place : Place) (type : Ctype) (children : Cores) → Asks (L t.external) kind place type children → AllNear (IsListedThere s grown lefts senses made.are_senses made.whole t.external) (listed_by kind)
@@ -218,15 +218,15 @@ module _
             (listable f b n entity at storage body under node there t refl) kind x.kind same (lists kind place type children hold.0))
 
     lists_right : ListsRight (trees_of u)
-    lists_right n node there = by (owners.place_of tokens tree tag_number senses numbering u grown made once listed lefts names ownable n (slice_get_within u.nodes.items n node there))
+    lists_right n node there = by (owners.place_of tokens tree tag_number senses numbering u grown made once listed lefts names further ownable n (slice_get_within u.nodes.items n node there))
       where
-        by : owners.Place tokens tree tag_number senses numbering u grown made once listed lefts names ownable n → All (λ e. IsListable (trees_of u) n e) (listed_by node.kind)
+        by : owners.Place tokens tree tag_number senses numbering u grown made once listed lefts names further ownable n → All (λ e. IsListable (trees_of u) n e) (listed_by node.kind)
         by (owners.in_function f b entity at storage body under) = in_function f b n entity at storage body under node there
         by (owners.in_static e b entity at storage init under) =
             let none = no_list (trees_of u) ownable.rows ownable.fixed (literals_last s senses numbering u grown made) b n node under (e, init, subst LivesForTheRun (sym at) storage) there in
             subst (λ (l : List ℕ). All (λ e. IsListable (trees_of u) n e) l) (sym none) (All-nil (λ e. IsListable (trees_of u) n e))
 
 pub lists_built : ListsBuilt
-lists_built tokens unit tree tag_number name u cut is built listed lefts names ownable =
+lists_built tokens unit tree tag_number name u cut is built listed lefts names further ownable =
     let s : Source = numbered tag_number (source_of tokens tree) in
-    lists_right tokens tree tag_number built.senses built.numbering u (owners.grown_of tokens unit tree tag_number cut is) (owners.made_of s name u built) built.entity_once listed lefts names ownable built.numbered
+    lists_right tokens tree tag_number built.senses built.numbering u (owners.grown_of tokens unit tree tag_number cut is) (owners.made_of s name u built) built.entity_once listed lefts names further ownable built.numbered

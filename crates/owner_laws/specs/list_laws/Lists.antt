@@ -10,7 +10,7 @@ use Rattle.core_tree.specs.Valid.{ListsRight}
 use Rattle.c_senses.specs.Names.{source_of, numbered}
 use Rattle.definition_laws.specs.passed.built_unit_laws.built_units.Built.{IsBuilt}
 use Rattle.definition_laws.specs.scope_laws.Scoped.{ParametersListed}
-use Rattle.owner_laws.specs.Owners.{LeftsStand, DefinitionsNamed, IsOwnable}
+use Rattle.owner_laws.specs.Owners.{LeftsStand, DefinitionsNamed, FurtherKnown, IsOwnable}
 
 -- under what is asked for owners
 abbrev pub ListsBuilt : Type 0
@@ -22,5 +22,6 @@ ListsBuilt =
     → ParametersListed tokens tree (numbered tag_number (source_of tokens tree))
     → LeftsStand (numbered tag_number (source_of tokens tree))
     → DefinitionsNamed (numbered tag_number (source_of tokens tree)) built.senses
+    → FurtherKnown (numbered tag_number (source_of tokens tree)) built.senses
     → IsOwnable u
     → ListsRight (trees_of u)

@@ -10,7 +10,7 @@ use Rattle.c_lexer.specs.declared.TokenKind.{TokenKind}
 use Rattle.c_lexer.specs.declared.TokenKind.TheVariants.{Identifier, Keyword, Punctuator, End}
 use Rattle.c_grammar.specs.Names.{Names, is_type}
 use Rattle.c_grammar.specs.Table.{table, row}
-use Rattle.c_grammar.specs.Terminals.{contains, takes, own_words, own_meaning, is_builtin, builtin_type, builtin_name, type_name, plain_name, name_terminal, terminal_of_kind, terminal_of, terminal, sign, spelled}
+use Rattle.c_grammar.specs.Terminals.{contains, takes, own_words, list_words, own_meaning, is_builtin, builtin_type, builtin_name, type_name, plain_name, name_terminal, terminal_of_kind, terminal_of, terminal, sign, spelled}
 use Rattle.c_grammar.specs.Tree.{makes_node}
 use Rattle.c_grammar.specs.Reads.{State, Node, leaf, first}
 use Rattle.parsed_tree_laws.proofs.counted_parts.Steps.{left, right}
@@ -142,15 +142,19 @@ own_large : list_all (λ e. nat_le 93 e.1) own_words ≡ true
 unfolding own_words
 own_large = refl
 
+list_large : list_all (λ e. nat_le 93 e.1) list_words ≡ true
+unfolding list_words
+list_large = refl
+
 name_large : (names : Names) (name : List ℕ) → 93 ≤ name_terminal names name
 unfolding name_terminal
-name_large names name = leb-true 93 _ (named_large own_words own_large name _ (by (is_builtin name) (is_type names name)))
+name_large names name = leb-true 93 _ (named_large own_words own_large name _ (by (is_builtin name) (is_type names name) (unwrap_or (own_meaning list_words name) builtin_name) (named_large list_words list_large name builtin_name refl)))
   where
-    by : (a b : Bool) → nat_le 93 (cond a (cond b builtin_type builtin_name) (cond b type_name plain_name)) ≡ true
-    by true true = refl
-    by true false = refl
-    by false true = refl
-    by false false = refl
+    by : (a b : Bool) (d : ℕ) → nat_le 93 d ≡ true → nat_le 93 (cond a (cond b builtin_type d) (cond b type_name plain_name)) ≡ true
+    by true true d h = refl
+    by true false d h = h
+    by false true d h = refl
+    by false false d h = refl
 
 is_first : (x y : ℕ) → contains (x ∷ []) y ≡ true → x ≡ y
 is_first x y h = by (nat_eq x y) refl h

@@ -93,7 +93,7 @@ IsName o = (t : Token) × (o ≡ Some t) × (t.kind ≡ Identifier)
 
 -- the terminals of names
 abbrev names_of : List ℕ
-names_of = 93 ∷ 94 ∷ 96 ∷ 97 ∷ 108 ∷ []
+names_of = 93 ∷ 94 ∷ 96 ∷ 97 ∷ 108 ∷ 109 ∷ 110 ∷ 111 ∷ []
 
 not_less : (y : ℕ) → nat_lt y 93 ≡ false → 93 ≤ y
 not_less y e = grind (arith, nat_tests, e)

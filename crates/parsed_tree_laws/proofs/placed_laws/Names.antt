@@ -18,7 +18,7 @@ use Rattle.c_mentions.specs.declared.roles.TagUse.{TagUse}
 use Rattle.c_mentions.specs.declared.roles.TagUse.TheVariants as tag
 use Rattle.c_mentions.specs.Syntax as syntax
 use Rattle.c_mentions.specs.Declarators.{declarator, within, name_of, inner_of, is_inner, level}
-use Rattle.c_mentions.specs.Mentions.{mention_at, leaf_mention, name_used, label_used, is_type_word, end_mention, declarator_mention, enumerator_mention, at_leaf, name_declared, enumerator_leaf, name_at, is_exempt}
+use Rattle.c_mentions.specs.Mentions.{mention_at, leaf_mention, name_used, label_used, is_type_word, is_list_word, end_mention, declarator_mention, enumerator_mention, at_leaf, name_declared, enumerator_leaf, name_at, is_exempt}
 use Rattle.c_mentions.specs.Settings.{Standing, standings}
 use Rattle.c_mentions.specs.Symbols.{symbol_of}
 use Rattle.c_scope.specs.declared.kinds.Declared.{Declared}
@@ -179,7 +179,7 @@ module _ (text : List ℕ) (tokens : List Token) (nodes : List Node) (symbol : �
 
   used_fits : (name : List ℕ) (at : ℕ) (in_body : Bool) → Fit (name_used name at in_body)
   unfolding Fits name_used
-  used_fits name at in_body = by (is_type_word name)
+  used_fits name at in_body = by (is_type_word name || is_list_word name)
     where
       by : (b : Bool) → Fit (if b then mention.Nothing else mention.Use at (is_exempt name in_body))
       by true = tt

@@ -57,7 +57,7 @@ none_post (p ∷ ps) = not (is_post p) && none_post ps
 
 -- productions that begin with a token
 abbrev pub beginning : List ℕ
-beginning = 46 ∷ 47 ∷ 116 ∷ 218 ∷ 219 ∷ 236 ∷ 237 ∷ 239 ∷ 240 ∷ 241 ∷ 242 ∷ 243 ∷ 244 ∷ 245 ∷ 246 ∷ 247 ∷ 248 ∷ 249 ∷ 250 ∷ 251 ∷ []
+beginning = 46 ∷ 47 ∷ 116 ∷ 218 ∷ 219 ∷ 236 ∷ 237 ∷ 239 ∷ 240 ∷ 241 ∷ 242 ∷ 243 ∷ 244 ∷ 245 ∷ 246 ∷ 247 ∷ 248 ∷ 249 ∷ 250 ∷ 251 ∷ 252 ∷ 253 ∷ 254 ∷ 255 ∷ 256 ∷ 257 ∷ []
 
 abbrev pub opens : ℕ → Bool
 opens q = not (makes_node q) && contains beginning q

@@ -13,10 +13,10 @@ use Rattle.c_grammar.specs.declared.rows.Item.TheVariants as item
 use Rattle.c_grammar.specs.declared.trees.SyntaxNode.{SyntaxNode}
 use Rattle.c_grammar.specs.declared.trees.Tree.{Tree}
 use Rattle.c_grammar.specs.Names.{Names, is_type, no_names}
-use Rattle.c_grammar.specs.Productions.{p_unit, p_block, p_statement, p_expression, p_floating_name, p_typedef_name}
+use Rattle.c_grammar.specs.Productions.{p_unit, p_block, p_statement, p_expression, p_floating_name, p_typedef_name, p_list_pair_call, p_list_argument_call, p_list_end_call}
 use Rattle.c_grammar.specs.Words.{word_case, word_default, word_switch, word_while, word_do, word_for, word_goto, word_continue, word_break, word_return, sign_semicolon}
 use Rattle.c_grammar.specs.Table.{table, row}
-use Rattle.c_grammar.specs.Terminals.{contains, takes, own_words, own_meaning, is_builtin, builtin_type, builtin_name, type_name, plain_name, name_terminal, terminal_of_kind, terminal_of, terminals, identifiers, spelled}
+use Rattle.c_grammar.specs.Terminals.{contains, takes, own_words, list_words, own_meaning, is_builtin, builtin_type, builtin_name, type_name, plain_name, name_terminal, terminal_of_kind, terminal_of, terminals, identifiers, list_name, spelled}
 use Rattle.c_grammar.specs.Tree.{makes_node}
 use Rattle.c_grammar.specs.Reads.{Node, node_of, leaf}
 use Rattle.c_parser.specs.Parse.{begin}
@@ -30,7 +30,7 @@ use Rattle.parsed_tree_laws.proofs.statement_shapes.Language.{Word, IsIn, words_
 -- ---- what an item takes
 
 abbrev names : List ℕ
-names = 93 ∷ 94 ∷ 95 ∷ 96 ∷ 97 ∷ 108 ∷ []
+names = 93 ∷ 94 ∷ 95 ∷ 96 ∷ 97 ∷ 108 ∷ 109 ∷ 110 ∷ 111 ∷ []
 
 abbrev pattern_of : TokenKind → List ℕ
 pattern_of Identifier = names
@@ -64,15 +64,19 @@ own_large : list_all (λ e. nat_le 93 e.1) own_words ≡ true
 unfolding own_words
 own_large = refl
 
+list_large : list_all (λ e. nat_le 93 e.1) list_words ≡ true
+unfolding list_words
+list_large = refl
+
 name_large : (n : Names) (name : List ℕ) → is_large (name_terminal n name) ≡ true
 unfolding name_terminal
-name_large n name = named_large own_words own_large name _ (by (is_builtin name) (is_type n name))
+name_large n name = named_large own_words own_large name _ (by (is_builtin name) (is_type n name) (unwrap_or (own_meaning list_words name) builtin_name) (named_large list_words list_large name builtin_name refl))
   where
-    by : (a b : Bool) → nat_le 93 (cond a (cond b builtin_type builtin_name) (cond b type_name plain_name)) ≡ true
-    by true true = refl
-    by true false = refl
-    by false true = refl
-    by false false = refl
+    by : (a b : Bool) (d : ℕ) → nat_le 93 d ≡ true → nat_le 93 (cond a (cond b builtin_type d) (cond b type_name plain_name)) ≡ true
+    by true true d h = refl
+    by true false d h = h
+    by false true d h = refl
+    by false false d h = refl
 
 same_more : (a b : Bool) → b ≡ true → (a || b) ≡ true
 same_more true b e = refl
@@ -100,12 +104,25 @@ within (y ∷ a) b h x e = by (nat_eq y x) refl e (λ i. within a b (right (cont
     by false f e later = later e
 
 named_within : (p x : ℕ) → contains (identifiers p) x ≡ true → contains names x ≡ true
-named_within p x h = by (nat_eq p p_floating_name) (nat_eq p p_typedef_name) h
+named_within p x h = by (nat_eq p p_floating_name) (nat_eq p p_typedef_name) (nat_le p_list_pair_call p && nat_le p p_list_end_call) h
   where
-    by : (a b : Bool) → contains (elim a as (λ _. List ℕ) [ true ↦ 95 ∷ [] | false ↦ elim b as (λ _. List ℕ) [ true ↦ 94 ∷ 108 ∷ [] | false ↦ 93 ∷ 94 ∷ 96 ∷ 97 ∷ 108 ∷ [] ] ]) x ≡ true → contains names x ≡ true
-    by true b h = within (95 ∷ []) names refl x h
-    by false true h = within (94 ∷ 108 ∷ []) names refl x h
-    by false false h = within (93 ∷ 94 ∷ 96 ∷ 97 ∷ 108 ∷ []) names refl x h
+    list_within : (a b : Bool) → contains ((if a then 109 else (if b then 110 else 111)) ∷ []) x ≡ true → contains names x ≡ true
+    list_within true b h = within (109 ∷ []) names refl x h
+    list_within false true h = within (110 ∷ []) names refl x h
+    list_within false false h = within (111 ∷ []) names refl x h
+
+    by : (a b c : Bool)
+        → contains (elim a as (λ _. List ℕ) [
+          | true ↦ 95 ∷ []
+          | false ↦ elim b as (λ _. List ℕ) [
+            | true ↦ 94 ∷ 108 ∷ []
+            | false ↦ elim c as (λ _. List ℕ) [ true ↦ list_name p ∷ [] | false ↦ 93 ∷ 94 ∷ 96 ∷ 97 ∷ 108 ∷ 109 ∷ 110 ∷ 111 ∷ [] ]
+          ]
+        ]) x ≡ true → contains names x ≡ true
+    by true b c h = within (95 ∷ []) names refl x h
+    by false true c h = within (94 ∷ 108 ∷ []) names refl x h
+    by false false true h = list_within (nat_eq p p_list_pair_call) (nat_eq p p_list_argument_call) h
+    by false false false h = within (93 ∷ 94 ∷ 96 ∷ 97 ∷ 108 ∷ 109 ∷ 110 ∷ 111 ∷ []) names refl x h
 
 in_pattern : (p : ℕ) (k : TokenKind) (x : ℕ) → contains (terminals p k) x ≡ true → contains (pattern_of k) x ≡ true
 in_pattern p Identifier x h = named_within p x h

@@ -1,14 +1,14 @@
 -- The places of operators on values, of names, members, assignments and calls.
-use Rattle.std.proofs.Common.{◌≡◌, ℕ, Bool, true, false, ◌&&◌, not, List, [], ◌∷◌, length, Option, Some, None}
-use Rattle.std.specs.Prelude.{⊤, is_some, is_none}
+use Rattle.std.proofs.Common.{◌≡◌, ℕ, Bool, true, false, ◌&&◌, not, List, [], ◌∷◌, length, Option, Some, None, ◌||◌}
+use Rattle.std.specs.Prelude.{⊤, is_some, is_none, if◌then◌else◌}
 use Rattle.pta_base.specs.declared.kind.Kind.TheVariants.{Operand, ArrayOfValue, FlexibleMember}
 use Rattle.pta_base.specs.declared.place.Place.{Place}
 use Rattle.c_types.specs.declared.term.Form.{Form}
-use Rattle.c_types.specs.Trees.{Ctype, Ctypes, NoTypes, MoreTypes, VoidType, PointerTo, FunctionFrom}
+use Rattle.c_types.specs.Trees.{Ctype, Ctypes, NoTypes, MoreTypes, VoidType, PointerTo, FunctionFrom, VaListType}
 use Rattle.c_types.specs.Table.{size_below}
 use Rattle.core_tree.specs.declared.node.Op.{Op}
 use Rattle.core_tree.specs.declared.node.Op.TheVariants.{Not}
-use Rattle.core_tree.specs.declared.node.NodeKind.TheVariants.{Named, PointerAdd, Arith, Deref, AddressOf, CallNode}
+use Rattle.core_tree.specs.declared.node.NodeKind.TheVariants.{Named, PointerAdd, Arith, Deref, AddressOf, CallNode, NextArg, Assign}
 use Rattle.core_tree.specs.Typed.{Sort, PlaceNode}
 use Rattle.core_tree.specs.Rows.{int}
 use Rattle.c_consts.specs.Core.{Core, Of, MoreCores, ctype_of, core_sort, leaf, over, over_two}
@@ -16,9 +16,9 @@ use Rattle.c_inits.specs.Made.{Part}
 use Rattle.c_senses.specs.Given.{Given, Fits, Refuses, ◌>>=◌}
 use Rattle.c_senses.specs.World.{World, Meaning, Object, Function, TypeName, Tag, Value, extent, has_size, same_type, members_of, way_to}
 use Rattle.c_senses.specs.Nulls.{is_null}
-use Rattle.c_senses.specs.Conversions.{OperandSort, Whole, Address, Aggregate, Other, operand_of, is_scalar, value_of, promotion, conversion, null_value, place_width}
+use Rattle.c_senses.specs.Conversions.{OperandSort, Whole, Address, Aggregate, Other, operand_of, is_scalar, value_of, promotion, conversion, null_value, place_width, is_list}
 use Rattle.c_senses.specs.Operators.{in_common, common_of, numeric_row, shift_row, moved, plus_row, difference, minus_row, compared, order_row, is_void, is_object, Both, joined, pointers_joined, equality_row, both_core, both_row, either_core, either_row, truth, Between, Numeric, Shifting, Adding, Subtracting, Ordering, Equating, BothTrue, EitherTrue, Following, NoOperator, between, promoted_row, not_row, chosen, branches, choice_row}
-use Rattle.c_senses.specs.Objects.{text_core, object_name, name_row, address_row, target_row, indirection_row, element_row, index_row, lacks_length, is_array, is_place_sort, member_node, member_step, part_at, along, member_row, arrow_row, is_assigned, assign_row, moves_pointer, updated, update_sorts, update_row, count_of, takes_so_many, further, one_more, arguments, is_returned, call_of, callee_row, call_row, cast_row, size_number, size_row, align_in, align_row}
+use Rattle.c_senses.specs.Objects.{text_core, object_name, name_row, address_row, target_row, indirection_row, element_row, index_row, lacks_length, is_array, is_place_sort, member_node, member_step, part_at, along, member_row, arrow_row, is_assigned, assign_row, moves_pointer, updated, update_sorts, update_row, count_of, takes_so_many, further, one_more, arguments, is_returned, call_of, callee_row, call_row, cast_row, size_number, size_row, align_in, align_row, further_value, start_row, copy_row, next_row, end_row, start_named, started, dropped, copied, is_list_place, last_named}
 use Rattle.reading_laws.specs.numbered_laws.Numbered.{OfUnit, AllOfUnit}
 use Rattle.reading_laws.proofs.numbered_laws.Giving.{Gives, then_gives, if_given, some_given, if_holds}
 use Rattle.reading_laws.proofs.numbered_laws.Values.{value_kept, converted_kept, made_kept, promotion_kept, null_kept, conversion_kept, typed_kept}
@@ -183,7 +183,7 @@ module _ (unit : ℕ) where
   -- assignments
   pub assign_kept : (w : World) (place : Place) (at : ℕ) (q v : Core) → place.unit ≡ unit → OfUnit unit q → OfUnit unit v → Gives (OfUnit unit) (assign_row w place at q v)
   assign_kept w place at q v p h k =
-      if_given (OfUnit unit) (is_place_sort (core_sort q) && is_assigned w (operand_of (ctype_of q))) Operand at _
+      if_given (OfUnit unit) (is_place_sort (core_sort q) && (is_assigned w (operand_of (ctype_of q)) || is_list (ctype_of q))) Operand at _
       (then_gives (OfUnit unit) (OfUnit unit) (conversion w false at v (ctype_of q)) _ (conversion_kept unit w false at v (ctype_of q) k) (λ x l. (p, (h, (l, tt)))))
 
   sorts_kept : (w : World) (op : Op) (post : Bool) (place : Place) (at : ℕ) (q v : Core) (x y : OperandSort) → place.unit ≡ unit → OfUnit unit q → OfUnit unit v → Gives (OfUnit unit) (update_sorts w op post place at q v x y)
@@ -193,6 +193,28 @@ module _ (unit : ℕ) where
 
   pub update_kept : (w : World) (op : Op) (post : Bool) (place : Place) (at : ℕ) (q v : Core) → place.unit ≡ unit → OfUnit unit q → OfUnit unit v → Gives (OfUnit unit) (update_row w op post place at q v)
   update_kept w op post place at q v p h k = if_given (OfUnit unit) (is_place_sort (core_sort q)) Operand at _ (sorts_kept w op post place at q v (operand_of (ctype_of q)) (operand_of (ctype_of v)) p h k)
+
+  -- operations on variadic lists
+  started_kept : (place : Place) (at : ℕ) (a : Core) (o : Option ℕ) → place.unit ≡ unit → OfUnit unit a → Gives (OfUnit unit) (start_named place at a o)
+  started_kept place at a None p h = tt
+  started_kept place at a (Some function) p h = if_given (OfUnit unit) (is_list_place a) Operand at (Fits (started place a function)) (p, ((p, (h, ((p, tt), tt))), tt))
+
+  pub start_kept : (w : World) (place : Place) (at : ℕ) (a n : Core) → place.unit ≡ unit → OfUnit unit a → Gives (OfUnit unit) (start_row w place at a n)
+  start_kept w place at a n p h = started_kept place at a (last_named w n) p h
+
+  pub copy_kept : (w : World) → (place : Place) (at : ℕ) (a b : Core) → place.unit ≡ unit → OfUnit unit a → OfUnit unit b → Gives (OfUnit unit) (copy_row w place at a b)
+  copy_kept w place at a b p h k =
+      if_given (OfUnit unit) (is_list_place a) Operand at _
+      (then_gives (OfUnit unit) (OfUnit unit) (value_of w at b) (copied place at a) (value_kept unit w at b k)
+      (λ v l. if_given (OfUnit unit) (is_list (ctype_of v)) Operand at (Fits (dropped place (over_two Assign place VaListType a v))) (p, ((p, (h, (l, tt))), tt))))
+
+  pub next_kept : (place : Place) (at : ℕ) (a : Core) (t : Ctype) → place.unit ≡ unit → OfUnit unit a → Gives (OfUnit unit) (next_row place at a t)
+  next_kept place at a t p h = typed_kept unit at t _ (if_given (OfUnit unit) (is_list_place a && is_scalar (operand_of t)) Operand at (Fits (over NextArg place t a)) (p, (h, tt)))
+
+  pub end_kept : (w : World) (place : Place) (at : ℕ) (a : Core) → place.unit ≡ unit → OfUnit unit a → Gives (OfUnit unit) (end_row w place at a)
+  end_kept w place at a p h =
+      if_given (OfUnit unit) (is_list_place a) Operand at (address_row w place at a (core_sort a) >>= (λ x. Fits (dropped place x)))
+      (then_gives (OfUnit unit) (OfUnit unit) (address_row w place at a (core_sort a)) (λ x. Fits (dropped place x)) (address_kept w place at a (core_sort a) p h) (λ x k. (p, (k, tt))))
 
   -- calls
   abbrev pub AreOf : List Core → Type 0
@@ -205,12 +227,19 @@ module _ (unit : ℕ) where
   further_kept w at v (Aggregate tag) h = h
   further_kept w at v Other h = tt
 
+  further_value_kept : (w : World) (at : ℕ) (v : Core) → OfUnit unit v → Gives (OfUnit unit) (further_value w at v)
+  further_value_kept w at v h = by (is_list (ctype_of v))
+    where
+      by : (b : Bool) → Gives (OfUnit unit) (if b then Fits v else further w at v (operand_of (ctype_of v)))
+      by true = h
+      by false = further_kept w at v (operand_of (ctype_of v)) h
+
   arguments_kept : (w : World) (at : ℕ) (ps : Ctypes) (args : List Core) → AreOf args → Gives (AllOfUnit unit) (arguments w at ps args)
   arguments_kept w at ps [] h = tt
   arguments_kept w at NoTypes (a ∷ rest) h =
       then_gives (OfUnit unit) (AllOfUnit unit) (value_of w at a) _ (value_kept unit w at a h.0)
       (λ v k.
-      then_gives (OfUnit unit) (AllOfUnit unit) (further w at v (operand_of (ctype_of v))) _ (further_kept w at v (operand_of (ctype_of v)) k)
+      then_gives (OfUnit unit) (AllOfUnit unit) (further_value w at v) _ (further_value_kept w at v k)
       (λ x l. then_gives (AllOfUnit unit) (AllOfUnit unit) (arguments w at NoTypes rest) (λ more. Fits (one_more x more)) (arguments_kept w at NoTypes rest h.1) (λ more m. (l, m))))
   arguments_kept w at (MoreTypes t ps) (a ∷ rest) h =
       then_gives (OfUnit unit) (AllOfUnit unit) (value_of w at a) _ (value_kept unit w at a h.0)

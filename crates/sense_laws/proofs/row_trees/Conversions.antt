@@ -1,5 +1,5 @@
 -- Values of places, conversions, promotions and usual conversions keep the rows of constants.
-use Rattle.std.proofs.Common.{◌≡◌, ◌≢◌, ℕ, zero, suc, Bool, true, false, ◌==◌, Option, Some, None, refl, sym, ap, subst}
+use Rattle.std.proofs.Common.{◌≡◌, ◌≢◌, ℕ, zero, suc, Bool, true, false, ◌==◌, Option, Some, None, refl, sym, ap, subst, ◌||◌}
 use Rattle.std.specs.Prelude.{⊤}
 use Rattle.std.proofs.lemmas.Bool.{eqb-true}
 use Rattle.pta_base.specs.declared.kind.Kind.{Kind}
@@ -13,7 +13,7 @@ use Rattle.c_senses.specs.passed.c_consts.Core.{Core, place_of, ctype_of, core_s
 use Rattle.c_senses.specs.Given.{Given, Fits}
 use Rattle.c_senses.specs.World.{World, same_type}
 use Rattle.c_senses.specs.Nulls.{is_null}
-use Rattle.c_senses.specs.Conversions.{OperandSort, Whole, Address, Aggregate, Other, operand_of, is_fetched, fetched_or_decayed, value_of_sort, value_of, converted, made, is_narrow, read_width, promoted, promotion, first_member_type, upcast_within, upcast, upcast_or, from_structure, character_kind, pointers, target_of, to_pointer, to_whole, to_other, conversion, null_value, typed}
+use Rattle.c_senses.specs.Conversions.{OperandSort, Whole, Address, Aggregate, Other, operand_of, is_fetched, fetched_or_decayed, value_of_sort, value_of, converted, made, is_narrow, read_width, promoted, promotion, first_member_type, upcast_within, upcast, upcast_or, from_structure, character_kind, pointers, target_of, to_pointer, to_whole, to_other, conversion, null_value, typed, is_list}
 use Rattle.c_conversions.proofs.passed.core_nodes.SameTypes.{type_sound}
 use Rattle.c_conversions.specs.Constants.{HasRows}
 use Rattle.sense_laws.specs.Sound.{Gives}
@@ -58,7 +58,7 @@ module _ (w : World) where
   decayed_rows : (at : ℕ) (c : Core) → HasRows c → (o : Option Ctype) → Gives RowsValue (fetched_or_decayed w at c o)
   decayed_rows at c h (Some pointer) = ((tt, (h, tt)), refl)
   decayed_rows at c h None =
-      if_given RowsValue (is_fetched w (operand_of (ctype_of c))) Operand at (Fits (over Fetch (place_of c) (ctype_of c) c)) (λ fetched. ((tt, (h, tt)), refl))
+      if_given RowsValue (is_fetched w (operand_of (ctype_of c)) || is_list (ctype_of c)) Operand at (Fits (over Fetch (place_of c) (ctype_of c) c)) (λ fetched. ((tt, (h, tt)), refl))
 
   value_of_sort_rows : (at : ℕ) (c : Core) → HasRows c → (s : Sort) → core_sort c ≡ s → Gives RowsValue (value_of_sort w at c s)
   value_of_sort_rows at c h NoNode e = tt
@@ -176,7 +176,6 @@ module _ (w : World) where
 
   pub typed_rows : (P : Core → Type 0) (at : ℕ) (t : Ctype) (g : Given Core) → Gives P g → Gives P (typed at t g)
   typed_rows P at FloatingType g h = tt
-  typed_rows P at VaListType g h = tt
   typed_rows P at t g h = h
 
   -- promotions

@@ -1,4 +1,6 @@
 -- The rows of expressions keep the rows of constants.
+use Rattle.std.specs.Prelude.{codes}
+use Rattle.std.specs.Str.{bytes_eq}
 use Rattle.std.proofs.Common.{◌≡◌, ℕ, Bool, true, false, ◌==◌, not, List, [], ◌∷◌, Option, Some, None, refl}
 use Rattle.std.specs.Prelude.{if◌then◌else◌}
 use Rattle.pta_base.specs.declared.kind.Kind.TheVariants.{Operand}
@@ -15,9 +17,9 @@ use Rattle.c_senses.specs.Given.{Given, Fits, Refuses, ◌>>=◌}
 use Rattle.c_senses.specs.World.{World}
 use Rattle.c_senses.specs.Conversions.{operand_of, value_of}
 use Rattle.c_senses.specs.Operators.{between, operator, number_core, choice_row}
-use Rattle.c_senses.specs.Objects.{name_row, index_row, member_row, arrow_row, assign_row, assigned_op, update_row, call_row, cast_row, size_row, sized_expression}
+use Rattle.c_senses.specs.Objects.{name_row, index_row, member_row, arrow_row, assign_row, assigned_op, update_row, call_row, cast_row, size_row, sized_expression, next_row, end_row}
 use Rattle.c_senses.specs.Sense.{Sense, IsCore, IsType, core_of, value_in, type_of_sense}
-use Rattle.c_senses.specs.Expressions.{as_sense, indexed_core, is_operator, value_core, operator_core, passed, named_of, step, chained, is_single, binary_row, string_bytes, primary_of, primary_row, indexed, dotted, pointed, all_cores, called, counted_after, post_of, post_signed, post_row, prefixed_core, prefixed, sized, cast_over, cast_last, cast_of, cast_row_of, conditional_row, assigned, assigned_by, assignment_row}
+use Rattle.c_senses.specs.Expressions.{as_sense, indexed_core, is_operator, value_core, operator_core, passed, named_of, step, chained, is_single, binary_row, string_bytes, primary_of, primary_row, indexed, dotted, pointed, all_cores, called, counted_after, post_of, post_signed, post_row, prefixed_core, prefixed, sized, cast_over, cast_last, cast_of, cast_row_of, conditional_row, assigned, assigned_by, assignment_row, two_lists, list_core, list_row}
 use Rattle.c_conversions.specs.Constants.{HasRows}
 use Rattle.sense_laws.specs.Sound.{Gives}
 use Rattle.sense_laws.proofs.Giving.{then_gives, gives_weaker, some_given, if_holds}
@@ -25,7 +27,7 @@ use Rattle.sense_laws.proofs.Literals.{integer_holds, character_holds}
 use Rattle.sense_laws.specs.row_trees.Trees.{RowsValue, RowsOf, SenseHasRows, AllHaveRows, ValuesFit, ConstantFits}
 use Rattle.sense_laws.proofs.row_trees.Conversions.{value_rows}
 use Rattle.sense_laws.proofs.row_trees.Operators.{between_rows, operator_fits, promoted_row_rows, not_rows, choice_rows, one_rows}
-use Rattle.sense_laws.proofs.row_trees.Objects.{text_rows, name_rows, address_rows, indirection_rows, index_rows, member_rows, arrow_rows, assign_rows, update_rows, cast_rows, size_rows, sized_rows, call_rows}
+use Rattle.sense_laws.proofs.row_trees.Objects.{text_rows, name_rows, address_rows, indirection_rows, index_rows, member_rows, arrow_rows, assign_rows, update_rows, cast_rows, size_rows, sized_rows, call_rows, start_rows, copy_rows, next_rows, end_rows}
 
 module _ (w : World) where
   pub as_sense_rows : (g : Given Core) → Gives HasRows g → Gives SenseHasRows (as_sense g)
@@ -98,8 +100,30 @@ module _ (w : World) where
     passed_rows at [] = tt
     passed_rows at (c ∷ rest) = sound c
 
+    -- operations on variadic lists
+    two_lists_rows : (at : ℕ) (place : Place) (name : List ℕ) (a b : Core) → HasRows a → HasRows b → Gives HasRows (two_lists w s sense at place name a b)
+    two_lists_rows at place name a b h k =
+        if_holds (Gives HasRows) (bytes_eq name (codes "__builtin_va_copy")) _ _ (λ e. copy_rows w place at a b h k) (λ e. start_rows w place at a b h)
+
+    list_core_rows : (at : ℕ) (place : Place) (name : List ℕ) (parts : List ℕ) → Gives HasRows (list_core w s sense at place name parts)
+    list_core_rows at place name [] = tt
+    list_core_rows at place name (a ∷ []) =
+        then_gives HasRows HasRows (core_of at (sense a)) (end_row w place at) (core_rows at (sense a) (sound a)) (λ x h. end_rows w place at x h)
+    list_core_rows at place name (a ∷ b ∷ []) =
+        if_holds (Gives HasRows) (is_a s p_type_name b) _ _
+        (λ e. then_gives HasRows HasRows (core_of at (sense a)) _ (core_rows at (sense a) (sound a)) (λ x h. type_given HasRows at (sense b) (next_row place at x) (λ t. next_rows w place at x t h)))
+        (λ e. then_gives HasRows HasRows (core_of at (sense a)) _ (core_rows at (sense a) (sound a))
+        (λ x h. then_gives HasRows HasRows (core_of at (sense b)) (two_lists w s sense at place name x) (core_rows at (sense b) (sound b)) (λ y k. two_lists_rows at place name x y h k)))
+    list_core_rows at place name (a ∷ b ∷ c ∷ rest) = tt
+
+    pub list_row_rows : (at first : ℕ) (rest : List ℕ) → Gives SenseHasRows (list_row w s sense at first rest)
+    list_row_rows at first rest =
+        as_sense_rows (list_core w s sense at (place_at s first) (spelling_at s first) (all_where (λ c. not (is_leaf s c)) rest))
+        (list_core_rows at (place_at s first) (spelling_at s first) (all_where (λ c. not (is_leaf s c)) rest))
+
     primary_of_rows : ValuesFit w → (at first : ℕ) (rest : List ℕ) (kind : TokenKind) → ConstantFits s first → kind_at s first ≡ kind → Gives SenseHasRows (primary_of w s sense at first rest kind)
-    primary_of_rows values at first rest Identifier fit e = as_sense_rows (name_row w (place_at s first) at (w.meaning first)) (name_rows w values (place_at s first) at first (w.meaning first) refl)
+    primary_of_rows values at first (c ∷ rest) Identifier fit e = list_row_rows at first (c ∷ rest)
+    primary_of_rows values at first [] Identifier fit e = as_sense_rows (name_row w (place_at s first) at (w.meaning first)) (name_rows w values (place_at s first) at first (w.meaning first) refl)
     primary_of_rows values at first rest Integer fit e = ((integer_holds (spelling_at s first) (fit e)).0, tt)
     primary_of_rows values at first rest Character fit e = (character_holds (spelling_at s first), tt)
     primary_of_rows values at first rest Text fit e = text_rows w (place_at s first) (string_bytes w s sense (first ∷ rest))

@@ -1,25 +1,25 @@
 -- Names, objects and their parts, assignments, calls, casts and sizes keep the rows of constants.
-use Rattle.std.proofs.Common.{arith, ◌≡◌, ℕ, ◌<◌, Bool, true, false, ◌&&◌, not, List, [], ◌∷◌, length, Option, Some, None, refl}
-use Rattle.std.specs.Prelude.{◌^◌, nat_lt, is_some, is_none}
+use Rattle.std.proofs.Common.{arith, ◌≡◌, ℕ, ◌<◌, Bool, true, false, ◌&&◌, not, List, [], ◌∷◌, length, Option, Some, None, refl, sym, ◌∙◌, ◌||◌}
+use Rattle.std.specs.Prelude.{◌^◌, nat_lt, is_some, is_none, if◌then◌else◌}
 use Rattle.std.specs.Int.Signed.{le_z_yes, lt_z_yes}
 use Rattle.std.proofs.Math.Facts.{yes_ltb, yes_leb}
 use Rattle.std.proofs.lemmas.Bool.{ltb-true}
 use Rattle.pta_base.specs.declared.kind.Kind.TheVariants.{Operand, ArrayOfValue, FlexibleMember}
 use Rattle.pta_base.specs.declared.place.Place.{Place}
 use Rattle.c_types.specs.declared.term.Form.{Form}
-use Rattle.c_types.specs.Trees.{Ctype, Ctypes, NoTypes, MoreTypes, VoidType, PointerTo, FunctionFrom}
+use Rattle.c_types.specs.Trees.{Ctype, Ctypes, NoTypes, MoreTypes, VoidType, PointerTo, FunctionFrom, VaListType}
 use Rattle.c_types.specs.Layout.{Extent}
 use Rattle.c_types.specs.Table.{size_below}
 use Rattle.c_conversions.specs.passed.core_tree.declared.node.Op.{Op}
-use Rattle.c_conversions.specs.passed.core_tree.declared.node.NodeKind.TheVariants.{Named, Deref, AddressOf, Assign, CallNode}
+use Rattle.c_conversions.specs.passed.core_tree.declared.node.NodeKind.TheVariants.{Named, Deref, AddressOf, Assign, CallNode, NextArg, VarArgs}
 use Rattle.c_conversions.specs.passed.core_tree.Typed.{Sort, NoNode, PlaceNode, ValueNode, StatementNode, IsInteger}
 use Rattle.c_senses.specs.passed.c_consts.Core.{Core, Of, MoreCores, ctype_of, core_sort, leaf, over, over_two}
 use Rattle.c_senses.specs.passed.c_inits.Made.{Part}
 use Rattle.c_senses.specs.Given.{Given, Fits, Refuses, ◌>>=◌, given_if}
 use Rattle.c_senses.specs.World.{World, Meaning, Object, Function, TypeName, Tag, Value, extent, members_of, way_to}
-use Rattle.c_senses.specs.Conversions.{OperandSort, Whole, Address, Aggregate, Other, operand_of, value_of, promotion, conversion, place_width}
+use Rattle.c_senses.specs.Conversions.{OperandSort, Whole, Address, Aggregate, Other, operand_of, value_of, promotion, conversion, place_width, is_list, is_scalar}
 use Rattle.c_senses.specs.Operators.{moved}
-use Rattle.c_senses.specs.Objects.{text_core, name_row, address_row, target_row, indirection_row, element_row, index_row, lacks_length, is_array, is_place_sort, member_node, member_step, part_at, along, member_row, arrow_row, is_assigned, assign_row, moves_pointer, updated, update_sorts, update_row, count_of, takes_so_many, further, one_more, arguments, is_returned, call_of, callee_row, call_row, cast_row, size_number, size_row, named_width, sized_expression}
+use Rattle.c_senses.specs.Objects.{text_core, name_row, address_row, target_row, indirection_row, element_row, index_row, lacks_length, is_array, is_place_sort, member_node, member_step, part_at, along, member_row, arrow_row, is_assigned, assign_row, moves_pointer, updated, update_sorts, update_row, count_of, takes_so_many, further, one_more, arguments, is_returned, call_of, callee_row, call_row, cast_row, size_number, size_row, named_width, sized_expression, further_value, start_row, copy_row, next_row, end_row, start_named, started, dropped, copied, is_list_place, last_named}
 use Rattle.c_conversions.specs.Constants.{HasRows, HaveRows}
 use Rattle.sense_laws.specs.Sound.{Gives}
 use Rattle.sense_laws.proofs.Giving.{then_gives, if_given, some_given, if_holds}
@@ -101,10 +101,45 @@ module _ (w : World) where
   -- assignments
   pub assign_rows : (place : Place) (at : ℕ) (p v : Core) → HasRows p → RowsValue v → Gives RowsValue (assign_row w place at p v)
   assign_rows place at p v h k =
-      if_given RowsValue (is_place_sort (core_sort p) && is_assigned w (operand_of (ctype_of p))) Operand at (conversion w false at v (ctype_of p) >>= (λ x. Fits (over_two Assign place (ctype_of p) p x)))
+      if_given RowsValue (is_place_sort (core_sort p) && (is_assigned w (operand_of (ctype_of p)) || is_list (ctype_of p))) Operand at (conversion w false at v (ctype_of p) >>= (λ x. Fits (over_two Assign place (ctype_of p) p x)))
       (λ may.
       then_gives (RowsOf (ctype_of p)) RowsValue (conversion w false at v (ctype_of p)) (λ x. Fits (over_two Assign place (ctype_of p) p x)) (conversion_rows w v k false at (ctype_of p))
       (λ x s. ((tt, (h, (s.0, tt))), refl)))
+
+  -- operations on variadic lists
+  assigned_rows : (place : Place) (a v : Core) → HasRows a → HasRows v → core_sort v ≡ ValueNode → HasRows (dropped place (over_two Assign place VaListType a v))
+  assigned_rows place a v h k is = ((refl, λ e. cc, tt), ((tt, (h, (k, tt))), tt))
+
+  started_rows : (place : Place) (at : ℕ) (a : Core) (o : Option ℕ) → HasRows a → Gives HasRows (start_named place at a o)
+  started_rows place at a None h = tt
+  started_rows place at a (Some function) h =
+      if_given HasRows (is_list_place a) Operand at (Fits (started place a function)) (λ may. assigned_rows place a (leaf (VarArgs function) place VaListType) h (tt, tt) refl)
+
+  pub start_rows : (place : Place) (at : ℕ) (a n : Core) → HasRows a → Gives HasRows (start_row w place at a n)
+  start_rows place at a n h = started_rows place at a (last_named w n) h
+
+  pub copy_rows : (place : Place) (at : ℕ) (a b : Core) → HasRows a → HasRows b → Gives HasRows (copy_row w place at a b)
+  copy_rows place at a b h k =
+      if_given HasRows (is_list_place a) Operand at (value_of w at b >>= copied place at a)
+      (λ may.
+      then_gives RowsValue HasRows (value_of w at b) (copied place at a) (value_rows w at b k)
+      (λ v l. if_given HasRows (is_list (ctype_of v)) Operand at (Fits (dropped place (over_two Assign place VaListType a v))) (λ list. assigned_rows place a v h l.0 l.1)))
+
+  pub next_rows : (place : Place) (at : ℕ) (a : Core) (t : Ctype) → HasRows a → Gives HasRows (next_row place at a t)
+  next_rows place at a t h =
+      typed_rows w HasRows at t (given_if (is_list_place a && is_scalar (operand_of t)) Operand at (Fits (over NextArg place t a)))
+      (if_given HasRows (is_list_place a && is_scalar (operand_of t)) Operand at (Fits (over NextArg place t a)) (λ may. (tt, (h, tt))))
+
+  pointer_rows : (place : Place) (at : ℕ) (c : Core) → HasRows c → (s : Sort) → Gives (RowsOf (PointerTo (ctype_of c))) (address_row w place at c s)
+  pointer_rows place at c h PlaceNode = if_given (RowsOf (PointerTo (ctype_of c))) (is_none (place_width w c)) Operand at (Fits (over AddressOf place (PointerTo (ctype_of c)) c)) (λ none. ((tt, (h, tt)), (refl, refl)))
+  pointer_rows place at c h s = tt
+
+  pub end_rows : (place : Place) (at : ℕ) (a : Core) → HasRows a → Gives HasRows (end_row w place at a)
+  end_rows place at a h =
+      if_given HasRows (is_list_place a) Operand at (address_row w place at a (core_sort a) >>= (λ x. Fits (dropped place x)))
+      (λ may.
+      then_gives (RowsOf (PointerTo (ctype_of a))) HasRows (address_row w place at a (core_sort a)) (λ x. Fits (dropped place x)) (pointer_rows place at a h (core_sort a))
+      (λ x k. ((k.1.0, (λ e. let void : ◌≡◌ {A = Ctype} (PointerTo (ctype_of a)) VoidType = sym k.1.1 ∙ e in cc), tt), (k.0, tt))))
 
   update_sorts_rows : (op : Op) (post : Bool) (place : Place) (at : ℕ) (p v : Core) → HasRows p → RowsValue v → (x y : OperandSort) → operand_of (ctype_of v) ≡ y → Gives RowsValue (update_sorts w op post place at p v x y)
   update_sorts_rows op post place at p v h k Whole Whole f = let x = promotion_value w v k (whole_integer (ctype_of v) f) in ((tt, (h, (x.0, tt))), refl)
@@ -146,13 +181,20 @@ module _ (w : World) where
   further_rows at v h (Aggregate tag) e = h.0
   further_rows at v h Other e = tt
 
+  further_value_rows : (at : ℕ) (v : Core) → RowsValue v → Gives HasRows (further_value w at v)
+  further_value_rows at v h = by (is_list (ctype_of v)) refl
+    where
+      by : (b : Bool) → is_list (ctype_of v) ≡ b → Gives HasRows (if b then Fits v else further w at v (operand_of (ctype_of v)))
+      by true e = h.0
+      by false e = further_rows at v h (operand_of (ctype_of v)) refl
+
   arguments_rows : (at : ℕ) (ps : Ctypes) (args : List Core) → AllHaveRows args → Gives HaveRows (arguments w at ps args)
   arguments_rows at NoTypes [] h = tt
   arguments_rows at (MoreTypes t ps) [] h = tt
   arguments_rows at NoTypes (a ∷ rest) h =
-      then_gives RowsValue HaveRows (value_of w at a) (λ v. further w at v (operand_of (ctype_of v)) >>= (λ x. arguments w at NoTypes rest >>= (λ more. Fits (one_more x more)))) (value_rows w at a h.0)
+      then_gives RowsValue HaveRows (value_of w at a) (λ v. further_value w at v >>= (λ x. arguments w at NoTypes rest >>= (λ more. Fits (one_more x more)))) (value_rows w at a h.0)
       (λ v s.
-      then_gives HasRows HaveRows (further w at v (operand_of (ctype_of v))) (λ x. arguments w at NoTypes rest >>= (λ more. Fits (one_more x more))) (further_rows at v s (operand_of (ctype_of v)) refl)
+      then_gives HasRows HaveRows (further_value w at v) (λ x. arguments w at NoTypes rest >>= (λ more. Fits (one_more x more))) (further_value_rows at v s)
       (λ x y.
       then_gives HaveRows HaveRows (arguments w at NoTypes rest) (λ more. Fits (one_more x more)) (arguments_rows at NoTypes rest h.1) (λ cores z. (y, z))))
   arguments_rows at (MoreTypes t ps) (a ∷ rest) h =

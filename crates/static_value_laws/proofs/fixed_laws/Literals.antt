@@ -201,6 +201,7 @@ module _ (s : Source) (senses : List Sense) (are : AreSenses s senses) (ordered 
   unfolding Everywhere
   gives n before = record {
     names = λ leaf has. meaning_asks ((world_of s senses n).meaning leaf);
+    lists = λ entity function place at type asked e. tt;
     objects = λ declarator leaf by_it name paths values fixed plain none. absurd (both_ways (is_name s (entity_of s (known_at s senses n) leaf)) plain
         (entity_named (known_at s senses n) leaf (declarator_named (world_of s senses n) (known_at s senses n) (known_at s senses n declarator) leaf (before declarator tt) name)));
     initials = λ p parent paths values over fixed plain none.

@@ -116,6 +116,7 @@ module _ (s : Source) (senses : List Sense) (are : AreSenses s senses) (whole : 
   gives : (n : ℕ) → Near n → RowGives AsksKept (world_of s senses n) s (known_at s senses n) n (children_at s n)
   gives n near = record {
     names = λ leaf has. meaning_asks ((world_of s senses n).meaning leaf);
+    lists = λ entity function place at type asked e. tt;
     objects = λ declarator leaf by_it name paths values fixed. tt;
     initials = λ p parent paths values over fixed. tt;
     literals = λ p parent type initial over. opening_chained (world_of s senses n) (known_at s senses n) p (over_chained n p near parent over);

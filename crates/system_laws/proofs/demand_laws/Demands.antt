@@ -30,11 +30,12 @@ use Rattle.linked_laws.specs.merged_laws.Merged.{TagsFit}
 use Rattle.linked_laws.specs.node_laws.Rows.{HasRows}
 use Rattle.system_laws.proofs.fact_laws.Facts.{facts_valid}
 use Rattle.linked_laws.specs.return_laws.Returns.{HasReturns}
+use Rattle.linked_laws.specs.call_laws.Values.{AreCallsOfValues}
 use Rattle.system_laws.specs.demand_laws.Demands.{InitialsFit, DemandsFit}
 use Rattle.system_laws.proofs.demand_laws.Fitting.{Fits, row_in, count_is}
 use Rattle.system_laws.proofs.demand_laws.Nodes.{node_right}
 
-module _ (p : Program) (space : List Location) (is_space : space ≡ locations_in p) (system : System) (is : SystemOf p (view_of space) system) (made : IsMade p.types) (named : AreNamed p.types) (some : 0 < length space) (fit : TagsFit p.types) (rows : HasRows p) (returns : HasReturns p) (initials : InitialsFit p (view_of space) system) where
+module _ (p : Program) (space : List Location) (is_space : space ≡ locations_in p) (system : System) (is : SystemOf p (view_of space) system) (made : IsMade p.types) (named : AreNamed p.types) (some : 0 < length space) (fit : TagsFit p.types) (rows : HasRows p) (returns : HasReturns p) (values : AreCallsOfValues p) (initials : InitialsFit p (view_of space) system) where
   abbrev w : Setting
   w = setting_of p (view_of space) is.owners
 
@@ -46,7 +47,7 @@ module _ (p : Program) (space : List Location) (is_space : space ≡ locations_i
     where
       by : (o : Option Node) → slice_get p.nodes.items n ≡ o → All Right (assignments_by w n o)
       by None at = All-nil Right
-      by (Some node) at = node_right p space is_space system is made named some fit returns initials rows n node at
+      by (Some node) at = node_right p space is_space system is made named some fit values returns initials rows n node at
 
   all_right : (ns : List ℕ) → All Right (flat_map (assignments_at w) ns)
   all_right [] = All-nil Right
@@ -102,4 +103,4 @@ module _ (p : Program) (space : List Location) (is_space : space ≡ locations_i
   }
 
 pub demands_fit : DemandsFit
-demands_fit p space system is_space is made named some fit rows returns initials = fits_all p space is_space system is made named some fit rows returns initials
+demands_fit p space system is_space is made named some fit rows returns values initials = fits_all p space is_space system is made named some fit rows returns values initials

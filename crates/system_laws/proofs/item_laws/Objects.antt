@@ -17,7 +17,7 @@ use Rattle.core_tree.specs.declared.node.Storage.TheVariants.{Static, Automatic,
 use Rattle.obj_made.specs.declared.object.Content.{Content}
 use Rattle.obj_made.specs.declared.object.Content.TheVariants.{Typed}
 use Rattle.obj_made.specs.declared.object.Object.{Object}
-use Rattle.obj_made.specs.Made.{Spot, by_place, Made, in_order, entity_content, object_unless_declared, entity_object, made_at, entity_made, entities_made, node_object, node_made, nodes_made, spot_at, made_in_order, objects_in}
+use Rattle.obj_made.specs.Made.{Spot, by_place, Made, in_order, entity_content, object_unless_declared, entity_object, made_at, entity_made, entities_made, node_object, node_made, nodes_made, spot_at, varargs_object, varargs_spot, varargs_made, made_of_names, made_in_order, objects_in}
 use Rattle.obj_made.proofs.Ordered.{in_order-append}
 use Rattle.obj_space.specs.Objects.{library_part}
 use Rattle.c_types.specs.declared.key.ObjectKey.{ObjectKey}
@@ -97,6 +97,12 @@ module _ (p : Program) (e : ℕ) (id : TypeId) where
       subst (HasObject e id) (sym (in_order-append done (node_made p n x) (nodes_made p (n + 1) rest)))
       (nodes_after (in_order done (node_made p n x)) (n + 1) rest lt (keep_at e id (spot_at x.place (length p.entities.items + n)) (node_object p n x) done (λ same. omega arith) h))
 
+  further_after : (done : Made) (k : ℕ) (xs : List Entity) → e < length p.entities.items → HasObject e id done → HasObject e id (in_order done (varargs_made p k xs))
+  further_after done k [] lt h = h
+  further_after done k (x ∷ rest) lt h =
+      subst (HasObject e id) (sym (in_order-append done (made_at (varargs_spot p k x) (varargs_object p k x)) (varargs_made p (k + 1) rest)))
+      (further_after (in_order done (made_at (varargs_spot p k x) (varargs_object p k x))) (k + 1) rest lt (keep_at e id (varargs_spot p k x) (varargs_object p k x) done (λ same. omega arith) h))
+
   placed_content : (storage : Storage) → HasPlace storage → entity_content storage id ≡ Typed id
   placed_content Static h = refl
   placed_content Automatic h = refl
@@ -131,7 +137,8 @@ module _ (p : Program) (e : ℕ) (id : TypeId) where
 
   whole : (x : Entity) → slice_get p.entities.items e ≡ Some x → HasPlace x.storage → x.ty ≡ id → HasObject e id (made_in_order p)
   whole x at storage type =
-      nodes_after (in_order [] (entities_made p 0 p.entities.items)) 0 p.nodes.items (slice_get_within p.entities.items e x at) (entities_at [] 0 p.entities.items e x at (omega arith) storage type)
+      let lt = slice_get_within p.entities.items e x at in
+      further_after (made_of_names p) 0 p.entities.items lt (nodes_after (in_order [] (entities_made p 0 p.entities.items)) 0 p.nodes.items lt (entities_at [] 0 p.entities.items e x at (omega arith) storage type))
 
   -- its location
   HasLocation : List Location → Type 0

@@ -19,7 +19,7 @@ use Rattle.obj_made.specs.declared.object.Content.{Content}
 use Rattle.obj_made.specs.declared.object.Content.TheVariants.{Function, Blob, Scalar, Scalars, Typed, Elements}
 use Rattle.obj_made.specs.declared.object.Object.{Object}
 use Rattle.obj_made.specs.Uses.{is_allocator, is_named, is_starred, entity_number}
-use Rattle.obj_made.specs.Made.{Spot, by_place, Made, in_order, entity_content, object_unless_declared, entity_object, made_at, entity_made, entities_made, called_object, called_entity, object_of_call, object_of_kind, node_object, node_made, nodes_made, spot_at, made_in_order, objects_in}
+use Rattle.obj_made.specs.Made.{Spot, by_place, Made, in_order, entity_content, object_unless_declared, entity_object, made_at, entity_made, entities_made, called_object, called_entity, object_of_call, object_of_kind, node_object, node_made, nodes_made, spot_at, has_varargs, varargs_object, varargs_spot, varargs_made, made_of_names, made_in_order, objects_in}
 use Rattle.obj_made.proofs.Ordered.{in_order-append}
 use Rattle.obj_space.specs.declared.location.Location.{Location}
 use Rattle.obj_space.specs.Objects.{functions_below, LibraryRow, library_rows, is_needed, library_object, library_objects_from, library_objects, takes_arguments, star_if, star_objects, library_part, objects_of}
@@ -111,6 +111,18 @@ module _ (p : Program) where
       subst (AllFit p) (sym (in_order-append done (node_made p n x) (nodes_made p (n + 1) rest)))
       (nodes_fit (in_order done (node_made p n x)) (n + 1) rest (put_made _ (node_object p n x) done (kind_fits n x x.kind) h))
 
+  -- nor has what functions are passed past their parameters
+  further_fits : (b : Bool) (made object : Object) → ((e : ℕ) → made.key ≡ EntityKey e → ⊥) → cond b (Some made) None ≡ Some object → ObjectFits p object
+  further_fits true made object other is = λ e key. absurd (other e (ap (λ (o : Object). o.key) (some_one is) ∙ key))
+  further_fits false made object other is = absurd (none_some is)
+
+  further_fit : (done : Made) (k : ℕ) (xs : List Entity) → AllFit p done → AllFit p (in_order done (varargs_made p k xs))
+  further_fit done k [] h = h
+  further_fit done k (x ∷ rest) h =
+      subst (AllFit p) (sym (in_order-append done (made_at (varargs_spot p k x) (varargs_object p k x)) (varargs_made p (k + 1) rest)))
+      (further_fit (in_order done (made_at (varargs_spot p k x) (varargs_object p k x))) (k + 1) rest
+      (put_made (varargs_spot p k x) (varargs_object p k x) done (λ object is. further_fits (has_varargs p.types x) _ object (λ e key. cc) is) h))
+
   both_fit : (xs ys : List Object) → EachFits p xs → EachFits p ys → EachFits p (xs ++ ys)
   both_fit [] ys h k = k
   both_fit (o ∷ xs) ys h k = (h.0, both_fit xs ys h.1 k)
@@ -144,7 +156,8 @@ module _ (p : Program) where
   objects_fit =
       let starred = is_starred p.entities.items p.nodes.items in
       both_fit (objects_in (made_in_order p)) (library_part p)
-      (made_fit (made_in_order p) (nodes_fit (in_order [] (entities_made p 0 p.entities.items)) 0 p.nodes.items (entities_fit [] 0 p.entities.items (λ i x e. let none : 0 + i ≡ i = omega arith in ap (slice_get p.entities.items) none ∙ e) tt)))
+      (made_fit (made_in_order p) (further_fit (made_of_names p) 0 p.entities.items
+      (nodes_fit (in_order [] (entities_made p 0 p.entities.items)) 0 p.nodes.items (entities_fit [] 0 p.entities.items (λ i x e. let none : 0 + i ≡ i = omega arith in ap (slice_get p.entities.items) none ∙ e) tt))))
       (both_fit (functions_below p 55) _ (functions_fit 55)
       (both_fit (library_objects (is_named p.entities.items p.nodes.items) (takes_arguments p)) (star_objects p) (library_fit (is_named p.entities.items p.nodes.items) (takes_arguments p))
       (both_fit (star_if (starred 0) 0) _ (star_fit (starred 0) 0) (both_fit (star_if (starred 1) 1) _ (star_fit (starred 1) 1) (both_fit (star_if (starred 2) 2) _ (star_fit (starred 2) 2) (star_fit (starred 21) 21))))))

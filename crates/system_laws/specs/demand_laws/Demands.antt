@@ -16,6 +16,7 @@ use Rattle.system_laws.specs.parameter_laws.Fitting.{AreTypedDemands}
 use Rattle.linked_laws.specs.merged_laws.Merged.{TagsFit}
 use Rattle.linked_laws.specs.node_laws.Rows.{HasRows}
 use Rattle.linked_laws.specs.return_laws.Returns.{HasReturns}
+use Rattle.linked_laws.specs.call_laws.Values.{AreCallsOfValues}
 
 -- what initialisers put where is in range
 pub record InitialsFit (p : Program) (s : SpaceView) (system : System) : Type 0 where
@@ -36,5 +37,6 @@ DemandsFit =
     → TagsFit p.types
     → HasRows p
     → HasReturns p
+    → AreCallsOfValues p
     → InitialsFit p (view_of space) system
     → AreTypedDemands system

@@ -34,13 +34,13 @@ use Rattle.twin_report_laws.proofs.rows.Nodes.{some_at}
 use Rattle.twin_report_laws.proofs.rows.Calls.{zip_at, call_at}
 
 -- ---- names of locations
-four_moved : (f : ℕ → ℕ) (n : ℕ) → (number_moved f n == 4) ≡ (n == 4)
-four_moved f n = elim (cases_Bool (nat_lt n 8)) [
-  | inl its ↦ ap (λ (b : Bool). (if b then n else 8 + f (n - 8)) == 4) its
+small_moved : (f : ℕ → ℕ) (n k : ℕ) → k < 8 → (number_moved f n == k) ≡ (n == k)
+small_moved f n k small = elim (cases_Bool (nat_lt n 8)) [
+  | inl its ↦ ap (λ (b : Bool). (if b then n else 8 + f (n - 8)) == k) its
   | inr isnt ↦
-      let past : 8 + f (n - 8) == 4 ≡ false = grind (arith, nat_tests) in
-      let far : n == 4 ≡ false = grind (arith, nat_tests) in
-      ap (λ (b : Bool). (if b then n else 8 + f (n - 8)) == 4) isnt ∙ (past ∙ sym far)
+      let past : 8 + f (n - 8) == k ≡ false = grind (arith, nat_tests) in
+      let far : n == k ≡ false = grind (arith, nat_tests) in
+      ap (λ (b : Bool). (if b then n else 8 + f (n - 8)) == k) isnt ∙ (past ∙ sym far)
 ]
 
 module _ (to : Numbers) where
@@ -56,8 +56,10 @@ module _ (to : Numbers) where
   set_zip [] (y ∷ ys) h l = absurd h
   set_zip (x ∷ xs) [] h l = absurd h
   set_zip (x ∷ xs) (y ∷ ys) h zero =
-      ap (λ (b : Bool). b || (y.ty == 4)) h.0.collapsed
-      ∙ (ap (λ (n : ℕ). x.collapsed || (n == 4)) h.0.ty ∙ ap (λ (b : Bool). x.collapsed || b) (four_moved to.tag x.ty))
+      ap (λ (b : Bool). b || (y.ty == 4) || (y.ty == 7)) h.0.collapsed
+      ∙ (ap (λ (n : ℕ). x.collapsed || (n == 4) || (n == 7)) h.0.ty
+      ∙ (ap (λ (b : Bool). x.collapsed || b || (number_moved to.tag x.ty == 7)) (small_moved to.tag x.ty 4 (omega arith))
+      ∙ ap (λ (b : Bool). x.collapsed || (x.ty == 4) || b) (small_moved to.tag x.ty 7 (omega arith))))
   set_zip (x ∷ xs) (y ∷ ys) h (suc l) = set_zip xs ys h.1 l
 
 pub same_names : (p q : Program) (to back : Numbers) → ArePaired p q to back → SameNames (locations_in p) (locations_in q)

@@ -31,7 +31,7 @@ abbrev turned : (p q : Program) → AreOne p q → AreOne q p
 turned p q o = record { to = o.back; back = o.to; forth = o.returned; returned = o.forth }
 
 sound_of : (units : List Unit) (p : Program) → IsProgramOf units p → IsSound p
-sound_of units p own = record { made = own.made; named = own.named }
+sound_of units p own = record { made = own.made; named = own.named; range = own.range }
 
 apart_of : (units : List Unit) (p : Program) (space : List Location) (system : System) → IsOf units p space system → MadeApart p
 apart_of units p space system h = linked_apart units p h.known.linkable h.known.apart h.program.linked

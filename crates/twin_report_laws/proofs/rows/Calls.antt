@@ -1,14 +1,16 @@
 -- The calls of two programs that are one, but for numbers.
-use Rattle.std.proofs.Common.{arith, ◌≡◌, ◌∙◌, ◌+◌, ◌<◌, ℕ, zero, suc, Bool, true, false, List, [], ◌∷◌, map, length, Option, Some, None, is_some, Contains, refl, sym, ap, subst, inl, inr}
+use Rattle.std.proofs.Common.{arith, ◌≡◌, ◌∙◌, ◌+◌, ◌<◌, ℕ, zero, suc, Bool, true, false, List, [], ◌∷◌, ◌++◌, map, take, length, Option, Some, None, is_some, Contains, refl, sym, ap, subst, inl, inr}
 use Rattle.std.specs.Prelude.{if◌then◌else◌}
 use Rattle.std.specs.List.{slice_get, filter_map, cons_option, enumerate_from, range_with_len, All, AllZip}
 use Rattle.std.specs.Option.{option_map, option_map_or, option_and_then, IfSome}
 use Rattle.std.proofs.lemmas.Bool.{cases_Bool, false≢true}
+use Rattle.std.proofs.lemmas.List.{map-append}
 use Rattle.std.proofs.lemmas.Option.{slice_get_within}
 use Rattle.pta_base.specs.declared.effect.Effect.{Effect}
 use Rattle.pta_base.specs.declared.effect.Effect.TheVariants.{Nothing, GivesArgument, GivesNew, GivesObject, Copies, StoresInto, CallsBack}
 use Rattle.c_types.specs.declared.key.ObjectKey.{ObjectKey}
 use Rattle.c_types.specs.declared.key.ObjectKey.TheVariants.{Entity as EntityKey, Text as TextKey, Call as CallKey, Library, Star, Function}
+use Rattle.c_types.specs.declared.key.ObjectKey.TheVariants.{Varargs as VarargsKey}
 use Rattle.c_types.specs.Trees.{Ctype, Ctypes, MoreTypes, trees_at, PointerTo, FunctionFrom}
 use Rattle.core_tree.specs.declared.node.Node.{Node}
 use Rattle.core_tree.specs.declared.node.NodeKind.{NodeKind}
@@ -31,8 +33,8 @@ use Rattle.obj_space.specs.View.{SpaceView}
 use Rattle.row_numbers.specs.Around.{AreOwners}
 use Rattle.row_numbers.specs.Functions.{functions_of}
 use Rattle.row_numbers.specs.Objects.{library_number}
-use Rattle.row_numbers.specs.Setting.{row, value_rows, Setting}
-use Rattle.call_sites.specs.Calls.{is_call, call_if, calls_upto, head_of, rest_of, name_of, name_at, under_decay, decayed_at, ids_of, named_callee, named_library, giver_in, givers_in, is_named, object_by, fresh_by, fresh_in, fresh_of, caller_by, IsCallSite}
+use Rattle.row_numbers.specs.Setting.{row, rest_row, value_rows, Setting}
+use Rattle.call_sites.specs.Calls.{is_call, call_if, calls_upto, head_of, rest_of, name_of, name_at, under_decay, decayed_at, ids_of, named_callee, named_library, giver_in, givers_in, is_named, object_by, fresh_by, fresh_in, fresh_of, caller_by, variadic_count, rows_past, argument_rows, IsCallSite}
 use Rattle.normal_form.specs.SystemOf.{setting_of}
 use Rattle.system_laws.proofs.Compact.{found_at, stands_at}
 use Rattle.system_laws.proofs.Calls.{fresh_valid}
@@ -47,8 +49,9 @@ use Rattle.twin_report_laws.specs.rows.Paired.{ArePaired}
 use Rattle.twin_report_laws.specs.rows.Ready.{IsReady}
 use Rattle.twin_report_laws.proofs.rows.Views.{here, over, first_same, all_functions, number_same}
 use Rattle.twin_report_laws.proofs.rows.Rows.{same_map, map_map, row_moved, row_location, values_moved}
+use Rattle.twin_report_laws.proofs.rows.Types.{take_map}
 use Rattle.twin_report_laws.proofs.rows.Owners.{owner_there}
-use Rattle.twin_report_laws.proofs.rows.Nodes.{some_at, node_of, is_value, library_same, tags_of, pointer_row}
+use Rattle.twin_report_laws.proofs.rows.Nodes.{some_at, node_of, is_value, library_same, tags_of, pointer_row, take_member, variadic_same, rest_there}
 
 some_mapped : {X Y : Type 0} (f : X → Y) (o : Option X) → is_some (option_map f o) ≡ is_some o
 some_mapped f None = refl
@@ -127,6 +130,7 @@ giver_same to n (TextKey e) = refl
 giver_same to n (CallKey e) = refl
 giver_same to n (Library k) = refl
 giver_same to n (Star k) = refl
+giver_same to n (VarargsKey k) = refl
 giver_same to n (Function k) = refl
 
 givers_from : (to : Numbers) (n : ℕ) (keys : List ObjectKey) → filter_map (λ (entry : ℕ × ObjectKey). giver_in entry.0 entry.1) (enumerate_from n (map (key_moved to) keys)) ≡ filter_map (λ (entry : ℕ × ObjectKey). giver_in entry.0 entry.1) (enumerate_from n keys)
@@ -302,6 +306,25 @@ module _ (p q : Program) (to back : Numbers) (h : ArePaired p q to back) (ready 
         (λ a m. let (c, c_at, sort) = node_of p.nodes.items a ValueNode (each a m) is_value in values_moved p q to back h a c c_at sort)
         ∙ sym (map_map (map (row_moved p q to back h)) (value_rows (trees_in p) s) args))
 
+    -- the rows of all arguments
+    past_values : (o : Option ℕ) → variadic_count (type_at (trees_in p) has_callee.callee) ≡ o
+        → rows_past (trees_in q) z (to.node n) o (map to.node has_callee.arguments) ≡ map (map (row_moved p q to back h)) (rows_past (trees_in p) s n o has_callee.arguments)
+    past_values None e = values_list has_callee.arguments argument_value
+    past_values (Some count) e =
+        let front : List ℕ = take count has_callee.arguments in
+        ap (λ (cs : List ℕ). map (value_rows (trees_in q) z) cs ++ (rest_row (trees_in q) z (to.node n) ∷ []) ∷ []) (take_map to.node count has_callee.arguments)
+        ∙ (ap (λ (lists : List (List ℕ)). lists ++ (rest_row (trees_in q) z (to.node n) ∷ []) ∷ []) (values_list front (λ a m. argument_value a (take_member count has_callee.arguments a m)))
+        ∙ (ap (λ (k : ℕ). map (map (row_moved p q to back h)) (map (value_rows (trees_in p) s) front) ++ (k ∷ []) ∷ []) (rest_there p q to back h ready owners other_owners n y has_callee.callee has_callee.arguments count at call has_callee.children e)
+        ∙ sym (map-append (map (row_moved p q to back h)) (map (value_rows (trees_in p) s) front) ((rest_row (trees_in p) s n ∷ []) ∷ []))))
+
+    all_values : argument_rows (trees_in q) z (to.node n) (head_of b.children) (rest_of b.children) ≡ map (map (row_moved p q to back h)) (argument_rows (trees_in p) s n (head_of y.children) (rest_of y.children))
+    all_values =
+        ap (λ (cs : List ℕ). argument_rows (trees_in q) z (to.node n) (head_of cs) (rest_of cs)) children_over
+        ∙ (ap (λ (t : Ctype). rows_past (trees_in q) z (to.node n) (variadic_count t) (map to.node has_callee.arguments)) (tags_of p q to back h ready owners other_owners has_callee.callee ValueNode has_callee.value is_value).1
+        ∙ (ap (λ (o : Option ℕ). rows_past (trees_in q) z (to.node n) o (map to.node has_callee.arguments)) (variadic_same to.tag (type_at (trees_in p) has_callee.callee))
+        ∙ (past_values (variadic_count (type_at (trees_in p) has_callee.callee)) refl
+        ∙ sym (ap (λ (cs : List ℕ). map (map (row_moved p q to back h)) (argument_rows (trees_in p) s n (head_of cs) (rest_of cs))) has_callee.children))))
+
     -- what holds of both calls
     pub record AreSites (maps : Maps) (site over_site : CallSite) : Type 0 where
       pub same_call : SameCall maps site over_site
@@ -317,11 +340,9 @@ module _ (p q : Program) (to back : Numbers) (h : ArePaired p q to back) (ready 
             ∙ (pointer_row p q to back h ready owners other_owners has_callee.callee (type_at (trees_in p) has_callee.callee) (has_callee.value, refl) has_callee.pointer
             ∙ (ap (λ (cs : List ℕ). row_moved p q to back h (row (trees_in p) s (head_of cs))) (sym has_callee.children) ∙ (sym (ap (row_moved p q to back h) one.callee) ∙ sym (rows site.callee)))));
         arguments = other.arguments
-            ∙ (ap (λ (cs : List ℕ). map (value_rows (trees_in q) z) (rest_of cs)) children_over
-            ∙ (values_list has_callee.arguments argument_value
-            ∙ (ap (λ (cs : List ℕ). map (map (row_moved p q to back h)) (map (value_rows (trees_in p) s) (rest_of cs))) (sym has_callee.children)
+            ∙ (all_values
             ∙ (sym (ap (map (map (row_moved p q to back h))) one.arguments)
-            ∙ same_map (map (row_moved p q to back h)) (map maps.row) site.arguments (λ list m. same_map (row_moved p q to back h) maps.row list (λ r k. sym (rows r)))))));
+            ∙ same_map (map (row_moved p q to back h)) (map maps.row) site.arguments (λ list m. same_map (row_moved p q to back h) maps.row list (λ r k. sym (rows r)))));
         result = other.result
             ∙ (values_moved p q to back h n y at (ap sort_of call)
             ∙ (sym (ap (map (row_moved p q to back h)) one.result) ∙ same_map (row_moved p q to back h) maps.row site.result (λ r k. sym (rows r))));

@@ -34,6 +34,10 @@ module _ (m f : ℕ → ℕ) where
   pub copy_moved : (to from other there : ℕ) → other ≡ m to → there ≡ m from → Moved (Copy other there ∷ []) (Copy to from ∷ [])
   copy_moved to from other there a b = ap (λ (n : ℕ). Copy n there ∷ []) a ∙ ap (λ (n : ℕ). Copy (m to) n ∷ []) b
 
+  pub load_moved : (to pointer sub other there ty : ℕ) → other ≡ m to → there ≡ m pointer → ty ≡ number_moved f ty → Moved (Load other there ty sub ∷ []) (Load to pointer ty sub ∷ [])
+  load_moved to pointer sub other there ty a b c =
+      ap (λ (n : ℕ). Load n there ty sub ∷ []) a ∙ (ap (λ (n : ℕ). Load (m to) n ty sub ∷ []) b ∙ ap (λ (n : ℕ). Load (m to) (m pointer) n sub ∷ []) c)
+
   pub field_moved : (to from ty k other there number : ℕ) → other ≡ m to → there ≡ m from → number ≡ number_moved f ty → Moved (Field other there number k ∷ []) (Field to from ty k ∷ [])
   field_moved to from ty k other there number a b c =
       ap (λ (n : ℕ). Field n there number k ∷ []) a ∙ (ap (λ (n : ℕ). Field (m to) n number k ∷ []) b ∙ ap (λ (n : ℕ). Field (m to) (m from) n k ∷ []) c)
@@ -51,6 +55,13 @@ module _ (m f : ℕ → ℕ) where
     spreads_moved to from other there a b =
         over_kept (λ i. Copy (kept_row to ts i) from) (λ i. Copy (kept_row other (map (renamed f) ts) i) there)
         (λ i own. ap (λ (n : ℕ). Copy n there) (kept_row_moved m f ts to other i a own) ∙ ap (λ (n : ℕ). Copy (m (kept_row to ts i)) n) b)
+
+    -- into one row
+    pub gathers_moved : (to from other there : ℕ) → other ≡ m to → Leads m ts from there
+        → Moved (map (λ i. Copy other (kept_row there (map (renamed f) ts) i)) (kept (map (renamed f) ts))) (map (λ i. Copy to (kept_row from ts i)) (kept ts))
+    gathers_moved to from other there a b =
+        over_kept (λ i. Copy to (kept_row from ts i)) (λ i. Copy other (kept_row there (map (renamed f) ts) i))
+        (λ i own. ap (λ (n : ℕ). Copy n (kept_row there (map (renamed f) ts) i)) a ∙ ap (λ (n : ℕ). Copy (m to) n) (kept_row_moved m f ts from there i b own))
 
     pub loads_moved : (to pointer ty other there number : ℕ) → Leads m ts to other → there ≡ m pointer → number ≡ number_moved f ty → Moved (loads (map (renamed f) ts) other there number) (loads ts to pointer ty)
     loads_moved to pointer ty other there number a b c =

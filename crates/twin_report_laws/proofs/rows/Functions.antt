@@ -1,19 +1,20 @@
 -- The functions of two programs that are one, but for numbers.
-use Rattle.std.proofs.Common.{arith, ◌≡◌, ◌∙◌, ◌+◌, ◌<◌, ◌^◌, ℕ, zero, suc, Bool, true, false, List, [], ◌∷◌, map, length, Option, Some, None, unwrap_or, refl, sym, ap, subst, inl, inr}
+use Rattle.std.proofs.Common.{arith, ◌≡◌, ◌∙◌, ◌+◌, ◌<◌, ◌^◌, ℕ, zero, suc, Bool, true, false, List, [], ◌∷◌, ◌++◌, map, length, Option, Some, None, unwrap_or, refl, sym, ap, subst, inl, inr}
 use Rattle.std.specs.Prelude.{if◌then◌else◌, filter, ◌==◌}
 use Rattle.std.specs.List.{slice_get, range_with_len, enumerate_from}
 use Rattle.std.specs.Option.{option_map, option_map_or, IfSome}
 use Rattle.std.proofs.lemmas.Bool.{eqb-true, eq-eqb, false≢true, cases_lt}
-use Rattle.std.proofs.lemmas.List.{length-map}
+use Rattle.std.proofs.lemmas.List.{length-map, map-append}
 use Rattle.std.proofs.lemmas.Option.{slice_get_within}
 use Rattle.c_types.specs.declared.key.ObjectKey.{ObjectKey}
 use Rattle.c_types.specs.declared.key.ObjectKey.TheVariants.{Entity as EntityKey, Text as TextKey, Call as CallKey, Library, Star, Function as FunctionKey}
+use Rattle.c_types.specs.declared.key.ObjectKey.TheVariants.{Varargs as VarargsKey}
 use Rattle.c_types.specs.declared.term.Form.TheVariants.{Fixed, Unspecified, Variadic}
 use Rattle.c_types.specs.Trees.{Ctype, FunctionFrom}
 use Rattle.c_types.specs.Table.{Table, type_of, extent_in, IsFirstOf}
 use Rattle.core_tree.specs.declared.node.Entity.{Entity}
 use Rattle.core_tree.specs.declared.node.Storage.{Storage}
-use Rattle.core_tree.specs.declared.node.Storage.TheVariants.{Parameter}
+use Rattle.core_tree.specs.declared.node.Storage.TheVariants.{Parameter, FunctionBody}
 use Rattle.core_tree.specs.declared.node.Program.{Program}
 use Rattle.core_tree.specs.Typed.{CoreTrees, trees_in}
 use Rattle.link_model.specs.Renamed.{renamed}
@@ -26,9 +27,9 @@ use Rattle.sol_model.specs.declared.system.Function.{Function}
 use Rattle.row_numbers.specs.declared.functions.Role.TheVariants.{Parameter as ParameterRole}
 use Rattle.row_numbers.specs.Kept.{nodes_of, kept_at, row_or, row_list}
 use Rattle.row_numbers.specs.Functions.{is_parameter, keys_in, begins_at, object_at, in_order, functions_of, entity_in, is_owned_by, all_parameters, parameters_of, key_type, type_or_void}
-use Rattle.row_numbers.specs.Setting.{none_row, result_row, result_nodes}
+use Rattle.row_numbers.specs.Setting.{none_row, result_row, result_nodes, takes_further}
 use Rattle.call_sites.specs.Signatures.{comparison, at_end, IsSignature, compares, ends, known, unknown, called_type}
-use Rattle.normal_form.specs.Facts.{cell_list, parameter_rows, parameters_by, library_by, effects_by, IsFunctionFact, AreFunctions}
+use Rattle.normal_form.specs.Facts.{cell_list, parameter_rows, further_rows, parameters_by, library_by, effects_by, IsFunctionFact, AreFunctions}
 use Rattle.system_laws.proofs.parameter_laws.Contents.{content_of}
 use Rattle.system_laws.proofs.parameter_laws.Fitting.{is_first, all_nodes}
 use Rattle.system_laws.proofs.Functions.{HasPlace, place_of}
@@ -38,7 +39,7 @@ use Rattle.twin_report_laws.specs.systems.Systems.{Maps, SameFunction}
 use Rattle.outcome_laws.proofs.twin_words.Sums.{some_one, none_some}
 use Rattle.outcome_laws.proofs.twin_words.Options.{mapped_at, same_test}
 use Rattle.outcome_laws.proofs.twin_words.Members.{Member, member_at, member_filter, member_map, find_member}
-use Rattle.outcome_laws.proofs.twin_words.Results.{IsFunctionKey, own, library}
+use Rattle.outcome_laws.proofs.twin_words.Results.{IsFunctionKey, own, library, takes_same}
 use Rattle.twin_report_laws.specs.rows.Paired.{ArePaired, flipped}
 use Rattle.twin_report_laws.specs.rows.Ready.{IsReady, HasId}
 use Rattle.twin_report_laws.proofs.rows.Views.{here, over, begins_view, count_same, first_same, entity_round, IsInRole, in_role, role_moved, order_same, all_functions}
@@ -160,15 +161,33 @@ module _ (p q : Program) (to back : Numbers) (h : ArePaired p q to back) (ready 
       ∙ (sym (ap (λ (t : Ctype). map m (cell_list (none_row (trees_in p) s) l (nodes_of p.types t))) type)
       ∙ sym (ap (λ (o : Option ℕ). map m (cell_list (none_row (trees_in p) s) (unwrap_or o 0) (nodes_of p.types (key_type (trees_in p) key)))) first)))))
 
+  -- the row behind the parameters of a variadic function
+  further_same : (e : ℕ) (a : Entity) → slice_get p.entities.items e ≡ Some a → a.storage ≡ FunctionBody → further_rows (trees_in q) z (to.entity e) ≡ map (map m) (further_rows (trees_in p) s e)
+  further_same e a at storage =
+      let type : key_type (trees_in q) (EntityKey (to.entity e)) ≡ renamed to.tag (key_type (trees_in p) (EntityKey e)) = function_type p q to back h (EntityKey e) (own e a at storage) in
+      let round : back.entity (to.entity e) ≡ e = h.lead.entity_back e (slice_get_within p.entities.items e a at) in
+      let place : unwrap_or (z.first (VarargsKey (to.entity e))) 0 ≡ m (unwrap_or (s.first (VarargsKey e)) 0) =
+      ap (λ (o : Option ℕ). unwrap_or o 0) (first_same p q to back h (VarargsKey e) (ap VarargsKey round)) ∙ sym (key_stays p q to back h ready [] [] (VarargsKey e)) in
+      ap (λ (b : Bool). if b then (unwrap_or (z.first (VarargsKey (to.entity e))) 0 ∷ []) ∷ [] else []) (ap takes_further type ∙ takes_same to.tag (key_type (trees_in p) (EntityKey e)))
+      ∙ (ap (λ (k : ℕ). if takes_further (key_type (trees_in p) (EntityKey e)) then (k ∷ []) ∷ [] else []) place ∙ by (takes_further (key_type (trees_in p) (EntityKey e))))
+    where
+      by : (b : Bool) → (if b then (m (unwrap_or (s.first (VarargsKey e)) 0) ∷ []) ∷ [] else []) ≡ map (map m) (if b then (unwrap_or (s.first (VarargsKey e)) 0 ∷ []) ∷ [] else [])
+      by true = refl
+      by false = refl
+
   lists_same : (key : ObjectKey) → IsFunctionKey p key → parameters_by (trees_in q) z (key_moved to key) ≡ map (map m) (parameters_by (trees_in p) s key)
   lists_same key (library k there) = refl
   lists_same key (own e a at storage) =
       let lt = slice_get_within p.entities.items e a at in
+      let front : map (parameter_rows (trees_in q) z) (parameters_of (trees_in q) z (to.entity e)) ≡ map (map m) (map (parameter_rows (trees_in p) s) (parameters_of (trees_in p) s e)) =
       ap (map (parameter_rows (trees_in q) z)) (parameters_same e lt)
       ∙ (map_map (parameter_rows (trees_in q) z) (key_moved to) (parameters_of (trees_in p) s e)
       ∙ (same_map (λ key. parameter_rows (trees_in q) z (key_moved to key)) (λ key. map m (parameter_rows (trees_in p) s key)) (parameters_of (trees_in p) s e)
       (λ key there. rows_same key (filter_member (λ k. is_owned_by e (entity_in (trees_in p) k)) (all_parameters (trees_in p) s) key there))
-      ∙ sym (map_map (map m) (parameter_rows (trees_in p) s) (parameters_of (trees_in p) s e))))
+      ∙ sym (map_map (map m) (parameter_rows (trees_in p) s) (parameters_of (trees_in p) s e)))) in
+      ap (λ (lists : List (List ℕ)). lists ++ further_rows (trees_in q) z (to.entity e)) front
+      ∙ (ap (λ (lists : List (List ℕ)). map (map m) (map (parameter_rows (trees_in p) s) (parameters_of (trees_in p) s e)) ++ lists) (further_same e a at storage)
+      ∙ sym (map-append (map m) (map (parameter_rows (trees_in p) s) (parameters_of (trees_in p) s e)) (further_rows (trees_in p) s e)))
 
 -- ---- signatures
 pub called_same : (f : ℕ → ℕ) (t : Ctype) → called_type (renamed f t) ≡ renamed f (called_type t)
@@ -237,6 +256,7 @@ library_moved to (TextKey e) = refl
 library_moved to (CallKey e) = refl
 library_moved to (Library k) = refl
 library_moved to (Star k) = refl
+library_moved to (VarargsKey k) = refl
 library_moved to (FunctionKey k) = refl
 
 effects_moved : (to : Numbers) (key : ObjectKey) → effects_by (key_moved to key) ≡ effects_by key
@@ -245,6 +265,7 @@ effects_moved to (TextKey e) = refl
 effects_moved to (CallKey e) = refl
 effects_moved to (Library k) = refl
 effects_moved to (Star k) = refl
+effects_moved to (VarargsKey k) = refl
 effects_moved to (FunctionKey k) = refl
 
 module _ (p q : Program) (to back : Numbers) (h : ArePaired p q to back) (ready : IsReady p) where

@@ -1,14 +1,15 @@
 -- What nodes demand, in two programs that are one, but for numbers.
-use Rattle.std.proofs.Common.{arith, ◌≡◌, ◌∙◌, ◌+◌, ◌<◌, ◌≤◌, ◌&&◌, ℕ, zero, suc, Bool, true, false, List, [], ◌∷◌, map, take, length, ◌^◌, Option, Some, None, unwrap_or, refl, sym, ap, subst, inl, inr}
+use Rattle.std.proofs.Common.{arith, ◌≡◌, ◌∙◌, ◌+◌, ◌<◌, ◌≤◌, ◌&&◌, ℕ, zero, suc, Bool, true, false, List, [], ◌∷◌, map, take, drop, length, ◌^◌, Option, Some, None, unwrap_or, refl, sym, ap, subst, inl, inr}
 use Rattle.std.specs.Prelude.{if◌then◌else◌, nat_lt, ◌-◌}
-use Rattle.std.specs.List.{slice_get}
-use Rattle.std.specs.Option.{option_map, option_map_or}
+use Rattle.std.specs.List.{slice_get, flat_map}
+use Rattle.std.specs.Option.{option_map, option_map_or, IfSome}
 use Rattle.std.proofs.lemmas.Bool.{cases_lt}
 use Rattle.std.proofs.lemmas.List.{get_or_past}
 use Rattle.std.proofs.lemmas.Option.{slice_get_within}
 use Rattle.c_types.specs.declared.key.ObjectKey.{ObjectKey}
-use Rattle.c_types.specs.declared.key.ObjectKey.TheVariants.{Entity as EntityKey, Text as TextKey, Library, Function}
-use Rattle.c_types.specs.Trees.{Ctype, VoidType, BoolType, IntegerType, FloatingType, VaListType, PointerTo, ArrayOf, FunctionFrom, StructureOf, UnionOf}
+use Rattle.c_types.specs.declared.key.ObjectKey.TheVariants.{Entity as EntityKey, Text as TextKey, Library, Function, Varargs as VarargsKey}
+use Rattle.c_types.specs.declared.term.Form.TheVariants.{Fixed, Variadic, Unspecified}
+use Rattle.c_types.specs.Trees.{Ctype, Ctypes, NoTypes, MoreTypes, VoidType, BoolType, IntegerType, FloatingType, VaListType, PointerTo, ArrayOf, FunctionFrom, StructureOf, UnionOf}
 use Rattle.c_types.specs.declared.term.MemberTerm.{MemberTerm}
 use Rattle.c_types.specs.declared.term.Term.TheVariants.{Structure, Union}
 use Rattle.c_types.specs.Layout.{Extent, of_members, union_of}
@@ -16,13 +17,13 @@ use Rattle.c_types.specs.Table.{Table, types_of, type_of, members_in, extents_in
 use Rattle.c_types.proofs.Grow.{grown_length}
 use Rattle.c_types.proofs.Nodes.{union_nodes}
 use Rattle.lib_summaries.specs.Table.{summary_of}
-use Rattle.type_rules.specs.Kinds.{IsPointer, IsArray}
+use Rattle.type_rules.specs.Kinds.{IsPointer, IsArray, IsList}
 use Rattle.type_rules.specs.Members.{in_list, IsMemberOf}
 use Rattle.type_rules.specs.Sizes.{PointsToObject}
 use Rattle.type_rules.specs.Conversions.{decayed, IsFirstOf}
 use Rattle.core_tree.specs.declared.node.Node.{Node}
 use Rattle.core_tree.specs.declared.node.NodeKind.{NodeKind}
-use Rattle.core_tree.specs.declared.node.NodeKind.TheVariants.{Named, Text, Literal, FunctionName, Deref, Member, Fetch, AddressOf, Decay, PointerAdd, Convert, Upcast, Assign, Update, Choose, Sequence, MemberOfValue}
+use Rattle.core_tree.specs.declared.node.NodeKind.TheVariants.{Named, Text, Literal, FunctionName, Deref, Member, Fetch, AddressOf, Decay, PointerAdd, Convert, Upcast, Assign, Update, Choose, Sequence, MemberOfValue, CallNode, VarArgs, NextArg}
 use Rattle.core_tree.specs.declared.node.Entity.{Entity}
 use Rattle.core_tree.specs.declared.node.Linkage.{Linkage}
 use Rattle.core_tree.specs.declared.node.Storage.{Storage}
@@ -30,18 +31,19 @@ use Rattle.core_tree.specs.declared.node.Program.{Program}
 use Rattle.core_tree.specs.Typed.{Sort, NoNode, PlaceNode, ValueNode, sort_of, sort_in, sort_at, type_in, type_at, trees_in, IsValue}
 use Rattle.core_tree.specs.Range.{named_by}
 use Rattle.core_tree.specs.Rows.{RowOf}
-use Rattle.link_model.specs.Renamed.{renamed}
+use Rattle.link_model.specs.Renamed.{renamed, all_renamed}
 use Rattle.link_model.specs.Partition.{HasTags}
 use Rattle.unit_link.specs.Places.{kind_renamed}
 use Rattle.obj_space.specs.Space.{locations_in}
 use Rattle.obj_space.specs.View.{first_from}
-use Rattle.row_numbers.specs.Kept.{nodes_in, nodes_of, member_node, kept_count, kept_row}
+use Rattle.row_numbers.specs.Kept.{nodes_in, nodes_of, member_node, kept, kept_count, kept_row}
 use Rattle.row_numbers.specs.Numbers.{type_number}
 use Rattle.row_numbers.specs.Objects.{is_open, library_number, library_key, entity_key, location_of}
-use Rattle.row_numbers.specs.Setting.{row, Setting}
+use Rattle.row_numbers.specs.Setting.{row, list_row, rest_row, trail, trail_at, calls_further, Setting}
+use Rattle.call_sites.specs.Calls.{count_of, variadic_count}
 use Rattle.normal_form.specs.declared.normal.Assignment.{Assignment}
-use Rattle.normal_form.specs.declared.normal.Assignment.TheVariants.{Address, Copy}
-use Rattle.normal_form.specs.Assignments.{copies, spreads, loads, stores, is_pointer, pointed, place_of_kind, value_of_kind, is_union_type, part_first, part_of_value}
+use Rattle.normal_form.specs.declared.normal.Assignment.TheVariants.{Address, Copy, Load}
+use Rattle.normal_form.specs.Assignments.{copies, spreads, loads, stores, is_pointer, pointed, place_of_kind, value_of_kind, is_union_type, part_first, part_of_value, varargs_row, next_arg_row, gathered_row, gathered_past, call_row}
 use Rattle.normal_form.specs.SystemOf.{setting_of}
 use Rattle.linked_laws.proofs.merged_laws.Terms.{structure_term}
 use Rattle.twin_report_laws.proofs.rows.Parts.{part_rows}
@@ -49,12 +51,13 @@ use Rattle.outcome_laws.specs.twin_programs.One.{Numbers, SameEntity}
 use Rattle.outcome_laws.specs.twin_locations.Same.{key_moved, number_moved}
 use Rattle.outcome_laws.proofs.twin_words.Sums.{some_one, none_some}
 use Rattle.outcome_laws.proofs.twin_words.Library.{first_below}
+use Rattle.outcome_laws.proofs.twin_words.Members.{Member as Among, at_member}
 use Rattle.twin_report_laws.specs.rows.Paired.{ArePaired}
 use Rattle.twin_report_laws.specs.rows.Ready.{IsReady}
 use Rattle.twin_report_laws.proofs.rows.Views.{here, over, entity_round, first_same}
 use Rattle.twin_report_laws.proofs.rows.Types.{nodes_moved, own_tags, member_moved, kept_take, type_number_moved, type_moved, tags_at}
-use Rattle.twin_report_laws.proofs.rows.Rows.{Leads, row_moved, row_location, value_leads, place_moved, first_moved}
-use Rattle.twin_report_laws.proofs.rows.Copies.{assignment_moved, Moved, moved_append, address_moved, copy_moved, field_moved, copies_moved, spreads_moved, loads_moved, stores_moved}
+use Rattle.twin_report_laws.proofs.rows.Rows.{Leads, row_moved, row_location, value_leads, place_moved, first_moved, list_moved, rest_moved}
+use Rattle.twin_report_laws.proofs.rows.Copies.{assignment_moved, Moved, moved_append, address_moved, copy_moved, load_moved, field_moved, copies_moved, spreads_moved, gathers_moved, loads_moved, stores_moved}
 
 -- the type of a number that a table lacks
 pub void_past : (table : Table) (j : ℕ) → length table.terms ≤ j → type_of table j ≡ VoidType
@@ -98,6 +101,43 @@ pointer_kept table (ArrayOf of length) h = absurd h
 pointer_kept table (FunctionFrom result parameters form) h = absurd h
 pointer_kept table (StructureOf tag) h = absurd h
 pointer_kept table (UnionOf tag) h = absurd h
+
+list_kept : (table : Table) (t : Ctype) → IsList t → kept_count (nodes_of table t) ≡ 1
+list_kept table VaListType h = refl
+list_kept table t h = absurd h
+
+drop_map : {X Y : Type 0} (f : X → Y) (n : ℕ) (xs : List X) → drop n (map f xs) ≡ map f (drop n xs)
+drop_map f zero xs = refl
+drop_map f (suc n) [] = refl
+drop_map f (suc n) (x ∷ xs) = drop_map f n xs
+
+-- what stands among the last items stands among all, and so for the first ones
+pub drop_member : {X : Type 0} (n : ℕ) (xs : List X) (a : X) → Among (drop n xs) a → Among xs a
+drop_member zero xs a m = m
+drop_member (suc n) [] a m = absurd m
+drop_member (suc n) (x ∷ xs) a m = inr (drop_member n xs a m)
+
+pub take_member : {X : Type 0} (n : ℕ) (xs : List X) (a : X) → Among (take n xs) a → Among xs a
+take_member zero xs a m = absurd m
+take_member (suc n) [] a m = absurd m
+take_member (suc n) (x ∷ xs) a (inl same) = inl same
+take_member (suc n) (x ∷ xs) a (inr more) = inr (take_member n xs a more)
+
+-- how many parameters a variadic function has
+count_same : (f : ℕ → ℕ) (ts : Ctypes) → count_of (all_renamed f ts) ≡ count_of ts
+count_same f NoTypes = refl
+count_same f (MoreTypes t rest) = ap suc (count_same f rest)
+
+pub variadic_same : (f : ℕ → ℕ) (t : Ctype) → variadic_count (renamed f t) ≡ variadic_count t
+variadic_same f (PointerTo (FunctionFrom result parameters Variadic)) = ap Some (count_same f parameters)
+variadic_same f (PointerTo (FunctionFrom result parameters Fixed)) = refl
+variadic_same f (PointerTo (FunctionFrom result parameters Unspecified)) = refl
+variadic_same f (PointerTo t) = refl
+variadic_same f t = refl
+
+further_called : (t : Ctype) (count : ℕ) → variadic_count t ≡ Some count → calls_further t ≡ true
+further_called (PointerTo (FunctionFrom result parameters Variadic)) count e = refl
+further_called t count e = absurd (none_some e)
 
 pub pointer_same : (f : ℕ → ℕ) (t : Ctype) → is_pointer (renamed f t) ≡ is_pointer t
 pointer_same f (PointerTo to) = refl
@@ -352,62 +392,140 @@ module _ (p q : Program) (to back : Numbers) (h : ArePaired p q to back) (ready 
       by true e false f = refl
       by false e b f = refl
 
-  pub value_kind : (n : ℕ) (y : Node) (kind : NodeKind) → slice_get p.nodes.items n ≡ Some y → y.kind ≡ kind → (children : List ℕ) → RowOf (trees_in p) kind (type_of p.types y.ty.0) children
+  -- ---- lists of arguments past the parameters
+  own_list : (n : ℕ) (y : Node) → slice_get p.nodes.items n ≡ Some y → sort_of y.kind ≡ ValueNode → IsList (type_of p.types y.ty.0) → row_over (to.node n) ≡ m (own_row n)
+  own_list n y at value list =
+      let one = list_kept p.types (type_of p.types y.ty.0) list in
+      sym (first_moved p q to back h (nodes_of p.types (type_of p.types y.ty.0)) (own_row n) (row_over (to.node n)) (own_leads n y at value) (omega (arith, one)))
+
+  varargs_kind : (n : ℕ) (y : Node) (e : ℕ) → slice_get p.nodes.items n ≡ Some y → y.kind ≡ VarArgs e → IsList (type_of p.types y.ty.0)
+      → Twins (varargs_row x (to.node n) (to.entity e)) (varargs_row w n e)
+  varargs_kind n y e at is list =
+      let lt : e < length p.entities.items = subst (λ (k : NodeKind). IfSome (named_by k) (λ i. i < length p.entities.items)) is (ready.named n y at) in
+      address_moved m to.tag (own_row n) (unwrap_or (first_from 0 (locations_in p) (VarargsKey e)) 0) (row_over (to.node n)) (unwrap_or (first_from 0 (locations_in q) (VarargsKey (to.entity e))) 0)
+      (own_list n y at (ap sort_of is) list)
+      (ap (λ (o : Option ℕ). unwrap_or o 0) (first_same p q to back h (VarargsKey e) (ap VarargsKey (h.lead.entity_back e lt))) ∙ sym (key_stays (VarargsKey e)))
+
+  next_kind : (n : ℕ) (y : Node) (c : ℕ) → slice_get p.nodes.items n ≡ Some y → y.kind ≡ NextArg → sort_at (trees_in p) c ≡ PlaceNode
+      → Twins (next_arg_row x (to.node n) (renamed to.tag (type_of p.types y.ty.0)) (to.node c ∷ [])) (next_arg_row w n (type_of p.types y.ty.0) (c ∷ []))
+  next_kind n y c at is place =
+      let own : ℕ = list_row (trees_in p) (here p q to back h) n in
+      let its : ℕ = list_row (trees_in q) (over p q to back h) (to.node n) in
+      let list : its ≡ m own = sym (list_moved p q to back h n y at is) in
+      moved_append m to.tag
+      (Load its (row_over (to.node c)) 7 0 ∷ []) (loads (nodes_of q.types (renamed to.tag (type_of p.types y.ty.0))) (row_over (to.node n)) its (type_number (renamed to.tag (type_of p.types y.ty.0))))
+      (Load own (own_row c) 7 0 ∷ []) (loads (nodes_of p.types (type_of p.types y.ty.0)) (own_row n) own (type_number (type_of p.types y.ty.0)))
+      (load_moved m to.tag own (own_row c) 0 its (row_over (to.node c)) 7 list (place_row c place) refl)
+      (ap (λ (ns : List Ctype). loads ns (row_over (to.node n)) its (type_number (renamed to.tag (type_of p.types y.ty.0)))) (own_nodes n y)
+      ∙ loads_moved m to.tag (nodes_of p.types (type_of p.types y.ty.0)) (own_row n) own (type_number (type_of p.types y.ty.0)) (row_over (to.node n)) its (type_number (renamed to.tag (type_of p.types y.ty.0)))
+      (own_leads n y at (ap sort_of is)) list (type_number_moved to.tag (type_of p.types y.ty.0)))
+
+  -- ---- what a call passes past the parameters
+  abbrev pub rest_own : ℕ → ℕ
+  rest_own n = rest_row (trees_in p) (here p q to back h) n
+
+  abbrev pub rest_over : ℕ → ℕ
+  rest_over n = rest_row (trees_in q) (over p q to back h) (to.node n)
+
+  pub trail_some : (y : Node) (c : ℕ) (arguments : List ℕ) (count : ℕ) → y.kind ≡ CallNode → y.children ≡ c ∷ arguments → variadic_count (type_at (trees_in p) c) ≡ Some count → trail (trees_in p) y.kind y.children ≡ 1
+  trail_some y c arguments count is children e =
+      ap (λ (k : NodeKind). trail (trees_in p) k y.children) is ∙ (ap (trail (trees_in p) CallNode) children ∙ ap trail_at (further_called (type_at (trees_in p) c) count e))
+
+  pub rest_there : (n : ℕ) (y : Node) (c : ℕ) (arguments : List ℕ) (count : ℕ) → slice_get p.nodes.items n ≡ Some y → y.kind ≡ CallNode → y.children ≡ c ∷ arguments → variadic_count (type_at (trees_in p) c) ≡ Some count → rest_over n ≡ m (rest_own n)
+  rest_there n y c arguments count at is children e = (let one = trail_some y c arguments count is children e in sym (rest_moved p q to back h n y at (ap sort_of is) (omega (arith, one))))
+
+  gathered_kind : (n a : ℕ) → sort_at (trees_in p) a ≡ ValueNode → rest_over n ≡ m (rest_own n) → Twins (gathered_row x (to.node n) (to.node a)) (gathered_row w n a)
+  gathered_kind n a value rest =
+      let (has, type) = tags_of a ValueNode value is_value in
+      ap (λ (ts : List Ctype). map (λ i. Copy (rest_over n) (kept_row (row_over (to.node a)) ts i)) (kept ts)) (ap (nodes_of q.types) type ∙ nodes_moved p q to back h (type_at (trees_in p) a) has)
+      ∙ gathers_moved m to.tag (nodes_of p.types (type_at (trees_in p) a)) (rest_own n) (own_row a) (rest_over n) (row_over (to.node a)) rest (value_row a (type_at (trees_in p) a) (value, refl))
+
+  gathered_list : (n : ℕ) (arguments : List ℕ) → ((a : ℕ) → Among arguments a → sort_at (trees_in p) a ≡ ValueNode) → rest_over n ≡ m (rest_own n)
+      → Twins (flat_map (gathered_row x (to.node n)) (map to.node arguments)) (flat_map (gathered_row w n) arguments)
+  gathered_list n [] each rest = refl
+  gathered_list n (a ∷ arguments) each rest =
+      moved_append m to.tag (gathered_row x (to.node n) (to.node a)) (flat_map (gathered_row x (to.node n)) (map to.node arguments)) (gathered_row w n a) (flat_map (gathered_row w n) arguments)
+      (gathered_kind n a (each a (inl refl)) rest) (gathered_list n arguments (λ b k. each b (inr k)) rest)
+
+  past_kind : (n : ℕ) (arguments : List ℕ) (o : Option ℕ) → ((a : ℕ) → Among arguments a → sort_at (trees_in p) a ≡ ValueNode) → ((count : ℕ) → o ≡ Some count → rest_over n ≡ m (rest_own n))
+      → Twins (gathered_past x (to.node n) o (map to.node arguments)) (gathered_past w n o arguments)
+  past_kind n arguments None each rest = refl
+  past_kind n arguments (Some count) each rest =
+      ap (flat_map (gathered_row x (to.node n))) (drop_map to.node count arguments)
+      ∙ gathered_list n (drop count arguments) (λ a k. each a (drop_member count arguments a k)) (rest count refl)
+
+  call_kind : (n : ℕ) (y : Node) (c : ℕ) (arguments : List ℕ) → slice_get p.nodes.items n ≡ Some y → y.kind ≡ CallNode → y.children ≡ c ∷ arguments → sort_at (trees_in p) c ≡ ValueNode
+      → Twins (call_row x (to.node n) (to.node c ∷ map to.node arguments)) (call_row w n (c ∷ arguments))
+  call_kind n y c arguments at is children value =
+      ap (λ (t : Ctype). gathered_past x (to.node n) (variadic_count t) (map to.node arguments)) (tags_of c ValueNode value is_value).1
+      ∙ (ap (λ (o : Option ℕ). gathered_past x (to.node n) o (map to.node arguments)) (variadic_same to.tag (type_at (trees_in p) c))
+      ∙ past_kind n arguments (variadic_count (type_at (trees_in p) c))
+      (λ a k. let (i, i_at) = at_member arguments a k in ready.values.each n y at is (suc i) a (ap (λ (cs : List ℕ). slice_get cs (suc i)) children ∙ i_at))
+      (λ count e. rest_there n y c arguments count at is children e))
+
+  pub value_kind : (n : ℕ) (y : Node) (kind : NodeKind) → slice_get p.nodes.items n ≡ Some y → y.kind ≡ kind → (children : List ℕ) → RowOf (trees_in p) kind (type_of p.types y.ty.0) children → y.children ≡ children
       → Twins (value_of_kind x (to.node n) (kind_renamed to.entity kind) (renamed to.tag (type_of p.types y.ty.0)) (map to.node children)) (value_of_kind w n kind (type_of p.types y.ty.0) children)
-  value_kind n y Fetch at is [] rows = refl
-  value_kind n y Fetch at is (c ∷ []) rows = loads_kind n y c at (ap sort_of is) rows.0.0
-  value_kind n y Fetch at is (c ∷ d ∷ rest) rows = refl
-  value_kind n y AddressOf at is [] rows = refl
-  value_kind n y AddressOf at is (c ∷ []) rows = passed_kind n y c at (ap sort_of is) (subst IsPointer (sym rows.1) tt) (place_row c rows.0)
-  value_kind n y AddressOf at is (c ∷ d ∷ rest) rows = refl
-  value_kind n y Decay at is [] rows = refl
-  value_kind n y Decay at is (c ∷ []) rows = passed_kind n y c at (ap sort_of is) (decay_pointer (type_at (trees_in p) c) (type_of p.types y.ty.0) rows.1) (place_row c rows.0)
-  value_kind n y Decay at is (c ∷ d ∷ rest) rows = refl
-  value_kind n y (PointerAdd minus) at is [] rows = refl
-  value_kind n y (PointerAdd minus) at is (c ∷ []) rows = refl
-  value_kind n y (PointerAdd minus) at is (c ∷ d ∷ []) rows =
+  value_kind n y Fetch at is [] rows mine = refl
+  value_kind n y Fetch at is (c ∷ []) rows mine = loads_kind n y c at (ap sort_of is) rows.0.0
+  value_kind n y Fetch at is (c ∷ d ∷ rest) rows mine = refl
+  value_kind n y AddressOf at is [] rows mine = refl
+  value_kind n y AddressOf at is (c ∷ []) rows mine = passed_kind n y c at (ap sort_of is) (subst IsPointer (sym rows.1) tt) (place_row c rows.0)
+  value_kind n y AddressOf at is (c ∷ d ∷ rest) rows mine = refl
+  value_kind n y Decay at is [] rows mine = refl
+  value_kind n y Decay at is (c ∷ []) rows mine = passed_kind n y c at (ap sort_of is) (decay_pointer (type_at (trees_in p) c) (type_of p.types y.ty.0) rows.1) (place_row c rows.0)
+  value_kind n y Decay at is (c ∷ d ∷ rest) rows mine = refl
+  value_kind n y (PointerAdd minus) at is [] rows mine = refl
+  value_kind n y (PointerAdd minus) at is (c ∷ []) rows mine = refl
+  value_kind n y (PointerAdd minus) at is (c ∷ d ∷ []) rows mine =
       let pointer = moves_pointer p.types (type_of p.types y.ty.0) rows.1 in
       passed_kind n y c at (ap sort_of is) pointer (pointer_row c (type_of p.types y.ty.0) rows.0 pointer)
-  value_kind n y (PointerAdd minus) at is (c ∷ d ∷ e ∷ rest) rows = refl
-  value_kind n y Convert at is [] rows = refl
-  value_kind n y Convert at is (c ∷ []) rows = convert_kind n y c at (ap sort_of is) rows.0
-  value_kind n y Convert at is (c ∷ d ∷ rest) rows = refl
-  value_kind n y Upcast at is [] rows = refl
-  value_kind n y Upcast at is (c ∷ []) rows =
+  value_kind n y (PointerAdd minus) at is (c ∷ d ∷ e ∷ rest) rows mine = refl
+  value_kind n y Convert at is [] rows mine = refl
+  value_kind n y Convert at is (c ∷ []) rows mine = convert_kind n y c at (ap sort_of is) rows.0
+  value_kind n y Convert at is (c ∷ d ∷ rest) rows mine = refl
+  value_kind n y Upcast at is [] rows mine = refl
+  value_kind n y Upcast at is (c ∷ []) rows mine =
       let (from, own) = first_pointers p.types (type_at (trees_in p) c) (type_of p.types y.ty.0) rows.1 in
       field_moved m to.tag (own_row n) (own_row c) (type_number (pointed (type_at (trees_in p) c))) 0 (row_over (to.node n)) (row_over (to.node c)) (type_number (pointed (type_at (trees_in q) (to.node c))))
       (own_pointer n y at (ap sort_of is) own) (pointer_row c (type_at (trees_in p) c) (rows.0, refl) from)
       (ap (λ (t : Ctype). type_number (pointed t)) (tags_of c ValueNode rows.0 is_value).1 ∙ (ap type_number (pointed_same to.tag (type_at (trees_in p) c)) ∙ type_number_moved to.tag (pointed (type_at (trees_in p) c))))
-  value_kind n y Upcast at is (c ∷ d ∷ rest) rows = refl
-  value_kind n y Assign at is [] rows = refl
-  value_kind n y Assign at is (c ∷ []) rows = refl
-  value_kind n y Assign at is (c ∷ d ∷ []) rows =
+  value_kind n y Upcast at is (c ∷ d ∷ rest) rows mine = refl
+  value_kind n y Assign at is [] rows mine = refl
+  value_kind n y Assign at is (c ∷ []) rows mine = refl
+  value_kind n y Assign at is (c ∷ d ∷ []) rows mine =
       moved_append m to.tag
       (stores (nodes_of q.types (renamed to.tag (type_of p.types y.ty.0))) (row_over (to.node c)) (row_over (to.node d)) (type_number (renamed to.tag (type_of p.types y.ty.0))))
       (copies (nodes_of q.types (renamed to.tag (type_of p.types y.ty.0))) (row_over (to.node n)) (row_over (to.node d)))
       (stores (nodes_of p.types (type_of p.types y.ty.0)) (own_row c) (own_row d) (type_number (type_of p.types y.ty.0)))
       (copies (nodes_of p.types (type_of p.types y.ty.0)) (own_row n) (own_row d))
       (stores_kind n y c d rows.0.0 rows.1) (copies_kind n y d at (ap sort_of is) rows.1)
-  value_kind n y Assign at is (c ∷ d ∷ e ∷ rest) rows = refl
-  value_kind n y (Update op post) at is [] rows = refl
-  value_kind n y (Update op post) at is (c ∷ []) rows = refl
-  value_kind n y (Update op post) at is (c ∷ d ∷ []) rows = loads_kind n y c at (ap sort_of is) rows.0.0
-  value_kind n y (Update op post) at is (c ∷ d ∷ e ∷ rest) rows = refl
-  value_kind n y Choose at is [] rows = refl
-  value_kind n y Choose at is (c ∷ []) rows = refl
-  value_kind n y Choose at is (c ∷ a ∷ []) rows = refl
-  value_kind n y Choose at is (c ∷ a ∷ b ∷ []) rows =
+  value_kind n y Assign at is (c ∷ d ∷ e ∷ rest) rows mine = refl
+  value_kind n y (Update op post) at is [] rows mine = refl
+  value_kind n y (Update op post) at is (c ∷ []) rows mine = refl
+  value_kind n y (Update op post) at is (c ∷ d ∷ []) rows mine = loads_kind n y c at (ap sort_of is) rows.0.0
+  value_kind n y (Update op post) at is (c ∷ d ∷ e ∷ rest) rows mine = refl
+  value_kind n y Choose at is [] rows mine = refl
+  value_kind n y Choose at is (c ∷ []) rows mine = refl
+  value_kind n y Choose at is (c ∷ a ∷ []) rows mine = refl
+  value_kind n y Choose at is (c ∷ a ∷ b ∷ []) rows mine =
       moved_append m to.tag
       (copies (nodes_of q.types (renamed to.tag (type_of p.types y.ty.0))) (row_over (to.node n)) (row_over (to.node a)))
       (copies (nodes_of q.types (renamed to.tag (type_of p.types y.ty.0))) (row_over (to.node n)) (row_over (to.node b)))
       (copies (nodes_of p.types (type_of p.types y.ty.0)) (own_row n) (own_row a)) (copies (nodes_of p.types (type_of p.types y.ty.0)) (own_row n) (own_row b))
       (copies_kind n y a at (ap sort_of is) rows.1) (copies_kind n y b at (ap sort_of is) rows.2)
-  value_kind n y Choose at is (c ∷ a ∷ b ∷ e ∷ rest) rows = refl
-  value_kind n y Sequence at is [] rows = refl
-  value_kind n y Sequence at is (a ∷ []) rows = refl
-  value_kind n y Sequence at is (a ∷ b ∷ []) rows = copies_kind n y b at (ap sort_of is) rows.1
-  value_kind n y Sequence at is (a ∷ b ∷ e ∷ rest) rows = refl
-  value_kind n y (MemberOfValue k) at is [] rows = refl
-  value_kind n y (MemberOfValue k) at is (c ∷ []) rows = part_kind n y c k at (ap sort_of is) rows.0 rows.1 rows.2
-  value_kind n y (MemberOfValue k) at is (c ∷ d ∷ rest) rows = refl
-  value_kind n y kind at is children rows = refl
+  value_kind n y Choose at is (c ∷ a ∷ b ∷ e ∷ rest) rows mine = refl
+  value_kind n y Sequence at is [] rows mine = refl
+  value_kind n y Sequence at is (a ∷ []) rows mine = refl
+  value_kind n y Sequence at is (a ∷ b ∷ []) rows mine = copies_kind n y b at (ap sort_of is) rows.1
+  value_kind n y Sequence at is (a ∷ b ∷ e ∷ rest) rows mine = refl
+  value_kind n y (MemberOfValue k) at is [] rows mine = refl
+  value_kind n y (MemberOfValue k) at is (c ∷ []) rows mine = part_kind n y c k at (ap sort_of is) rows.0 rows.1 rows.2
+  value_kind n y (MemberOfValue k) at is (c ∷ d ∷ rest) rows mine = refl
+  value_kind n y CallNode at is [] rows mine = refl
+  value_kind n y CallNode at is (c ∷ arguments) rows mine = call_kind n y c arguments at is mine rows.0
+  value_kind n y (VarArgs e) at is [] rows mine = varargs_kind n y e at is rows.0
+  value_kind n y (VarArgs e) at is (c ∷ rest) rows mine = absurd rows
+  value_kind n y NextArg at is [] rows mine = refl
+  value_kind n y NextArg at is (c ∷ []) rows mine = next_kind n y c at is rows.0.0
+  value_kind n y NextArg at is (c ∷ d ∷ rest) rows mine = refl
+  value_kind n y kind at is children rows mine = refl

@@ -11,6 +11,8 @@ use Rattle.c_types.specs.Trees.{Ctype}
 use Rattle.c_types.specs.Table.{type_of}
 use Rattle.type_rules.specs.Conversions.{result_of}
 use Rattle.core_tree.specs.declared.node.Node.{Node}
+use Rattle.core_tree.specs.declared.node.NodeKind.{NodeKind}
+use Rattle.core_tree.specs.declared.node.NodeKind.TheVariants.{NextArg, CallNode}
 use Rattle.core_tree.specs.declared.node.Entity.{Entity}
 use Rattle.core_tree.specs.declared.node.Program.{Program}
 use Rattle.core_tree.specs.Typed.{CoreTrees, Sort, PlaceNode, ValueNode, sort_of, type_in, type_at, trees_in}
@@ -20,7 +22,7 @@ use Rattle.obj_space.specs.View.{SpaceView}
 use Rattle.row_numbers.specs.Kept.{nodes_of, kept_at, kept_from, kept, kept_count, kept_row, row_or, row_list}
 use Rattle.row_numbers.specs.Objects.{library_id}
 use Rattle.row_numbers.specs.Functions.{begins_at, object_at, objects_at, function_keys, functions_of, functions_below, type_or_void, key_type}
-use Rattle.row_numbers.specs.Setting.{width_by, width, widths, result_nodes, result_widths, row, result_row, none_row, value_rows}
+use Rattle.row_numbers.specs.Setting.{width_by, own_width, lead, lead_in, trail, trail_at, calls_further, width, widths, result_nodes, result_widths, row, list_row, rest_row, result_row, none_row, value_rows}
 use Rattle.row_numbers.proofs.KeptLemmas.{count_more}
 use Rattle.system_laws.proofs.Rows.{kept_fewer}
 use Rattle.outcome_laws.specs.twin_programs.One.{Numbers}
@@ -28,7 +30,7 @@ use Rattle.outcome_laws.specs.twin_locations.Same.{key_moved}
 use Rattle.outcome_laws.proofs.twin_words.Sums.{some_one, none_some, sum-cons, sum_same}
 use Rattle.outcome_laws.proofs.twin_words.Options.{mapped_at, unmapped_at}
 use Rattle.outcome_laws.proofs.twin_words.Members.{Member, at_member, member_map, member_filter, find_member, at_range}
-use Rattle.outcome_laws.proofs.twin_words.Results.{IsFunctionKey, own, library, key_view, width_same, width_there, width_round, result_renamed, result_tags, void_tags}
+use Rattle.outcome_laws.proofs.twin_words.Results.{IsFunctionKey, own, library, key_view, lead_same, width_same, width_there, width_round, result_renamed, result_tags, void_tags}
 use Rattle.outcome_laws.proofs.twin_words.Library.{library_type}
 use Rattle.twin_report_laws.specs.rows.Paired.{ArePaired, flipped}
 use Rattle.twin_report_laws.proofs.rows.Views.{here, over, count_same, all_functions}
@@ -166,7 +168,7 @@ module _ (p q : Program) (to back : Numbers) (h : ArePaired p q to back) where
   -- the rows of locations, those of nodes, and all others
   abbrev pub row_by : Bool → Bool → ℕ → ℕ
   row_by true nodes r = r
-  row_by false true r = row v z (to.node (found_in (widths u) (r - s.count)).0) + (found_in (widths u) (r - s.count)).1
+  row_by false true r = list_row v z (to.node (found_in (widths u) (r - s.count)).0) + (found_in (widths u) (r - s.count)).1
   row_by false false r = r
 
   abbrev pub row_moved : ℕ → ℕ
@@ -181,8 +183,8 @@ module _ (p q : Program) (to back : Numbers) (h : ArePaired p q to back) where
       ap (λ (b : Bool). row_by b (nat_lt r (s.count + sum (widths u))) r) (le-ltb r s.count far) ∙ ap (λ (b : Bool). row_by false b r) (le-ltb r (s.count + sum (widths u)) le)
 
   -- a row among those of a node
-  pub width_at : (n : ℕ) (x : Node) → slice_get p.nodes.items n ≡ Some x → slice_get (widths u) n ≡ Some (width p.types x)
-  width_at n x at = mapped_at (width p.types) p.nodes.items n x at
+  pub width_at : (n : ℕ) (x : Node) → slice_get p.nodes.items n ≡ Some x → slice_get (widths u) n ≡ Some (width u x)
+  width_at n x at = mapped_at (width u) p.nodes.items n x at
 
   take_fits : (ws : List ℕ) (n w : ℕ) → slice_get ws n ≡ Some w → sum (take n ws) + w ≤ sum ws
   take_fits [] n w at = absurd (none_some at)
@@ -193,17 +195,48 @@ module _ (p q : Program) (to back : Numbers) (h : ArePaired p q to back) where
       let rest = take_fits ws n w at in
       omega (arith, cons, front, rest)
 
-  pub row_node : (n : ℕ) (x : Node) (i : ℕ) → slice_get p.nodes.items n ≡ Some x → i < width p.types x → row_moved (row u s n + i) ≡ row v z (to.node n) + i
-  unfolding row
-  row_node n x i at lt =
+  -- each of a node's rows leads to the one of the same number of the other node
+  pub row_start : (n : ℕ) (x : Node) (i : ℕ) → slice_get p.nodes.items n ≡ Some x → i < width u x → row_moved (list_row u s n + i) ≡ list_row v z (to.node n) + i
+  unfolding list_row
+  row_start n x i at lt =
       let r : ℕ = (s.count + sum (take n (widths u))) + i in
-      let fits = take_fits (widths u) n (width p.types x) (width_at n x at) in
+      let fits = take_fits (widths u) n (width u x) (width_at n x at) in
       let far : s.count ≤ r = omega arith in
       let less : r < s.count + sum (widths u) = omega (arith, fits, lt) in
       let rest : r - s.count ≡ sum (take n (widths u)) + i = omega arith in
-      let found : found_in (widths u) (r - s.count) ≡ (n, i) = ap (found_in (widths u)) rest ∙ found_at (widths u) n i (width p.types x) (width_at n x at) lt in
+      let found : found_in (widths u) (r - s.count) ≡ (n, i) = ap (found_in (widths u)) rest ∙ found_at (widths u) n i (width u x) (width_at n x at) lt in
       ap (λ (b : Bool). row_by b (nat_lt r (s.count + sum (widths u))) r) (le-ltb r s.count far)
-      ∙ (ap (λ (b : Bool). row_by false b r) (lt-ltb r (s.count + sum (widths u)) less) ∙ ap (λ (f : ℕ × ℕ). row v z (to.node f.0) + f.1) found)
+      ∙ (ap (λ (b : Bool). row_by false b r) (lt-ltb r (s.count + sum (widths u)) less) ∙ ap (λ (f : ℕ × ℕ). list_row v z (to.node f.0) + f.1) found)
+
+  row_from : (n : ℕ) (x : Node) → slice_get p.nodes.items n ≡ Some x → row u s n ≡ list_row u s n + lead x.kind
+  unfolding row list_row
+  row_from n x at = ap (λ (o : Option Node). (s.count + sum (take n (widths u))) + lead_in o) at
+
+  other_from : (n : ℕ) (x : Node) → slice_get p.nodes.items n ≡ Some x → row v z (to.node n) ≡ list_row v z (to.node n) + lead x.kind
+  unfolding row list_row
+  other_from n x at =
+      let (y, there, same) = h.lead.nodes n x at in
+      ap (λ (o : Option Node). (z.count + sum (take (to.node n) (widths v))) + lead_in o) there
+      ∙ ap (λ (k : ℕ). (z.count + sum (take (to.node n) (widths v))) + k) (ap lead same.kind ∙ lead_same to.entity x.kind)
+
+  -- so do the rows of its own, from the first of these on, and what is behind them
+  pub row_node : (n : ℕ) (x : Node) (i : ℕ) → slice_get p.nodes.items n ≡ Some x → i < own_width p.types x + trail u x.kind x.children → row_moved (row u s n + i) ≡ row v z (to.node n) + i
+  row_node n x i at lt =
+      let here_is = row_from n x at in
+      let there_is = other_from n x at in
+      let wide : lead x.kind + i < width u x = omega (arith, lt) in
+      let first : row u s n + i ≡ list_row u s n + (lead x.kind + i) = omega (arith, here_is) in
+      let last : list_row v z (to.node n) + (lead x.kind + i) ≡ row v z (to.node n) + i = omega (arith, there_is) in
+      ap row_moved first ∙ (row_start n x (lead x.kind + i) at wide ∙ last)
+
+  -- the row of what a list may be
+  pub list_moved : (n : ℕ) (x : Node) → slice_get p.nodes.items n ≡ Some x → x.kind ≡ NextArg → row_moved (list_row u s n) ≡ list_row v z (to.node n)
+  list_moved n x at kind =
+      let one : lead x.kind ≡ 1 = ap lead kind in
+      let moved = row_start n x 0 at (omega (arith, one)) in
+      let here_is : list_row u s n + 0 ≡ list_row u s n = omega arith in
+      let there_is : list_row v z (to.node n) + 0 ≡ list_row v z (to.node n) = omega arith in
+      sym (ap row_moved here_is) ∙ (moved ∙ there_is)
 
   pub node_rows_same : sum (widths v) ≡ sum (widths u)
   node_rows_same =
@@ -274,12 +307,12 @@ module _ (p q : Program) (to back : Numbers) (h : ArePaired p q to back) where
   -- ---- rows of values and of places
   pub value_leads : (n : ℕ) (x : Node) → slice_get p.nodes.items n ≡ Some x → sort_of x.kind ≡ ValueNode → Leads row_moved (nodes_of p.types (type_of p.types x.ty.0)) (row u s n) (row v z (to.node n))
   value_leads n x at value j lt =
-      let wide : width p.types x ≡ kept_count (nodes_of p.types (type_of p.types x.ty.0)) = ap (λ (sort : Sort). width_by sort (kept_count (nodes_of p.types (type_of p.types x.ty.0)))) value in
+      let wide : own_width p.types x ≡ kept_count (nodes_of p.types (type_of p.types x.ty.0)) = ap (λ (sort : Sort). width_by sort (kept_count (nodes_of p.types (type_of p.types x.ty.0)))) value in
       row_node n x j at (omega (arith, wide, lt))
 
   pub place_moved : (n : ℕ) (x : Node) → slice_get p.nodes.items n ≡ Some x → sort_of x.kind ≡ PlaceNode → row_moved (row u s n) ≡ row v z (to.node n)
   place_moved n x at place =
-      let wide : width p.types x ≡ 1 = ap (λ (sort : Sort). width_by sort (kept_count (nodes_of p.types (type_of p.types x.ty.0)))) place in
+      let wide : own_width p.types x ≡ 1 = ap (λ (sort : Sort). width_by sort (kept_count (nodes_of p.types (type_of p.types x.ty.0)))) place in
       let moved = row_node n x 0 at (omega (arith, wide)) in
       let here_is : row u s n + 0 ≡ row u s n = omega arith in
       let there_is : row v z (to.node n) + 0 ≡ row v z (to.node n) = omega arith in
@@ -291,6 +324,20 @@ module _ (p q : Program) (to back : Numbers) (h : ArePaired p q to back) where
       let here_is : first + 0 ≡ first = omega arith in
       let there_is : other + 0 ≡ other = omega arith in
       sym (ap row_moved here_is) ∙ (moved ∙ there_is)
+
+  -- the row of all arguments of a call past the parameters
+  pub rest_moved : (n : ℕ) (x : Node) → slice_get p.nodes.items n ≡ Some x → sort_of x.kind ≡ ValueNode → 0 < trail u x.kind x.children → row_moved (rest_row u s n) ≡ rest_row v z (to.node n)
+  unfolding rest_row
+  rest_moved n x at value some =
+      let here_type : type_at u n ≡ type_of p.types x.ty.0 = ap (type_in p.types) at in
+      let wide : own_width p.types x ≡ kept_count (nodes_of p.types (type_at u n)) =
+      ap (λ (sort : Sort). width_by sort (kept_count (nodes_of p.types (type_of p.types x.ty.0)))) value ∙ sym (ap (λ (t : Ctype). kept_count (nodes_of p.types t)) here_type) in
+      let moved = row_node n x (kept_count (nodes_of p.types (type_at u n))) at (omega (arith, wide, some)) in
+      let same : kept_count (nodes_of q.types (type_at v (to.node n))) ≡ kept_count (nodes_of p.types (type_at u n)) =
+      ap (λ (t : Ctype). kept_count (nodes_of q.types t)) (type_moved p q to back h n x at ∙ ap (renamed to.tag) here_type)
+      ∙ (ap kept_count (nodes_moved p q to back h (type_of p.types x.ty.0) (own_tags p q to back h x.ty.0))
+      ∙ (ap (λ (ks : List ℕ). length ks) (kept_moved to.tag (nodes_of p.types (type_of p.types x.ty.0))) ∙ sym (ap (λ (t : Ctype). kept_count (nodes_of p.types t)) here_type))) in
+      moved ∙ ap (λ (k : ℕ). row v z (to.node n) + k) (sym same)
 
   pub values_moved : (n : ℕ) (x : Node) → slice_get p.nodes.items n ≡ Some x → sort_of x.kind ≡ ValueNode → value_rows v z (to.node n) ≡ map row_moved (value_rows u s n)
   values_moved n x at value =
@@ -304,7 +351,7 @@ module _ (p q : Program) (to back : Numbers) (h : ArePaired p q to back) where
 -- ---- the way back
 module _ (p q : Program) (to back : Numbers) (h : ArePaired p q to back) where
   pub rows_round : (r : ℕ) → row_moved q p back to (flipped p q to back h) (row_moved p q to back h r) ≡ r
-  unfolding row
+  unfolding list_row
   rows_round r = elim (cases_lt r (here p q to back h).count) [
     | inl lt ↦
         ap (row_moved q p back to (flipped p q to back h)) (row_location p q to back h r lt)
@@ -323,14 +370,14 @@ module _ (p q : Program) (to back : Numbers) (h : ArePaired p q to back) where
           let f = found_there (widths (trees_in p)) k (omega (arith, ge, lt)) in
           let n : ℕ = (found_in (widths (trees_in p)) k).0 in
           let i : ℕ = (found_in (widths (trees_in p)) k).1 in
-          let (x, at, wide) = unmapped_at (width p.types) p.nodes.items n f.width f.there in
+          let (x, at, wide) = unmapped_at (width (trees_in p)) p.nodes.items n f.width f.there in
           let within = f.within in
           let place = f.place in
-          let less : i < width p.types x = omega (arith, within, wide) in
-          let is : r ≡ row (trees_in p) (here p q to back h) n + i = omega (arith, ge, place) in
+          let less : i < width (trees_in p) x = omega (arith, within, wide) in
+          let is : r ≡ list_row (trees_in p) (here p q to back h) n + i = omega (arith, ge, place) in
           let (y, there, same) = h.lead.nodes n x at in
-          let other_less : i < width q.types y = (let even = width_same p q to back h.lead h.again h.sound h.other_sound x y same in omega (arith, less, even)) in
+          let other_less : i < width (trees_in q) y = (let even = width_same p q to back h.lead h.again h.sound h.other_sound n x y at same in omega (arith, less, even)) in
           let round : back.node (to.node n) ≡ n = h.lead.node_back n (slice_get_within p.nodes.items n x at) in
           ap (λ (m : ℕ). row_moved q p back to (flipped p q to back h) (row_moved p q to back h m)) is
-          ∙ (ap (row_moved q p back to (flipped p q to back h)) (row_node p q to back h n x i at less)
-          ∙ (row_node q p back to (flipped p q to back h) (to.node n) y i there other_less ∙ (ap (λ (m : ℕ). row (trees_in p) (here p q to back h) m + i) round ∙ sym is)))
+          ∙ (ap (row_moved q p back to (flipped p q to back h)) (row_start p q to back h n x i at less)
+          ∙ (row_start q p back to (flipped p q to back h) (to.node n) y i there other_less ∙ (ap (λ (m : ℕ). list_row (trees_in p) (here p q to back h) m + i) round ∙ sym is)))

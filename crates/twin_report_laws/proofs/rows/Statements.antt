@@ -224,7 +224,7 @@ module _ (p q : Program) (to back : Numbers) (h : ArePaired p q to back) (ready 
       (place_of_kind here_w n y.kind y.children)
       (value_of_kind here_w n y.kind (type_of p.types y.ty.0) y.children)
       (place_kind p q to back h ready owners other_owners n y y.kind at refl y.children rows named)
-      (value_kind p q to back h ready owners other_owners n y y.kind at refl y.children rows))
+      (value_kind p q to back h ready owners other_owners n y y.kind at refl y.children rows refl))
       (statement_kind n y y.kind at refl)))
     where
       rows : RowOf (trees_in p) y.kind (type_of p.types y.ty.0) y.children

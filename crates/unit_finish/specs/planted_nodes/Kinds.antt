@@ -3,7 +3,7 @@ use Rattle.std.specs.Prelude.{⊤}
 use Rattle.core_tree.specs.declared.node.NodeKind.{NodeKind}
 use Rattle.core_tree.specs.declared.node.NodeKind.TheVariants.{Named, Text, Literal, FunctionName, Member, Number}
 use Rattle.core_tree.specs.declared.node.NodeKind.TheVariants.{PointerAdd, Update, MemberOfValue, Arith, Block, For}
-use Rattle.core_tree.specs.declared.node.NodeKind.TheVariants.{Case, Label, Goto, Initialise}
+use Rattle.core_tree.specs.declared.node.NodeKind.TheVariants.{Case, Label, Goto, Initialise, VarArgs}
 
 abbrev pub IsPlain : NodeKind → Type 0
 IsPlain (Text bytes) = ⊥
@@ -18,6 +18,7 @@ abbrev pub IsBare : NodeKind → Type 0
 IsBare (Named entity) = ⊥
 IsBare (Literal entity) = ⊥
 IsBare (FunctionName entity) = ⊥
+IsBare (VarArgs entity) = ⊥
 IsBare (Member member) = ⊥
 IsBare (MemberOfValue member) = ⊥
 IsBare (Number number) = ⊥

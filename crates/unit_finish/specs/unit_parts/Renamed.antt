@@ -3,6 +3,7 @@ use Rattle.std.specs.Prelude.{ℕ, ◌&&◌, Bool, true, List, [], ◌∷◌, ma
 use Rattle.core_tree.specs.declared.node.Node.{Node}
 use Rattle.core_tree.specs.declared.node.NodeKind.{NodeKind}
 use Rattle.core_tree.specs.declared.node.NodeKind.TheVariants.{Named, Literal, FunctionName, Block, For, Initialise}
+use Rattle.core_tree.specs.declared.node.NodeKind.TheVariants.{VarArgs}
 use Rattle.unit_finish.specs.declared.unit_parts.literals.LiteralAt.{LiteralAt}
 
 -- the number of the entity of a leaf, and 0 where there is none
@@ -13,6 +14,7 @@ abbrev pub renamed : (ℕ → Option ℕ) → NodeKind → NodeKind
 renamed n (Named d) = Named (entity_number n d)
 renamed n (FunctionName d) = FunctionName (entity_number n d)
 renamed n (Literal d) = Literal (entity_number n d)
+renamed n (VarArgs d) = VarArgs (entity_number n d)
 renamed n (Initialise d paths) = Initialise (entity_number n d) paths
 renamed n (Block ds) = Block (map (entity_number n) ds)
 renamed n (For ds c a) = For (map (entity_number n) ds) c a
@@ -30,6 +32,7 @@ abbrev pub is_known : (ℕ → Option ℕ) → NodeKind → Bool
 is_known n (Named d) = is_some (n d)
 is_known n (FunctionName d) = is_some (n d)
 is_known n (Literal d) = is_some (n d)
+is_known n (VarArgs d) = is_some (n d)
 is_known n (Initialise d paths) = is_some (n d)
 is_known n (Block ds) = all_known n ds
 is_known n (For ds c a) = all_known n ds

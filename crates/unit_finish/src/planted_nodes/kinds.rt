@@ -89,6 +89,7 @@ fn bare(kind: &NodeKind) -> NodeKind
         NodeKind::Break => NodeKind::Break,
         NodeKind::Continue => NodeKind::Continue,
         NodeKind::Return => NodeKind::Return,
+        NodeKind::NextArg => NodeKind::NextArg,
         _ => NodeKind::Skip,
     }
 }
@@ -101,6 +102,7 @@ fn plain(kind: &NodeKind) -> NodeKind
         NodeKind::Named(entity) => NodeKind::Named(*entity),
         NodeKind::Literal(entity) => NodeKind::Literal(*entity),
         NodeKind::FunctionName(entity) => NodeKind::FunctionName(*entity),
+        NodeKind::VarArgs(entity) => NodeKind::VarArgs(*entity),
         NodeKind::Member(member) => NodeKind::Member(*member),
         NodeKind::MemberOfValue(member) => NodeKind::MemberOfValue(*member),
         NodeKind::Number(number) => NodeKind::Number(Number::of(number.get())),

@@ -42,6 +42,7 @@ fn renamed(alloc: Global, numbers: &LeafMap, kind: NodeKind) -> Result<NodeKind,
         NodeKind::Named(d) => Ok(NodeKind::Named(entity_number(numbers, d))),
         NodeKind::FunctionName(d) => Ok(NodeKind::FunctionName(entity_number(numbers, d))),
         NodeKind::Literal(d) => Ok(NodeKind::Literal(entity_number(numbers, d))),
+        NodeKind::VarArgs(d) => Ok(NodeKind::VarArgs(entity_number(numbers, d))),
         NodeKind::Initialise { entity, paths } => Ok(NodeKind::Initialise {
             entity: entity_number(numbers, entity),
             paths,

@@ -28,10 +28,11 @@ abbrev pub names_of : List Location → List ℕ → List ℕ
 names_of space locations = flat_map (λ location. codes " " ++ name_in space location) locations
 
 -- ---- sets
--- a location of pointer class, whose type is number 4, or a collapsed one
+-- a location of pointer class, whose type is number 4, one of list class, whose type is number 7, or a collapsed one
 abbrev pub has_set : List Location → ℕ → Bool
 has_set space location =
-    option_map_or (λ (known : Location). known.collapsed || (known.ty == 4)) (slice_get space location) false
+    option_map_or (λ (known : Location). known.collapsed || (known.ty == 4) || (known.ty == 7))
+    (slice_get space location) false
 
 -- the line of a location's set
 abbrev pub set_line : List Location → System → Family → ℕ → List ℕ

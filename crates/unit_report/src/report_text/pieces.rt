@@ -19,11 +19,7 @@ pub fn name_in(space: &Space, location: u32) -> &[u8]
 }
 
 /// Adds a space and the name of each of these locations.
-pub fn add_names(
-    text: &mut Vec<u8>,
-    space: &Space,
-    locations: &[u32],
-) -> Result<(), AllocError>
+pub fn add_names(text: &mut Vec<u8>, space: &Space, locations: &[u32]) -> Result<(), AllocError>
     ensures { OnOk result (text.new.items ≡ text.old.items ++ names_of space.now locations.now) }
 {
     for location in locations {
@@ -44,11 +40,7 @@ fn unit_name(names: &[String], unit: u32) -> &[u8]
 }
 
 /// Adds a place.
-pub fn add_place(
-    text: &mut Vec<u8>,
-    names: &[String],
-    place: Place,
-) -> Result<(), AllocError>
+pub fn add_place(text: &mut Vec<u8>, names: &[String], place: Place) -> Result<(), AllocError>
     ensures { OnOk result (text.new.items ≡ text.old.items ++ place_text names.now place) }
 {
     let mut buffer = Buffer::new();

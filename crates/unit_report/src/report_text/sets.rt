@@ -18,7 +18,7 @@ pub(crate) fn has_set(space: &Space, location: u32) -> bool
         return false;
     }
     let known = space.location(location);
-    known.collapsed || known.ty == 4
+    known.collapsed || known.ty == 4 || known.ty == 7
 }
 
 /// Adds the line of a location's set.

@@ -32,7 +32,8 @@ module _ (K : Sense → Type 0) (core : (c : Core) → K (IsCore c)) where
     passed_gives at (c ∷ rest) = all c
 
     kind_gives : (at first : ℕ) (rest : List ℕ) (kind : TokenKind) → Gives K (primary_of w s sense at first rest kind)
-    kind_gives at first rest Identifier = cores_give _
+    kind_gives at first [] Identifier = cores_give _
+    kind_gives at first (c ∷ rest) Identifier = cores_give _
     kind_gives at first rest Integer = core _
     kind_gives at first rest Character = core _
     kind_gives at first rest Text = core _

@@ -2,7 +2,7 @@
 use Rattle.std.proofs.Common.{◌≡◌, ◌==◌, ◌||◌, ℕ, Bool, true, false, cond, List, [], ◌∷◌, Option, Some, None, refl}
 use Rattle.std.specs.Prelude.{not, ◌&&◌, option_and_then, is_some}
 use Rattle.c_types.specs.Trees.{Ctype}
-use Rattle.pta_base.specs.declared.kind.Kind.TheVariants.{Operand, InlineDefinition, VariadicDefinition}
+use Rattle.pta_base.specs.declared.kind.Kind.TheVariants.{Operand, InlineDefinition}
 use Rattle.c_grammar.specs.Productions.{p_field, p_parameter, p_rest, p_cast, p_unary, p_type_name}
 use Rattle.c_grammar.specs.Words.{word_inline, word_static}
 use Rattle.c_consts.specs.Core.{Core}
@@ -12,7 +12,7 @@ use Rattle.c_senses.specs.World.{World, has_size}
 use Rattle.c_senses.specs.Conversions.{typed}
 use Rattle.c_senses.specs.Sense.{Sense, Nothing, IsCore, IsType, IsSpecified, IsDeclarator, IsDerivation, IsParameter, IsMembers, IsValue, IsRun, IsInitial, Derivation, fits}
 use Rattle.c_senses.specs.Declarators.{derived, adjusted, is_outermost, base_type, derivations, name_in, derives_well, plain_declarator_row}
-use Rattle.c_senses.specs.Entities.{by_place, named_row, parameter_named, definition_row, defined_parameter, is_parameter_complete, is_defined, is_void_type, result_of, has_function_word, has_storage, is_variadic, words_go, is_same_again, has_one_linkage, internal_fits, is_name_complete, initialiser_of, initialised_by, specified_of, derived_type, is_static_object, entity_of, with_length}
+use Rattle.c_senses.specs.Entities.{by_place, named_row, parameter_named, definition_row, defined_parameter, is_parameter_complete, is_defined, is_void_type, result_of, has_function_word, has_storage, words_go, is_same_again, has_one_linkage, internal_fits, is_name_complete, initialiser_of, initialised_by, specified_of, derived_type, is_static_object, entity_of, with_length}
 use Rattle.c_senses.specs.Initialised.{init_row, init_in, initialised_object, object_initialiser, name_of_declarator, outcome_of, made_of, initialised_fits, most_elements, seen, Made, items_row, literal_in, literal_of, literal_type, opening}
 use Rattle.c_inits.specs.Made.{shape_for}
 use Rattle.c_inits.specs.View as view
@@ -27,8 +27,7 @@ module _ (K : Sense → Type 0) (each : (name : Option ℕ) (ds : List Derivatio
   definition_gives t leaf g h =
       if_holds (Gives K) (is_defined s sense leaf) _ g
       (λ e. if_given K (is_void_type w s sense (result_of w s sense t) || has_size w (result_of w s sense t)) Operand leaf _
-      (λ e. if_given K (not (has_function_word s sense word_inline leaf && not (has_storage s sense word_static leaf))) InlineDefinition leaf _
-      (λ e. if_given K (not (is_variadic w s sense t)) VariadicDefinition leaf g (λ e. h))))
+      (λ e. if_given K (not (has_function_word s sense word_inline leaf && not (has_storage s sense word_static leaf))) InlineDefinition leaf g (λ e. h)))
       (λ e. h)
 
   named_gives : (at leaf : ℕ) (t : Ctype) (g : Given Sense) → Gives K g → Gives K (named_row w s sense at leaf t g)

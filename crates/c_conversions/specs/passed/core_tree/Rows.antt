@@ -5,3 +5,4 @@ pub use Rattle.core_tree.specs.Rows.{width_at, place_bits, IsFurther, Arguments,
 pub use Rattle.core_tree.specs.Rows.{IsFirstStatement, IsExpressionNode, IsOneExpression, ForFirst, ForCondition}
 pub use Rattle.core_tree.specs.Rows.{ForAfter, ForParts, InitialValues, IfRow, ReturnRow, LabelledRow, LoneRow}
 pub use Rattle.core_tree.specs.Rows.{ForRow}
+pub use Rattle.core_tree.specs.Rows.{IsVariadicIn}

@@ -6,9 +6,9 @@ use Rattle.c_grammar.specs.Fits.{has, begins}
 use Rattle.c_grammar.proofs.Begins.{firsts_are}
 use Rattle.c_grammar.proofs.looks.begins.Goals as goal
 
-pub returns-then-production-lt252 : goal.returns-then-production-lt252
+pub returns-then-production-lt258 : goal.returns-then-production-lt258
 unfolding begins
-returns-then-production-lt252 c =
+returns-then-production-lt258 c =
     let h : c.has.result ≡ has (get_or FIRSTS c.args.production 0) c.args.terminal = c.has.ensures in
-    let e = firsts_are c.args.production c.args.terminal c.if-production-lt252.true in
-    h ∙ (e ∙ ap (λ b. b && contains (firsts c.args.production) c.args.terminal) (sym (lt-ltb c.args.production 252 c.if-production-lt252.true)))
+    let e = firsts_are c.args.production c.args.terminal c.if-production-lt258.true in
+    h ∙ (e ∙ ap (λ b. b && contains (firsts c.args.production) c.args.terminal) (sym (lt-ltb c.args.production 258 c.if-production-lt258.true)))

@@ -3,4 +3,5 @@ pub use Rattle.sense_laws.specs.Sound.{HasNoType, IsPartOf, PointsToSized, IsFir
 pub use Rattle.sense_laws.specs.Sound.{IsStatementCore, IsConditionCore, IsNumeralCore, IsFurtherCore, AreArguments}
 pub use Rattle.sense_laws.specs.Sound.{CallsWith, InitialOver, IsOneExpressionCore, IsForFirst, IsForCondition}
 pub use Rattle.sense_laws.specs.Sound.{IsForAfter, AreForParts, IfOver, ReturnOver, ArithOver, ChooseOver, CallOver}
-pub use Rattle.sense_laws.specs.Sound.{One, Two, IsEmpty, IsSmall}
+pub use Rattle.sense_laws.specs.Sound.{One, Two, IsEmpty, IsSmall, IsVariadicOf}
+pub use Rattle.sense_laws.specs.Sound.{FurtherIsVariadic}

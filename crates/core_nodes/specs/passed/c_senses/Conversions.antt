@@ -5,3 +5,4 @@ pub use Rattle.c_senses.specs.Conversions.{read_width, Target, ToVoid, ToFunctio
 pub use Rattle.c_senses.specs.Conversions.{ToUnion, ToOther, target_of, first_member_type, upcast_within, upcast}
 pub use Rattle.c_senses.specs.Conversions.{upcast_or, from_structure, character_kind, pointers, to_pointer}
 pub use Rattle.c_senses.specs.Conversions.{to_whole, to_other, is_character}
+pub use Rattle.c_senses.specs.Conversions.{is_list}

@@ -5,3 +5,4 @@ pub use Rattle.c_senses.specs.Expressions.{post_signed, post_row, prefixed_core,
 pub use Rattle.c_senses.specs.Expressions.{unary_of, unary_row, cast_over, cast_last, cast_of, cast_row_of}
 pub use Rattle.c_senses.specs.Expressions.{conditional_row, assigned, assigned_by, assignment_row, is_binary}
 pub use Rattle.c_senses.specs.Expressions.{expression_row}
+pub use Rattle.c_senses.specs.Expressions.{two_lists, list_core, list_row, named_primary}

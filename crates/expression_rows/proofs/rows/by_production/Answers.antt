@@ -1,4 +1,4 @@
-use Rattle.std.proofs.Common.{◌≡◌, ◌≢◌, ◌∙◌, ◌<◌, ℕ, false, true, List, length, get_or, sym, subst, refl}
+use Rattle.std.proofs.Common.{◌≡◌, ◌≢◌, ◌∙◌, ◌<◌, ℕ, false, true, List, length, get_or, drop, sym, subst, refl}
 use Rattle.std.specs.Option.{option_copied}
 use Rattle.c_lexer.specs.declared.TokenKind.TheVariants.{Identifier}
 use Rattle.c_senses.specs.Given.{Given}
@@ -12,7 +12,7 @@ use Rattle.expression_rows.proofs.whole_rows.Keeping.{sense_rows}
 use Rattle.expression_rows.proofs.whole_rows.Prefixes.{made_rows}
 use Rattle.expression_rows.specs.Built.{built_row}
 use Rattle.expression_rows.proofs.Productions.{chain_row, other_row, first_fits}
-use Rattle.expression_rows.proofs.Keeping.{named_world, named_knows, named_calls, named_fits, named_values, primary_kept}
+use Rattle.expression_rows.proofs.Keeping.{named_world, named_knows, named_calls, named_values, identifier_fits, primary_kept}
 use Rattle.expression_rows.proofs.rows.by_production.Goals as goal
 
 pub returns-then-production-eq-P_PRIMARY-clause-built : goal.returns-then-production-eq-P_PRIMARY-clause-built
@@ -23,7 +23,7 @@ returns-then-production-eq-P_PRIMARY-clause-built c w k fit =
     let S = sense_in (senses_made u c.args.results.now) in
     let at = c.args.at in
     let xs = c.args.children.now in
-    subst (λ (p : ℕ). Rowed u1 c.primary_row.result (built_row w s S p at xs)) (sym c.if-production-eq-P_PRIMARY.true) (c.primary_row.ensures.row w (first_fits w u s c.args.around.now xs (fit.primary c.if-production-eq-P_PRIMARY.true)))
+    subst (λ (p : ℕ). Rowed u1 c.primary_row.result (built_row w s S p at xs)) (sym c.if-production-eq-P_PRIMARY.true) (c.primary_row.ensures.row w k (first_fits w u s S c.args.around.now xs (fit.primary c.if-production-eq-P_PRIMARY.true)))
 
 pub returns-then-production-eq-P_POST-clause-built : goal.returns-then-production-eq-P_POST-clause-built
 returns-then-production-eq-P_POST-clause-built c w k fit =
@@ -83,9 +83,10 @@ returns-then-production-eq-P_PRIMARY-clause-rows c =
     let S = sense_in (senses_made u c.args.results.now) in
     let at = c.args.at in
     let xs = c.args.children.now in
-    let w = named_world u c.args.around.now.first c.args.around.now.may_call (option_copied c.args.around.now.own_name) in
+    let w = named_world u c.args.around.now.first c.args.around.now.may_call (option_copied c.args.around.now.own_name) c.args.around.now.further in
+    let knows = named_knows u c.args.around.now.may_call (option_copied c.args.around.now.own_name) c.args.around.now.further c.args.around.now.first in
     let sound = sense_rows u c.args.results.now c.requires.rows in
-    made_rows u1 c.primary_row.result _ (c.primary_row.ensures.row w (λ some kind. named_fits u c.args.around.now.may_call (option_copied c.args.around.now.own_name) c.args.around.now.first (get_or xs 0 0))) (primary_kept w s S sound (named_values u c.args.around.now.may_call (option_copied c.args.around.now.own_name) c.args.around.now.first c.requires.around) at xs)
+    made_rows u1 c.primary_row.result _ (c.primary_row.ensures.row w knows (λ some kind. identifier_fits u s S (get_or xs 0 0) (drop 1 xs) c.args.around.now)) (primary_kept w s S sound (named_values u c.args.around.now.may_call (option_copied c.args.around.now.own_name) c.args.around.now.further c.args.around.now.first c.requires.around) at xs)
 
 pub returns-then-production-eq-P_POST-clause-rows : goal.returns-then-production-eq-P_POST-clause-rows
 returns-then-production-eq-P_POST-clause-rows c =
@@ -95,10 +96,10 @@ returns-then-production-eq-P_POST-clause-rows c =
     let S = sense_in (senses_made u c.args.results.now) in
     let at = c.args.at in
     let xs = c.args.children.now in
-    let w = named_world u c.args.around.now.first c.args.around.now.may_call (option_copied c.args.around.now.own_name) in
-    let knows = named_knows u c.args.around.now.may_call (option_copied c.args.around.now.own_name) c.args.around.now.first in
+    let w = named_world u c.args.around.now.first c.args.around.now.may_call (option_copied c.args.around.now.own_name) c.args.around.now.further in
+    let knows = named_knows u c.args.around.now.may_call (option_copied c.args.around.now.own_name) c.args.around.now.further c.args.around.now.first in
     let sound = sense_rows u c.args.results.now c.requires.rows in
-    made_rows u1 c.post_row.result _ (c.post_row.ensures.row w knows (named_calls u c.args.around.now.may_call (option_copied c.args.around.now.own_name) c.args.around.now.first)) (post_rows w s S sound at xs)
+    made_rows u1 c.post_row.result _ (c.post_row.ensures.row w knows (named_calls u c.args.around.now.may_call (option_copied c.args.around.now.own_name) c.args.around.now.further c.args.around.now.first)) (post_rows w s S sound at xs)
 
 pub returns-then-production-eq-P_CAST-clause-rows : goal.returns-then-production-eq-P_CAST-clause-rows
 returns-then-production-eq-P_CAST-clause-rows c =
@@ -108,8 +109,8 @@ returns-then-production-eq-P_CAST-clause-rows c =
     let S = sense_in (senses_made u c.args.results.now) in
     let at = c.args.at in
     let xs = c.args.children.now in
-    let w = named_world u c.args.around.now.first c.args.around.now.may_call (option_copied c.args.around.now.own_name) in
-    let knows = named_knows u c.args.around.now.may_call (option_copied c.args.around.now.own_name) c.args.around.now.first in
+    let w = named_world u c.args.around.now.first c.args.around.now.may_call (option_copied c.args.around.now.own_name) c.args.around.now.further in
+    let knows = named_knows u c.args.around.now.may_call (option_copied c.args.around.now.own_name) c.args.around.now.further c.args.around.now.first in
     let sound = sense_rows u c.args.results.now c.requires.rows in
     made_rows u1 c.cast_row.result _ (c.cast_row.ensures.row w knows) (cast_row_rows w s S sound at xs)
 
@@ -121,8 +122,8 @@ returns-then-production-eq-P_CONDITIONAL-clause-rows c =
     let S = sense_in (senses_made u c.args.results.now) in
     let at = c.args.at in
     let xs = c.args.children.now in
-    let w = named_world u c.args.around.now.first c.args.around.now.may_call (option_copied c.args.around.now.own_name) in
-    let knows = named_knows u c.args.around.now.may_call (option_copied c.args.around.now.own_name) c.args.around.now.first in
+    let w = named_world u c.args.around.now.first c.args.around.now.may_call (option_copied c.args.around.now.own_name) c.args.around.now.further in
+    let knows = named_knows u c.args.around.now.may_call (option_copied c.args.around.now.own_name) c.args.around.now.further c.args.around.now.first in
     let sound = sense_rows u c.args.results.now c.requires.rows in
     made_rows u1 c.conditional_row.result _ (c.conditional_row.ensures.row w knows) (conditional_rows w s S sound at xs)
 
@@ -134,8 +135,8 @@ returns-then-production-eq-P_ASSIGNMENT-clause-rows c =
     let S = sense_in (senses_made u c.args.results.now) in
     let at = c.args.at in
     let xs = c.args.children.now in
-    let w = named_world u c.args.around.now.first c.args.around.now.may_call (option_copied c.args.around.now.own_name) in
-    let knows = named_knows u c.args.around.now.may_call (option_copied c.args.around.now.own_name) c.args.around.now.first in
+    let w = named_world u c.args.around.now.first c.args.around.now.may_call (option_copied c.args.around.now.own_name) c.args.around.now.further in
+    let knows = named_knows u c.args.around.now.may_call (option_copied c.args.around.now.own_name) c.args.around.now.further c.args.around.now.first in
     let sound = sense_rows u c.args.results.now c.requires.rows in
     made_rows u1 c.assignment_row.result _ (c.assignment_row.ensures.row w knows) (assignment_rows w s S sound at xs)
 
@@ -159,8 +160,8 @@ returns-then-is_binary-clause-rows c =
     let S = sense_in (senses_made u c.args.results.now) in
     let at = c.args.at in
     let xs = c.args.children.now in
-    let w = named_world u c.args.around.now.first c.args.around.now.may_call (option_copied c.args.around.now.own_name) in
-    let knows = named_knows u c.args.around.now.may_call (option_copied c.args.around.now.own_name) c.args.around.now.first in
+    let w = named_world u c.args.around.now.first c.args.around.now.may_call (option_copied c.args.around.now.own_name) c.args.around.now.further in
+    let knows = named_knows u c.args.around.now.may_call (option_copied c.args.around.now.own_name) c.args.around.now.further c.args.around.now.first in
     let sound = sense_rows u c.args.results.now c.requires.rows in
     made_rows u1 c.binary_row.result _ (c.binary_row.ensures.row w knows) (binary_rows w s S sound at xs)
 

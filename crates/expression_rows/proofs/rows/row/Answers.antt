@@ -19,8 +19,8 @@ returns-clause-built c w uses k fit =
     let p = c.production_of-production.result in
     let xs = c.children_of-children.result.now in
     let around = c.args.around.now in
-    let there = subst (λ (q : ℕ). FitsAround w u s q xs around) (sym c.production_of-production.ensures) (subst (λ (l : List ℕ). FitsAround w u s (production_at s at) l around) (sym c.children_of-children.ensures) fit) in
-    let given : FitsAround w u (source_read c.args.syntax.now) p xs around = record { primary = there.primary; post = there.post } in
+    let there = subst (λ (q : ℕ). FitsAround w u s S q xs around) (sym c.production_of-production.ensures) (subst (λ (l : List ℕ). FitsAround w u s S (production_at s at) l around) (sym c.children_of-children.ensures) fit) in
+    let given : FitsAround w u (source_read c.args.syntax.now) S p xs around = record { primary = there.primary; post = there.post } in
     let same = ap (λ (q : ℕ). built_row w s S q at xs) c.production_of-production.ensures ∙ ap (built_row w s S (production_at s at) at) c.children_of-children.ensures in
     subst (λ (g : Given Sense). Rowed u1 c.by_production.result g) same (c.by_production.ensures.built w k given)
 

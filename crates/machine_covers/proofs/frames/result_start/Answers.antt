@@ -1,7 +1,5 @@
 use Rattle.std.proofs.Common.{arith, rules, ℕ, ◌+◌, ◌≡◌, ◌∙◌, Option, length, map, sum, take, slice_get, ap}
 use Rattle.core_tree.specs.Seen.{core_of}
-use Rattle.obj_space.specs.View.{view_of}
-use Rattle.row_numbers.specs.Setting.{row}
 use Rattle.sol_model.specs.declared.system.Function.{Function}
 use Rattle.machine_covers.specs.Frames.{width_of, width_at}
 use Rattle.row_covers.proofs.Sums.{sum_at}

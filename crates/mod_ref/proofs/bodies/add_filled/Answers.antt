@@ -3,7 +3,7 @@ use Rattle.std.proofs.lemmas.Option.{same_Some}
 use Rattle.c_types.specs.declared.key.ObjectKey.{ObjectKey}
 use Rattle.core_tree.specs.declared.node.Entity.{Entity}
 use Rattle.row_numbers.specs.Objects.{entity_key}
-use Rattle.mod_ref.specs.Direct.{IsOfEntity, filled_by}
+use Rattle.mod_ref.specs.Direct.{IsFilled, IsOfEntity, filled_by}
 use Rattle.mod_ref.specs.Gains.{In}
 use Rattle.mod_ref.specs.Ground.{setting_in}
 use Rattle.mod_ref.specs.Places.{IsUnder}
@@ -19,7 +19,7 @@ returns-clause-gains c =
     ap (λ (es : List Entity). (setting_in g).space.first (entity_key e (slice_get es e))) (sym c.as_slice.ensures.value)
     ∙ (ap (λ (key : ObjectKey). (setting_in g).space.first key) (sym c.entity_key.ensures) ∙ (sym c.first.ensures.value ∙ c.in-Some-first.is)) in
     gains_as c.args.touched.now c.insert_under.new.touched (In c.args.row (IsUnder g.system.now c.in-Some-first.first))
-    (In c.args.row (λ location. (x : ℕ) × (filled_by c.args.access c.args.node.now.kind ≡ Some x) × IsOfEntity (setting_in g) g.system.now x location))
+    (In c.args.row (IsFilled (setting_in g) g.system.now c.args.access c.args.node.now.kind))
     c.insert_under.ensures.gains
     (λ r location h. (h.0, (e, filled, (c.in-Some-first.first, first, h.1))))
     (λ r location h.

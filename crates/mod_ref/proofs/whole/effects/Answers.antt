@@ -1,9 +1,11 @@
-use Rattle.std.proofs.Common.{arith}
 use Rattle.mod_ref.proofs.Touching.{ground_is}
 use Rattle.mod_ref.proofs.whole.effects.Goals as goal
 
-pub first_rows-requires-clause-few : goal.first_rows-requires-clause-few
-first_rows-requires-clause-few c = let rows = c.requires.system.rows in let is = c.row_count-rows.ensures in let small = c.row_count-rows.type_inv in omega arith
+pub first_rows-requires-clause-nodes : goal.first_rows-requires-clause-nodes
+first_rows-requires-clause-nodes c = (c.is_numbered.ensures c.if-not-is_numbered.false).3
+
+pub first_rows-requires-clause-entities : goal.first_rows-requires-clause-entities
+first_rows-requires-clause-entities c = (c.is_numbered.ensures c.if-not-is_numbered.false).0
 
 pub both-requires-clause-ground : goal.both-requires-clause-ground
 both-requires-clause-ground c =

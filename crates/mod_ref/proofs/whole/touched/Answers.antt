@@ -15,6 +15,6 @@ pub returns : goal.returns
 returns c =
     let g = c.args.ground.now in
     touch_is (setting_in g) g.system.now (members g.rows.now) c.args.access c.requires.ways.0 c.args.ways.now c.requires.ways.1 c.requires.ways.2
-    (touched_known g.system.now c.requires.ground.valid (setting_in g) g.space.now refl c.requires.ground.count (members g.rows.now) c.args.access)
+    (touched_known g.system.now c.requires.ground.valid (setting_in g) g.space.now refl c.requires.ground.count (members g.rows.now) c.args.access c.requires.ground.fits.no_others)
     c.in_ok-rows.rows c.add_bodies.new.touched c.add_calls.new.touched c.spread.new.rows c.in_ok-rows.ensures.nothing c.in_ok-rows.ensures.rows
     c.in_ok-add_bodies.ensures c.in_ok-add_calls.ensures.gains c.spread.ensures.spreads c.spread.ensures.closed

@@ -70,9 +70,9 @@ returns-in-Ok-clause-named c =
     let xs = children_at s at in
     let around = c.in-Ok.around in
     let own = option_copied around.own_name in
-    let w = named_world mid around.first around.may_call own in
+    let w = named_world mid around.first around.may_call own around.further in
     named_made w s mid c.row.new.unit (length c.args.syntax.now.tree.now.nodes.items) c.args.results.now p at xs c.row.result c.requires.named
-    (c.row.ensures.built w [] (named_knows mid around.may_call own around.first) (around_named mid s p xs around))
+    (c.row.ensures.built w [] (named_knows mid around.may_call own around.further around.first) (around_named mid s (sense_in (senses_made mid c.args.results.now)) p xs around))
 
 pub returns-in-Ok-clause-row : goal.returns-in-Ok-clause-row
 returns-in-Ok-clause-row c = λ uses pairs knows.
@@ -108,7 +108,7 @@ returns-in-Err-clause-row c = λ uses pairs knows.
     let w = world_at s senses at in
     let p = production_at s at in
     let xs = children_at s at in
-    row_refused (FitsAround w new s p xs) new (names_strangely w s p xs) at c.in-Err.fault (built_row w s (sense_in senses) p at xs) (c.in-Err.ensures.looked w uses pairs (world_is s senses at))
+    row_refused (FitsAround w new s (sense_in (senses_made new c.args.results.now)) p xs) new (names_strangely w s p xs) at c.in-Err.fault (built_row w s (sense_in senses) p at xs) (c.in-Err.ensures.looked w uses pairs (world_is s senses at))
 
 pub returns-in-Err-clause-built : goal.returns-in-Err-clause-built
 returns-in-Err-clause-built c = λ uses pairs are knows.
@@ -121,7 +121,7 @@ returns-in-Err-clause-built c = λ uses pairs are knows.
     let w = world_at s senses at in
     let p = production_at s at in
     let xs = children_at s at in
-    never_refused (FitsAround w new s p xs) new (names_strangely w s p xs) at c.in-Err.fault (built_row w s (sense_in senses) p at xs) (names_are_usual c.args.syntax.now old rs c.args.names.now uses at p xs c.requires.names pairs are)
+    never_refused (FitsAround w new s (sense_in (senses_made new c.args.results.now)) p xs) new (names_strangely w s p xs) at c.in-Err.fault (built_row w s (sense_in senses) p at xs) (names_are_usual c.args.syntax.now old rs c.args.names.now uses at p xs c.requires.names pairs are)
     (c.in-Err.ensures.looked w uses pairs (world_is s senses at))
 
 pub returns-in-Ok-clause-whole : goal.returns-in-Ok-clause-whole

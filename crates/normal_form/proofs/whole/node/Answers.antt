@@ -14,3 +14,7 @@ pub demanded-requires-clause-spotted : goal.demanded-requires-clause-spotted
 demanded-requires-clause-spotted c =
     let at = slice_get_read c.args.frame.now.program.now.nodes.items _ c.args.n c.index-node.result.now refl c.requires.node c.index-node.ensures in
     rw c.as_slice.ensures (c.requires.spots c.args.n c.index-node.result.now at)
+
+pub demanded-requires-clause-named : goal.demanded-requires-clause-named
+demanded-requires-clause-named c =
+    (c.index-node.result.now, slice_get_read c.args.frame.now.program.now.nodes.items _ c.args.n c.index-node.result.now refl c.requires.node c.index-node.ensures, refl)

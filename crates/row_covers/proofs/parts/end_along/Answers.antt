@@ -15,4 +15,4 @@ pub returns-in-None : goal.returns-in-None
 returns-in-None c = out c.args.types.now c.args.path.now c.loop-step.step-index _ c.loop-step.part _ c.loop-step-test.true c.loop-step.invariant.along c.in-None.ensures
 
 pub returns : goal.returns
-returns c = arrived c.args.types.now c.args.path.now c.loop-step.step-index c.loop-step.part _ _ c.loop-step-test.false c.is_pointer.ensures c.loop-step.invariant.along
+returns c = arrived c.args.types.now c.args.path.now c.loop-step.step-index c.loop-step.part _ _ c.loop-step-test.false c.is_pointing.ensures c.loop-step.invariant.along

@@ -5,7 +5,6 @@ use Rattle.sense_cases.proofs.refusals.order_faults.Goals as goal
 pub returns : goal.returns
 unfolding computing
 returns c = record {
-  variadic_list = refl;
   parenthesised_operand = refl;
   first_of_two = refl;
   inner_before_outer = refl;

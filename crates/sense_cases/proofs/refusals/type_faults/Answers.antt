@@ -13,7 +13,6 @@ returns c = record {
   void_parameter = refl;
   returns_array = refl;
   array_of_functions = refl;
-  variadic_definition = refl;
   inline_definition = refl;
   outer_tag_as_union = refl;
   array_of_void = refl;

@@ -2,9 +2,9 @@ use Rattle.std.proofs.Common.{Option, false, sym, subst}
 use Rattle.c_types.specs.Trees.{Ctype}
 use Rattle.c_types.specs.Table.{type_of}
 use Rattle.c_types.specs.declared.term.TypeId.{TypeId}
-use Rattle.c_consts.specs.Core.{Core, ctype_of}
-use Rattle.c_senses.specs.Conversions.{value_of, conversion, operand_of}
-use Rattle.c_senses.specs.Objects.{further}
+use Rattle.c_consts.specs.Core.{Core}
+use Rattle.c_senses.specs.Conversions.{value_of, conversion}
+use Rattle.c_senses.specs.Objects.{further_value}
 use Rattle.core_nodes.specs.Standing.{core_at, Made}
 use Rattle.core_nodes.proofs.Growing.{knows_on}
 use Rattle.core_nodes.proofs.Failing.{follows}
@@ -30,5 +30,5 @@ returns-in-None-clause-made c = λ w k.
     let mid = c.value.new.unit in
     let v = c.in_ok-v.v in
     let known = knows_on w u mid c.in_ok-v.ensures.builds k in
-    let made = follows mid c.further.new.unit v c.further.result (value_of w c.args.at (core_at u c.args.a)) (λ (x : Core). further w c.args.at x (operand_of (ctype_of x))) (c.in_ok-v.ensures.made w k) (c.further.ensures.made w known) in
+    let made = follows mid c.further.new.unit v c.further.result (value_of w c.args.at (core_at u c.args.a)) (λ (x : Core). further_value w c.args.at x) (c.in_ok-v.ensures.made w k) (c.further.ensures.made w known) in
     subst (λ (o : Option TypeId). Made c.further.new.unit c.further.result (argument_of w c.args.at (core_at u c.args.a) (type_seen u.types o))) (sym c.in-None.is) made

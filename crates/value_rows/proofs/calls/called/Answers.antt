@@ -18,7 +18,7 @@ returns c = record {
       made_same c.call_over.new.unit c.call_over.result _ _
       (sym (
       called_is w c.args.place c.args.at c.args.may_call (core_at u c.args.c) t u c.args.arguments.now
-      (λ g. subst (λ (x : Ctype). typed c.args.at x g ≡ g) (sym c.term.ensures.tree ∙ c.result_type-result.ensures.ty) (typed_plain c.args.at g (types_of u.types) c.term.result.now c.in_default.not-Floating c.in_default.not-VaList)) c.if-not-may_call.false
+      (λ g. subst (λ (x : Ctype). typed c.args.at x g ≡ g) (sym c.term.ensures.tree ∙ c.result_type-result.ensures.ty) (typed_plain c.args.at g (types_of u.types) c.term.result.now c.in_default.not-Floating)) c.if-not-may_call.false
       (sym c.takes_so_many.ensures ∙ c.if-not-takes_so_many.false)
       ))
       (c.call_over.ensures.made w k);

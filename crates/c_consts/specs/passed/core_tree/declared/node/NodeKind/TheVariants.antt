@@ -6,3 +6,4 @@ pub use Rattle.core_tree.specs.declared.node.NodeKind.TheVariants.{Update, CallN
 pub use Rattle.core_tree.specs.declared.node.NodeKind.TheVariants.{Expression, If, While, DoWhile, Switch, Case}
 pub use Rattle.core_tree.specs.declared.node.NodeKind.TheVariants.{Default, Label, Goto, Break, Continue, Return}
 pub use Rattle.core_tree.specs.declared.node.NodeKind.TheVariants.{Skip}
+pub use Rattle.core_tree.specs.declared.node.NodeKind.TheVariants.{VarArgs, NextArg}

@@ -5,3 +5,4 @@ pub use Rattle.core_tree.specs.declared.node.NodeKind.TheVariants.{Assign, Updat
 pub use Rattle.core_tree.specs.declared.node.NodeKind.TheVariants.{MemberOfValue, Arith, Expression, Block, If}
 pub use Rattle.core_tree.specs.declared.node.NodeKind.TheVariants.{While, DoWhile, For, Switch, Case, Default}
 pub use Rattle.core_tree.specs.declared.node.NodeKind.TheVariants.{Label, Goto, Break, Continue, Return, Skip}
+pub use Rattle.core_tree.specs.declared.node.NodeKind.TheVariants.{VarArgs, NextArg}

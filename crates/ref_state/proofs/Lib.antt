@@ -1,0 +1,2 @@
+pub mod Reversed
+mod Tops
