@@ -19,7 +19,7 @@ end
 --stops a.i`a.i`0`int x,*p; int main(void){p=&x;*p=2;return *p;}`stops 1
 end
 `~
-a.i --stops --workers 2`a.i`0`struct s{int a;int b;}; struct s g; void*v; int*p; struct s*q;
+a.i --stops`a.i`0`struct s{int a;int b;}; struct s g; void*v; int*p; struct s*q;
 int main(void){
 v=&g;p=v;
 *p=1;
