@@ -7,7 +7,7 @@ use Rattle.std.specs.Ordering.{match_ordering}
 use Rattle.std.specs.BTreeMap.{insert_entry}
 use Rattle.std.proofs.lemmas.List.Concat.{flat_map-cons, flat_map-append}
 use Rattle.c_types.specs.declared.key.ObjectKey.{ObjectKey}
-use Rattle.c_types.specs.declared.key.ObjectKey.TheVariants.{Entity as EntityKey, Text as TextKey, Call as CallKey, Library as LibraryKey, Star as StarKey, Function as FunctionKey, Varargs as VarargsKey}
+use Rattle.c_types.specs.declared.key.ObjectKey.TheVariants.{Entity as EntityKey, Text as TextKey, Call as CallKey, Library as LibraryKey, Star as StarKey, Function as FunctionKey, Varargs as VarargsKey, Outside as OutsideKey}
 use Rattle.c_types.specs.Table.{Table}
 use Rattle.c_types.specs.Made.{IsMade}
 use Rattle.core_tree.specs.declared.node.Entity.{Entity}
@@ -23,7 +23,7 @@ use Rattle.obj_made.specs.declared.object.Object.{Object}
 use Rattle.obj_made.specs.Uses.{entity_number, is_allocator, is_named, is_starred}
 use Rattle.obj_made.specs.Made.{Made, Spot, by_place, in_order, made_at, spot_at, object_unless_declared, entity_made, entities_made, called_object, object_of_call, called_entity, object_of_kind, node_made, nodes_made, has_varargs, varargs_object, varargs_spot, varargs_made, made_of_names, made_in_order, objects_in}
 use Rattle.obj_space.specs.declared.location.Location.{Location}
-use Rattle.obj_space.specs.Objects.{LibraryRow, named_object, function_if, functions_below, library_rows, library_object, library_objects_from, library_objects, is_needed, star_if, star_objects, library_part, objects_of, takes_arguments}
+use Rattle.obj_space.specs.Objects.{LibraryRow, named_object, function_if, functions_below, library_rows, library_object, library_objects_from, library_objects, is_needed, star_if, star_objects, outside_objects, library_part, objects_of, takes_arguments}
 use Rattle.obj_space.specs.Space.{located, locations_by, locations_of, locations_in, HasTrees}
 use Rattle.obj_space.specs.View.{first_from}
 use Rattle.obj_space.proofs.Placed.{get_mapped, all_placed}
@@ -46,6 +46,7 @@ abbrev IsOfLibrary : ObjectKey → Content → Type 0
 IsOfLibrary (FunctionKey k) content = content ≡ Function
 IsOfLibrary (LibraryKey k) content = Unit {0}
 IsOfLibrary (StarKey k) content = Unit {0}
+IsOfLibrary OutsideKey content = Unit {0}
 IsOfLibrary key content = ⊥
 
 abbrev Tokens : Made → Type 0
@@ -164,10 +165,15 @@ module _ (p : Program) where
       let s = λ (k : ℕ). star_library (is_starred p.entities.items p.nodes.items k) k in
       each_append _ _ (s 0) (each_append _ _ (s 1) (each_append _ _ (s 2) (s 21)))
 
+  outside_library : (entries : List ℕ) → Each IsLibrarys (outside_objects entries)
+  outside_library [] = tt
+  outside_library (e ∷ rest) = (tt, tt)
+
   part_library : Each IsLibrarys (library_part p)
   part_library =
       each_append (functions_below p 55) _ (functions_library 55)
-      (each_append (library_objects (is_named p.entities.items p.nodes.items) (takes_arguments p)) (star_objects p) (objects_library (is_named p.entities.items p.nodes.items) (takes_arguments p)) stars_library)
+      (each_append (library_objects (is_named p.entities.items p.nodes.items) (takes_arguments p)) _ (objects_library (is_named p.entities.items p.nodes.items) (takes_arguments p))
+      (each_append (star_objects p) (outside_objects p.entries.items) stars_library (outside_library p.entries.items)))
 
 -- Locations of objects.
 

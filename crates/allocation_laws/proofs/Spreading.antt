@@ -1,13 +1,14 @@
 -- In the least solution an allocating function's location stands at its names and at what decays from them alone.
-use Rattle.std.proofs.Common.{◌≡◌, ◌∙◌, ◌⊎◌, ◌&&◌, ◌==◌, inl, inr, ℕ, Bool, true, false, cond, List, [], ◌∷◌, ◌++◌, length, Option, Some, None, slice_get, refl, sym, ap, subst}
-use Rattle.std.specs.Prelude.{option_and_then}
+use Rattle.std.proofs.Common.{◌≡◌, ◌∙◌, ◌⊎◌, ◌&&◌, ◌==◌, ◌<◌, inl, inr, ℕ, Bool, true, false, cond, List, [], ◌∷◌, ◌++◌, length, Option, Some, None, slice_get, get_or, refl, sym, ap, subst}
+use Rattle.std.specs.Prelude.{option_and_then, not}
 use Rattle.std.specs.List.{All, flat_map, range_with_len}
 use Rattle.std.proofs.lemmas.Bool.{false≢true}
 use Rattle.std.proofs.lemmas.Bool.Decides.{eqb_tells}
-use Rattle.std.proofs.lemmas.List.Elements.{All-nil, All-cons, All-append, All-contains}
+use Rattle.std.proofs.lemmas.List.Elements.{All-nil, All-cons, All-append, All-contains, All-map, All-filter}
 use Rattle.std.proofs.lemmas.List.Concat.{flat_map-cons}
+use Rattle.std.proofs.lemmas.Option.{slice_get_within, slice_get-get_or}
 use Rattle.c_types.specs.declared.key.ObjectKey.{ObjectKey}
-use Rattle.c_types.specs.declared.key.ObjectKey.TheVariants.{Library as LibraryKey, Function as FunctionKey}
+use Rattle.c_types.specs.declared.key.ObjectKey.TheVariants.{Entity as EntityKey, Library as LibraryKey, Function as FunctionKey, Outside as OutsideKey}
 use Rattle.c_types.specs.Table.{type_of}
 use Rattle.core_tree.specs.declared.node.Entity.{Entity}
 use Rattle.core_tree.specs.declared.node.Node.{Node}
@@ -18,6 +19,7 @@ use Rattle.core_tree.specs.Rows.{RowOf, CallRow, DecayRow}
 use Rattle.core_tree.specs.Typed.{PlaceNode, ValueNode, sort_of, sort_in, sort_at, trees_in}
 use Rattle.sol_model.specs.declared.system.System.{System}
 use Rattle.sol_model.specs.declared.system.Constraint.{Constraint}
+use Rattle.sol_model.specs.declared.system.Constraint.TheVariants.{Address as AddressForm, Copy as CopyForm}
 use Rattle.sol_model.specs.Families.{Family, Has, IsInside}
 use Rattle.sol_model.specs.Solutions.{IsClosed, IsLeast, IsGiven}
 use Rattle.sol_model.specs.Systems.{IsValid, IsConstraintValid}
@@ -27,21 +29,27 @@ use Rattle.obj_made.specs.Uses.{is_allocator, is_starred, entity_number}
 use Rattle.obj_space.specs.declared.location.Location.{Location}
 use Rattle.obj_space.specs.View.{first_from, view_of}
 use Rattle.row_numbers.specs.Objects.{library_number}
-use Rattle.row_numbers.specs.Setting.{Setting, row}
+use Rattle.row_numbers.specs.Functions.{number_of, parameters_of}
+use Rattle.row_numbers.specs.Setting.{Setting, row, none_row, result_row, result_nodes}
 use Rattle.call_sites.specs.Calls.{head_of, name_of, name_at, under_decay, named_callee, named_library}
 use Rattle.normal_form.specs.declared.normal.Assignment.{Assignment}
 use Rattle.normal_form.specs.Assignments.{assignments_by, assignments_at, assignments_of}
-use Rattle.normal_form.specs.SystemOf.{constraint_of, held_by, library_pair, library_constraints, start_constraints, Demands, by_node, by_call, by_library, by_start, setting_of, SystemOf}
+use Rattle.normal_form.specs.Facts.{parameter_rows}
+use Rattle.normal_form.specs.SystemOf.{constraint_of, held_by, library_pair, library_constraints, present_rows, taken_in, given_out, result_rows, entry_constraints, outside_constraints, start_constraints, Demands, by_node, by_call, by_library, by_start, setting_of, SystemOf}
 use Rattle.system_laws.proofs.Functions.{HasPlace, first_of, place_of}
 use Rattle.allocation_laws.specs.Spread.{IsRight, ReturnsFit, AreSpaced, AllocatorsSpread}
 use Rattle.allocation_laws.proofs.Marks.{none_some, some_one, IsDecay, IsMarked, as_name, as_decay, IsNameOf, name_of_kind}
-use Rattle.allocation_laws.proofs.Ranges.{is_special, special_row, pointer_row}
+use Rattle.allocation_laws.proofs.Firsts.{first_item}
+use Rattle.allocation_laws.proofs.Ranges.{list_rows, is_special, special_row, location_plain, result_plain, none_plain, pointer_row}
 use Rattle.allocation_laws.proofs.Keeping.{row_number, Keeps, key_own}
 use Rattle.allocation_laws.proofs.Nodes.{node_right}
 use Rattle.allocation_laws.proofs.Calls.{row_callee, IsCallOf, call_there, call_keeps}
 
 library_function : (n k : ℕ) → LibraryKey n ≡ FunctionKey k → ⊥
 library_function n k h = cc
+
+outside_function : (k : ℕ) → OutsideKey ≡ FunctionKey k → ⊥
+outside_function k h = cc
 
 place_value : PlaceNode ≡ ValueNode → ⊥
 place_value h = cc
@@ -131,11 +139,66 @@ module _ (p : Program) (space : List Location) (system : System) (is : SystemOf 
       (held_kept _ 8))
       (held_kept _ 10)
 
+  -- what lies outside is an object of its own, and neither its row nor one of a result has the function
+  module _ (l : ℕ) (at : first_from 0 space OutsideKey ≡ Some l) where
+    outside_plain : special l ≡ true → ⊥
+    outside_plain h = (let x = first_item space OutsideKey l at in location_plain (trees_in p) (view_of space) right.rows k l (slice_get_within space l x.0 x.1) h)
+
+    outside_address : Kept (AddressForm l l)
+    outside_address = record {
+      edges = λ a b ok h kept. absurd h;
+      facts = λ row h. absurd (outside_function k (key_own p space system is right spaced F k L own unused OutsideKey (at ∙ ap (λ (m : ℕ). Some m) (sym h.1))));
+    }
+
+    copy_kept : (from to : ℕ) → (special from ≡ true → ⊥) → Kept (CopyForm from to)
+    copy_kept from to plain = record { edges = λ a b ok h kept. absurd (plain (subst (λ (r : ℕ). special r ≡ true) h.0 kept)); facts = λ row h. absurd h }
+
+    taken_kept : (rows : List ℕ) → All Kept (taken_in (trees_in p) (view_of space) l rows)
+    taken_kept rows = All-map Kept (λ (row : ℕ). CopyForm l row) (present_rows (trees_in p) (view_of space) rows) (λ i d lt. copy_kept l _ outside_plain)
+
+    parameters_kept : (keys : List ObjectKey) → All Kept (flat_map (λ key. taken_in (trees_in p) (view_of space) l (parameter_rows (trees_in p) (view_of space) key)) keys)
+    parameters_kept [] = All-nil Kept
+    parameters_kept (key ∷ keys) =
+        let f : ObjectKey → List Constraint = λ key. taken_in (trees_in p) (view_of space) l (parameter_rows (trees_in p) (view_of space) key) in
+        subst (λ (list : List Constraint). All Kept list) (sym (flat_map-cons f key keys)) (All-append Kept (f key) (flat_map f keys) (taken_kept (parameter_rows (trees_in p) (view_of space) key)) (parameters_kept keys))
+
+    result_kept : (e i d : ℕ) → i < length (result_rows (trees_in p) (view_of space) e) → Kept (CopyForm (get_or (result_rows (trees_in p) (view_of space) e) i d) l)
+    result_kept e i d lt =
+        let rows = result_rows (trees_in p) (view_of space) e in
+        let number = number_of (trees_in p) (view_of space) e in
+        copy_kept (get_or rows i d) l
+        (λ its_row. elim (list_rows (none_row (trees_in p) (view_of space)) (result_row (trees_in p) (view_of space) number) (result_nodes (trees_in p) (EntityKey e)) i (get_or rows i d) (slice_get-get_or rows i d lt)) [
+          | inl none ↦ none_plain (trees_in p) (view_of space) right.rows k (subst (λ (r : ℕ). special r ≡ true) none its_row)
+          | inr its ↦ result_plain (trees_in p) (view_of space) right.rows k (get_or rows i d) number its.0 its_row
+        ])
+
+    given_kept : (e : ℕ) → All Kept (given_out (trees_in p) (view_of space) l (result_rows (trees_in p) (view_of space) e))
+    given_kept e =
+        All-map Kept (λ (row : ℕ). CopyForm row l) (present_rows (trees_in p) (view_of space) (result_rows (trees_in p) (view_of space) e))
+        (All-filter (λ row. not (row == none_row (trees_in p) (view_of space))) (λ row. Kept (CopyForm row l)) (result_rows (trees_in p) (view_of space) e) (result_kept e))
+
+    entries_kept : (entries : List ℕ) → All Kept (flat_map (entry_constraints (trees_in p) (view_of space) l) entries)
+    entries_kept [] = All-nil Kept
+    entries_kept (e ∷ rest) =
+        let f : ℕ → List Constraint = entry_constraints (trees_in p) (view_of space) l in
+        let given : List Constraint = given_out (trees_in p) (view_of space) l (result_rows (trees_in p) (view_of space) e) in
+        subst (λ (list : List Constraint). All Kept list) (sym (flat_map-cons f e rest))
+        (All-append Kept (f e) (flat_map f rest) (All-append Kept _ given (parameters_kept (parameters_of (trees_in p) (view_of space) e)) (given_kept e)) (entries_kept rest))
+
+  outside_kept : (entries : List ℕ) (o : Option ℕ) → first_from 0 space OutsideKey ≡ o → All Kept (outside_constraints (trees_in p) (view_of space) entries o)
+  outside_kept entries None at = All-nil Kept
+  outside_kept entries (Some l) at =
+      All-cons Kept (AddressForm l l) (flat_map (entry_constraints (trees_in p) (view_of space) l) entries) (outside_address l at) (entries_kept l at entries)
+
+  start_kept : (entries : List ℕ) → All Kept (start_constraints (trees_in p) (view_of space) entries)
+  start_kept [] = held_kept _ 9
+  start_kept (e ∷ rest) = outside_kept (e ∷ rest) (first_from 0 space OutsideKey) refl
+
   demanded_kept : (c : Constraint) → Demands w (length system.calls) c → Kept c
   demanded_kept c (by_node {a = a} there same) = subst Kept same (All-contains Right (assignments_of w) a (all_right (range_with_len 0 (length p.nodes.items))) there)
   demanded_kept c (by_call {call = call} lt same) = subst Kept same (call_keeps p space system is right spaced F k L own unused valid call)
   demanded_kept c (by_library there) = All-contains Kept (library_constraints (view_of space)) c library_kept there
-  demanded_kept c (by_start there) = All-contains Kept (start_constraints (trees_in p) (view_of space)) c (held_kept _ 9) there
+  demanded_kept c (by_start there) = All-contains Kept (start_constraints (trees_in p) (view_of space) p.entries.items) c (start_kept p.entries.items) there
 
   -- without the location in other rows the family is closed
   given_special : (r : ℕ) → IsGiven system (without F L special) r L → special r ≡ true

@@ -254,7 +254,8 @@ fn is_giver(key: ObjectKey) -> bool
     match key {
         ObjectKey::Function(k) => some_gives(effects(k)),
         ObjectKey::Entity(_) | ObjectKey::Text(_) | ObjectKey::Call(_) => false,
-        ObjectKey::Library(_) | ObjectKey::Star(_) | ObjectKey::Varargs(_) => false,
+        ObjectKey::Library(_) | ObjectKey::Star(_) => false,
+        ObjectKey::Varargs(_) | ObjectKey::Outside => false,
     }
 }
 
@@ -265,7 +266,8 @@ fn library_of(key: ObjectKey) -> u32
     match key {
         ObjectKey::Function(k) => k,
         ObjectKey::Entity(_) | ObjectKey::Text(_) | ObjectKey::Call(_) => 0,
-        ObjectKey::Library(_) | ObjectKey::Star(_) | ObjectKey::Varargs(_) => 0,
+        ObjectKey::Library(_) | ObjectKey::Star(_) => 0,
+        ObjectKey::Varargs(_) | ObjectKey::Outside => 0,
     }
 }
 

@@ -9,7 +9,7 @@ use Rattle.std.proofs.lemmas.List.Elements.{All-map}
 use Rattle.std.proofs.lemmas.Slice.Eq.{bytes_eq-Decides}
 use Rattle.clap.specs.Walk.{Text, texts}
 use Rattle.command_line.specs.Distinct.{AreDistinct}
-use Rattle.command_line.specs.Rules.{AreUnits, IsUnitWord}
+use Rattle.command_line.specs.Rules.{AreEntries, AreUnits, IsName, IsUnitWord}
 
 pub text_read : (words : List (Bor Text)) (i : ℕ) (d : Bor Text) → i < length words → slice_get (texts words) i ≡ Some (get_or words i d).now
 text_read words i d within = slice_get-map (λ w. w.now) words i ∙ ap (option_map (λ w. w.now)) (slice_get-get_or words i d within)
@@ -41,3 +41,13 @@ units_are words some few formed distinct = record {
 
 pub units_present : (words : List (Bor Text)) → AreUnits (texts words) → (1 ≤ length words) × (length words ≤ 256)
 units_present words units = (rw (← length-map words (λ w. w.now)) units.present, rw (← length-map words (λ w. w.now)) units.few)
+
+pub entries_are : (words : List (Bor Text)) → length words ≤ 64 → All (λ w. IsName w.now) words → AreDistinct (texts words) → AreEntries (texts words)
+entries_are words few formed distinct = record {
+  few = rw (length-map words (λ w. w.now)) few;
+  formed = formed_texts IsName words formed;
+  distinct = distinct;
+}
+
+pub entries_few : (words : List (Bor Text)) → AreEntries (texts words) → length words ≤ 64
+entries_few words entries = rw (← length-map words (λ w. w.now)) entries.few

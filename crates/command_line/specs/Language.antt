@@ -39,6 +39,7 @@ program_command = bare_command (codes "pta")
     ∷ flag (codes "desk")
     ∷ flag (codes "effects")
     ∷ flag (codes "stops")
+    ∷ value_option (codes "entry")
     ∷ positional_words (codes "unit")
     ∷ [])
 

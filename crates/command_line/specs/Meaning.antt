@@ -5,7 +5,8 @@ use Rattle.std.specs.Str.Parse.{digits_value}
 use Rattle.clap.specs.Words.{Row, Text, first_of}
 use Rattle.clap.specs.Walk.{texts}
 use Rattle.command_line.specs.Language.{found_in}
-use Rattle.command_line.specs.Rules.{AreRight, asks_desk, asks_effects, asks_json, asks_stops, script_word, unit_words}
+use Rattle.command_line.specs.Rules.{AreRight, asks_desk, asks_effects, asks_json, asks_stops, entry_names, script_word}
+use Rattle.command_line.specs.Rules.{unit_words}
 use Rattle.command_line.specs.declared.command.Command.{Command}
 
 -- the number of an option, where it stands
@@ -22,6 +23,7 @@ pub record Says (rows : List Row) (command : Command) : Type 0 where
   pub desk : command.desk ≡ asks_desk rows
   pub effects : command.effects ≡ asks_effects rows
   pub stops : command.stops ≡ asks_stops rows
+  pub entries : texts command.entries.items ≡ entry_names rows
   pub units : texts command.units.items ≡ unit_words rows
 
 -- the words are right, and the command says what they say

@@ -2,8 +2,8 @@
 use Rattle.std.specs.Prelude.{◌≡◌, ◌≢◌, ◌<◌, ◌≤◌, ◌||◌, ◌==◌, ℕ, Bool, List, [], Option, None, Some}
 use Rattle.std.specs.Prelude.{IfSome, IsSome, length}
 use Rattle.std.specs.Prelude.{true, false, slice_index, unwrap_or, codes}
-use Rattle.std.specs.Char.{is_ascii_alphanumeric}
-use Rattle.std.specs.List.{All}
+use Rattle.std.specs.Char.{is_ascii_alphanumeric, is_ascii_digit}
+use Rattle.std.specs.List.{All, slice_split}
 use Rattle.std.specs.Option.{option_map_or}
 use Rattle.std.specs.Str.{bytes_eq}
 use Rattle.std.specs.Str.Parse.{IsNumeral, digits_value}
@@ -31,7 +31,27 @@ pub record IsUnitWord (text : Text) : Type 0 where
   pub start : slice_index text 0 ≢ 45
   pub bytes : All (λ b. is_unit_byte b ≡ true) text
 
+-- letters, digits and `_`
+abbrev pub is_name_byte : ℕ → Bool
+is_name_byte b = is_ascii_alphanumeric b || b == 95
+
+-- the spelling of a C identifier, which no digit begins (C11 6.4.2.1)
+pub record IsName (text : Text) : Type 0 where
+  pub present : 0 < length text
+  pub start : is_ascii_digit (slice_index text 0) ≡ false
+  pub bytes : All (λ b. is_name_byte b ≡ true) text
+
 -- ---- several words
+
+-- what stands between the commas of a word: one text more than it has commas
+abbrev pub parts_of : Text → List Text
+parts_of word = slice_split (λ b. b == 44) word
+
+-- at most 64 names, none of them twice
+pub record AreEntries (names : List Text) : Type 0 where
+  pub few : length names ≤ 64
+  pub formed : All IsName names
+  pub distinct : AreDistinct names
 
 -- 1 to 256 well-formed unit words, none of them twice
 pub record AreUnits (units : List Text) : Type 0 where
@@ -58,6 +78,14 @@ gen_word rows = first_of (codes "gen") rows
 abbrev pub run_word : List Row → Option Text
 run_word rows = first_of (codes "run") rows
 
+-- the word that names the functions at which the program is entered, where one does
+abbrev pub entry_word : List Row → Option Text
+entry_word rows = first_of (codes "entry") rows
+
+-- the names that it gives, in order
+abbrev pub entry_names : List Row → List Text
+entry_names rows = option_map_or parts_of (entry_word rows) []
+
 -- whether a flag stands: whether the text that is found for it is `true`
 abbrev pub is_flagged : Text → List Row → Bool
 is_flagged name rows = option_map_or (λ text. bytes_eq text (codes "true")) (first_of name rows) false
@@ -78,12 +106,13 @@ asks_effects rows = is_flagged (codes "effects") rows
 abbrev pub asks_stops : List Row → Bool
 asks_stops rows = is_flagged (codes "stops") rows
 
--- no script, no report as JSON, no generated program, and no run is asked for
+-- no script, no report as JSON, no generated program, no run and no entry is asked for
 pub record AsksNoOther (rows : List Row) : Type 0 where
   pub script : script_word rows ≡ None
   pub json : asks_json rows ≡ false
   pub gen : gen_word rows ≡ None
   pub run : run_word rows ≡ None
+  pub entry : entry_word rows ≡ None
 
 -- the option's number is well formed and in the range
 abbrev pub IsNumberIn : ℕ → ℕ → Option Text → Type 0
@@ -100,7 +129,8 @@ HasUnits (Some text) units = units ≡ []
 
 -- what was found keeps the rules: a script has no report, so no form of it, a generated program has neither, and a run
 -- has none of the three; a desk stands beside a script alone; what functions touch and where a run may stop are asked
--- for each without another text; the name that is asked for may be that of a unit too
+-- for each without another text, of programs that begin at `main`; entries are named of a program of units; the name of
+-- a script may be that of a unit too
 pub record KeepsRules (rows : List Row) : Type 0 where
   pub workers : IsNumberIn 1 64 (first_of (codes "workers") rows)
   pub ask : IsNameIn (script_word rows)
@@ -114,6 +144,8 @@ pub record KeepsRules (rows : List Row) : Type 0 where
   pub effects : asks_effects rows ≡ true → AsksNoOther rows
   pub stops : asks_stops rows ≡ true → AsksNoOther rows
   pub one : asks_stops rows ≡ true → asks_effects rows ≡ false
+  pub entries : AreEntries (entry_names rows)
+  pub entered : IsSome (entry_word rows) → gen_word rows ≡ None
   pub units : HasUnits (gen_word rows) (unit_words rows)
 
 -- clap takes the words, and they keep the rules

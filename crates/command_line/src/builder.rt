@@ -62,5 +62,6 @@ pub(crate) fn program<'a>(alloc: Global) -> Result<Command<'a>, AllocError>
     let command = with_flag(alloc, command, "desk")?;
     let command = with_flag(alloc, command, "effects")?;
     let command = with_flag(alloc, command, "stops")?;
+    let command = with_option(alloc, command, "entry")?;
     with_words(alloc, command, "unit")
 }

@@ -9,11 +9,12 @@ ghost use Rattle.command_line.specs.Rules.{AreRight, AreUnits, AsksNoOther, HasU
 ghost use Rattle.command_line.specs.Rules.{asks_desk, asks_json, gen_word, is_flagged, run_word, script_word, unit_words};
 
 use crate::command::Command;
+use crate::entry_word::entries;
 use crate::fault::WordsFault;
 use crate::options::{is_set, name, number};
 use crate::reading::read;
 use crate::unit_word::are_units;
-use crate::values::words_of;
+use crate::values::{text_of, words_of};
 use clap::ArgMatches;
 use std::alloc::{AllocError, Global};
 
@@ -171,7 +172,7 @@ fn desk_beside(matches: &ArgMatches<'_>, asked: bool) -> Result<bool, WordsFault
     Ok(desk)
 }
 
-/// Whether a script, a report as JSON, a generated program or a run is asked for.
+/// Whether a script, a report as JSON, a generated program, a run or an entry is asked for.
 fn asks_other(
     matches: &ArgMatches<'_>,
     wanted: bool,
@@ -185,7 +186,7 @@ fn asks_other(
     ensures none { result ≡ false → AsksNoOther (rows_of (found_of matches.now)) }
     ensures some { result ≡ true → AsksNoOther (rows_of (found_of matches.now)) → ⊥ }
 {
-    wanted || generated.is_some() || steps.is_some()
+    wanted || generated.is_some() || steps.is_some() || text_of(matches, "entry").is_some()
 }
 
 /// Whether a flag stands that asks for a text of its own, which is refused beside any other.
@@ -213,6 +214,7 @@ fn command_of<'a>(alloc: Global, matches: &ArgMatches<'a>) -> Result<Command<'a>
     let other = asks_other(matches, json || ask.is_some(), generated, steps);
     let effects = flag_alone(matches, "effects", other)?;
     let stops = flag_alone(matches, "stops", other || effects)?;
+    let entries = entries(alloc, matches, generated)?;
     let units = units_beside(alloc, matches, generated)?;
     Ok(Command {
         workers,
@@ -223,17 +225,19 @@ fn command_of<'a>(alloc: Global, matches: &ArgMatches<'a>) -> Result<Command<'a>
         desk,
         effects,
         stops,
+        entries,
         units,
     })
 }
 
 /// The command that the words give, without the program's name. `Usage` comes exactly where they break a rule: an option that isn't
-/// `--workers`, `--ask`, `--desk`, `--json`, `--gen`, `--run`, `--effects` or `--stops`, one that stands twice or lacks its value, a value
-/// for `--desk`, `--json`, `--effects` or `--stops`, more than one of `--ask`, `--json`, `--gen`, `--run`, `--effects` and `--stops`,
-/// `--desk` without `--ask`, a number that isn't 1 to 10 digits or is out of 1 to 64, or behind `--gen` out of 1 to 1000, or behind `--run`
-/// over 1,000,000, a unit beside `--gen`, no unit or more than 256 without it, a name of a unit or of a script that isn't 1 to 255 bytes
-/// out of letters, digits, `.`, `_`, `-` and `/` or begins with `-`, and a unit twice. A script may have the name of a unit. Any words may
-/// meet want of memory.
+/// `--workers`, `--ask`, `--desk`, `--json`, `--gen`, `--run`, `--effects`, `--stops` or `--entry`, one that stands twice or lacks its
+/// value, a value for `--desk`, `--json`, `--effects` or `--stops`, more than one of `--ask`, `--json`, `--gen`, `--run`, `--effects` and
+/// `--stops`, `--desk` without `--ask`, a number that isn't 1 to 10 digits or is out of 1 to 64, or behind `--gen` out of 1 to 1000, or
+/// behind `--run` over 1,000,000, `--entry` beside `--gen`, `--effects` or `--stops`, behind `--entry` more than 64 names with single commas
+/// between them, one that isn't the spelling of a C identifier, or one twice, a unit beside `--gen`, no unit or more than 256 without it, a
+/// name of a unit or of a script that isn't 1 to 255 bytes out of letters, digits, `.`, `_`, `-` and `/` or begins with `-`, and a unit
+/// twice. A script may have the name of a unit, and an entry that of a keyword. Any words may meet want of memory.
 pub fn parse_words<'a>(alloc: Global, words: &'a [String]) -> Result<Command<'a>, WordsFault>
     ensures ok { IfOk result (λ command. IsCommandOf (map string_bytes words.entry.now) command) }
     ensures usage { IfErr result (λ fault. fault ≡ WordsFault.Usage → AreRight (map string_bytes words.entry.now) → ⊥) }

@@ -17,7 +17,7 @@ use Rattle.normal_form.specs.declared.normal.Normal.{Normal}
 use Rattle.row_numbers.specs.declared.functions.Role.TheVariants.{Main}
 use Rattle.row_numbers.specs.Functions.{keys_in, parameters_of}
 use Rattle.normal_form.specs.SystemOf.{constraint_of, held_by, library_constraints, start_constraints, second_of, Demands, by_node, by_call, by_library, by_start, setting_of, IsWhole}
-use Rattle.constraints.specs.System.{first_entity, second_parameter, constraint_list}
+use Rattle.constraints.specs.System.{first_entity, start_list, constraint_list}
 
 get_map : {X Y : Type 0} (f : X → Y) (xs : List X) (i : ℕ) (x : X) → slice_get xs i ≡ Some x → slice_get (map f xs) i ≡ Some (f x)
 get_map f [] i x e = cc
@@ -35,8 +35,9 @@ same_second u s [] = refl
 same_second u s (EntityKey e ∷ rest) = refl
 same_second u s (key ∷ rest) = refl
 
-start_is : (u : CoreTrees) (s : SpaceView) → held_by (option_and_then s.first (second_parameter u s)) (s.first (Library 9)) ≡ start_constraints u s
-start_is u s = ap (λ (o : Option ObjectKey). held_by (option_and_then s.first o) (s.first (Library 9))) (same_second u s (keys_in Main u.entities))
+start_is : (u : CoreTrees) (s : SpaceView) (entries : List ℕ) → start_list u s entries ≡ start_constraints u s entries
+start_is u s [] = ap (λ (o : Option ObjectKey). held_by (option_and_then s.first o) (s.first (Library 9))) (same_second u s (keys_in Main u.entities))
+start_is u s (e ∷ rest) = refl
 
 four_cases : (a b c d : List Constraint) (k : Constraint) → Contains (a ++ b ++ c ++ d) k → (Contains a k ⊎ Contains b k) ⊎ (Contains c k ⊎ Contains d k)
 four_cases a b c d k h = last (Contains-append_cases (a ++ b ++ c) d k h) where
@@ -67,13 +68,13 @@ module _ (p : Program) (s : SpaceView) (normal : Normal) (whole : IsWhole p s no
   of_call : (call : ℕ) × Contains (range_with_len 0 (length normal.calls)) call × (k ≡ Call call) → Demands (setting_of p s whole.owners) (length normal.calls) k
   of_call (call, h, e) = let (i, lt, q) = Contains-range 0 (length normal.calls) call h in by_call (omega (arith, lt, q)) (sym e)
 
-  made : (Contains (map constraint_of normal.assignments) k ⊎ Contains (map (λ call. Call call) (range_with_len 0 (length normal.calls))) k) ⊎ (Contains (library_constraints s) k ⊎ Contains (held_by (option_and_then s.first (second_parameter (trees_in p) s)) (s.first (Library 9))) k) → Demands (setting_of p s whole.owners) (length normal.calls) k
+  made : (Contains (map constraint_of normal.assignments) k ⊎ Contains (map (λ call. Call call) (range_with_len 0 (length normal.calls))) k) ⊎ (Contains (library_constraints s) k ⊎ Contains (start_list (trees_in p) s p.entries.items) k) → Demands (setting_of p s whole.owners) (length normal.calls) k
   made (inl (inl h)) = of_node (Contains-map constraint_of normal.assignments k h)
   made (inl (inr h)) = of_call (Contains-map {Y = Constraint} (λ (call : ℕ). Call call) (range_with_len 0 (length normal.calls)) k h)
   made (inr (inl h)) = by_library h
-  made (inr (inr h)) = by_start (rw (start_is (trees_in p) s) at h)
+  made (inr (inr h)) = by_start (rw (start_is (trees_in p) s p.entries.items) at h)
 
-  there : Demands (setting_of p s whole.owners) (length normal.calls) k → Contains (constraint_list (trees_in p) s normal) k
+  there : Demands (setting_of p s whole.owners) (length normal.calls) k → Contains (constraint_list (trees_in p) s p.entries.items normal) k
   there (by_node {a} h e) =
       in_first (map constraint_of normal.assignments) (map (λ call. Call call) (range_with_len 0 (length normal.calls))) (library_constraints s) _ k
       (rw (← e) (map_has constraint_of normal.assignments a ((whole.assignments a).1 h)))
@@ -83,8 +84,8 @@ module _ (p : Program) (s : SpaceView) (normal : Normal) (whole : IsWhole p s no
   there (by_library h) =
       in_third (map constraint_of normal.assignments) (map (λ call. Call call) (range_with_len 0 (length normal.calls))) (library_constraints s) _ k h
   there (by_start h) =
-      Contains-append_right (map constraint_of normal.assignments ++ map (λ call. Call call) (range_with_len 0 (length normal.calls)) ++ library_constraints s) _ k (rw (start_is (trees_in p) s) h)
+      Contains-append_right (map constraint_of normal.assignments ++ map (λ call. Call call) (range_with_len 0 (length normal.calls)) ++ library_constraints s) _ k (rw (start_is (trees_in p) s p.entries.items) h)
 
-  pub demanded : Contains (constraint_list (trees_in p) s normal) k ↔ Demands (setting_of p s whole.owners) (length normal.calls) k
+  pub demanded : Contains (constraint_list (trees_in p) s p.entries.items normal) k ↔ Demands (setting_of p s whole.owners) (length normal.calls) k
   demanded =
-      (λ h. made (four_cases (map constraint_of normal.assignments) (map (λ call. Call call) (range_with_len 0 (length normal.calls))) (library_constraints s) (held_by (option_and_then s.first (second_parameter (trees_in p) s)) (s.first (Library 9))) k h), there)
+      (λ h. made (four_cases (map constraint_of normal.assignments) (map (λ call. Call call) (range_with_len 0 (length normal.calls))) (library_constraints s) (start_list (trees_in p) s p.entries.items) k h), there)

@@ -5,3 +5,4 @@ pub mod Laws
 pub mod OwnedLemmas
 pub mod Agreeing
 pub mod CallLemmas
+pub mod StartLemmas

@@ -1,3 +1,4 @@
 pub mod Owned
+pub mod Start
 pub mod System
 pub mod Types

@@ -1,10 +1,10 @@
 -- What a system's making answers.
-use Rattle.std.specs.Prelude.{IsFalse, ◌≡◌, ℕ, ◌+◌, ◌*◌, ◌/◌, ◌<◌, ◌≤◌, ◌^◌, ◌++◌, ⊤, List, ◌∷◌, Option, Some, None}
-use Rattle.std.specs.Prelude.{length, map, slice_get, option_and_then, AllPairs, Vec}
+use Rattle.std.specs.Prelude.{IsFalse, ◌≡◌, ℕ, ◌+◌, ◌*◌, ◌/◌, ◌<◌, ◌≤◌, ◌^◌, ◌++◌, ⊤, List, [], ◌∷◌, Option, Some}
+use Rattle.std.specs.Prelude.{None, length, map, slice_get, option_and_then, AllPairs, Vec}
 use Rattle.std.specs.declared.alloc.Global.{Global}
 use Rattle.std.specs.List.{range_with_len}
 use Rattle.c_types.specs.declared.key.ObjectKey.{ObjectKey}
-use Rattle.c_types.specs.declared.key.ObjectKey.TheVariants.{Entity as EntityKey, Library}
+use Rattle.c_types.specs.declared.key.ObjectKey.TheVariants.{Entity as EntityKey, Library, Outside}
 use Rattle.sol_model.specs.declared.system.System.{System}
 use Rattle.sol_model.specs.declared.system.LocationFact.{LocationFact}
 use Rattle.sol_model.specs.declared.system.Constraint.{Constraint}
@@ -15,7 +15,7 @@ use Rattle.sol_model.specs.Systems.{location_count, width_of}
 use Rattle.normal_form.specs.declared.normal.Normal.{Normal}
 use Rattle.row_numbers.specs.declared.functions.Role.TheVariants.{Main}
 use Rattle.row_numbers.specs.Functions.{keys_in, parameters_of}
-use Rattle.normal_form.specs.SystemOf.{constraint_of, held_by, library_constraints}
+use Rattle.normal_form.specs.SystemOf.{constraint_of, held_by, library_constraints, outside_constraints}
 use Rattle.core_tree.specs.declared.node.Program.{Program}
 use Rattle.core_tree.specs.Typed.{CoreTrees, trees_in}
 use Rattle.obj_space.specs.View.{SpaceView}
@@ -53,12 +53,17 @@ abbrev pub second_in : CoreTrees → List (Vec ObjectKey Global) → Option Obje
 second_in u lists =
     option_and_then (λ main. slice_get (listed lists main) 1) (first_entity (keys_in Main u.entities))
 
+-- what is there at the start: main's second parameter has the arguments, or the entries have what lies outside
+abbrev pub start_list : CoreTrees → SpaceView → List ℕ → List Constraint
+start_list u s [] = held_by (option_and_then s.first (second_parameter u s)) (s.first (Library 9))
+start_list u s entries = outside_constraints u s entries (s.first Outside)
+
 -- the constraints in the order in which they are made
-abbrev pub constraint_list : CoreTrees → SpaceView → Normal → List Constraint
-constraint_list u s normal =
+abbrev pub constraint_list : CoreTrees → SpaceView → List ℕ → Normal → List Constraint
+constraint_list u s entries normal =
     map constraint_of normal.assignments ++ map (λ call. Call call) (range_with_len 0 (length normal.calls))
     ++ library_constraints s
-    ++ held_by (option_and_then s.first (second_parameter u s)) (s.first (Library 9))
+    ++ start_list u s entries
 
 -- a system within the limits has a row for each location, and at most 2^24 words
 pub record IsSized (system : System) : Type 0 where

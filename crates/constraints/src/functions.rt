@@ -53,8 +53,8 @@ fn cell_list(
     Ok(list)
 }
 
-// The rows of a parameter.
-fn parameter_rows(
+/// The rows of a parameter.
+pub(crate) fn parameter_rows(
     alloc: Global,
     program: &Program,
     space: &Space,
@@ -132,7 +132,7 @@ fn effects_by(alloc: Global, key: ObjectKey) -> Result<Listing<Effect>, OutOfMem
         ObjectKey::Function(k) => Ok(Listing::of(Vec::from_slice(alloc, effects(k))?)),
         ObjectKey::Entity(_) | ObjectKey::Text(_) | ObjectKey::Call(_) => Ok(Listing::new(alloc)),
         ObjectKey::Library(_) | ObjectKey::Star(_) => Ok(Listing::new(alloc)),
-        ObjectKey::Varargs(_) => Ok(Listing::new(alloc)),
+        ObjectKey::Varargs(_) | ObjectKey::Outside => Ok(Listing::new(alloc)),
     }
 }
 
@@ -143,12 +143,13 @@ fn library_by(key: ObjectKey) -> Option<u32>
     match key {
         ObjectKey::Function(k) => Some(k),
         ObjectKey::Entity(_) | ObjectKey::Text(_) | ObjectKey::Call(_) => None,
-        ObjectKey::Library(_) | ObjectKey::Star(_) | ObjectKey::Varargs(_) => None,
+        ObjectKey::Library(_) | ObjectKey::Star(_) => None,
+        ObjectKey::Varargs(_) | ObjectKey::Outside => None,
     }
 }
 
-// The rows of a function's result.
-fn result_list(
+/// The rows of a function's result.
+pub(crate) fn result_list(
     alloc: Global,
     program: &Program,
     key: ObjectKey,
@@ -188,7 +189,7 @@ fn parameters_by(
         }
         ObjectKey::Function(_) | ObjectKey::Text(_) | ObjectKey::Call(_) => Ok(Listing::new(alloc)),
         ObjectKey::Library(_) | ObjectKey::Star(_) => Ok(Listing::new(alloc)),
-        ObjectKey::Varargs(_) => Ok(Listing::new(alloc)),
+        ObjectKey::Varargs(_) | ObjectKey::Outside => Ok(Listing::new(alloc)),
     }
 }
 

@@ -7,6 +7,7 @@ mod fault;
 mod functions;
 mod list;
 mod owned;
+mod start;
 mod types;
 mod whole;
 

@@ -102,7 +102,8 @@ fn owner_of(program: &Program, key: ObjectKey) -> Option<u32>
     match key {
         ObjectKey::Entity(e) => program.entities.as_slice().get(e as usize)?.owner,
         ObjectKey::Function(_) | ObjectKey::Text(_) | ObjectKey::Call(_) => None,
-        ObjectKey::Library(_) | ObjectKey::Star(_) | ObjectKey::Varargs(_) => None,
+        ObjectKey::Library(_) | ObjectKey::Star(_) => None,
+        ObjectKey::Varargs(_) | ObjectKey::Outside => None,
     }
 }
 

@@ -20,6 +20,7 @@ use Rattle.core_tree.specs.declared.node.NodeKind.TheVariants.{Goto, Break, Cont
 use Rattle.core_tree.specs.Typed.{CoreTrees, trees_of, trees_in, LacksLength, ValueNode, sort_of, type_at}
 use Rattle.core_tree.specs.Typed.{IsInteger, IsPointer, IsAggregate}
 use Rattle.core_tree.specs.Rows.{RowOf, IsFunction, Initialises}
+use Rattle.type_rules.specs.Kinds.{IsEntryType}
 use Rattle.type_rules.specs.Sizes.{HasSize, IsOpenIn, TagsHaveSizes, ResultHasSize}
 pub use Rattle.core_tree.specs.Rows.{InitialisesEntity, Has}
 pub use Rattle.core_tree.specs.Range.{node_at, entity_at, EachNode, EachEntity, SomeNode, SomeEntity, child_in}
@@ -487,9 +488,20 @@ HasLength u entity =
 abbrev pub InUnits : ℕ → Entity → Type 0
 InUnits units entity = (entity.unit < units) × (entity.place.unit < units)
 
+-- a function at which a program may be entered: of external linkage, with a body, of integers and pointers alone
+pub record IsEntry (u : CoreTrees) (entity : Entity) : Type 0 where
+  pub linkage : entity.linkage ≡ External
+  pub storage : entity.storage ≡ FunctionBody
+  pub type : IsEntryType (type_of u.types entity.ty.0)
+
+-- that number is of an entity at which the program may be entered
+abbrev pub IsEntryAt : CoreTrees → ℕ → Type 0
+IsEntryAt u e = (entity : Entity) × (entity_at u e ≡ Some entity) × IsEntry u entity
+
 pub record ValidProgram (program : Program) : Type 0 where
   pub trees : Valid (trees_in program)
   pub signatures : EachEntity (trees_in program) (λ e entity. IsSigned (trees_in program) entity)
   pub lengths : EachEntity (trees_in program) (λ e entity. HasLength (trees_in program) entity)
   pub entities : EachEntity (trees_in program) (λ e entity. InUnits (length program.names.items) entity)
   pub nodes : EachNode (trees_in program) (λ n node. node.place.unit < length program.names.items)
+  pub entries : All (λ e. IsEntryAt (trees_in program) e) program.entries.items

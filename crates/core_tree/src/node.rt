@@ -138,11 +138,13 @@ pub struct Unit {
     pub entities: Vec<Entity>,
 }
 
-/// A linked program: the names of its units, its types, nodes and entities.
+/// A linked program: the names of its units, its types, nodes and entities; and the functions at which it is entered from
+/// outside, in the order in which they were named, none where it begins at `main`.
 #[derive(Drop)]
 pub struct Program {
     pub names: Vec<Text>,
     pub types: TypeTable,
     pub nodes: Vec<Node>,
     pub entities: Vec<Entity>,
+    pub entries: Vec<u32>,
 }

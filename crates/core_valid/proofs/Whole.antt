@@ -1,6 +1,6 @@
 -- What is asked of each node and entity, taken together, is all that is asked of a unit or a program.
 use Rattle.std.proofs.Common.{arith, ◌≡◌, ℕ, ◌<◌, Option, Some, IfSome, slice_get, length, get_or, sym, ap, ◌∙◌, subst, inl, inr, All}
-use Rattle.std.proofs.lemmas.Option.{slice_get_within, slice_get-get_or, slice_get_cases}
+use Rattle.std.proofs.lemmas.Option.{slice_get_within, slice_get-get_or, slice_get_cases, get_or_from_slice_get}
 use Rattle.core_tree.specs.declared.node.Node.{Node}
 use Rattle.core_tree.specs.declared.node.Entity.{Entity}
 use Rattle.core_tree.specs.declared.under.Group.TheVariants.{Children}
@@ -9,7 +9,7 @@ use Rattle.core_tree.specs.Range.{EachNode, EachEntity, node_at, entity_at, chil
 use Rattle.core_tree.specs.Groups.{group_of}
 use Rattle.core_tree.specs.declared.node.Program.{Program}
 use Rattle.core_tree.specs.Typed.{trees_in}
-use Rattle.core_tree.specs.Valid.{Valid, ValidProgram}
+use Rattle.core_tree.specs.Valid.{Valid, ValidProgram, IsEntryAt}
 use Rattle.core_valid.specs.Each.{NodeInRange, EntityInRange, NodeRightIn, EntityRightIn, NodesRight, EntitiesRight, Checked, Linked}
 use Rattle.core_tree.proofs.Climb.{parent_node, parent_within, child_before}
 
@@ -154,16 +154,17 @@ valid_checked u v = record {
   };
 }
 
-pub program_from : (program : Program) → Checked (trees_in program) → Linked (trees_in program) (length program.names.items) → ValidProgram program
+pub program_from : (program : Program) → Checked (trees_in program) → Linked (trees_in program) (length program.names.items) program.entries.items → ValidProgram program
 program_from program c l = record {
   trees = checked_valid (trees_in program) c;
   signatures = λ e entity at. (l.entities.each e entity at).signature;
   lengths = λ e entity at. (l.entities.each e entity at).sized;
   entities = λ e entity at. (l.entities.each e entity at).within;
   nodes = λ n node at. l.nodes.each n node at;
+  entries = λ k d lt. (l.entries.each k (get_or program.entries.items k d) (slice_get-get_or program.entries.items k d lt)).entry;
 }
 
-pub program_linked : (program : Program) → ValidProgram program → Linked (trees_in program) (length program.names.items)
+pub program_linked : (program : Program) → ValidProgram program → Linked (trees_in program) (length program.names.items) program.entries.items
 program_linked program v = record {
   entities = record {
     each = λ e entity at. record {
@@ -173,4 +174,5 @@ program_linked program v = record {
     };
   };
   nodes = record { each = λ n node at. v.nodes n node at };
+  entries = record { each = λ k e at. record { entry = subst (IsEntryAt (trees_in program)) (get_or_from_slice_get program.entries.items k e e at) (v.entries k e (slice_get_within program.entries.items k e at)) } };
 }

@@ -1,5 +1,5 @@
 -- What is asked of one node and of one entity.
-use Rattle.std.specs.Prelude.{ℕ, ◌<◌, Option, Some, None, IfSome, length, All}
+use Rattle.std.specs.Prelude.{◌≡◌, ℕ, ◌<◌, List, slice_get, Option, Some, None, IfSome, length, All}
 use Rattle.core_tree.specs.declared.node.Node.{Node}
 use Rattle.core_tree.specs.declared.node.Entity.{Entity}
 use Rattle.core_tree.specs.Typed.{CoreTrees}
@@ -7,7 +7,7 @@ use Rattle.core_tree.specs.Range.{EachNode, EachEntity, named_by, listed_by, InR
 use Rattle.core_tree.specs.Linkages.{NodeLinkage}
 use Rattle.core_tree.specs.Valid.{InRow, IsInOwner, IsLiteral, IsListable, HoldsFixed, MayStand, FitsFunctions}
 use Rattle.core_tree.specs.Valid.{CaseDiffers, ValueSized, IsOwned, HasBody, IsListed, IsUsed, EntitySized}
-use Rattle.core_tree.specs.Valid.{ResultSized, IsSigned, HasLength, InUnits}
+use Rattle.core_tree.specs.Valid.{ResultSized, IsSigned, HasLength, InUnits, IsEntryAt}
 use Rattle.type_rules.specs.Sizes.{TagsHaveSizes}
 
 -- what a node names is in range, and its children come first
@@ -89,6 +89,14 @@ pub record EntitiesLinked (u : CoreTrees) (units : ℕ) : Type 0 where
 pub record NodesLinked (u : CoreTrees) (units : ℕ) : Type 0 where
   pub each : EachNode u (λ n node. node.place.unit < units)
 
-pub record Linked (u : CoreTrees) (units : ℕ) : Type 0 where
+-- a program may be entered at the entity of that number
+pub record IsEntered (u : CoreTrees) (e : ℕ) : Type 0 where
+  pub entry : IsEntryAt u e
+
+pub record EntriesLinked (u : CoreTrees) (entries : List ℕ) : Type 0 where
+  pub each : (k e : ℕ) → slice_get entries k ≡ Some e → IsEntered u e
+
+pub record Linked (u : CoreTrees) (units : ℕ) (entered : List ℕ) : Type 0 where
   pub entities : EntitiesLinked u units
   pub nodes : NodesLinked u units
+  pub entries : EntriesLinked u entered

@@ -1,18 +1,23 @@
 // The tests of units and programs.
 
 ghost use Rattle.std.specs.Prelude.{◌≡◌, ℕ, ◌<◌, ◌↔◌, Option, Some, IsTrue, All, length};
+ghost use Rattle.c_types.specs.Table.{type_of};
+ghost use Rattle.type_rules.specs.Kinds.{IsEntryType};
+ghost use Rattle.core_tree.specs.declared.node.Linkage.TheVariants.{External};
+ghost use Rattle.core_tree.specs.declared.node.Storage.TheVariants.{FunctionBody};
 ghost use Rattle.core_tree.specs.Typed.{trees_of, trees_in};
 ghost use Rattle.core_tree.specs.Valid.{OnlyKey, KeyedOnce, Keyed, ValidUnit, ValidProgram, EachNode, EachEntity, InRange, IsSigned, HasLength, InUnits};
 ghost use Rattle.core_tree.specs.Linkages.{Linkages};
 ghost use Rattle.core_tree.specs.Seen.{core_of};
-ghost use Rattle.core_valid.specs.Each.{Checked, EntityLinked, EntitiesLinked, NodesLinked, Linked};
+ghost use Rattle.core_valid.specs.Each.{Checked, EntityLinked, EntitiesLinked, NodesLinked, IsEntered, EntriesLinked, Linked};
 
 use crate::linkages::linkages;
 use crate::valid::checked;
-use core_tree::node::{Entity, Node, Program, Storage, Unit};
+use c_types::table::TypeTable;
+use core_tree::node::{Entity, Linkage, Node, Program, Storage, Unit};
 use core_tree::trees::Trees;
 use pta_base::Text;
-use type_rules::kinds::lacks_length;
+use type_rules::kinds::{is_entry_type, lacks_length};
 use type_rules::sizes::has_signature;
 
 // Whether a tag has that key.
@@ -152,17 +157,50 @@ fn nodes_linked(program: &Program) -> bool
         .all(|node| (node.place.unit as usize) < program.names.len())
 }
 
+// Whether a program may be entered at an entity: a function of external linkage with a body, of integers and pointers.
+fn is_entry(types: &TypeTable, entity: &Entity) -> bool
+    requires { entity.now.ty.0 < length types.now.terms }
+    ensures { IsTrue result
+        ↔ ((entity.now.linkage ≡ External) × (entity.now.storage ≡ FunctionBody)
+        × IsEntryType (type_of types.now entity.now.ty.0)) }
+{
+    matches!(entity.linkage, Linkage::External)
+        && matches!(entity.storage, Storage::FunctionBody)
+        && is_entry_type(types, entity.ty)
+}
+
+// Whether that number is of an entity at which a program may be entered.
+fn is_entry_at(program: &Program, e: u32) -> bool
+    requires { All (λ entity. entity.ty.0 < length program.now.types.terms) program.now.entities.items }
+    ensures { IsTrue result ↔ IsEntered (trees_in program.now) e }
+{
+    match program.entities.get(e as usize) {
+        Some(entity) => is_entry(&program.types, entity),
+        None => false,
+    }
+}
+
+// Whether a program may be entered at each of its entries.
+fn entries_linked(program: &Program) -> bool
+    requires { All (λ entity. entity.ty.0 < length program.now.types.terms) program.now.entities.items }
+    ensures { IsTrue result ↔ EntriesLinked (trees_in program.now) program.now.entries.items }
+{
+    program.entries.iter().all(|e| is_entry_at(program, *e))
+}
+
 // Whether all holds that is asked of a linked program alone.
 fn program_linked(program: &Program) -> bool
     requires { All (λ entity. entity.ty.0 < length program.now.types.terms) program.now.entities.items }
-    ensures { IsTrue result ↔ Linked (trees_in program.now) (length program.now.names.items) }
+    ensures { IsTrue result
+        ↔ Linked (trees_in program.now) (length program.now.names.items) program.now.entries.items }
 {
-    entities_linked(program) && nodes_linked(program)
+    entities_linked(program) && nodes_linked(program) && entries_linked(program)
 }
 
 /// Whether a linked program is valid: what is asked of a unit; for each function with a body and without parameters, the
-/// table has its type with the list `(void)`; no object that has its place lacks a length; and the unit of each entity
-/// and place is one of the program's. It takes no memory; like `valid_unit` it is for contracts and tests.
+/// table has its type with the list `(void)`; no object that has its place lacks a length; the unit of each entity and
+/// place is one of the program's; and each entry is a function of external linkage with a body, of integers and pointers
+/// alone. It takes no memory; like `valid_unit` it is for contracts and tests.
 pub fn valid_program(program: &Program) -> bool
     ensures { IsTrue result ↔ ValidProgram program.now }
 {

@@ -1,4 +1,4 @@
-// Programs, and how each ends where all words of its run are 0.
+// Programs that run, and how each ends that begins at main, where all words of its run are 0.
 /// A table of functions, one of which stands in it from the start on.
 pub(crate) const TABLE: &str = "typedef void F(void);
 void f(void); void g(void);
@@ -126,4 +126,19 @@ int main(void){a.u.n=7;memset(k,0,sizeof*k);k->u.q=&x;struct s b=*k;return b.p!=
 ~
 finished`long strtol(const char*,char**,int); char w[6]=\"a b c\",*e;
 int main(void){strtol(w,&e,10);return e==0;}
+";
+
+/// Programs that are entered from outside, a row each: the functions at which they are, and the text.
+pub(crate) const ENTERED: &str =
+    "put,get,init`struct n{struct n*next;int v;}; struct n*top; int*kept;
+void put(struct n*a,int*b){if(a){a->next=top;top=a;}kept=b;}
+int*get(void){return kept;} void init(struct n*a){top=a;}
+~
+swap,call,keep,pass,fresh`typedef void F(int*); struct hidden; int atexit(void(*)(void)); void*malloc(unsigned long);
+int x,*last; F*hook; void*raw; struct hidden*own;
+void store(int*p){last=p;} void bye(void){last=&x;}
+F*swap(F*f){F*old=hook;hook=f?f:store;return old;} void call(int*p){if(hook)hook(p);}
+void*keep(void*p,unsigned char n){int**q=p;if(q)q[n%4]=last;raw=p;return raw;}
+struct hidden*pass(struct hidden*h){struct hidden*o=own;own=h;return o;}
+int**fresh(void){atexit(bye);int**q=malloc(sizeof*q);if(q)*q=&x;return q;}
 ";

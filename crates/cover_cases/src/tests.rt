@@ -1,10 +1,23 @@
 // Each state of a run is covered by the least sets, and none by sets of nothing where memory has a pointer from the start on.
-use crate::programs::{PROGRAMS, TABLE};
-use crate::watched::{End, system_of, watch};
-use sol_model::{Rows, plain_solve};
-use std::alloc::Global;
+use crate::programs::{ENTERED, PROGRAMS, TABLE};
+use crate::watched::{End, Sets, watch_text};
 use std::test::Fail;
-use std::thread::Threads;
+
+/// The words from which runs go on, beside those of 0.
+const FIRSTS: [u64; 3] = [81_985_529_216_486_895, 12_297_829_382_473_034_411, 7];
+
+/// More of them, for runs that a word may end at once.
+const MORE: [u64; 9] = [
+    81_985_529_216_486_895,
+    12_297_829_382_473_034_411,
+    7,
+    1_311_768_467_463_790_320,
+    3_141_592_653_589_793_238,
+    2_718_281_828_459_045_235,
+    14_142_135_623_730_950_488,
+    17_320_508_075_688_772_935,
+    5_772_156_649_015_328_606,
+];
 
 /// How a row says that its run ends where all words are 0.
 fn end_of(word: &str) -> End {
@@ -15,49 +28,40 @@ fn end_of(word: &str) -> End {
     }
 }
 
-/// Runs the program of a row with words of 0, which has to end as the row says, and with three sequences of other words. Each state has to
-/// be covered.
-fn is_covered<R: Threads + Sync>(rt: &R, alloc: Global, row: &str) -> Result<bool, Fail> {
-    let mut fields = row.split('`');
-    let end = end_of(fields.next().unwrap_or(""));
-    let made = system_of(rt, alloc, fields.next().unwrap_or(""))?;
-    let rows = plain_solve(alloc, &made.system)?;
-    for first in [0u64, 81_985_529_216_486_895, 12_297_829_382_473_034_411, 7] {
-        let run = watch(alloc, &made, &rows, first, 600)?;
-        let is_ended = first != 0 || run.end == end;
-        if !is_ended || run.covered != run.states || run.states < 8 {
-            return Ok(false);
-        }
-    }
-    Ok(true)
-}
-
 #[test]
 fn each_state_is_covered(rt: HostRuntime) -> Result<(), Fail> {
     for (at, row) in PROGRAMS.split("~\n").enumerate() {
-        let found = is_covered(&rt, rt.alloc(), row)?;
-        assert!(rt; found, "row {at}");
+        let mut fields = row.split('`');
+        let end = end_of(fields.next().unwrap_or(""));
+        let text = fields.next().unwrap_or("");
+        let runs = watch_text(&rt, rt.alloc(), "", text, &FIRSTS, Sets::Least)?;
+        let is_right = runs.end == end && runs.covered == runs.states && runs.fewest >= 8;
+        assert!(rt; is_right, "row {at}");
+    }
+    Ok(())
+}
+
+#[test]
+fn each_state_is_covered_where_entries_are_named(rt: HostRuntime) -> Result<(), Fail> {
+    for (at, row) in ENTERED.split("~\n").enumerate() {
+        let mut fields = row.split('`');
+        let entries = fields.next().unwrap_or("");
+        let text = fields.next().unwrap_or("");
+        let runs = watch_text(&rt, rt.alloc(), entries, text, &MORE, Sets::Least)?;
+        let is_right = runs.end == End::Going && runs.covered == runs.states && runs.states > 1000;
+        assert!(rt;
+            is_right,
+            "row {at}: {} of {} states",
+            runs.covered, runs.states
+        );
     }
     Ok(())
 }
 
 #[test]
 fn sets_of_nothing_cover_no_pointer(rt: HostRuntime) -> Result<(), Fail> {
-    let alloc = rt.alloc();
-    let made = system_of(&rt, alloc, TABLE)?;
-    let width = (made.system.locations.len() as u32).div_ceil(64);
-    let rows = Rows::empty(alloc, made.system.rows, width)?;
-    let run = watch(alloc, &made, &rows, 0, 600)?;
-    assert!(rt;
-        run.end == End::Finished && run.states > 20,
-        "{} states",
-        run.states
-    );
-    assert!(rt;
-        run.covered == 0,
-        "{} of {} states",
-        run.covered,
-        run.states
-    );
+    let runs = watch_text(&rt, rt.alloc(), "", TABLE, &[], Sets::Nothing)?;
+    let is_right = runs.end == End::Finished && runs.states > 20 && runs.covered == 0;
+    assert!(rt; is_right, "{} of {} states", runs.covered, runs.states);
     Ok(())
 }

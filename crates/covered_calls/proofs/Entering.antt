@@ -116,5 +116,5 @@ steps_called world state f rest n node g body values items target stands covered
     let more : Leaves (sets_of world) state.memory (state.memory ++ fresh) = made_so (sets_of world) state.memory fresh covered.memory made.0 in
     steps_entered world state f rest (Wait n [] values) items fresh (frame_over (record { function = g; call = Some n; by = None }) (length state.memory) body fresh)
     (record { target = target; stores = pointers_from (length state.memory) fresh }) covered frames_are items_are (other_so world n node g values reaches) made.0 made.1
-    (record { called = (reaches.target, agrees_so world stands n node g reaches); back = tt; items = (owned, tt) })
+    (record { called = (reaches.target, agrees_so world stands n node g reaches); back = tt; entered = tt; items = (owned, tt) })
     (record { target = noted; stores = fresh_stored world stands state.memory fresh more.extends (length state.memory) fresh (λ j x e. get_behind state.memory fresh (length state.memory + j) j refl ∙ e) made.0 })

@@ -1,3 +1,4 @@
 pub mod Activations
 pub mod Results
 pub mod Entering
+pub mod Handed

@@ -6,7 +6,7 @@ use Rattle.std.proofs.lemmas.Bool.{false≢true}
 use Rattle.std.proofs.lemmas.Bool.Decides.{eqb_tells}
 use Rattle.c_types.specs.declared.key.ObjectKey.{ObjectKey}
 use Rattle.c_types.specs.declared.key.ObjectKey.TheVariants.{Entity as EntityKey, Text as TextKey, Call as CallKey, Library as LibraryKey, Star as StarKey, Function as FunctionKey}
-use Rattle.c_types.specs.declared.key.ObjectKey.TheVariants.{Varargs as VarargsKey}
+use Rattle.c_types.specs.declared.key.ObjectKey.TheVariants.{Varargs as VarargsKey, Outside as OutsideKey}
 use Rattle.c_types.specs.Trees.{Ctype}
 use Rattle.type_rules.specs.Conversions.{result_of}
 use Rattle.core_tree.specs.declared.node.Node.{Node}
@@ -139,7 +139,7 @@ module _ (world : World) (memory : List Instance) (n : ℕ) (node : Node) (there
 
 pub steps_given : StepsGiven
 steps_given world state f rest n node value stands covered frames_are call there kind held done =
-    subst (λ (c : Option ℕ). Covered world (record (left_with (trees_of world) state f rest value c f.by) { notes = nothing })) (sym call)
+    subst (λ (c : Option ℕ). Covered world (record (left_with (trees_of world) world.program.entries.items state f rest value c f.by) { notes = nothing })) (sym call)
     (steps_left world state f rest n (given_by (trees_of world) f.function value) stands.grounds covered frames_are (ended done)
     (given_in world state.memory n node there kind held f.function value (own done)))
   where
@@ -156,6 +156,7 @@ steps_given world state f rest n node value stands covered frames_are call there
     returned (CallKey m) c h = absurd h
     returned (LibraryKey m) c h = absurd h
     returned (StarKey m) c h = absurd h
+    returned OutsideKey c h = absurd h
     returned (VarargsKey m) c h = absurd h
     returned (FunctionKey m) c h = absurd h
 

@@ -1,5 +1,5 @@
 -- What a call gets from the function that it reached.
-use Rattle.std.specs.Prelude.{◌≡◌, ◌⊎◌, ℕ, List, [], ◌∷◌, Some, slice_get}
+use Rattle.std.specs.Prelude.{◌≡◌, ◌⊎◌, ℕ, List, [], ◌∷◌, Some, None, slice_get}
 use Rattle.c_types.specs.declared.key.ObjectKey.TheVariants.{Entity as EntityKey}
 use Rattle.type_rules.specs.Conversions.{result_of}
 use Rattle.core_tree.specs.declared.node.Node.{Node}
@@ -50,4 +50,19 @@ StepsGiven =
     → node.kind ≡ CallNode
     → IsHeld world.program.types (type_at (trees_of world) n)
     → ((f.items ≡ []) × (value ≡ no_value)) ⊎ ((items : List Item) × (f.items ≡ Result value ∷ items))
-    → Covered world (record (left_frame (trees_of world) state f rest value) { notes = nothing })
+    → Covered world
+    (record (left_frame (trees_of world) world.program.entries.items state f rest value) { notes = nothing })
+
+-- so is the frame of a function at which the program is entered: what it gives is handed over
+abbrev pub StepsHanded : Type 0
+StepsHanded =
+    (world : World) (state : State) (f : Frame) (rest : List Frame) (first : ℕ) (more : List ℕ) (value : Value)
+    → Stands world
+    → Covered world state
+    → state.frames ≡ f ∷ rest
+    → f.call ≡ None
+    → f.by ≡ None
+    → world.program.entries.items ≡ first ∷ more
+    → ((f.items ≡ []) × (value ≡ no_value)) ⊎ ((items : List Item) × (f.items ≡ Result value ∷ items))
+    → Covered world
+    (record (left_frame (trees_of world) world.program.entries.items state f rest value) { notes = nothing })

@@ -1,7 +1,7 @@
 //! Parameters that get their arguments (C11 6.5.2.2p4, 6.9.1p10).
 ghost use Rattle.covered_calls.specs.Activations.{ActivationsCovered};
 ghost use Rattle.covered_calls.specs.Entering.{ArgumentsHeld, StepsCalled};
-ghost use Rattle.covered_calls.specs.Results.{ResultsGiven, StepsGiven};
+ghost use Rattle.covered_calls.specs.Results.{ResultsGiven, StepsGiven, StepsHanded};
 
 /// The objects of a function's parameters and of what it is passed past these, with the arguments of a call that reaches it, are covered
 /// beside the memory, and none waits for its type (C11 6.5.2.2, 7.16).
@@ -17,6 +17,12 @@ pub fn results_given()
 /// The step that leaves the frame of a called function leaves the state covered (6.8.6.4p3).
 pub fn steps_given()
     ensures { StepsGiven }
+{}
+
+/// The step that leaves the frame of a function at which the program is entered leaves the state covered, and what the function gives, which
+/// is handed over, in the row of what lies outside.
+pub fn steps_handed()
+    ensures { StepsHanded }
 {}
 
 /// The values of a call's operands are covered as its arguments.

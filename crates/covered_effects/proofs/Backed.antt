@@ -45,6 +45,7 @@ use Rattle.covering_laws.proofs.covered_rows.Targets.{function_there}
 use Rattle.covering_laws.specs.covered_state.World.{World, trees_of, view_in, sets_of}
 use Rattle.covering_laws.specs.covered_state.Items.{Each, ItemIn, IsPendingBack}
 use Rattle.covering_laws.specs.covered_state.State.{FrameIn, KeptIn, Covered}
+use Rattle.covering_laws.proofs.covered_state.Stays.{handed_stay}
 use Rattle.covered_values.specs.Values.{Stands}
 use Rattle.covered_values.proofs.Operands.{went, ok_one, err_ok}
 use Rattle.covered_steps.specs.Steps.{NoneBare}
@@ -228,10 +229,11 @@ module _ (world : World) (stands : Stands world) (characters : TypeId) (served :
         (record {
           covered = record {
             memory = covered.memory;
-            frames = (record { called = frames_in.0.called; back = frames_in.0.back; items = items_in.1 }, frames_in.1);
+            frames = (record { called = frames_in.0.called; back = frames_in.0.back; items = items_in.1; entered = frames_in.0.entered }, frames_in.1);
             kept = covered.kept;
             notes = record { target = tt; stores = tt };
             awaited = record { each = λ i inst at bare. absurd (none_before i inst at bare) };
+            handed = covered.handed;
           };
           found = record { each = stays.found.each };
         })))
@@ -248,6 +250,7 @@ module _ (world : World) (stands : Stands world) (characters : TypeId) (served :
             kept = kept_still (λ entry. KeptIn world entry.0 entry.1) state.kept at_once covered.kept;
             notes = record { target = tt; stores = tt };
             awaited = record { each = λ i inst at bare. absurd (none_after world state.memory (all_ended state.memory (f ∷ rest)) ended.extends none_before (all_long (f ∷ rest) state.memory) i inst at bare) };
+            handed = handed_stay world state.memory (all_ended state.memory (f ∷ rest)) ended.extends state.handed covered.handed;
           };
           found = record { each = kept_still (λ entry. IsKeptFound world entry.0) state.kept at_once stays.found.each };
         }))

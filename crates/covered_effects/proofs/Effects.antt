@@ -10,7 +10,7 @@ use Rattle.pta_base.specs.declared.effect.Effect.{Effect as SetEffect}
 use Rattle.pta_base.specs.declared.effect.Effect.TheVariants.{CallsBack}
 use Rattle.c_types.specs.declared.key.ObjectKey.{ObjectKey}
 use Rattle.c_types.specs.declared.key.ObjectKey.TheVariants.{Entity as EntityKey, Text as TextKey, Call as CallKey, Library as LibraryKey, Star as StarKey, Function as FunctionKey}
-use Rattle.c_types.specs.declared.key.ObjectKey.TheVariants.{Varargs as VarargsKey}
+use Rattle.c_types.specs.declared.key.ObjectKey.TheVariants.{Varargs as VarargsKey, Outside as OutsideKey}
 use Rattle.c_types.specs.declared.term.PathStep.TheVariants.{Index}
 use Rattle.c_types.specs.declared.term.Form.TheVariants.{Fixed, Variadic, Unspecified}
 use Rattle.c_types.specs.declared.term.TypeId.{TypeId}
@@ -91,8 +91,8 @@ use Rattle.covering_laws.specs.covered_state.World.{World, trees_of, view_in, se
 use Rattle.covering_laws.specs.covered_state.Items.{Each, NodeIn, AllExist, IsPending, IsPendingBack, ItemIn}
 use Rattle.covering_laws.specs.covered_state.Awaited.{AreApart, ItemApart, IsBare, IsAwaited, AwaitedIn}
 use Rattle.covering_laws.specs.covered_state.Exists.{ItemBelow, PointersExist}
-use Rattle.covering_laws.specs.covered_state.State.{FrameIn, KeptIn, Covered}
-use Rattle.covering_laws.proofs.covered_state.Stays.{each_append, back_stays, items_stay, frames_stay, settled_in}
+use Rattle.covering_laws.specs.covered_state.State.{FrameIn, KeptIn, HandedIn, Covered}
+use Rattle.covering_laws.proofs.covered_state.Stays.{each_append, back_stays, items_stay, frames_stay, handed_stay, settled_in}
 use Rattle.covering_laws.proofs.covered_state.Exists.{cell_exists, covered_exist, cells_apart, items_apart, frames_apart}
 use Rattle.covered_values.specs.Values.{Stands}
 use Rattle.covered_values.proofs.Operands.{went, ok_one, err_ok, value_node}
@@ -461,7 +461,11 @@ module _ (world : World) (stands : Stands world) (characters : TypeId) (served :
     rest_in = frames_stay world state.memory e.memory leaves.extends rest frames_in.1
 
     frame_with : (list : List Item) → Each (ItemIn world e.memory f.function) list → FrameIn world e.memory (record f { items = list })
-    frame_with list h = record { called = frames_in.0.called; back = frames_in.0.back; items = h }
+    frame_with list h = record { called = frames_in.0.called; back = frames_in.0.back; items = h; entered = frames_in.0.entered }
+
+    -- what was handed over
+    handed_in : Each (HandedIn world e.memory) state.handed
+    handed_in = handed_stay world state.memory e.memory leaves.extends state.handed covered.handed
 
     -- where the call goes on in another way than being done, no object waits for its type
     none_else : (e.outcome.next ≡ Done → ⊥) → NoneBare world e.memory
@@ -530,6 +534,7 @@ module _ (world : World) (stands : Stands world) (characters : TypeId) (served :
         kept = covered.kept;
         notes = record { target = tt; stores = effect_of.stores };
         awaited = done_awaited;
+        handed = handed_in;
       };
       found = record { each = stays.found.each };
     }
@@ -543,6 +548,7 @@ module _ (world : World) (stands : Stands world) (characters : TypeId) (served :
         kept = covered.kept;
         notes = record { target = tt; stores = effect_of.stores };
         awaited = record { each = λ i inst at bare. absurd (none_else other i inst at bare) };
+        handed = handed_in;
       };
       found = record { each = stays.found.each };
     }
@@ -638,6 +644,7 @@ module _ (world : World) (stands : Stands world) (characters : TypeId) (served :
         kept = each_append (λ entry. KeptIn world entry.0 entry.1) state.kept (kept_of cell n) covered.kept (both cell (row_keeps row at may)).0;
         notes = record { target = tt; stores = effect_of.stores };
         awaited = record { each = λ i inst there bare. absurd (none_else (λ done. keeps_done (sym next ∙ done)) i inst there bare) };
+        handed = handed_in;
       };
       found = record { each = each_append (λ entry. IsKeptFound world entry.0) state.kept (kept_of cell n) stays.found.each (both cell (row_keeps row at may)).1 };
     }
@@ -667,6 +674,7 @@ module _ (world : World) (stands : Stands world) (characters : TypeId) (served :
             awaited = record {
               each = λ i inst there bare. absurd (none_after world e.memory (all_ended e.memory (f ∷ rest)) ended.extends (none_else (λ done. ends_done (sym next ∙ done))) (all_long (f ∷ rest) e.memory) i inst there bare);
             };
+            handed = handed_stay world e.memory (all_ended e.memory (f ∷ rest)) ended.extends state.handed handed_in;
           };
           found = record { each = kept_still (λ entry. IsKeptFound world entry.0) state.kept at_once stays.found.each };
         }
@@ -783,6 +791,7 @@ module _ (world : World) (stands : Stands world) (characters : TypeId) (served :
             kept = covered.kept;
             notes = record { target = tt; stores = tt };
             awaited = record { each = λ i inst there bare. absurd (none_else (λ done. calls_done (sym next ∙ done)) i inst there bare) };
+            handed = handed_in;
           };
           found = record { each = stays.found.each };
         }
@@ -871,6 +880,7 @@ module _ (world : World) (stands : Stands world) (characters : TypeId) (served :
               called = tt;
               back = record { caller = pending.target.function; caller_is = pending.target.function_is; callee = c.number; callee_is = c.function_at; edge = inr c.edge };
               items = (served.bodies other x.entity x.body x.there x.body_is (ap is_function two.1), tt);
+              entered = tt;
             })
             (record {
               target = tt;
@@ -909,6 +919,7 @@ module _ (world : World) (stands : Stands world) (characters : TypeId) (served :
         by (LibraryKey m) is_comparison g' = absurd (err_ok g')
         by (StarKey m) is_comparison g' = absurd (err_ok g')
         by (VarargsKey m) is_comparison g' = absurd (err_ok g')
+        by OutsideKey is_comparison g' = absurd (err_ok g')
 
   performed_so : (e : Effected) → performed (running_in world characters) state.memory n k arguments word ≡ Ok e → (result : TypeId) × (effect world.program.types state.memory k key fixed result arguments word ≡ Ok e)
   unfolding performed

@@ -3,7 +3,7 @@ use Rattle.std.proofs.Common.{◌≡◌, ◌∙◌, inr, ℕ, zero, suc, ◌-◌
 use Rattle.std.specs.Option.{option_map}
 use Rattle.c_types.specs.declared.key.ObjectKey.{ObjectKey}
 use Rattle.c_types.specs.declared.key.ObjectKey.TheVariants.{Entity as EntityKey, Text as TextKey, Call as CallKey, Library as LibraryKey, Star as StarKey, Function as FunctionKey}
-use Rattle.c_types.specs.declared.key.ObjectKey.TheVariants.{Varargs as VarargsKey}
+use Rattle.c_types.specs.declared.key.ObjectKey.TheVariants.{Varargs as VarargsKey, Outside as OutsideKey}
 use Rattle.c_types.specs.declared.term.TypeId.{TypeId}
 use Rattle.c_types.specs.Trees.{Ctype}
 use Rattle.c_types.specs.Table.{Table}
@@ -29,7 +29,7 @@ use Rattle.covering_laws.specs.covered_memory.Covered.{MemoryIn}
 use Rattle.covering_laws.proofs.covered_rows.Targets.{function_number, function_there}
 use Rattle.covering_laws.specs.covered_state.World.{World, trees_of, view_in, sets_of, IsFunctionAt}
 use Rattle.covering_laws.specs.covered_state.Items.{Each, IsPendingBack}
-use Rattle.covering_laws.specs.covered_state.State.{at_exit, IsInGraph, FrameIn, KeptIn, Covered}
+use Rattle.covering_laws.specs.covered_state.State.{at_exit, IsInGraph, FrameIn, KeptIn, HandedIn, Covered}
 use Rattle.covered_values.specs.Values.{Stands}
 use Rattle.covered_values.proofs.Operands.{went, ok_one, err_ok}
 use Rattle.covered_steps.specs.Steps.{NoneBare}
@@ -108,12 +108,14 @@ module _ (world : World) (stands : Stands world) (characters : TypeId) (served :
               called = tt;
               back = subst (IsInGraph world at_exit) is c.graph;
               items = (inr (back_so k is c), tt);
+              entered = tt;
             },
             covered.frames,
           );
           kept = fewer_kept;
           notes = record { target = tt; stores = tt };
           awaited = record { each = λ i inst at bare. absurd (none i inst at bare) };
+          handed = covered.handed;
         };
         found = record { each = fewer_found };
       }
@@ -135,12 +137,14 @@ module _ (world : World) (stands : Stands world) (characters : TypeId) (served :
               called = tt;
               back = subst (IsInGraph world at_exit) is c.graph;
               items = (served.bodies e x.entity x.body x.there x.body_is (ap is_function (sym (ap (signature_of (trees_of world)) is) ∙ signature)), tt);
+              entered = tt;
             },
             subst (λ (frames : List Frame). Each (FrameIn world (state.memory ++ [])) frames) (sym frames_are) tt,
           );
           kept = fewer_kept;
           notes = record { target = tt; stores = tt };
           awaited = record { each = λ i inst at bare. absurd (none i inst (subst (λ (m : List Instance). slice_get m i ≡ Some inst) (append-nil state.memory) at) bare) };
+          handed = subst (λ (m : List Instance). Each (HandedIn world m) state.handed) (sym (append-nil state.memory)) covered.handed;
         };
         found = record { each = fewer_found };
       }))
@@ -156,6 +160,7 @@ module _ (world : World) (stands : Stands world) (characters : TypeId) (served :
   entered_so signature (LibraryKey m) is h = absurd (err_ok h)
   entered_so signature (StarKey m) is h = absurd (err_ok h)
   entered_so signature (VarargsKey m) is h = absurd (err_ok h)
+  entered_so signature OutsideKey is h = absurd (err_ok h)
 
   called_so : (b : Bool) → same_type (signature_of (trees_of world) key) at_end ≡ b
       → (let r : Result State Reason = cond b (kept_entered (running_in world characters) (record state { kept = but_last state.kept }) key n) (Err BadCall) in r) ≡ Ok next → StaysCovered world next

@@ -46,7 +46,12 @@ solved world stands = record {
 
 -- what the machine's steps are over
 abbrev pub running_in : World → TypeId → Running
-running_in world characters = record { trees = trees_of world; space = world.space; characters = characters }
+running_in world characters = record {
+  trees = trees_of world;
+  space = world.space;
+  characters = characters;
+  entries = world.program.entries.items;
+}
 
 -- a function of the library has the shape of its row, and a parameter list
 pub record IsOfShape (u : CoreTrees) (k : ℕ) : Type 0 where

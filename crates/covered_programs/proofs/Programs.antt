@@ -1,6 +1,7 @@
 -- A program that is linked from units is a scene.
-use Rattle.std.proofs.Common.{◌≡◌, ◌∙◌, List, length, Option, Some, refl, sym, ap, subst, slice_get}
+use Rattle.std.proofs.Common.{◌≡◌, ◌∙◌, ℕ, List, [], ◌∷◌, length, Option, Some, refl, sym, ap, subst, slice_get}
 use Rattle.std.specs.Prelude.{codes}
+use Rattle.std.specs.List.{AllZip}
 use Rattle.std.specs.Cmp.Lexicographic.{bytes_decides}
 use Rattle.c_types.specs.Table.{type_of}
 use Rattle.core_tree.specs.declared.node.Entity.{Entity}
@@ -17,7 +18,7 @@ use Rattle.sol_model.specs.declared.system.System.{System}
 use Rattle.sol_model.specs.Families.{Family}
 use Rattle.link_names.specs.Externals.{IsExternal}
 use Rattle.link_names.specs.Faults.{IsMainType}
-use Rattle.unit_link.specs.Linked.{Linked}
+use Rattle.unit_link.specs.Linked.{IsOfName, Linked, LinkedAt}
 use Rattle.linked_laws.specs.link_laws.Whole.{DefinesMain}
 use Rattle.linked_laws.specs.merged_laws.Merged.{AreSizes, TagsFit}
 use Rattle.linked_laws.proofs.merged_laws.Fitting.{tags_fit}
@@ -43,9 +44,9 @@ some_one h = cc
 body_lasts : (s : Storage) → s ≡ FunctionBody → IsLocal s → ⊥
 body_lasts s is h = subst IsLocal is h
 
--- the function that starts a linked program is `main`, of one of its types
-starts_right : (units : List Unit) (p : Program) → Linked units p → StartsRight p
-starts_right units p linked main entity is at = subst (λ (x : Entity). IsMainType (type_of p.types x.ty.0)) (sym same_entity) d.type
+-- the function that starts a linked program without entries is `main`, of one of its types
+main_right : (units : List Unit) (p : Program) → Linked units p → StartsRight p
+main_right units p linked none main entity is at = subst (λ (x : Entity). IsMainType (type_of p.types x.ty.0)) (sym same_entity) d.type
   where
     m : IsStarting p.entities.items main
     m = starting p.entities.items main is
@@ -62,9 +63,14 @@ starts_right units p linked main entity is at = subst (λ (x : Entity). IsMainTy
     same_entity : entity ≡ d.entity
     same_entity = some_one (sym at ∙ (ap (slice_get p.entities.items) same ∙ d.entity_is))
 
+-- a program that is entered at names has entries
+starts_right : (units : List Unit) (p : Program) (entered : List (List ℕ)) → LinkedAt entered units p → StartsRight p
+starts_right units p [] linked = main_right units p linked
+starts_right units p (name ∷ names) linked = λ none. absurd (subst (AllZip (IsOfName p) (name ∷ names)) none linked.entries)
+
 module _ (units : List Unit) (p : Program) (system : System) (family : Family) (h : IsAnalysed units p system family) where
   stores : AreStored units p
-  stores = functions_stored units p h.linkable h.stored h.linked
+  stores = functions_stored h.entered units p h.linkable h.stored h.linked
 
   names_defined : EachNode (trees_in p) (λ n node. NamesDefined p node.kind)
   names_defined n node at = by node.kind refl
@@ -88,10 +94,10 @@ module _ (units : List Unit) (p : Program) (system : System) (family : Family) (
     is_system = h.is_system;
     closed = h.least.closed;
     defined = names_defined;
-    main = starts_right units p h.linked;
+    main = starts_right units p h.entered h.linked;
     automatic = stores.automatic;
     served = λ s runs.
-        worlds_served units p (terms_behind p) (machine_world p system family s) (id (length p.types.terms)) h.linkable h.filled h.linked h.valid h.made h.named fit.each (library_follow (length p.types.terms))
+        worlds_served h.entered units p (terms_behind p) (machine_world p system family s) (id (length p.types.terms)) h.linkable h.filled h.linked h.valid h.made h.named fit.each (library_follow (length p.types.terms))
         (record { program = refl; space = refl }) runs h.system_valid h.least (character_type p h.made h.named);
   }
 

@@ -9,7 +9,7 @@ use Rattle.sol_model.specs.Families.{Family}
 use Rattle.sol_model.specs.Solutions.{IsLeast}
 use Rattle.sol_model.specs.Systems.{IsValid}
 use Rattle.link_model.specs.filled_units.Filled.{AreFilled}
-use Rattle.unit_link.specs.Linked.{Linked}
+use Rattle.unit_link.specs.Linked.{LinkedAt}
 use Rattle.unit_link.specs.Needs.{AreLinkable}
 use Rattle.linked_laws.specs.merged_laws.Merged.{AreTables}
 use Rattle.obj_space.specs.Space.{locations_in}
@@ -29,8 +29,9 @@ pub record IsAnalysed (units : List Unit) (p : Program) (system : System) (famil
   pub tables : AreTables units
   pub filled : AreFilled units
   pub stored : StoreFunctions units
-  -- linking: a valid program over types that were made and are named
-  pub linked : Linked units p
+  -- linking: a valid program over types that were made and are named, which is entered at those names
+  pub entered : List (List ℕ)
+  pub linked : LinkedAt entered units p
   pub valid : ValidProgram p
   pub made : IsMade p.types
   pub named : AreNamed p.types

@@ -1,5 +1,5 @@
 -- The least sets of the program that texts are read as cover each of its runs.
-use Rattle.std.proofs.Common.{List, map, subst}
+use Rattle.std.proofs.Common.{ℕ, List, map, subst}
 use Rattle.core_tree.specs.declared.node.Program.{Program}
 use Rattle.core_tree.specs.declared.node.Unit.{Unit}
 use Rattle.core_tree.specs.Valid.{ValidProgram}
@@ -19,7 +19,7 @@ use Rattle.covered_programs.proofs.Programs.{programs_covered}
 use Rattle.covered_reports.specs.Reports.{CoversRuns, ReportsCovered}
 use Rattle.covered_reports.proofs.Linkable.{filled, linkable, stored, tables}
 
-module _ (texts : List NamedText) (units : List Unit) (p : Program) (distinct : AreDistinct (map (λ (text : NamedText). text.0) texts)) (right : AreRightTexts 0 texts units) (of : IsProgramOf units p) where
+module _ (names : List (List ℕ)) (texts : List NamedText) (units : List Unit) (p : Program) (distinct : AreDistinct (map (λ (text : NamedText). text.0) texts)) (right : AreRightTexts 0 texts units) (of : IsProgramOf names units p) where
   valid : ValidProgram p
   valid =
       linked_valid units p (linkable texts units distinct right) (tables texts units right) (filled texts units right) of.linked (record { nodes = of.range.types; entities = of.range.entity_types }) of.made of.named
@@ -30,6 +30,7 @@ module _ (texts : List NamedText) (units : List Unit) (p : Program) (distinct : 
     tables = tables texts units right;
     filled = filled texts units right;
     stored = stored texts units right;
+    entered = names;
     linked = of.linked;
     valid = valid;
     made = of.made;
@@ -45,4 +46,4 @@ module _ (texts : List NamedText) (units : List Unit) (p : Program) (distinct : 
       record { solved = c.0; covered = c.1 }
 
 pub reports_covered : ReportsCovered
-reports_covered texts units p space system distinct right of own family least = covers texts units p distinct right of space system family own least
+reports_covered names texts units p space system distinct right of own family least = covers names texts units p distinct right of space system family own least

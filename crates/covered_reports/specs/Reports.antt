@@ -25,12 +25,13 @@ pub record CoversRuns (p : Program) (system : System) (family : Family) : Type 0
 abbrev pub AreRunsCovered : Program → System → Type 0
 AreRunsCovered p system = (family : Family) → IsLeast system family → CoversRuns p system family
 
--- so it is for each program that texts of distinct names are read as
+-- so it is for each program that texts of distinct names are read as, and that is entered at those names
 abbrev pub ReportsCovered : Type 0
 ReportsCovered =
-    (texts : List NamedText) (units : List Unit) (p : Program) (space : List Location) (system : System)
+    (names : List (List ℕ)) (texts : List NamedText) (units : List Unit) (p : Program) (space : List Location)
+    (system : System)
     → AreDistinct (map (λ (text : NamedText). text.0) texts)
     → AreRightTexts 0 texts units
-    → IsProgramOf units p
+    → IsProgramOf names units p
     → IsSystemOf p space system
     → AreRunsCovered p system

@@ -1,4 +1,4 @@
--- The step that enters main leaves the state covered.
+-- The step that enters main, or a function at which the program is entered, leaves the state covered.
 use Rattle.std.proofs.Common.{arith, ◌≡◌, ◌∙◌, inl, inr, ℕ, zero, suc, ◌+◌, ◌<◌, ◌%◌, Bool, true, false, cond, pos, List, [], ◌∷◌, ◌++◌, append_assoc, set, length, replicate, Option, Some, None, Ok, slice_get, refl, sym, ap, subst}
 use Rattle.std.specs.Option.{option_map}
 use Rattle.std.proofs.lemmas.Bool.{cases_lt}
@@ -11,7 +11,6 @@ use Rattle.c_types.specs.Table.{types_of, type_of}
 use Rattle.c_types.proofs.Grow.{grown_length}
 use Rattle.core_tree.specs.declared.node.Entity.{Entity}
 use Rattle.core_tree.specs.declared.node.Program.{Program}
-use Rattle.core_tree.specs.declared.node.Storage.TheVariants.{FunctionBody}
 use Rattle.link_names.specs.Faults.{IsMainType}
 use Rattle.sol_model.specs.declared.system.System.{System}
 use Rattle.sol_model.specs.Families.{Family, Has}
@@ -35,7 +34,6 @@ use Rattle.ref_mem.specs.Writes.{changed}
 use Rattle.ref_elements.specs.Objects.{is_object, object_from}
 use Rattle.ref_elements.specs.Outcomes.{start_of}
 use Rattle.ref_texts.specs.Writing.{text_of}
-use Rattle.ref_state.specs.declared.frames.Frame.{Frame}
 use Rattle.ref_state.specs.declared.state.State.{State}
 use Rattle.ref_state.specs.ref_types.Types.{id}
 use Rattle.ref_frames.specs.declared.entering.Activation.{Activation}
@@ -44,22 +42,23 @@ use Rattle.ref_frames.specs.Frames.{parameter_object, parameter_objects, frame_o
 use Rattle.ref_frames.specs.OnTop.{only, on_top}
 use Rattle.ref_start.specs.Objects.{cells_from, text_object}
 use Rattle.ref_start.specs.Begin.{main_in, argument_pointers, main_entry, with_texts, main_made, begun, begins_at, begins_with, begins, begin}
+use Rattle.ref_start.specs.Entries.{starts_by, starts}
 use Rattle.covering_laws.specs.covered_memory.Spots.{spot_at, spot_from, room, IsInTree}
 use Rattle.covering_laws.specs.covered_memory.Covered.{CellIn, pointer_row, ValueIn, HasShape, InstanceIn, MemoryIn, Leaves}
-use Rattle.covering_laws.proofs.covered_memory.Stays.{cell_stays}
+use Rattle.covering_laws.proofs.covered_memory.Stays.{cell_stays, same_memory}
 use Rattle.covering_laws.specs.covered_state.World.{World, trees_of, view_in}
 use Rattle.covering_laws.specs.covered_state.Items.{Each}
-use Rattle.covering_laws.proofs.covered_state.Stays.{each_change}
+use Rattle.covering_laws.specs.covered_state.Awaited.{IsBare}
+use Rattle.covering_laws.proofs.covered_state.Stays.{each_change, handed_stay}
 use Rattle.covered_values.proofs.Operands.{ok_one, err_ok, went}
 use Rattle.covered_steps.specs.Steps.{NoneBare}
-use Rattle.covered_steps.proofs.Frames.{then_left, get_either}
+use Rattle.covered_steps.proofs.Frames.{then_left}
 use Rattle.covered_steps.proofs.Made.{made_so, parameters_covered}
-use Rattle.covered_steps.proofs.Steps.{each_at}
 use Rattle.covered_calls.specs.Activations.{IsParameterOf}
 use Rattle.covering_laws.specs.covered_types.Calls.{type_from}
 use Rattle.covered_statements.specs.Runnable.{IsRunnable, Steady}
 use Rattle.covered_statements.specs.Rows.{running_in}
-use Rattle.covered_statements.proofs.Calling.{IsEntered, entered_inv, plain_objects, body_owned, body_stands, parameters_met}
+use Rattle.covered_statements.proofs.Calling.{IsEntered, entered_inv, plain_objects, parameters_met}
 use Rattle.covered_start.specs.Objects.{machine_table, machine_sets, IsSolved}
 use Rattle.covered_start.specs.Arguments.{AreTexts, with_list}
 use Rattle.covered_start.specs.Start.{machine_world, StartsRight, BeginSteady}
@@ -67,6 +66,8 @@ use Rattle.covered_start.proofs.Types.{longer}
 use Rattle.covered_start.proofs.Pointed.{IsHere, here, content_at}
 use Rattle.covered_start.proofs.Arguments.{list_content, texts_covered, lists_covered}
 use Rattle.covered_start.proofs.Filled.{bare_back, changed_back}
+use Rattle.covered_start.proofs.Framed.{more_bare, none_bare, framed}
+use Rattle.covered_start.proofs.Entered.{one_steady}
 use Rattle.covered_start.proofs.Mains.{IsStarting, starting, main_plain, has_some, second_pointer, argument_first, list_given}
 
 some_one : {X : Type 0} → {x y : X} → ◌≡◌ {A = Option X} (Some x) (Some y) → x ≡ y
@@ -109,13 +110,6 @@ found_front position k (x ∷ xs) ys i e = by (is_object position x.key) e (foun
     by true f next = f
     by false f next = next f
 
--- new instances that have types wait for none
-more_bare : (world : World) (xs ys : List Instance) → NoneBare world xs → Each (λ x. x.ty ≡ None → ⊥) ys → NoneBare world (xs ++ ys)
-more_bare world xs ys none typed i inst at b = elim (get_either xs ys i inst at) [
-  | inl before ↦ none i inst before b
-  | inr new ↦ each_at (λ x. x.ty ≡ None → ⊥) ys new.0 inst new.1 typed b.untyped
-]
-
 -- a type of main's is the same in the machine's table
 module _ (p : Program) (system : System) (family : Family) (s : IsSolved p system family) where
   own_type : (i : ℕ) → IsMainType (type_of p.types i) → type_of (machine_table p) i ≡ type_of p.types i
@@ -150,32 +144,15 @@ module _ (p : Program) (system : System) (family : Family) (s : IsSolved p syste
         };
       }
 
-  module _ (runs : IsRunnable (machine_world p system family s)) (state : State) (steady : Steady (machine_world p system family s) state) (outside : state.frames ≡ []) where
-    none_bare : NoneBare W state.memory
-    none_bare i inst at b = (let w = steady.covered.awaited.each i inst at b in no_frame (sym outside ∙ w.frames_are))
-      where
-        no_frame : {f : Frame} → {rest : List Frame} → ◌≡◌ {A = List Frame} [] (f ∷ rest) → ⊥
-        no_frame h = cc
-
-    -- main's frame over a covered memory
-    framed : (memory fresh : List Instance) → MemoryIn (machine_sets p family) memory → NoneBare W memory → (main count : ℕ) (arguments : List Value) (m : IsStarting p.entities.items main) (made : Activation)
-        → (inv : IsEntered W count (main_entry main) arguments made) → Steady W (record state { memory = memory; frames = frame_over (main_entry main) count inv.body fresh ∷ []; notes = only [] })
-    framed memory fresh all none main count arguments m made inv =
-        let storage : inv.entity.storage ≡ FunctionBody = ap (λ (x : Entity). x.storage) (some_one (sym inv.there ∙ m.there)) ∙ m.storage in
-        record {
-          covered = record {
-            memory = all;
-            frames = (record { called = tt; back = tt; items = (body_owned W runs main inv.body inv.entity inv.there storage inv.body_is, tt) }, tt);
-            kept = steady.covered.kept;
-            notes = record { target = tt; stores = tt };
-            awaited = record { each = λ i inst at b. absurd (none i inst at b) };
-          };
-          stacked = (body_stands W runs main inv.body inv.entity inv.there storage inv.body_is memory, tt, tt);
-        }
-
-    -- as the last part of a state that is left so
-    on_frames : (memory : List Instance) (f : Frame) → Steady W (record state { memory = memory; frames = f ∷ []; notes = only [] }) → Steady W (record state { memory = memory; frames = f ∷ state.frames; notes = only [] })
-    on_frames memory f h = subst (λ (frames : List Frame). Steady W (record state { memory = memory; frames = f ∷ frames; notes = only [] })) (sym outside) h
+  module _ (runs : IsRunnable (machine_world p system family s)) (state : State) (steady : Steady (machine_world p system family s) state) (outside : state.frames ≡ []) (empty : p.entries.items ≡ []) where
+    -- main's frame over a covered memory, behind which its objects are made
+    module _ (memory fresh : List Instance) (left : Leaves (machine_sets p family) state.memory memory) (more : Leaves (machine_sets p family) memory (memory ++ fresh)) (none : NoneBare W (memory ++ fresh)) where
+      on_main : (main count : ℕ) (arguments : List Value) (m : IsStarting p.entities.items main) (made : Activation) → (inv : IsEntered W count (main_entry main) arguments made)
+          → Steady W (record state { memory = memory ++ fresh; frames = frame_over (main_entry main) count inv.body fresh ∷ state.frames; notes = only [] })
+      on_main main count arguments m made inv =
+          framed W runs state steady outside (memory ++ fresh) fresh state.handed [] more.covered none
+          (handed_stay W memory (memory ++ fresh) more.extends state.handed (handed_stay W state.memory memory left.extends state.handed steady.covered.handed)) tt main count arguments made inv
+          (ap (λ (x : Entity). x.storage) (some_one (sym inv.there ∙ m.there)) ∙ m.storage) (λ some. absurd (some empty))
 
     -- main has objects of its parameters alone, since nothing is passed past these
     own_objects : (main : ℕ) (m : IsStarting p.entities.items main) → IsMainType (type_of p.types m.entity.ty.0) → (count : ℕ) (arguments : List Value) (made : Activation) → (inv : IsEntered W count (main_entry main) arguments made)
@@ -195,11 +172,11 @@ module _ (p : Program) (system : System) (family : Family) (s : IsSolved p syste
     begins_plain main m right made e =
         let inv = entered_inv W (id (length p.types.terms)) (length state.memory) (main_entry main) [] made e in
         let none = no_objects (parameters_of (trees_of W) (view_in W) main) in
+        let fresh : List Instance = parameter_objects (trees_of W) (parameters_of (trees_of W) (view_in W) main) [] in
         subst (λ (a : Activation). Steady W (on_top state state.frames (only []) a)) (own_objects main m right (length state.memory) [] made inv)
-        (on_frames (state.memory ++ parameter_objects (trees_of W) (parameters_of (trees_of W) (view_in W) main) []) (frame_over (main_entry main) (length state.memory) inv.body (parameter_objects (trees_of W) (parameters_of (trees_of W) (view_in W) main) []))
-        (framed (state.memory ++ parameter_objects (trees_of W) (parameters_of (trees_of W) (view_in W) main) []) (parameter_objects (trees_of W) (parameters_of (trees_of W) (view_in W) main) [])
-        (subst (λ (list : List Instance). MemoryIn (machine_sets p family) (state.memory ++ list)) (sym none) (made_so (machine_sets p family) state.memory [] steady.covered.memory tt).covered)
-        (subst (λ (list : List Instance). NoneBare W (state.memory ++ list)) (sym none) (more_bare W state.memory [] none_bare tt)) main (length state.memory) [] m made inv))
+        (on_main state.memory fresh (record { extends = same_memory (machine_sets p family) state.memory; covered = steady.covered.memory })
+        (subst (λ (list : List Instance). Leaves (machine_sets p family) state.memory (state.memory ++ list)) (sym none) (made_so (machine_sets p family) state.memory [] steady.covered.memory tt))
+        (subst (λ (list : List Instance). NoneBare W (state.memory ++ list)) (sym none) (more_bare W state.memory [] (none_bare W runs state steady outside) tt)) main (length state.memory) [] m made inv)
 
     -- the texts, the list of pointers to them, and main's parameters
     module _ (main : ℕ) (m : IsStarting p.entities.items main) (right : IsMainType (type_of p.types m.entity.ty.0)) (argv count word : ℕ) (found : object_from 9 0 state.memory ≡ Some argv) (takes : (l : ℕ) × (first_from 0 (locations_in p) (LibraryKey 10) ≡ Some l)) where
@@ -227,7 +204,7 @@ module _ (p : Program) (system : System) (family : Family) (s : IsSolved p syste
       listed_bare =
           bare_back W (state.memory ++ replicate count text) listed list_left.extends
           (changed_back (state.memory ++ replicate count text) argv (λ inst. record inst { cells = cells_from 0 (argument_pointers (length state.memory) count) }) (λ a. refl))
-          (more_bare W state.memory (replicate count text) none_bare (each_like (λ (x : Instance). x.ty ≡ None → ⊥) count text (λ none. none_some (sym none))))
+          (more_bare W state.memory (replicate count text) (none_bare W runs state steady outside) (each_like (λ (x : Instance). IsBare W x → ⊥) count text (λ bare. none_some (sym bare.untyped))))
 
       own : IsHere p system family s state.memory 9 argv
       own = here p system family s state.memory 9 argv steady.covered.memory found
@@ -279,20 +256,19 @@ module _ (p : Program) (system : System) (family : Family) (s : IsSolved p syste
             let to = second_pointer (type_of (machine_table p) inv.entity.ty.0) main_type h.0 h.1 in
             let entity : key_type (trees_of W) (EntityKey h.2.e) ≡ type_of (machine_table p) h.2.place.entity.ty.0 = ap (λ (o : Option Entity). type_or_void (machine_table p) (option_map (λ (x : Entity). x.ty) o)) h.2.place.entity_is in
             pointed key h.0 h.2 to.0 (sym entity ∙ (ap (key_type (trees_of W)) (sym h.2.key_is) ∙ (h.2.type ∙ to.1)))
-            (list_given p system family s main m key h.2.place.first own.inside.first at (ap (first_from 0 (locations_in p)) h.2.key_is ∙ h.2.place.first_is) own.first_is)
+            (list_given p system family s empty main m key h.2.place.first own.inside.first at (ap (first_from 0 (locations_in p)) h.2.key_is ∙ h.2.place.first_is) own.first_is)
 
         all_made : Each IsMade objects
         all_made = both_made (parameters_of (trees_of W) (view_in W) main) (λ key at. (let h = parameter 0 key at in counted key h.0 h.2)) second_made
 
         entered_steady : Steady W (record state { memory = listed ++ objects; frames = frame_over (main_entry main) (length state.memory + count) inv.body objects ∷ state.frames; notes = only [] })
         entered_steady =
-            on_frames (listed ++ objects) (frame_over (main_entry main) (length state.memory + count) inv.body objects)
-            (framed (listed ++ objects) objects
-            (made_so (machine_sets p family) listed objects list_left.covered (each_change IsMade (InstanceIn (machine_sets p family) listed) (λ x h. h.0) objects all_made)).covered
-            (more_bare W listed objects listed_bare (each_change IsMade (λ x. x.ty ≡ None → ⊥) (λ x h. h.1) objects all_made)) main (length state.memory + count) (one_cell (Number (pos count)) ∷ one_cell (start_of argv) ∷ []) m made inv)
+            on_main listed objects before_left (made_so (machine_sets p family) listed objects list_left.covered (each_change IsMade (InstanceIn (machine_sets p family) listed) (λ x h. h.0) objects all_made))
+            (more_bare W listed objects listed_bare (each_change IsMade (λ x. IsBare W x → ⊥) (λ x h bare. h.1 bare.untyped) objects all_made)) main (length state.memory + count)
+            (one_cell (Number (pos count)) ∷ one_cell (start_of argv) ∷ []) m made inv
 
-        same_memory : listed ++ objects ≡ changed state.memory argv (slice_get state.memory argv) (λ inst. record inst { cells = cells_from 0 (argument_pointers (length state.memory) count) }) ++ (replicate count text ++ objects)
-        same_memory =
+        memory_same : listed ++ objects ≡ changed state.memory argv (slice_get state.memory argv) (λ inst. record inst { cells = cells_from 0 (argument_pointers (length state.memory) count) }) ++ (replicate count text ++ objects)
+        memory_same =
             ap (λ (memory : List Instance). memory ++ objects)
             (changed_front state.memory (replicate count text) argv (λ inst. record inst { cells = cells_from 0 (argument_pointers (length state.memory) count) }) own.inst own.there)
             ∙ append_assoc (changed state.memory argv (slice_get state.memory argv) (λ inst. record inst { cells = cells_from 0 (argument_pointers (length state.memory) count) })) (replicate count text) objects
@@ -301,7 +277,7 @@ module _ (p : Program) (system : System) (family : Family) (s : IsSolved p syste
         begins_listed =
             subst (λ (a : Activation). Steady W (begun state argv (with_texts (running_in W (id (length p.types.terms))) (length state.memory) count word a)))
             (own_objects main m right (length state.memory + count) (one_cell (Number (pos count)) ∷ one_cell (start_of argv) ∷ []) made inv)
-            (subst (λ (memory : List Instance). Steady W (record state { memory = memory; frames = frame_over (main_entry main) (length state.memory + count) inv.body objects ∷ state.frames; notes = only [] })) same_memory entered_steady)
+            (subst (λ (memory : List Instance). Steady W (record state { memory = memory; frames = frame_over (main_entry main) (length state.memory + count) inv.body objects ∷ state.frames; notes = only [] })) memory_same entered_steady)
 
     -- the step, by main's parameters
     module _ (word : ℕ) (next : State) (right : StartsRight p) where
@@ -313,12 +289,12 @@ module _ (p : Program) (system : System) (family : Family) (s : IsSolved p syste
         m = starting p.entities.items main is
 
         main_right : IsMainType (type_of p.types m.entity.ty.0)
-        main_right = right main m.entity is m.there
+        main_right = right empty main m.entity is m.there
 
         -- where main has parameters, `<arg>` has a location
         taken : (key : ObjectKey) (rest : List ObjectKey) → parameters_of (trees_of W) (view_in W) main ≡ key ∷ rest → (count : ℕ) (arguments : List Value) (made : Activation) → IsEntered W count (main_entry main) arguments made
             → (l : ℕ) × (first_from 0 (locations_in p) (LibraryKey 10) ≡ Some l)
-        taken key rest keys count arguments made inv = argument_first p main m (ap has_parameters (sym (own_type m.entity.ty.0 main_right)) ∙ has)
+        taken key rest keys count arguments made inv = argument_first p empty main m (ap has_parameters (sym (own_type m.entity.ty.0 main_right)) ∙ has)
           where
             typed : have_types (trees_of W) (key ∷ rest) (called_list (trees_of W) m.entity) ≡ true
             typed =
@@ -348,6 +324,14 @@ module _ (p : Program) (system : System) (family : Family) (s : IsSolved p syste
       by_main None is e = absurd (err_ok e)
       by_main (Some main) is e = by_keys main is (parameters_of (trees_of W) (view_in W) main) refl e
 
-pub begin_steady : BeginSteady
+-- by the program's entries
+by_entries : (p : Program) (system : System) (family : Family) (s : IsSolved p system family) (state next : State) (word : ℕ) → StartsRight p → IsRunnable (machine_world p system family s) → Steady (machine_world p system family s) state
+    → state.frames ≡ [] → (entries : List ℕ) → p.entries.items ≡ entries → starts_by (running_in (machine_world p system family s) (id (length p.types.terms))) state word entries ≡ Ok next → Steady (machine_world p system family s) next
 unfolding begin
-begin_steady p system family s state next word right runs steady outside e = by_main p system family s runs state steady outside word next right (main_in p.entities.items) refl e
+by_entries p system family s state next word right runs steady outside [] is e = by_main p system family s runs state steady outside is word next right (main_in p.entities.items) refl e
+by_entries p system family s state next word right runs steady outside (first ∷ rest) is e =
+    one_steady (machine_world p system family s) runs state steady outside (id (length p.types.terms)) first rest is word next e
+
+pub begin_steady : BeginSteady
+unfolding starts
+begin_steady p system family s state next word right runs steady outside e = by_entries p system family s state next word right runs steady outside p.entries.items refl e

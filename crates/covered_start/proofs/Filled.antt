@@ -202,6 +202,7 @@ start_steady p system family s runs =
         frames = tt;
         kept = tt;
         notes = record { target = tt; stores = tt };
+        handed = tt;
         awaited = record { each = λ i inst at b. absurd (filled.bare i inst at b) };
       };
       stacked = tt;

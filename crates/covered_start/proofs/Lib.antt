@@ -6,4 +6,6 @@ pub mod Fixed
 pub mod Arguments
 pub mod Filled
 pub mod Mains
+pub mod Framed
+pub mod Entered
 pub mod Begun

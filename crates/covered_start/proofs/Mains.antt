@@ -28,7 +28,7 @@ use Rattle.obj_made.specs.declared.object.Object.{Object}
 use Rattle.obj_made.specs.Made.{made_in_order, objects_in}
 use Rattle.obj_made.specs.Uses.{is_named}
 use Rattle.obj_space.specs.declared.location.Location.{Location}
-use Rattle.obj_space.specs.Objects.{named_object, functions_below, LibraryRow, library_rows, has_parameters, main_in, takes_arguments, is_needed, library_object, library_objects_from, library_objects, star_objects, library_part}
+use Rattle.obj_space.specs.Objects.{named_object, functions_below, LibraryRow, library_rows, has_parameters, main_in, takes_for, takes_arguments, is_needed, library_object, library_objects_from, library_objects, star_objects, outside_objects, library_part}
 use Rattle.obj_space.specs.Space.{locations_of, locations_in}
 use Rattle.obj_space.specs.View.{SpaceView, first_from, view_of}
 use Rattle.row_numbers.specs.declared.functions.Role.TheVariants.{Main}
@@ -175,9 +175,10 @@ module _ (p : Program) where
       ap (λ (x : Linkage). main_in p.types x s name t) external
       ∙ (ap (λ (x : Storage). main_in p.types External x name t) body ∙ (ap (λ (b : Bool). cond b (has_parameters t) false) named ∙ has))
 
-  takes : (main : ℕ) (m : IsStarting p.entities.items main) → has_parameters (type_of p.types m.entity.ty.0) ≡ true → takes_arguments p ≡ true
-  takes main m has =
-      list_any_at (λ entity. main_in p.types entity.linkage entity.storage entity.name (type_of p.types entity.ty.0)) p.entities.items main m.entity
+  takes : p.entries.items ≡ [] → (main : ℕ) (m : IsStarting p.entities.items main) → has_parameters (type_of p.types m.entity.ty.0) ≡ true → takes_arguments p ≡ true
+  takes none main m has =
+      ap (takes_for p) none
+      ∙ list_any_at (λ entity. main_in p.types entity.linkage entity.storage entity.name (type_of p.types entity.ty.0)) p.entities.items main m.entity
       (slice_get_within p.entities.items main m.entity m.there)
       (ap (λ (x : Entity). main_in p.types x.linkage x.storage x.name (type_of p.types x.ty.0)) (get_or_from_slice_get p.entities.items main m.entity m.entity m.there)
       ∙ takes_one m.entity.linkage m.entity.storage m.entity.name (type_of p.types m.entity.ty.0) m.linkage m.storage m.named has)
@@ -222,17 +223,17 @@ module _ (p : Program) where
   unfolding locations_in
   argument_located takes =
       under (LibraryKey 10) (objects_in (made_in_order p)) (library_part p)
-      (under (LibraryKey 10) (functions_below p 55) (library_objects (is_named p.entities.items p.nodes.items) (takes_arguments p) ++ star_objects p)
-      (over (LibraryKey 10) (library_objects (is_named p.entities.items p.nodes.items) (takes_arguments p)) (star_objects p)
+      (under (LibraryKey 10) (functions_below p 55) (library_objects (is_named p.entities.items p.nodes.items) (takes_arguments p) ++ (star_objects p ++ outside_objects p.entries.items))
+      (over (LibraryKey 10) (library_objects (is_named p.entities.items p.nodes.items) (takes_arguments p)) (star_objects p ++ outside_objects p.entries.items)
       (subst (λ (b : Bool). HasLocation (LibraryKey 10) (located (library_objects (is_named p.entities.items p.nodes.items) b))) (sym takes) (argument_row (is_named p.entities.items p.nodes.items)))))
 
-  pub argument_first : (main : ℕ) (m : IsStarting p.entities.items main) → has_parameters (type_of p.types m.entity.ty.0) ≡ true → (l : ℕ) × (first_from 0 (locations_in p) (LibraryKey 10) ≡ Some l)
-  argument_first main m has =
-      let found = argument_located (takes main m has) in
+  pub argument_first : p.entries.items ≡ [] → (main : ℕ) (m : IsStarting p.entities.items main) → has_parameters (type_of p.types m.entity.ty.0) ≡ true → (l : ℕ) × (first_from 0 (locations_in p) (LibraryKey 10) ≡ Some l)
+  argument_first none main m has =
+      let found = argument_located (takes none main m has) in
       first_some 0 found.0 (locations_in p) found.1 (LibraryKey 10) found.2 found.3
 
 -- main's second parameter has `<argv>` in its set
-module _ (p : Program) (system : System) (family : Family) (s : IsSolved p system family) (main : ℕ) (m : IsStarting p.entities.items main) where
+module _ (p : Program) (system : System) (family : Family) (s : IsSolved p system family) (none : p.entries.items ≡ []) (main : ℕ) (m : IsStarting p.entities.items main) where
   abbrev pub v : SpaceView
   v = view_of (locations_in p)
 
@@ -243,10 +244,11 @@ module _ (p : Program) (system : System) (family : Family) (s : IsSolved p syste
     second_at : option_and_then (first_from 0 (locations_in p)) (second_of u v (keys_in Main p.entities.items)) ≡ Some row
     second_at = ap (λ (keys : List ObjectKey). option_and_then (first_from 0 (locations_in p)) (second_of u v keys)) m.keys ∙ (ap (option_and_then (first_from 0 (locations_in p))) second ∙ at)
 
-    among : Contains (start_constraints u v) (AddressForm row location)
+    among : Contains (start_constraints u v p.entries.items) (AddressForm row location)
     among =
-        subst (λ (o : Option ℕ). Contains (held_by o (first_from 0 (locations_in p) (LibraryKey 9))) (AddressForm row location)) (sym second_at)
-        (subst (λ (o : Option ℕ). Contains (held_by (Some row) o) (AddressForm row location)) (sym held) (first_has (AddressForm row location) []))
+        subst (λ (entries : List ℕ). Contains (start_constraints u v entries) (AddressForm row location)) (sym none)
+        (subst (λ (o : Option ℕ). Contains (held_by o (first_from 0 (locations_in p) (LibraryKey 9))) (AddressForm row location)) (sym second_at)
+        (subst (λ (o : Option ℕ). Contains (held_by (Some row) o) (AddressForm row location)) (sym held) (first_has (AddressForm row location) [])))
 
     pub list_given : Has family row location
     list_given =

@@ -4,7 +4,7 @@ use Rattle.std.specs.List.{cons_option}
 use Rattle.std.proofs.lemmas.Bool.{false≢true}
 use Rattle.c_types.specs.declared.key.ObjectKey.{ObjectKey}
 use Rattle.c_types.specs.declared.key.ObjectKey.TheVariants.{Entity as EntityKey, Text as TextKey, Call as CallKey, Library as LibraryKey, Star as StarKey, Function as FunctionKey}
-use Rattle.c_types.specs.declared.key.ObjectKey.TheVariants.{Varargs as VarargsKey}
+use Rattle.c_types.specs.declared.key.ObjectKey.TheVariants.{Varargs as VarargsKey, Outside as OutsideKey}
 use Rattle.c_types.specs.declared.term.TypeId.{TypeId}
 use Rattle.c_types.specs.declared.term.PathStep.{PathStep}
 use Rattle.c_types.specs.Trees.{Ctype, IntegerType, PointerTo, ArrayOf}
@@ -125,7 +125,7 @@ static_content Declared ty h = refl
 whole_is : (table : Table) (inst : Instance) (key : ObjectKey) (i : TypeId) → IsObject inst key (Some i) → is_allocated key ≡ false → whole_of table inst ≡ Some (type_of table i.0)
 whole_is table inst key i o plain =
     ap (typed_whole table inst) o.type_is
-    ∙ ap (λ (b : Bool). Some (cond b (array_in table inst.bytes (type_of table i.0)) (type_of table i.0))) (ap is_allocated o.key_is ∙ plain)
+    ∙ ap (λ (b : Bool). Some (cond b (array_in table inst.key inst.bytes (type_of table i.0)) (type_of table i.0))) (ap is_allocated o.key_is ∙ plain)
 
 scalar_shape : (table : Table) (inst : Instance) (key : ObjectKey) (i : TypeId) (t : Ctype) (number : ℕ) → IsObject inst key (Some i) → is_allocated key ≡ false → type_of table i.0 ≡ t → IsScalar t → type_number t ≡ number
     → HasShape table (Scalar number) (whole_of table inst)
@@ -246,6 +246,7 @@ module _ (p : Program) (made : IsMade p.types) (named : AreNamed p.types) where
   shaped (StarKey k) inst content h of = absurd (none_some h)
   shaped (VarargsKey k) inst content h of = absurd (none_some h)
   shaped (FunctionKey k) inst content h of = absurd (none_some h)
+  shaped OutsideKey inst content h of = absurd (none_some h)
 
   module _ (family : Family) where
     number_in : (memory : List Instance) (row : Option ℕ) (cell : Cell) → IsNumber cell → CellIn (machine_sets p family) memory row cell

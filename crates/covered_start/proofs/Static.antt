@@ -3,7 +3,7 @@ use Rattle.std.proofs.Common.{◌≡◌, ◌∙◌, inl, inr, ◌⊎◌, ℕ, ze
 use Rattle.std.proofs.lemmas.Bool.{false≢true}
 use Rattle.c_types.specs.declared.key.ObjectKey.{ObjectKey}
 use Rattle.c_types.specs.declared.key.ObjectKey.TheVariants.{Entity as EntityKey, Text as TextKey, Call as CallKey, Library as LibraryKey, Star as StarKey, Function as FunctionKey}
-use Rattle.c_types.specs.declared.key.ObjectKey.TheVariants.{Varargs as VarargsKey}
+use Rattle.c_types.specs.declared.key.ObjectKey.TheVariants.{Varargs as VarargsKey, Outside as OutsideKey}
 use Rattle.c_types.specs.declared.term.TypeId.{TypeId}
 use Rattle.c_types.specs.Table.{Table}
 use Rattle.c_types.specs.Made.{IsMade}
@@ -55,6 +55,7 @@ static_key u ids (CallKey n) inst h = absurd (none_some h)
 static_key u ids (StarKey k) inst h = absurd (none_some h)
 static_key u ids (VarargsKey k) inst h = absurd (none_some h)
 static_key u ids (FunctionKey k) inst h = absurd (none_some h)
+static_key u ids OutsideKey inst h = absurd (none_some h)
 
 set_static : (xs : List Instance) (i : ℕ) (v : Instance) → IsStaticKey v.key → AllStatic xs → AllStatic (set xs i v)
 set_static [] i v k h j inst e = absurd (none_some e)
@@ -98,6 +99,7 @@ by_allocated (CallKey n) s h = absurd s
 by_allocated (StarKey k) s h = absurd s
 by_allocated (VarargsKey k) s h = absurd s
 by_allocated (FunctionKey k) s h = absurd s
+by_allocated OutsideKey s h = absurd s
 
 pub allocated_stream : (key : ObjectKey) → IsStaticKey key → IsTrue (is_allocated key) ⊎ IsFurther key → key ≡ LibraryKey 2
 allocated_stream key s (inl h) = by_allocated key s h

@@ -1,4 +1,4 @@
--- That a run starts in a covered state, and that its first step leaves it so (C11 5.1.2.2.1, 6.7.9).
+-- That a run starts in a covered state, and that a step without a frame leaves it so (C11 5.1.2.2.1, 6.7.9).
 use Rattle.std.specs.Prelude.{◌≡◌, ℕ, [], Some, Ok, length, slice_get}
 use Rattle.c_types.specs.Table.{type_of}
 use Rattle.core_tree.specs.declared.node.Entity.{Entity}
@@ -9,7 +9,8 @@ use Rattle.sol_model.specs.Families.{Family}
 use Rattle.obj_space.specs.Space.{locations_in}
 use Rattle.ref_state.specs.declared.state.State.{State}
 use Rattle.ref_state.specs.ref_types.Types.{id}
-use Rattle.ref_start.specs.Begin.{main_in, begin}
+use Rattle.ref_start.specs.Begin.{main_in}
+use Rattle.ref_start.specs.Entries.{starts}
 use Rattle.ref_machine.specs.Run.{start}
 use Rattle.covering_laws.specs.grown_programs.Grown.{with_types}
 use Rattle.covering_laws.specs.covered_state.World.{World}
@@ -34,15 +35,17 @@ StartSteady =
     → IsRunnable (machine_world p system family s)
     → Steady (machine_world p system family s) (start p)
 
--- the function that starts the program is of one of main's types
+-- the function that starts a program without entries is of one of main's types
 abbrev pub StartsRight : Program → Type 0
 StartsRight p =
-    (main : ℕ) (entity : Entity)
+    p.entries.items ≡ []
+    → (main : ℕ) (entity : Entity)
     → main_in p.entities.items ≡ Some main
     → slice_get p.entities.items main ≡ Some entity
     → IsMainType (type_of p.types entity.ty.0)
 
--- the step that enters main leaves a state without frames covered, and its items stacked
+-- the step without a frame of a program that isn't at its end, which enters main or one of the program's entries, or
+-- ends the program, leaves the state covered, and its items stacked
 abbrev pub BeginSteady : Type 0
 BeginSteady =
     (p : Program) (system : System) (family : Family) (s : IsSolved p system family) (state next : State) (word : ℕ)
@@ -50,5 +53,5 @@ BeginSteady =
     → IsRunnable (machine_world p system family s)
     → Steady (machine_world p system family s) state
     → state.frames ≡ []
-    → begin (running_in (machine_world p system family s) (id (length p.types.terms))) state word ≡ Ok next
+    → starts (running_in (machine_world p system family s) (id (length p.types.terms))) state word ≡ Ok next
     → Steady (machine_world p system family s) next

@@ -34,7 +34,8 @@ pub fn start_steady()
     ensures { StartSteady }
 {}
 
-/// So is the state after the first step, which enters main, with arguments where it has parameters (5.1.2.2.1).
+/// So is the state after a step without a frame of a program that isn't at its end: it enters main, with arguments where it has parameters
+/// (5.1.2.2.1), or one of the program's entries, with what a word chooses, or it ends the program.
 pub fn begin_steady()
     ensures { BeginSteady }
 {}

@@ -1,9 +1,9 @@
 -- A world over a valid program with more types runs.
-use Rattle.std.proofs.Common.{arith, ◌≡◌, ◌∙◌, inl, inr, ℕ, ◌+◌, ◌<◌, Bool, true, false, cond, All, List, [], ◌∷◌, ◌++◌, length, length-append, Option, Some, None, IsSome, slice_get, refl, sym, ap, subst}
+use Rattle.std.proofs.Common.{arith, ◌≡◌, ◌∙◌, inl, inr, ℕ, ◌+◌, ◌<◌, Bool, true, false, cond, All, Contains, List, [], ◌∷◌, ◌++◌, length, length-append, Option, Some, None, IsSome, slice_get, refl, sym, ap, subst}
 use Rattle.std.specs.Option.{option_map}
 use Rattle.std.specs.List.{list_all, filter_map, cons_option, enumerate_from}
 use Rattle.std.proofs.lemmas.Bool.{false≢true}
-use Rattle.std.proofs.lemmas.List.Elements.{All-head, All-tail}
+use Rattle.std.proofs.lemmas.List.Elements.{All-head, All-tail, All-contains}
 use Rattle.c_types.specs.declared.key.ObjectKey.{ObjectKey}
 use Rattle.c_types.specs.declared.key.ObjectKey.TheVariants.{Entity as EntityKey, Varargs as VarargsKey}
 use Rattle.c_types.specs.declared.term.Term.{Term}
@@ -27,7 +27,7 @@ use Rattle.core_tree.specs.declared.node.Storage.{Storage}
 use Rattle.core_tree.specs.declared.node.Storage.TheVariants.{Static, Automatic, FunctionBody, Parameter, Declared}
 use Rattle.core_tree.specs.Range.{child_in, Under, here, below, listed_by, InRange, ChildOnce}
 use Rattle.core_tree.specs.Typed.{CoreTrees, IsValue, trees_in, type_at}
-use Rattle.core_tree.specs.Valid.{ValidProgram, HasBody, IsBlockIn, UnderBody, IsListable, IsListableIn, Sized}
+use Rattle.core_tree.specs.Valid.{ValidProgram, HasBody, IsBlockIn, IsEntryAt, UnderBody, IsListable, IsListableIn, Sized}
 use Rattle.obj_made.specs.Made.{entity_content}
 use Rattle.obj_space.specs.declared.location.Location.{Location}
 use Rattle.obj_space.specs.Space.{locations_in}
@@ -55,6 +55,7 @@ use Rattle.covering_laws.specs.covered_state.World.{World, trees_of, setting_in}
 use Rattle.covering_laws.specs.covered_state.Items.{Each}
 use Rattle.covering_laws.proofs.covered_state.Stays.{each_change, each_append}
 use Rattle.covered_values.specs.Met.{HasFit, IsOver}
+use Rattle.covered_values.specs.Values.{HasFirst}
 use Rattle.covered_values.proofs.Places.{closed_key}
 use Rattle.covered_values.proofs.Rows.{held_same}
 use Rattle.covered_values.proofs.Standing.{kept, nodes_known, entities_known, fit_more, stands_met}
@@ -175,8 +176,8 @@ made_typed Declared ty h = refl
 automatic_declared : Automatic ≡ Declared → ⊥
 automatic_declared h = cc
 
-automatic_body : Automatic ≡ FunctionBody → ⊥
-automatic_body h = cc
+body_declared : FunctionBody ≡ Declared → ⊥
+body_declared h = cc
 
 module _ (p : Program) (more : List Term) (world : World) (valid : ValidProgram p) (made : IsMade p.types) (named : AreNamed p.types) (fit : HasFit p.types) (follow : MayFollow (length p.types.terms) more) (over : IsOver p more world)
     (objects_only : AutomaticObjects (trees_in p)) where
@@ -359,9 +360,16 @@ module _ (p : Program) (more : List Term) (world : World) (valid : ValidProgram 
       subst (λ (ns : List Node). IsBlockIn (slice_get ns b)) (sym nodes_are)
       (elim (subst (HasBody (trees_in p) f function) body (valid.trees.bodied f function (entity_of_p f function at))).0 [ inl own ↦ own.block | inr other ↦ absurd (other.storage storage) ])
 
+  -- a function at which the program is entered has a body, so a location
+  entries_found : (e : ℕ) → Contains p.entries.items e → HasFirst world e
+  entries_found e at =
+      let entry = All-contains (λ (n : ℕ). IsEntryAt (trees_in p) n) p.entries.items e valid.entries at in
+      let placed_there = entities_placed p e entry.0 made entry.1 (λ is. body_declared (sym entry.2.storage ∙ is)) (λ other. absurd (other entry.2.storage)) in
+      (placed_there.first, subst (λ (ls : List Location). first_from 0 ls (EntityKey e) ≡ Some placed_there.first) (sym over.space) placed_there.first_is)
+
 pub runnable_met : RunnableMet
 runnable_met p more world valid made named fit follow over grounds closed found objects_only = record {
-  stands = stands_met p more world valid made named fit follow over grounds closed found;
+  stands = stands_met p more world valid made named fit follow over grounds closed found (entries_found p more world valid made named fit follow over objects_only);
   typed = above_met p more world valid made over;
   range = subst (λ (q : Program). InRange (trees_in q)) (sym over.program) (range_more p more world valid made named fit follow over objects_only);
   once = subst (λ (q : Program). ChildOnce (trees_in q)) (sym over.program) valid.trees.child_once;

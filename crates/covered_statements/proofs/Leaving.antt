@@ -20,14 +20,14 @@ use Rattle.ref_state.specs.declared.state.State.{State}
 use Rattle.ref_state.specs.Changes.{ended_all}
 use Rattle.ref_state.specs.Items.{settled}
 use Rattle.ref_state.specs.Values.{no_value, cell_of}
-use Rattle.ref_frames.specs.Frames.{is_main_in, given_by, caller_given, status_by, all_ended, finished, left_with}
+use Rattle.ref_frames.specs.Frames.{is_main_in, given_by, caller_given, status_by, all_ended, finished, left_start, left_with}
 use Rattle.ref_frames.specs.OnTop.{only}
 use Rattle.covering_laws.specs.covered_types.Whole.{IsHeld}
 use Rattle.covering_laws.proofs.grown_programs.Listed.{call_there}
 use Rattle.covering_laws.specs.covered_state.World.{World, trees_of, view_in, setting_in}
 use Rattle.covering_laws.specs.covered_state.Items.{Each, NodeIn, ReturnedIn}
 use Rattle.covering_laws.specs.covered_state.State.{CalledIn, FrameIn, Covered}
-use Rattle.covering_laws.proofs.covered_state.Stays.{frames_stay}
+use Rattle.covering_laws.proofs.covered_state.Stays.{frames_stay, handed_stay}
 use Rattle.covered_values.proofs.Awaited.{top_one}
 use Rattle.covered_values.proofs.Operands.{operand_in}
 use Rattle.covered_steps.specs.Steps.{nothing, NoneBare}
@@ -35,6 +35,7 @@ use Rattle.covered_steps.proofs.Steps.{own_frames, own_items}
 use Rattle.covered_steps.proofs.Made.{instances_ended}
 use Rattle.covered_steps.proofs.Frames.{cons_empty, returned_wait, ended_back, steps_left}
 use Rattle.covered_calls.proofs.Activations.{zip_at}
+use Rattle.covered_calls.proofs.Handed.{steps_handed}
 use Rattle.covered_calls.proofs.Results.{steps_given}
 use Rattle.covered_statements.specs.Stacked.{PendingOn, Stacked, top_node, CallStands, FramesStand}
 use Rattle.covered_statements.specs.Runnable.{IsRunnable, Steady}
@@ -83,16 +84,18 @@ module _ (world : World) (runs : IsRunnable world) (state : State) (f : Frame) (
         frames = frames_stay world state.memory memory kept.0.extends frames h;
         kept = steady.covered.kept;
         notes = record { target = tt; stores = tt };
+        handed = handed_stay world state.memory memory kept.0.extends state.handed steady.covered.handed;
         awaited = record { each = λ i inst at b. absurd (kept.1 none i inst at b) };
       }
 
-  called_back : (k : ℕ) → Steady world (record (left_with (trees_of world) state f rest value None (Some k)) { notes = only [] })
+  called_back : (k : ℕ) → Steady world (record (left_with (trees_of world) world.program.entries.items state f rest value None (Some k)) { notes = only [] })
   called_back k = record {
     covered = left_covered (ended_all state.memory f.instances) rest (keeps_ended world runs state.memory f.instances) (own_frames world state f rest steady.covered frames_are).1;
     stacked = frames_stacked world state.memory (ended_all state.memory f.instances) (keeps_ended world runs state.memory f.instances steady.covered.memory).0.extends rest frames_stand.2;
   }
 
-  ended : Steady world (record (left_with (trees_of world) state f rest value None None) { notes = only [] })
+  -- where main is left the program ends
+  ended : Steady world (record (left_start (trees_of world) [] state f rest value) { notes = only [] })
   ended = record {
     covered = at_end;
     stacked = tt;
@@ -101,7 +104,22 @@ module _ (world : World) (runs : IsRunnable world) (state : State) (f : Frame) (
       at_end : Covered world (record (finished state (status_by (cell_of value)) false) { notes = nothing })
       at_end =
           let before = left_covered (all_ended state.memory state.frames) [] (keeps_all_ended world runs state.frames state.memory) tt in
-          record { memory = before.memory; frames = before.frames; kept = before.kept; notes = before.notes; awaited = record { each = before.awaited.each } }
+          record { memory = before.memory; frames = before.frames; kept = before.kept; notes = before.notes; handed = before.handed; awaited = record { each = before.awaited.each } }
+
+  -- where a function is at which the program is entered, what it gives goes outside
+  handed : f.call ≡ None → f.by ≡ None → (first : ℕ) (more : List ℕ) → world.program.entries.items ≡ first ∷ more
+      → Steady world (record (left_start (trees_of world) (first ∷ more) state f rest value) { notes = only [] })
+  handed call by first more entries = record {
+    covered = subst (λ (list : List ℕ). Covered world (record (left_start (trees_of world) list state f rest value) { notes = nothing })) entries
+        (subst (λ (b : Option ℕ). Covered world (record (left_with (trees_of world) world.program.entries.items state f rest value None b) { notes = nothing })) by
+        (subst (λ (c : Option ℕ). Covered world (record (left_with (trees_of world) world.program.entries.items state f rest value c f.by) { notes = nothing })) call
+        (steps_handed world state f rest first more value runs.stands steady.covered frames_are call by entries done)));
+    stacked = frames_stacked world state.memory (ended_all state.memory f.instances) (keeps_ended world runs state.memory f.instances steady.covered.memory).0.extends rest frames_stand.2;
+  }
+
+  by_entries : f.call ≡ None → f.by ≡ None → (list : List ℕ) → world.program.entries.items ≡ list → Steady world (record (left_start (trees_of world) list state f rest value) { notes = only [] })
+  by_entries call by [] is = ended
+  by_entries call by (first ∷ more) is = handed call by first more is
 
   -- the value goes to the item below the call
   given_stands : (n : ℕ) (v : Value) (frames : List Frame) → CallStands (Some n) frames → FramesStand world state.memory frames → FramesStand world state.memory (caller_given n v frames)
@@ -112,7 +130,7 @@ module _ (world : World) (runs : IsRunnable world) (state : State) (f : Frame) (
       by [] e s = absurd (none_some e)
       by (top ∷ items) e s = deliver_stacked (trees_of world).nodes (PendingOn world state.memory) n v items (item_gives (trees_of world).nodes (PendingOn world state.memory) top items n e s.1) s.2
 
-  given_back : (n : ℕ) → f.call ≡ Some n → (by : Option ℕ) → f.by ≡ by → Steady world (record (left_with (trees_of world) state f rest value (Some n) by) { notes = only [] })
+  given_back : (n : ℕ) → f.call ≡ Some n → (by : Option ℕ) → f.by ≡ by → Steady world (record (left_with (trees_of world) world.program.entries.items state f rest value (Some n) by) { notes = only [] })
   given_back n call by by_is = record {
     covered = so f.function refl;
     stacked = frames_stacked world state.memory (ended_all state.memory f.instances) (keeps_ended world runs state.memory f.instances steady.covered.memory).0.extends
@@ -135,7 +153,7 @@ module _ (world : World) (runs : IsRunnable world) (state : State) (f : Frame) (
           subst (IsHeld world.program.types) (sym (ap (λ (o : Option Entity). result_of (type_or_void world.program.types (option_map (λ (x : Entity). x.ty) o))) body.1) ∙ (ap (λ (k : ObjectKey). result_of (key_type (trees_of world) k)) (sym is) ∙ called.1)) (runs.results g body.0 body.1 body.2)
 
       -- what is no entity returns nothing
-      other : (key : ObjectKey) → f.function ≡ key → entity_in (trees_of world) key ≡ None → (ReturnedIn world state.memory key value → ⊥) → Covered world (record (left_with (trees_of world) state f rest value (Some n) by) { notes = nothing })
+      other : (key : ObjectKey) → f.function ≡ key → entity_in (trees_of world) key ≡ None → (ReturnedIn world state.memory key value → ⊥) → Covered world (record (left_with (trees_of world) world.program.entries.items state f rest value (Some n) by) { notes = nothing })
       other key is lone returns = elim done [
         | inl empty ↦ steps_left world state f rest n (given_by (trees_of world) f.function value) runs.stands.grounds steady.covered frames_are (inl empty.0)
             (subst (λ (v : Value). NodeIn world state.memory n (given_by (trees_of world) f.function v)) (sym empty.1)
@@ -144,17 +162,17 @@ module _ (world : World) (runs : IsRunnable world) (state : State) (f : Frame) (
         | inr result ↦ absurd (returns (subst (λ (k : ObjectKey). ReturnedIn world state.memory k value) is (own_items world state f rest steady.covered frames_are (Returned value) result.0 result.1).0))
       ]
 
-      so : (key : ObjectKey) → f.function ≡ key → Covered world (record (left_with (trees_of world) state f rest value (Some n) by) { notes = nothing })
+      so : (key : ObjectKey) → f.function ≡ key → Covered world (record (left_with (trees_of world) world.program.entries.items state f rest value (Some n) by) { notes = nothing })
       so (EntityKey g) is =
-          subst (λ (c : Option ℕ). Covered world (record (left_with (trees_of world) state f rest value c by) { notes = nothing })) call
-          (subst (λ (b : Option ℕ). Covered world (record (left_with (trees_of world) state f rest value f.call b) { notes = nothing })) by_is
+          subst (λ (c : Option ℕ). Covered world (record (left_with (trees_of world) world.program.entries.items state f rest value c by) { notes = nothing })) call
+          (subst (λ (b : Option ℕ). Covered world (record (left_with (trees_of world) world.program.entries.items state f rest value f.call b) { notes = nothing })) by_is
           (steps_given world state f rest n site.node value runs.stands steady.covered frames_are call site.there kind (held g is) done))
       so key is = other key is refl (λ h. h)
 
-  by_call : (call : Option ℕ) → f.call ≡ call → (by : Option ℕ) → f.by ≡ by → Steady world (record (left_with (trees_of world) state f rest value call by) { notes = only [] })
+  by_call : (call : Option ℕ) → f.call ≡ call → (by : Option ℕ) → f.by ≡ by → Steady world (record (left_with (trees_of world) world.program.entries.items state f rest value call by) { notes = only [] })
   by_call (Some n) is by by_is = given_back n is by by_is
   by_call None is (Some k) by_is = called_back k
-  by_call None is None by_is = ended
+  by_call None is None by_is = by_entries is by_is world.program.entries.items refl
 
 pub leaves_steady : LeavesSteady
 leaves_steady world state f rest value runs steady frames_are done = by_call world runs state f rest value steady frames_are done f.call refl f.by refl

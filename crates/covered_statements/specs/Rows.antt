@@ -49,8 +49,8 @@ WaitsSteady =
     → wait_row (trees_of world) state.memory f n left values word ≡ Ok next
     → Steady world (placed state rest next)
 
--- a frame whose items are done is left: its call gets what it gives, and without a call the program ends, or the
--- library function that called goes on
+-- a frame whose items are done is left: its call gets what it gives, and without a call the program ends or what it
+-- gives goes outside, or the library function that called goes on
 abbrev pub LeavesSteady : Type 0
 LeavesSteady =
     (world : World) (state : State) (f : Frame) (rest : List Frame) (value : Value)
@@ -58,11 +58,17 @@ LeavesSteady =
     → Steady world state
     → state.frames ≡ f ∷ rest
     → ((f.items ≡ []) × (value ≡ no_value)) ⊎ ((items : List Item) × (f.items ≡ Result value ∷ items))
-    → Steady world (record (left_frame (trees_of world) state f rest value) { notes = only [] })
+    → Steady world
+    (record (left_frame (trees_of world) world.program.entries.items state f rest value) { notes = only [] })
 
 -- what the machine's steps are over
 abbrev pub running_in : World → TypeId → Running
-running_in world characters = record { trees = trees_of world; space = world.space; characters = characters }
+running_in world characters = record {
+  trees = trees_of world;
+  space = world.space;
+  characters = characters;
+  entries = world.program.entries.items;
+}
 
 -- a call, whose operands are all there, enters a function with a body that it reaches
 abbrev pub CallsSteady : Type 0

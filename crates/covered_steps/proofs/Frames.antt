@@ -7,16 +7,18 @@ use Rattle.ref_mem.specs.Writes.{changed}
 use Rattle.ref_state.specs.declared.items.Item.{Item}
 use Rattle.ref_state.specs.declared.items.Item.TheVariants.{Wait, Result as Returned}
 use Rattle.ref_state.specs.declared.frames.Frame.{Frame}
+use Rattle.ref_state.specs.declared.state.State.{State}
 use Rattle.ref_state.specs.Changes.{ended_one, ended_all}
 use Rattle.ref_blocks.specs.Blocks.{objects_of, unset_object, is_of, entered, left, all_entered, all_left}
 use Rattle.ref_frames.specs.Frames.{caller_given}
 use Rattle.covering_laws.specs.covered_memory.Covered.{Sets, InstanceIn, Leaves}
+use Rattle.covering_laws.specs.covered_memory.Demands.{Grounds}
 use Rattle.covering_laws.proofs.covered_memory.Stays.{same_memory, then_extends}
 use Rattle.covering_laws.specs.covered_state.World.{World, trees_of, sets_of}
 use Rattle.covering_laws.specs.covered_state.Items.{Each}
 use Rattle.covering_laws.specs.covered_state.Awaited.{IsBare}
-use Rattle.covering_laws.specs.covered_state.State.{FrameIn}
-use Rattle.covering_laws.proofs.covered_state.Stays.{node_stays, frames_stay, settled_in}
+use Rattle.covering_laws.specs.covered_state.State.{FrameIn, Covered}
+use Rattle.covering_laws.proofs.covered_state.Stays.{node_stays, frames_stay, handed_stay, settled_in}
 use Rattle.covered_values.specs.Values.{GoesBack}
 use Rattle.covered_values.proofs.Awaited.{top_one}
 use Rattle.covered_values.proofs.Operands.{same_back, set_back}
@@ -67,6 +69,7 @@ steps_entered world state f rest top items fresh frame notes covered frames_are 
   frames = (framed, frames_stay world state.memory (state.memory ++ fresh) more.extends (f ∷ rest) (own_frames world state f rest covered frames_are));
   kept = covered.kept;
   notes = noted;
+  handed = handed_stay world state.memory (state.memory ++ fresh) more.extends state.handed covered.handed;
   awaited = record { each = λ i inst at b. absurd (bare i inst at b) };
 }
   where
@@ -88,17 +91,40 @@ ended_back (i ∷ rest) memory = λ j b at. (let later = ended_back rest (ended_
     one None is = same_back memory
     one (Some x) is = set_back memory i x (record x { live = false }) is (λ none. none)
 
+-- the top frame is left: its items are done, or a value is returned
+module _ (world : World) (state : State) (f : Frame) (rest : List Frame) (grounds : Grounds world.program.types world.space world.system) (covered : Covered world state) (frames_are : state.frames ≡ f ∷ rest)
+    (done : (f.items ≡ []) ⊎ ((v : Value) × (items : List Item) × (f.items ≡ Returned v ∷ items))) where
+  pub frame_ended : Leaves (sets_of world) state.memory (ended_all state.memory f.instances)
+  frame_ended = instances_ended world state.memory f.instances grounds covered.memory
+
+  none : (i : ℕ) (inst : Instance) → slice_get state.memory i ≡ Some inst → IsBare world inst → ⊥
+  none i inst at b =
+      let w = covered.awaited.each i inst at b in
+      let same = ap (λ (g : Frame). g.items) (top_one (sym frames_are ∙ w.frames_are)) ∙ w.items_are in
+      elim done [
+        | inl empty ↦ cons_empty (sym same ∙ empty)
+        | inr result ↦ returned_wait (top_one (sym result.2 ∙ same))
+      ]
+
+  pub none_after : NoneBare world (ended_all state.memory f.instances)
+  none_after i inst at b =
+      let a = ended_back f.instances state.memory i inst at in
+      let x = frame_ended.extends i a.0 a.1 in
+      let key : a.0.key ≡ inst.key = sym (x.2.key) ∙ ap (λ (z : Instance). z.key) (some_one (sym x.1 ∙ at)) in
+      none i a.0 a.1 (record { untyped = a.2 b.untyped; first = b.first; location = b.location; first_is = ap (first_from 0 world.space) key ∙ b.first_is; location_is = b.location_is; id = b.id; content_is = b.content_is })
+
 pub steps_left : StepsLeft
 steps_left world state f rest n value grounds covered frames_are done h = record {
   memory = ended.covered;
   frames = given rest (frames_stay world state.memory (ended_all state.memory f.instances) ended.extends rest (own_frames world state f rest covered frames_are).1);
   kept = covered.kept;
   notes = record { target = tt; stores = tt };
-  awaited = record { each = λ i inst at b. absurd (bare i inst at b) };
+  handed = handed_stay world state.memory (ended_all state.memory f.instances) ended.extends state.handed covered.handed;
+  awaited = record { each = λ i inst at b. absurd (none_after world state f rest grounds covered frames_are done i inst at b) };
 }
   where
     ended : Leaves (sets_of world) state.memory (ended_all state.memory f.instances)
-    ended = instances_ended world state.memory f.instances grounds covered.memory
+    ended = frame_ended world state f rest grounds covered frames_are done
 
     given : (frames : List Frame) → Each (FrameIn world (ended_all state.memory f.instances)) frames → Each (FrameIn world (ended_all state.memory f.instances)) (caller_given n value frames)
     given [] h = tt
@@ -106,23 +132,8 @@ steps_left world state f rest n value grounds covered frames_are done h = record
       record {
         called = own.0.called;
         back = own.0.back;
+        entered = own.0.entered;
         items = settled_in world (ended_all state.memory f.instances) g.function n value g.items (node_stays world state.memory (ended_all state.memory f.instances) ended.extends n value h) own.0.items;
       },
       own.1,
     )
-
-    none : (i : ℕ) (inst : Instance) → slice_get state.memory i ≡ Some inst → IsBare world inst → ⊥
-    none i inst at b =
-        let w = covered.awaited.each i inst at b in
-        let same = ap (λ (g : Frame). g.items) (top_one (sym frames_are ∙ w.frames_are)) ∙ w.items_are in
-        elim done [
-          | inl empty ↦ cons_empty (sym same ∙ empty)
-          | inr result ↦ returned_wait (top_one (sym result.2 ∙ same))
-        ]
-
-    bare : NoneBare world (ended_all state.memory f.instances)
-    bare i inst at b =
-        let a = ended_back f.instances state.memory i inst at in
-        let x = ended.extends i a.0 a.1 in
-        let key : a.0.key ≡ inst.key = sym (x.2.key) ∙ ap (λ (z : Instance). z.key) (some_one (sym x.1 ∙ at)) in
-        none i a.0 a.1 (record { untyped = a.2 b.untyped; first = b.first; location = b.location; first_is = ap (first_from 0 world.space) key ∙ b.first_is; location_is = b.location_is; id = b.id; content_is = b.content_is })

@@ -16,7 +16,7 @@ use Rattle.covering_laws.specs.covered_memory.Covered.{Leaves}
 use Rattle.covering_laws.specs.covered_state.World.{World, trees_of, sets_of}
 use Rattle.covering_laws.specs.covered_state.Items.{Each, NodeIn, IsOwned, ItemIn}
 use Rattle.covering_laws.specs.covered_state.State.{FrameIn, NotesIn, Covered}
-use Rattle.covering_laws.proofs.covered_state.Stays.{each_append, items_stay, frames_stay, settled_in}
+use Rattle.covering_laws.proofs.covered_state.Stays.{each_append, items_stay, frames_stay, handed_stay, settled_in}
 use Rattle.covered_values.specs.Values.{MayType, IsComputed}
 use Rattle.covered_values.proofs.Awaited.{top_one, types_awaited}
 use Rattle.covered_values.proofs.Bare.{nothing_bare}
@@ -55,9 +55,10 @@ module _ (world : World) (state : State) (f : Frame) (rest : List Frame) (covere
       → NoneBare world memory → Covered world (moved state f rest memory own items notes)
   moved_so memory own items notes left h noted bare = record {
     memory = left.covered;
-    frames = (record { called = own_frames.0.called; back = own_frames.0.back; items = h }, frames_stay world state.memory memory left.extends rest own_frames.1);
+    frames = (record { called = own_frames.0.called; back = own_frames.0.back; entered = own_frames.0.entered; items = h }, frames_stay world state.memory memory left.extends rest own_frames.1);
     kept = covered.kept;
     notes = noted;
+    handed = handed_stay world state.memory memory left.extends state.handed covered.handed;
     awaited = record { each = λ i inst at b. absurd (bare i inst at b) };
   }
 

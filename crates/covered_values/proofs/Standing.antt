@@ -1,5 +1,6 @@
 -- A world over a valid program with more types stands.
-use Rattle.std.proofs.Common.{◌≡◌, ◌∙◌, ℕ, ◌<◌, ◌^◌, List, length, Some, slice_get, sym, subst}
+use Rattle.std.proofs.Common.{◌≡◌, ◌∙◌, ℕ, ◌<◌, ◌^◌, List, length, Some, All, Contains, slice_get, sym, ap, subst}
+use Rattle.std.proofs.lemmas.List.Elements.{All-weaker}
 use Rattle.std.proofs.lemmas.Option.{slice_get_within}
 use Rattle.c_types.specs.declared.term.Term.{Term}
 use Rattle.c_types.specs.declared.term.Term.TheVariants.{Union}
@@ -7,15 +8,18 @@ use Rattle.c_types.specs.Trees.{Ctype}
 use Rattle.c_types.specs.Layout.{Extent, all_nodes}
 use Rattle.c_types.specs.Table.{type_of}
 use Rattle.c_types.specs.Made.{IsMade, AreNamed}
+use Rattle.type_rules.specs.Kinds.{IsEntryType}
 use Rattle.core_tree.specs.declared.node.Entity.{Entity}
 use Rattle.core_tree.specs.declared.node.Node.{Node}
 use Rattle.core_tree.specs.declared.node.Program.{Program}
 use Rattle.core_tree.specs.Rows.{RowOf}
 use Rattle.core_tree.specs.Typed.{IsStored, trees_in}
-use Rattle.core_tree.specs.Valid.{InRows, Literals, ValidProgram}
+use Rattle.core_tree.specs.Valid.{InRows, Literals, ValidProgram, IsEntryAt}
 use Rattle.sol_model.specs.declared.system.System.{System}
 use Rattle.obj_space.specs.declared.location.Location.{Location}
 use Rattle.obj_space.specs.Space.{locations_in}
+use Rattle.covering_laws.specs.object_contents.Contents.{IsOutside}
+use Rattle.covering_laws.proofs.object_contents.Outside.{outside_placed}
 use Rattle.covering_laws.specs.covered_types.Whole.{IsWhole, HasFew, HasValue, AreWhole}
 use Rattle.covering_laws.proofs.covered_types.Whole.{whole_types, placed}
 use Rattle.covering_laws.specs.covered_memory.Demands.{Grounds}
@@ -71,13 +75,21 @@ module _ (p : Program) (more : List Term) (valid : ValidProgram p) (made : IsMad
   literals_more : Literals (trees_in (with_types p more))
   literals_more n node at = valid.trees.literals n node at
 
+  -- a function at which the program is entered has the type that it had
+  entry_more : (e : ℕ) → IsEntryAt (trees_in p) e → IsEntryAt (trees_in (with_types p more)) e
+  entry_more e h =
+      (h.0, h.1, record { linkage = h.2.linkage; storage = h.2.storage; type = subst IsEntryType (sym (kept.types h.0.ty.0 (entities_known e h.0 h.1))) h.2.type })
+
+  entries_more : All (λ e. IsEntryAt (trees_in (with_types p more)) e) p.entries.items
+  entries_more = All-weaker (λ e. IsEntryAt (trees_in p) e) (λ e. IsEntryAt (trees_in (with_types p more)) e) entry_more p.entries.items valid.entries
+
   grounds_more : (s : List Location) (system : System) → s ≡ locations_in p → Grounds p.types s system → Grounds (with_terms p.types more) s system
   grounds_more s system is g =
       subst (λ (z : List Location). Grounds (with_terms p.types more) z system) (sym is)
       (grounds_grow p more system made named follow (subst (λ (z : List Location). Grounds p.types z system) is g))
 
 pub stands_met : StandsMet
-stands_met p more world valid made named fit follow over grounds closed found = record {
+stands_met p more world valid made named fit follow over grounds closed found firsts = record {
   closed = closed;
   grounds = subst (λ (q : Program). Grounds q.types world.space world.system) (sym over.program) (grounds_more p more valid made named fit follow world.space world.system over.space grounds);
   whole = subst AreWhole (sym over.program) (whole_more p more valid made named fit follow);
@@ -85,4 +97,9 @@ stands_met p more world valid made named fit follow over grounds closed found = 
   rows = subst (λ (q : Program). InRows (trees_in q)) (sym over.program) (rows_more p more valid made named fit follow);
   literals = subst (λ (q : Program). Literals (trees_in q)) (sym over.program) (literals_more p more valid made named fit follow);
   found = λ n node at. found n node (subst (λ (q : Program). slice_get q.nodes.items n ≡ Some node) over.program at);
+  opened = λ some. record {
+    outside = subst IsOutside (sym over.space) (outside_placed p made (λ none. some (ap (λ (q : Program). q.entries.items) over.program ∙ none)));
+    entries = subst (λ (q : Program). All (λ e. IsEntryAt (trees_in q) e) q.entries.items) (sym over.program) (entries_more p more valid made named fit follow);
+    firsts = λ e has. firsts e (subst (λ (q : Program). Contains q.entries.items e) over.program has);
+  };
 }

@@ -1,5 +1,5 @@
 -- That what covered values stand on is there for each linked program, over the machine's types.
-use Rattle.std.specs.Prelude.{◌≡◌, ℕ, ◌<◌, ◌^◌, List, Some, length, slice_get}
+use Rattle.std.specs.Prelude.{◌≡◌, ℕ, ◌<◌, ◌^◌, List, Some, Contains, length, slice_get}
 use Rattle.c_types.specs.declared.term.MemberTerm.{MemberTerm}
 use Rattle.c_types.specs.declared.term.Term.{Term}
 use Rattle.c_types.specs.declared.term.Term.TheVariants.{Union}
@@ -15,7 +15,7 @@ use Rattle.covering_laws.specs.covered_memory.Demands.{Grounds}
 use Rattle.covering_laws.specs.grown_programs.Grown.{MayFollow, with_types}
 use Rattle.covering_laws.specs.covered_state.World.{World}
 use Rattle.sol_model.specs.Solutions.{IsClosed}
-use Rattle.covered_values.specs.Values.{Stands, IsFound}
+use Rattle.covered_values.specs.Values.{Stands, IsFound, HasFirst}
 use Rattle.covered_values.specs.Passed.{AreTypedAbove}
 
 -- a tag that stands in no union has members of few nodes, if it is complete
@@ -32,7 +32,7 @@ pub record IsOver (p : Program) (more : List Term) (world : World) : Type 0 wher
   pub space : world.space ≡ locations_in p
 
 -- a world over a valid program with more types, none of which is a structure, a union or a function, stands, where
--- its sets are closed and its functions have locations
+-- its sets are closed, and its functions and those at which it is entered have locations
 abbrev pub StandsMet : Type 0
 StandsMet =
     (p : Program) (more : List Term) (world : World)
@@ -45,6 +45,7 @@ StandsMet =
     → Grounds p.types world.space world.system
     → IsClosed world.system world.family
     → EachNode (trees_in p) (λ n node. IsFound world node.kind)
+    → ((e : ℕ) → Contains p.entries.items e → HasFirst world e)
     → Stands world
 
 -- what calls allocate there has the types of the conversions above

@@ -1,6 +1,7 @@
 -- That what a node computes is covered.
-use Rattle.std.specs.Prelude.{◌≡◌, ◌⊎◌, ℕ, ◌+◌, ◌<◌, ⊤, false, List, [], ◌∷◌, Some, None, Ok, slice_get}
-use Rattle.c_types.specs.declared.key.ObjectKey.TheVariants.{Varargs as VarargsKey}
+use Rattle.std.specs.Prelude.{◌≡◌, ◌≢◌, ◌⊎◌, ℕ, ◌+◌, ◌<◌, ⊤, false, List, [], ◌∷◌, Some, None, Ok, All, Contains}
+use Rattle.std.specs.Prelude.{slice_get}
+use Rattle.c_types.specs.declared.key.ObjectKey.TheVariants.{Entity as EntityKey, Varargs as VarargsKey}
 use Rattle.c_types.specs.declared.term.PathStep.TheVariants.{Index}
 use Rattle.c_types.specs.declared.term.TypeId.{TypeId}
 use Rattle.c_types.specs.Trees.{Ctype}
@@ -11,7 +12,7 @@ use Rattle.core_tree.specs.declared.node.NodeKind.{NodeKind}
 use Rattle.core_tree.specs.declared.node.NodeKind.TheVariants.{FunctionName, Convert, NextArg}
 use Rattle.core_tree.specs.Typed.{type_at}
 use Rattle.core_tree.specs.Range.{EachNode}
-use Rattle.core_tree.specs.Valid.{InRows, Literals}
+use Rattle.core_tree.specs.Valid.{InRows, Literals, IsEntryAt}
 use Rattle.sol_model.specs.Solutions.{IsClosed}
 use Rattle.obj_space.specs.View.{first_from}
 use Rattle.row_numbers.specs.Objects.{entity_key}
@@ -26,6 +27,7 @@ use Rattle.ref_elements.specs.Outcomes.{Effected, stores_and_gives}
 use Rattle.ref_state.specs.Values.{cell_of, cell_in, first_cell}
 use Rattle.ref_values.specs.Memory.{pointee, stores_at}
 use Rattle.ref_values.specs.Values.{computed}
+use Rattle.covering_laws.specs.object_contents.Contents.{IsOutside}
 use Rattle.covering_laws.specs.covered_types.Whole.{AreWhole, HasFew}
 use Rattle.covering_laws.specs.covered_memory.Covered.{InstanceIn, MemoryIn, Leaves}
 use Rattle.covering_laws.specs.covered_memory.Demands.{Grounds}
@@ -40,6 +42,17 @@ IsFound world (FunctionName e) =
     (l : ℕ) × (first_from 0 world.space (entity_key e (slice_get (trees_of world).entities e)) ≡ Some l)
 IsFound world kind = ⊤
 
+-- an entity has a location
+abbrev pub HasFirst : World → ℕ → Type 0
+HasFirst world e = (l : ℕ) × (first_from 0 world.space (EntityKey e) ≡ Some l)
+
+-- a program that is entered from outside: what lies there has its location, and so does each function at which the
+-- program is entered, which is one that may be
+pub record IsOpened (world : World) : Type 0 where
+  pub outside : IsOutside world.space
+  pub entries : All (λ e. IsEntryAt (trees_of world) e) world.program.entries.items
+  pub firsts : (e : ℕ) → Contains world.program.entries.items e → HasFirst world e
+
 -- the family is closed, and the program's nodes stand in their rows, over types that are complete where they must be
 pub record Stands (world : World) : Type 0 where
   pub closed : IsClosed world.system world.family
@@ -49,6 +62,7 @@ pub record Stands (world : World) : Type 0 where
   pub rows : InRows (trees_of world)
   pub literals : Literals (trees_of world)
   pub found : EachNode (trees_of world) (λ n node. IsFound world node.kind)
+  pub opened : world.program.entries.items ≢ [] → IsOpened world
 
 -- an object without a type may have the one to which a pointer of that type points
 abbrev pub MayType : World → List Instance → Cell → TypeId → Type 0

@@ -31,7 +31,8 @@ pub fn types_awaited()
     ensures { TypesAwaited }
 {}
 
-/// Programs that are valid and sets that are closed are all that these laws stand on, but for the locations of named functions.
+/// Programs that are valid and sets that are closed are all that these laws stand on, but for the locations of functions that are named or
+/// at which the program is entered.
 pub fn stands_met()
     ensures { StandsMet }
 {}

@@ -3,4 +3,5 @@ pub mod Types
 pub mod Numbers
 pub mod Demanded
 pub mod Listed
+pub mod Starts
 pub mod Systems

@@ -1,5 +1,6 @@
 pub mod covered_memory
 pub mod covered_rows
+pub mod covered_outside
 pub mod covered_library
 pub mod covered_types
 pub mod object_contents

@@ -34,13 +34,13 @@ use Rattle.link_names.specs.Externals.{Joined, IsExternal, entities_if, entity_a
 use Rattle.link_names.specs.Together.{of_name, first_body, first_defined, is_own, is_listed, has_list, linked_type, type_together, together}
 use Rattle.link_names.specs.Shape.{HasShape, is_function_shape}
 use Rattle.link_names.proofs.Ordering.{external_is, is_external_of}
-use Rattle.unit_link.specs.Linked.{Entities, entity_of, IsMovedEntity, NameUsed, UsesName, IsLinkedName, IsLinkedOther, Linked, joined}
+use Rattle.unit_link.specs.Linked.{Entities, entity_of, IsMovedEntity, NameUsed, UsesName, IsLinkedName, IsLinkedOther, LinkedAt, joined}
 use Rattle.unit_link.specs.Needs.{AreLinkable}
 use Rattle.row_numbers.specs.Objects.{is_open, library_number}
 use Rattle.linked_laws.proofs.link_laws.Wholeness.{maker_found, named_so, comes_from}
 use Rattle.linked_laws.proofs.alike_laws.Entities.{external_keeps}
 use Rattle.linked_laws.proofs.alike_laws.Origins.{own_type}
-use Rattle.library_names.specs.Names.{IsShaped, NamesShaped, AreDeclaredOnly, IsDefined, FunctionsDefined}
+use Rattle.library_names.specs.Names.{IsShaped, AreDeclaredOnly, IsDefined}
 use Rattle.library_names.proofs.Deciding.{shape_stable}
 use Rattle.library_names.proofs.Gathered.{EachOf, filter_each, none_any, found_passes, Chosen, by_first, by_second, by_third, chosen, together_each, together_listed, function_shaped}
 use Rattle.library_names.proofs.Numbers.{numbers_known}
@@ -124,7 +124,7 @@ function_long (FunctionFrom r NoTypes Variadic) f [] has = absurd has
 function_long (FunctionFrom r (MoreTypes t ts) Variadic) f [] has = absurd has
 function_long t f shape has = absurd f
 
-module _ (units : List Unit) (p : Program) (linkable : AreLinkable units) (filled : AreFilled units) (h : Linked units p) where
+module _ {entered : List (List ℕ)} (units : List Unit) (p : Program) (linkable : AreLinkable units) (filled : AreFilled units) (h : LinkedAt entered units p) where
   abbrev j : Joined
   j = joined units h.numbers p.types
 
@@ -431,8 +431,10 @@ module _ (units : List Unit) (p : Program) (linkable : AreLinkable units) (fille
         by x at function (Some place) used is = entity_defined e x at function place used
         by x at function None used is = absurd (is n node there (subst (λ (k : NodeKind). IsUseOf k e) (sym kind) refl))
 
-pub names_shaped : NamesShaped
+pub names_shaped : {entered : List (List ℕ)} (units : List Unit) (p : Program) → AreLinkable units → AreFilled units → LinkedAt entered units p
+    → (e : ℕ) (x : Entity) (found : Numbered) → slice_get p.entities.items e ≡ Some x → x.linkage ≡ External → x.storage ≡ DeclaredStorage → summary_of x.name ≡ Some found → IsShaped p x found
 names_shaped units p linkable filled h e x found at linkage storage is = shaped units p linkable filled h e x found at linkage storage is
 
-pub functions_defined : FunctionsDefined
+pub functions_defined : {entered : List (List ℕ)} (units : List Unit) (p : Program) → AreLinkable units → AreFilled units → AreDeclaredOnly units → LinkedAt entered units p → ValidProgram p
+    → (n : ℕ) (node : Node) (e : ℕ) → slice_get p.nodes.items n ≡ Some node → node.kind ≡ FunctionName e → (x : Entity) × (slice_get p.entities.items e ≡ Some x) × IsDefined x
 functions_defined units p linkable filled only h valid n node e there kind = named_defined units p linkable filled h only valid n node e there kind

@@ -23,10 +23,10 @@ use Rattle.link_model.specs.filled_units.Filled.{AreFilled}
 use Rattle.link_names.specs.Externals.{IsExternal}
 use Rattle.obj_made.specs.Uses.{is_number, number_in, entity_number, library_number as number_of_entity, named_entity, named_number, is_named}
 use Rattle.row_numbers.specs.Objects.{is_open, library_number, is_library}
-use Rattle.unit_link.specs.Linked.{Linked}
+use Rattle.unit_link.specs.Linked.{LinkedAt}
 use Rattle.unit_link.specs.Needs.{AreLinkable}
 use Rattle.linked_laws.proofs.link_laws.Wholeness.{named_once}
-use Rattle.library_names.specs.Names.{IsShaped, IsTypedBy, LibraryTyped}
+use Rattle.library_names.specs.Names.{IsShaped, IsTypedBy}
 use Rattle.library_names.proofs.Numbers.{numbers_known}
 use Rattle.library_names.proofs.Naming.{function_long, names_shaped}
 
@@ -146,7 +146,7 @@ entity_by : (o : Option Entity) (k : ℕ) → option_and_then entity_number o �
 entity_by None k h = absurd (none_some h)
 entity_by (Some x) k h = (x, refl, h)
 
-module _ (units : List Unit) (p : Program) (linkable : AreLinkable units) (filled : AreFilled units) (h : Linked units p) (valid : ValidProgram p) (k : ℕ) where
+module _ {entered : List (List ℕ)} (units : List Unit) (p : Program) (linkable : AreLinkable units) (filled : AreFilled units) (h : LinkedAt entered units p) (valid : ValidProgram p) (k : ℕ) where
   -- the entity that is named, with the place of its first use
   record IsNamedAt : Type 0 where
     e : ℕ
@@ -200,5 +200,5 @@ module _ (units : List Unit) (p : Program) (linkable : AreLinkable units) (fille
       passes : (x : Entity) → library_number x ≡ Some k → is_library k x ≡ true
       passes x e = ap (λ (o : Option ℕ). option_map_or (λ (found : ℕ). eqb found k) o false) e ∙ self k
 
-pub library_typed : LibraryTyped
+pub library_typed : {entered : List (List ℕ)} (units : List Unit) (p : Program) → AreLinkable units → AreFilled units → LinkedAt entered units p → ValidProgram p → (k : ℕ) → is_named p.entities.items p.nodes.items k ≡ true → IsTypedBy (trees_in p) k
 library_typed units p linkable filled h valid k named = typed units p linkable filled h valid k (named_at units p linkable filled h valid k named)

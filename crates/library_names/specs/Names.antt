@@ -21,7 +21,7 @@ use Rattle.link_names.specs.Together.{is_listed}
 use Rattle.obj_made.specs.Uses.{is_named}
 use Rattle.row_numbers.specs.Functions.{key_id}
 use Rattle.row_numbers.specs.Objects.{library_number}
-use Rattle.unit_link.specs.Linked.{Linked}
+use Rattle.unit_link.specs.Linked.{LinkedAt}
 use Rattle.unit_link.specs.Needs.{AreLinkable}
 
 -- a library name's row stands in the place of its number, and is a function's exactly below number 55
@@ -45,10 +45,10 @@ pub record IsShaped (p : Program) (x : Entity) (found : Numbered) : Type 0 where
 -- so is each name of a linked program that is the library's, and that no unit defines
 abbrev pub NamesShaped : Type 0
 NamesShaped =
-    (units : List Unit) (p : Program)
+    (entered : List (List ℕ)) (units : List Unit) (p : Program)
     → AreLinkable units
     → AreFilled units
-    → Linked units p
+    → LinkedAt entered units p
     → (e : ℕ) (x : Entity) (found : Numbered)
     → slice_get p.entities.items e ≡ Some x
     → x.linkage ≡ External
@@ -70,11 +70,11 @@ IsDefined x = (x.storage ≡ FunctionBody) ⊎ ((k : ℕ) × (library_number x �
 -- each function that a linked program names is one
 abbrev pub FunctionsDefined : Type 0
 FunctionsDefined =
-    (units : List Unit) (p : Program)
+    (entered : List (List ℕ)) (units : List Unit) (p : Program)
     → AreLinkable units
     → AreFilled units
     → AreDeclaredOnly units
-    → Linked units p
+    → LinkedAt entered units p
     → ValidProgram p
     → (n : ℕ) (node : Node) (e : ℕ)
     → slice_get p.nodes.items n ≡ Some node
@@ -96,10 +96,10 @@ pub record IsTypedBy (u : CoreTrees) (k : ℕ) : Type 0 where
 -- so has each that a linked program names
 abbrev pub LibraryTyped : Type 0
 LibraryTyped =
-    (units : List Unit) (p : Program)
+    (entered : List (List ℕ)) (units : List Unit) (p : Program)
     → AreLinkable units
     → AreFilled units
-    → Linked units p
+    → LinkedAt entered units p
     → ValidProgram p
     → (k : ℕ)
     → is_named p.entities.items p.nodes.items k ≡ true

@@ -10,6 +10,7 @@ pub mod firsts;
 pub mod names;
 pub mod scene;
 mod shapes;
+pub mod start;
 pub mod together;
 mod uses;
 mod whole;

@@ -3,3 +3,4 @@ pub mod Growing
 pub mod Noding
 pub mod Whole
 pub mod Typing
+pub mod Wanting

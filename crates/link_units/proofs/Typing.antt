@@ -9,7 +9,7 @@ use Rattle.core_tree.specs.Typed.{trees_in}
 use Rattle.core_tree.specs.Range.{InRange}
 use Rattle.link_model.specs.Units.{item, types_if}
 use Rattle.link_model.specs.link_types.Starts.{AreSums}
-use Rattle.unit_link.specs.Linked.{Linked}
+use Rattle.unit_link.specs.Linked.{LinkedAt}
 use Rattle.unit_link.specs.Needs.{AreLinkable}
 use Rattle.unit_link.specs.declared.link_program.numbers.EntityNumbers.{EntityNumbers}
 use Rattle.unit_link.specs.link_program.Checked.{joined_by}
@@ -24,7 +24,7 @@ use Rattle.link_units.proofs.Noding.{nodes_start}
 some_one : {X : Type 0} → {x y : X} → ◌≡◌ {A = Option X} (Some x) (Some y) → x ≡ y
 some_one h = cc
 
-node_typed : (units : List Unit) (type_starts node_starts : List ℕ) (n : EntityNumbers) (p : Program) → AreLinkable units → Linked units p → AreMerged units type_starts p.types → AreSums (node_counts_of units) node_starts
+node_typed : {entered : List (List ℕ)} (units : List Unit) (type_starts node_starts : List ℕ) (n : EntityNumbers) (p : Program) → AreLinkable units → LinkedAt entered units p → AreMerged units type_starts p.types → AreSums (node_counts_of units) node_starts
     → AreNodesOf units type_starts node_starts n (length units) p.nodes.items → (i : ℕ) (node : Node) → slice_get p.nodes.items i ≡ Some node → node.ty.0 < length p.types.terms
 node_typed units type_starts node_starts n p linkable linked merged sums h i node at =
     let f = node_from units p linked i node at in
@@ -38,8 +38,8 @@ node_typed units type_starts node_starts n p linkable linked merged sums h i nod
     let type = s.placed.type in
     subst (λ (m : Node). m.ty.0 < length p.types.terms) same (omega arith)
 
-pub in_range_all : (units : List Unit) (type_starts node_starts : List ℕ) (n : EntityNumbers) (p : Program) → AreLinkable units → Linked units p → AreMerged units type_starts p.types → AreSums (node_counts_of units) node_starts
-    → AreEntitiesOf (joined_by units p.types type_starts) p.entities.items n → AreNodesOf units type_starts node_starts n (length units) p.nodes.items → InRange (trees_in p)
+pub in_range_all : {entered : List (List ℕ)} (units : List Unit) (type_starts node_starts : List ℕ) (n : EntityNumbers) (p : Program) → AreLinkable units → LinkedAt entered units p → AreMerged units type_starts p.types → AreSums (node_counts_of units) node_starts
+    → AreEntitiesOf entered (joined_by units p.types type_starts) p.entities.items n → AreNodesOf units type_starts node_starts n (length units) p.nodes.items → InRange (trees_in p)
 in_range_all units type_starts node_starts n p linkable linked merged sums h nodes =
     in_range units p linkable linked (record {
       nodes = node_typed units type_starts node_starts n p linkable linked merged sums nodes;

@@ -3,7 +3,7 @@ use Rattle.std.proofs.Common.{◌≡◌, ℕ, ◌+◌, ◌<◌, Option, List, []
 use Rattle.std.proofs.lemmas.Bool.{cases_lt}
 use Rattle.std.proofs.lemmas.List.{get_or_past, take_all}
 use Rattle.std.proofs.lemmas.Option.{slice_get_within}
-use Rattle.std.specs.List.{slice_get, sum_by}
+use Rattle.std.specs.List.{slice_get, sum_by, AllZip}
 use Rattle.c_types.specs.Trees.{VoidType}
 use Rattle.c_types.specs.Table.{Table, type_of, types_of}
 use Rattle.c_types.proofs.Grow.{grown_length}
@@ -12,7 +12,7 @@ use Rattle.core_tree.specs.declared.node.Unit.{Unit}
 use Rattle.core_tree.specs.declared.node.Program.{Program}
 use Rattle.link_model.specs.Units.{item, types_if}
 use Rattle.link_model.specs.link_types.Starts.{AreSums}
-use Rattle.unit_link.specs.Linked.{Linked, NodesLinked}
+use Rattle.unit_link.specs.Linked.{LinkedAt, NodesLinked}
 use Rattle.unit_link.specs.Needs.{AreLinkable}
 use Rattle.unit_link.specs.declared.link_program.numbers.EntityNumbers.{EntityNumbers}
 use Rattle.unit_link.specs.link_program.Checked.{joined_by}
@@ -20,6 +20,8 @@ use Rattle.unit_link.specs.link_program.Merging.{placed, AreMerged}
 use Rattle.unit_link.specs.link_program.Ready.{AreReady}
 use Rattle.link_units.specs.link_entities.Row.{numbers_of}
 use Rattle.link_units.specs.link_whole.Entities.{AreEntitiesOf}
+use Rattle.link_units.specs.link_whole.Entries.{IsEntryOf}
+use Rattle.link_units.proofs.link_whole.Entering.{of_names}
 use Rattle.link_units.proofs.link_whole.Numbered.{entities_linked}
 use Rattle.link_units.specs.Nodes.{node_counts_of, AreNodesOf}
 use Rattle.link_units.proofs.Noding.{nodes_start}
@@ -58,9 +60,10 @@ nodes_linked units type_starts node_starts n p linkable merged sums h = record {
       };
 }
 
-pub linked_all : (units : List Unit) (type_starts node_starts : List ℕ) (n : EntityNumbers) (p : Program) → AreLinkable units → AreReady p.types → AreMerged units type_starts p.types → AreSums (node_counts_of units) node_starts
-    → AreEntitiesOf (joined_by units p.types type_starts) p.entities.items n → p.names.items ≡ map (λ (x : Unit). x.name) units → AreNodesOf units type_starts node_starts n (length units) p.nodes.items → Linked units p
-linked_all units type_starts node_starts n p linkable ready merged sums h names nodes = record {
+pub linked_all : {entered : List (List ℕ)} (units : List Unit) (type_starts node_starts : List ℕ) (n : EntityNumbers) (p : Program) → AreLinkable units → AreReady p.types → AreMerged units type_starts p.types → AreSums (node_counts_of units) node_starts
+    → AreEntitiesOf entered (joined_by units p.types type_starts) p.entities.items n → p.names.items ≡ map (λ (x : Unit). x.name) units → AreNodesOf units type_starts node_starts n (length units) p.nodes.items
+    → AllZip (IsEntryOf p.entities.items) entered p.entries.items → LinkedAt entered units p
+linked_all {entered} units type_starts node_starts n p linkable ready merged sums h names nodes entries = record {
   numbers = placed type_starts merged.tag;
   entity_numbers = numbers_of n;
   declarations = h.declarations;
@@ -71,4 +74,5 @@ linked_all units type_starts node_starts n p linkable ready merged sums h names 
   signatures = λ e entity at body. signed p.types entity.ty.0 ready;
   nodes = nodes_linked units type_starts node_starts n p linkable merged sums nodes;
   entities = entities_linked (joined_by units p.types type_starts) h.declarations n p h.numbers h.one h.only h.linked;
+  entries = of_names p entered p.entries.items entries;
 }

@@ -1,2 +1,3 @@
 pub mod Sizes
 pub mod Numbered
+pub mod Entering

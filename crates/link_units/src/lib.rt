@@ -7,4 +7,4 @@ pub mod link_whole;
 pub mod linking;
 pub mod nodes;
 
-pub use linking::link;
+pub use linking::{link, link_entries};

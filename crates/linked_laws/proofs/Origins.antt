@@ -12,7 +12,7 @@ use Rattle.link_model.specs.declared.item.Item.{Item}
 use Rattle.link_model.specs.Units.{item}
 use Rattle.link_names.specs.Externals.{is_external, entities_if, entity_at, item_of}
 use Rattle.link_names.proofs.Ordering.{external_is, is_external_of}
-use Rattle.unit_link.specs.Linked.{entity_of, IsMovedEntity, IsMovedNode, Linked}
+use Rattle.unit_link.specs.Linked.{entity_of, IsMovedEntity, IsMovedNode, LinkedAt}
 use Rattle.unit_link.specs.Places.{node_place}
 
 some_one : {X : Type 0} → {x y : X} → ◌≡◌ {A = Option X} (Some x) (Some y) → x ≡ y
@@ -47,7 +47,7 @@ some_at [] k lt = absurd (omega arith)
 some_at (x ∷ xs) zero lt = (x, refl)
 some_at (x ∷ xs) (suc k) lt = some_at xs k (omega arith)
 
-module _ (units : List Unit) (p : Program) (h : Linked units p) where
+module _ {names : List (List ℕ)} (units : List Unit) (p : Program) (h : LinkedAt names units p) where
   -- a node of the program is one of a unit, with other numbers
   pub record NodeFrom (n : ℕ) (node : Node) : Type 0 where
     pub unit : ℕ

@@ -12,7 +12,7 @@ use Rattle.core_tree.specs.declared.node.NodeKind.TheVariants.{Named, FunctionNa
 use Rattle.core_tree.specs.Typed.{trees_in, trees_of}
 use Rattle.core_tree.specs.Range.{InRange, named_by, listed_by}
 use Rattle.link_model.specs.Units.{item}
-use Rattle.unit_link.specs.Linked.{Linked}
+use Rattle.unit_link.specs.Linked.{LinkedAt}
 use Rattle.unit_link.specs.Needs.{AreLinkable}
 use Rattle.unit_link.specs.Places.{node_place, kind_renamed}
 use Rattle.linked_laws.specs.Ranges.{HasTypes}
@@ -36,7 +36,7 @@ some_mapped : (f : ℕ → ℕ) (P Q : ℕ → Type 0) (o : Option ℕ) → ((x 
 some_mapped f P Q None g h = h
 some_mapped f P Q (Some x) g h = g x h
 
-module _ (units : List Unit) (p : Program) (linkable : AreLinkable units) (h : Linked units p) where
+module _ {names : List (List ℕ)} (units : List Unit) (p : Program) (linkable : AreLinkable units) (h : LinkedAt names units p) where
   range_of : (u : ℕ) (of : Unit) → slice_get units u ≡ Some of → InRange (trees_of of)
   range_of u of is = (linkable.valid u of is).trees.in_range
 

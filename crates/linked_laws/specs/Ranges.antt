@@ -6,7 +6,7 @@ use Rattle.core_tree.specs.declared.node.Node.{Node}
 use Rattle.core_tree.specs.declared.node.Entity.{Entity}
 use Rattle.core_tree.specs.Typed.{trees_in}
 use Rattle.core_tree.specs.Range.{InRange}
-use Rattle.unit_link.specs.Linked.{Linked}
+use Rattle.unit_link.specs.Linked.{LinkedAt}
 use Rattle.unit_link.specs.Needs.{AreLinkable}
 
 -- the type of each node and entity stands in the table
@@ -18,4 +18,8 @@ pub record HasTypes (p : Program) : Type 0 where
 
 abbrev pub LinkedRange : Type 0
 LinkedRange =
-    (units : List Unit) (p : Program) → AreLinkable units → Linked units p → HasTypes p → InRange (trees_in p)
+    (names : List (List ℕ)) (units : List Unit) (p : Program)
+    → AreLinkable units
+    → LinkedAt names units p
+    → HasTypes p
+    → InRange (trees_in p)

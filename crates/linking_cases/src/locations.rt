@@ -311,8 +311,8 @@ impl Draft {
         Ok(())
     }
 
-    // The program of that unit.
-    fn program(self, unit: &str) -> Result<Program, OutOfMemory> {
+    // The program of that unit, which is entered at these entities.
+    fn program(self, unit: &str, entries: &[u32]) -> Result<Program, OutOfMemory> {
         let Draft {
             alloc,
             types,
@@ -326,6 +326,7 @@ impl Draft {
             types,
             nodes,
             entities,
+            entries: Vec::from_slice(alloc, entries)?,
         })
     }
 }
@@ -336,7 +337,7 @@ fn built(alloc: Global, case: &Case) -> Result<Program, OutOfMemory> {
     let ids = draft.add_types(case.types)?;
     draft.add_entities(ids.as_slice(), case.entities)?;
     draft.add_nodes(ids.as_slice(), case.nodes)?;
-    draft.program(case.unit)
+    draft.program(case.unit, case.entries)
 }
 
 // Whether a location is the one that is wanted, and is found by its name.

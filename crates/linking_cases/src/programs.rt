@@ -1,5 +1,6 @@
 // Two programs as plain data, and their locations: a unit in the form in which GCC writes it, and one with a union, members
-// without names, locals of one name, a compound literal, and allocating functions that are named otherwise than in a call.
+// without names, locals of one name, a compound literal, and allocating functions that are named otherwise than in a call, which
+// is entered from outside.
 
 use c_types::key::ObjectKey;
 use c_types::term::PathStep;
@@ -58,6 +59,7 @@ pub(crate) struct Case {
     pub(crate) types: &'static [Made],
     pub(crate) entities: &'static [EntityRow],
     pub(crate) nodes: &'static [NodeRow],
+    pub(crate) entries: &'static [u32],
     pub(crate) locations: &'static [Wanted],
     pub(crate) lacking: &'static str,
     pub(crate) firsts: &'static [First],
@@ -180,6 +182,7 @@ pub(crate) static PROGRAMS: [Case; 2] = [
             (Sort::Call, (14, 26), 2, &[4, 5]),
             (Sort::Convert, (14, 26), 4, &[6]),
         ],
+        entries: &[],
         locations: &[
             ("list.i:head", 4, false),
             ("list.i:push", 5, false),
@@ -209,6 +212,7 @@ pub(crate) static PROGRAMS: [Case; 2] = [
             (ObjectKey::Library(8), Some(16)),
             (ObjectKey::Function(0), Some(11)),
             (ObjectKey::Star(0), None),
+            (ObjectKey::Outside, None),
         ],
         spots: &[],
     },
@@ -279,6 +283,7 @@ pub(crate) static PROGRAMS: [Case; 2] = [
             (Sort::Call, (3, 79), 1, &[7]),
             (Sort::Literal(9), (3, 49), 2, &[]),
         ],
+        entries: &[10],
         locations: &[
             ("h", 4, false),
             ("g", 10, false),
@@ -300,9 +305,13 @@ pub(crate) static PROGRAMS: [Case; 2] = [
             ("malloc", 5, false),
             ("strdup", 5, false),
             ("malloc@*", 5, true),
+            ("<outside>", 5, true),
         ],
         lacking: "strtod",
-        firsts: &[(ObjectKey::Star(0), Some(19))],
+        firsts: &[
+            (ObjectKey::Star(0), Some(19)),
+            (ObjectKey::Outside, Some(20)),
+        ],
         spots: &[
             (
                 ObjectKey::Entity(3),

@@ -53,5 +53,6 @@ covered_is_covered world state covered = record {
   frames = each_change (FrameIn world state.memory) (StandsIn world state.memory) (stands_in world state.memory) state.frames covered.frames;
   kept = covered.kept;
   notes = covered.notes;
+  handed = covered.handed;
   awaited = covered.awaited;
 }

@@ -3,6 +3,7 @@ use Rattle.std.proofs.Common.{arith, ◌≡◌, ◌∙◌, ◌⊎◌, inl, inr, 
 use Rattle.std.proofs.lemmas.Option.{slice_get_within}
 use Rattle.c_types.specs.declared.key.ObjectKey.{ObjectKey}
 use Rattle.c_types.specs.declared.key.ObjectKey.TheVariants.{Entity as EntityKey, Function as FunctionKey}
+use Rattle.c_types.specs.declared.term.TypeId.{TypeId}
 use Rattle.core_tree.specs.declared.node.Node.{Node}
 use Rattle.core_tree.specs.Range.{InRange}
 use Rattle.core_tree.specs.Typed.{sort_at}
@@ -25,12 +26,13 @@ use Rattle.ref_state.specs.declared.notes.Notes.{Notes}
 use Rattle.ref_state.specs.declared.state.State.{State}
 use Rattle.ref_state.specs.ref_types.Types.{types_with}
 use Rattle.covering_laws.specs.covered_library.Calls.{place_row, StoresIn}
+use Rattle.covering_laws.specs.covered_memory.Covered.{outside_row}
 use Rattle.covering_laws.specs.covered_state.World.{World, trees_of, view_in, sets_of, setting_in}
 use Rattle.covering_laws.specs.covered_state.Items.{Each, ReturnedIn, ArgumentsIn, IsPendingBack}
-use Rattle.covering_laws.specs.covered_state.State.{KeptIn, NotesIn}
+use Rattle.covering_laws.specs.covered_state.State.{KeptIn, NotesIn, HandedIn}
 use Rattle.machine_covers.specs.Covers.{HasIn, IsWaiting, HoldsIn, StandsIn, IsCovered}
 use Rattle.machine_covers.specs.Decided.{StateBy}
-use Rattle.machine_covers.specs.Frames.{result_start, numbered, given_by, GivenBy, ReturnedBy, ValueBy, ArgumentBy, ArgumentAt, ArgumentsBy, PendingAt, PendingBackBy, LibraryBy, ItemBy, FrameBy, KeptBy, StoreBy, NotesBy, FramesBy, KeptAll}
+use Rattle.machine_covers.specs.Frames.{result_start, numbered, given_by, GivenBy, ReturnedBy, ValueBy, ArgumentBy, ArgumentAt, ArgumentsBy, PendingAt, PendingBackBy, LibraryBy, ItemBy, FrameBy, KeptBy, StoreBy, NotesBy, FramesBy, KeptAll, HandedAll}
 use Rattle.machine_covers.specs.Whole.{sight_in, StateExact, CoversExact, world_over}
 use Rattle.machine_covers.proofs.Aims.{target_to, target_from, back_to, back_from, called_to, called_from, under_to, under_from, noted_to, noted_from, kept_to, kept_from}
 use Rattle.machine_covers.proofs.Given.{start_same}
@@ -184,13 +186,23 @@ module _ (world : World) (range : InRange (trees_of world)) (valid : IsValid wor
   unfolding NotesBy
   notes_from notes h = (noted_from world valid notes.target h.target, stores_from notes.stores h.stores)
 
+  -- what was handed over
+  handed_to : (handed : List (TypeId × Cell)) → HandedAll (sight_in world) memory handed → Each (HandedIn world memory) handed
+  unfolding HandedAll
+  handed_to handed h = each_of (HandedIn world memory) handed (λ k d lt. cell_of_by (sets_of world) memory (outside_row (sets_of world)) (get_or handed k d).1 (h k d lt))
+
+  handed_from : (handed : List (TypeId × Cell)) → Each (HandedIn world memory) handed → HandedAll (sight_in world) memory handed
+  unfolding HandedAll
+  handed_from handed h k d lt = by_of_cell (sets_of world) memory (outside_row (sets_of world)) (get_or handed k d).1 (all_of (HandedIn world memory) handed h k d lt)
+
 module _ (world : World) (state : State) (range : InRange (trees_of world)) (valid : IsValid world.system) (known : AreKnown (length world.program.types.terms) state.memory) where
   to : StateBy (sight_in world) state → IsCovered world state
-  to (memory, frames, kept, notes, awaited) = record {
+  to (memory, frames, kept, notes, handed, awaited) = record {
     memory = (memory_exact world state.memory known).0 memory;
     frames = frames_to world range valid state.memory state.frames frames;
     kept = kept_all_to world range valid state.memory state.kept kept;
     notes = notes_to world range valid state.memory state.notes notes;
+    handed = handed_to world range valid state.memory state.handed handed;
     awaited = waiting_to world state awaited;
   }
 
@@ -200,6 +212,7 @@ module _ (world : World) (state : State) (range : InRange (trees_of world)) (val
     frames_from world range valid state.memory state.frames h.frames,
     kept_all_from world range valid state.memory state.kept h.kept,
     notes_from world range valid state.memory state.notes h.notes,
+    handed_from world range valid state.memory state.handed h.handed,
     waiting_from world state h.awaited,
   )
 

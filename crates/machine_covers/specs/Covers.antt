@@ -1,5 +1,5 @@
 -- What `covers` decides: that sets cover a state. It is what the invariant of steps says of memory, values, frames, kept
--- functions and notes, without what that carries beside: which function a node stands in, and which types values have.
+-- functions, notes and what was handed over, without what that carries beside: which function a node stands in, and which types values have.
 use Rattle.std.specs.Prelude.{◌≡◌, ◌⊎◌, ℕ, ◌≤◌, ⊤, List, Option, Some, None, length, slice_get}
 use Rattle.c_types.specs.declared.key.ObjectKey.{ObjectKey}
 use Rattle.c_types.specs.declared.key.ObjectKey.TheVariants.{Function as FunctionKey}
@@ -20,7 +20,7 @@ use Rattle.covering_laws.specs.covered_rows.Nodes.{HeldIn}
 use Rattle.covering_laws.specs.covered_state.World.{World, trees_of, sets_of, setting_in, IsTargetAt}
 use Rattle.covering_laws.specs.covered_state.Items.{Each, ReturnedIn, ArgumentsIn, IsPendingBack}
 use Rattle.covering_laws.specs.covered_state.Awaited.{AwaitedIn}
-use Rattle.covering_laws.specs.covered_state.State.{BackIn, KeptIn, NotesIn, Covered}
+use Rattle.covering_laws.specs.covered_state.State.{BackIn, KeptIn, NotesIn, HandedIn, Covered}
 
 -- what cells point to is in one row's set; without a row they point to nothing
 abbrev pub RowIn : World → List Instance → Option ℕ → CellList → Type 0
@@ -66,6 +66,7 @@ pub record IsCovered (world : World) (state : State) : Type 0 where
   pub frames : Each (StandsIn world state.memory) state.frames
   pub kept : Each (λ entry. KeptIn world entry.0 entry.1) state.kept
   pub notes : NotesIn world state.memory state.notes
+  pub handed : Each (HandedIn world state.memory) state.handed
   pub awaited : AwaitedIn world state
 
 -- the invariant of steps says no less

@@ -5,6 +5,7 @@ use Rattle.std.specs.Option.{is_some}
 use Rattle.c_types.specs.declared.key.ObjectKey.{ObjectKey}
 use Rattle.c_types.specs.declared.key.ObjectKey.TheVariants.{Entity as EntityKey, Function as FunctionKey}
 use Rattle.c_types.specs.declared.term.PathStep.{PathStep}
+use Rattle.c_types.specs.declared.term.TypeId.{TypeId}
 use Rattle.c_types.specs.Trees.{Ctype}
 use Rattle.type_rules.specs.Conversions.{result_of}
 use Rattle.core_tree.specs.declared.node.Node.{Node}
@@ -29,7 +30,7 @@ use Rattle.ref_state.specs.declared.items.Item.TheVariants.{Do, Wait, Library, R
 use Rattle.ref_state.specs.declared.frames.Frame.{Frame}
 use Rattle.ref_state.specs.declared.notes.Notes.{Notes}
 use Rattle.covering_laws.specs.covered_memory.Spots.{room, IsInTree}
-use Rattle.covering_laws.specs.covered_memory.Covered.{Sets}
+use Rattle.covering_laws.specs.covered_memory.Covered.{Sets, outside_row}
 use Rattle.covering_laws.specs.covered_library.Calls.{place_row}
 use Rattle.row_covers.specs.Cells.{CellBy, AreIn}
 use Rattle.row_covers.specs.Scene.{Sight, sets_at}
@@ -197,6 +198,11 @@ NotedBy scene (Some note) = TargetAt scene note.0 note.1
 unfoldable pub NotesBy : Sight → List Instance → Notes → Type 0
 NotesBy scene memory notes =
     NotedBy scene notes.target × All (λ store. StoreBy scene memory store) notes.stores
+
+-- what was handed over is in the row of what lies outside
+unfoldable pub HandedAll : Sight → List Instance → List (TypeId × Cell) → Type 0
+HandedAll scene memory handed =
+    All (λ entry. CellBy (sets_at scene) memory (outside_row (sets_at scene)) entry.1) handed
 
 -- each frame, and each kept function
 unfoldable pub FramesBy : Sight → List Instance → List Frame → Type 0

@@ -10,10 +10,12 @@ ghost use Rattle.machine_covers.specs.Decided.{PartsBy, StateBy, sight_over};
 ghost use Rattle.machine_covers.specs.Whole.{TellsCovered};
 
 use crate::bare::are_awaited;
-use crate::frames::{are_frames_covered, are_kept_covered, are_notes_covered};
+use crate::frames::{are_frames_covered, are_handed_covered, are_kept_covered, are_notes_covered};
 use c_types::key::ObjectKey;
+use c_types::term::TypeId;
 use core_tree::Program;
 use obj_space::Space;
+use ref_cells::cells::Cell;
 use ref_cells::instance::Instance;
 use ref_machine::machine::Machine;
 use ref_machine::prepared::trees_over;
@@ -30,15 +32,17 @@ fn are_parts_covered(
     frames: &[Frame],
     kept: &[(ObjectKey, u32)],
     notes: &Notes,
+    handed: &[(TypeId, Cell)],
 ) -> bool
     requires scene { IsScene scene.now }
     requires known { AreKnown (length scene.now.trees.types.now.terms) memory.now }
-    ensures { IsTrue result ↔ PartsBy (sight_of scene.now) memory.now frames.now kept.now notes.now }
+    ensures { IsTrue result ↔ PartsBy (sight_of scene.now) memory.now frames.now kept.now notes.now handed.now }
 {
     is_memory_covered(scene, memory)
         && are_frames_covered(scene, memory, frames)
         && are_kept_covered(scene, kept)
         && are_notes_covered(scene, memory, notes)
+        && are_handed_covered(scene, memory, handed)
         && are_awaited(scene, memory, frames)
 }
 
@@ -46,11 +50,12 @@ fn are_parts_covered(
 /// hold is in the rows of their nodes, what is returned in those of the result; each frame's function is a target of the call that entered
 /// it, or stands in the call graph under the function of the library that called it back; pending functions of the library, kept functions
 /// and notes are covered; each instance, one that has ended too, is of its object and type, each path stands in its tree, and an object that
-/// waits for the type of a conversion is pointed to by that conversion's operand alone. It takes no memory. The time that it takes grows
+/// waits for the type of a conversion is pointed to by that conversion's operand alone; what was handed over to the outside is in the row
+/// of what lies there. It takes no memory. The time that it takes grows
 /// with memory, frames and items one by one; the row of each node's value, and the number of each call, is counted over the nodes before.
 ///
 /// Where the system is that of the machine's program over this space, this is `IsCovered`: what the invariant of steps says of memory,
-/// values, frames, kept functions, notes and objects that wait for a type.
+/// values, frames, kept functions, notes, what was handed over and objects that wait for a type.
 ///
 /// It needs the program with which the machine was started, the space and the valid system of that program, and rows of that system's size.
 pub fn covers(
@@ -79,5 +84,6 @@ pub fn covers(
         machine.frames(),
         machine.kept(),
         machine.notes(),
+        machine.handed(),
     )
 }

@@ -7,11 +7,12 @@ ghost use Rattle.row_numbers.specs.Functions.{key_id};
 ghost use Rattle.row_numbers.specs.Setting.{result_nodes};
 ghost use Rattle.ref_cells.specs.Places.{AreKnown};
 ghost use Rattle.row_covers.specs.Scene.{IsScene, sets_over, sight_of};
-ghost use Rattle.row_covers.specs.Cells.{SameRow};
+ghost use Rattle.row_covers.specs.Cells.{CellBy, SameRow};
+ghost use Rattle.covering_laws.specs.covered_memory.Covered.{outside_row};
 ghost use Rattle.call_sites.specs.Calls.{rest_of};
 ghost use Rattle.covering_laws.specs.covered_memory.Spots.{spot};
 ghost use Rattle.covering_laws.specs.covered_library.Calls.{instance_row, place_row};
-ghost use Rattle.machine_covers.specs.Frames.{numbered, width_of, width_at, result_start, GivenBy, ReturnedBy, ValueBy, ArgumentBy, ArgumentAt, ArgumentsBy, PendingAt, ThereBy, EntryExists, ValueExists, PendingBackBy, LibraryBy, ItemBy, ItemAt, CalledBy, UnderBy, FrameBy, EndAt, KeptBy, StoreBy, NotedBy, NotesBy, FramesBy, KeptAll, first_of};
+ghost use Rattle.machine_covers.specs.Frames.{numbered, width_of, width_at, result_start, GivenBy, ReturnedBy, ValueBy, ArgumentBy, ArgumentAt, ArgumentsBy, PendingAt, ThereBy, EntryExists, ValueExists, PendingBackBy, LibraryBy, ItemBy, ItemAt, CalledBy, UnderBy, FrameBy, EndAt, KeptBy, StoreBy, NotedBy, NotesBy, HandedAll, FramesBy, KeptAll, first_of};
 
 use c_types::key::ObjectKey;
 use c_types::term::{PathStep, TypeId};
@@ -44,6 +45,7 @@ fn key_id(scene: &Scene<'_>, key: ObjectKey) -> Option<TypeId>
         ObjectKey::Function(k) => library_id(k, scene.trees.entities),
         ObjectKey::Text(_) | ObjectKey::Call(_) => None,
         ObjectKey::Library(_) | ObjectKey::Star(_) | ObjectKey::Varargs(_) => None,
+        ObjectKey::Outside => None,
     }
 }
 
@@ -157,6 +159,7 @@ fn is_returned_covered(
         ObjectKey::Entity(_) => is_given_covered(scene, memory, key, value),
         ObjectKey::Text(_) | ObjectKey::Call(_) | ObjectKey::Library(_) => false,
         ObjectKey::Star(_) | ObjectKey::Function(_) | ObjectKey::Varargs(_) => false,
+        ObjectKey::Outside => false,
     }
 }
 
@@ -491,6 +494,32 @@ fn is_store_covered(scene: &Scene<'_>, memory: &[Instance], store: &(Cell, Cell)
     is_covered(scene, memory, place_row(scene, memory, &store.0), &store.1)
 }
 
+// The row of what lies outside, where the program is entered from there.
+fn outside_row(scene: &Scene<'_>) -> Option<u64>
+    ensures { result ≡ outside_row (sets_over scene.now) }
+{
+    match scene.space.first(ObjectKey::Outside) {
+        Some(l) => Some(u64::from(l)),
+        None => None,
+    }
+}
+
+// Whether what was handed over is in the set of a row.
+fn are_in_row(
+    scene: &Scene<'_>,
+    memory: &[Instance],
+    row: Option<u64>,
+    handed: &[(TypeId, Cell)],
+) -> bool
+    requires scene { IsScene scene.now }
+    requires known { AreKnown (length scene.now.trees.types.now.terms) memory.now }
+    ensures { IsTrue result ↔ All (λ entry. CellBy (sets_over scene.now) memory.now row entry.1) handed.now }
+{
+    handed
+        .iter()
+        .all(|entry| is_covered(scene, memory, row, &entry.1))
+}
+
 // Whether the function that a step noted is a target of its call.
 fn is_noted(scene: &Scene<'_>, target: Option<(u32, ObjectKey)>) -> bool
     requires { IsScene scene.now }
@@ -536,4 +565,14 @@ pub fn are_notes_covered(scene: &Scene<'_>, memory: &[Instance], notes: &Notes) 
             .as_slice()
             .iter()
             .all(|store| is_store_covered(scene, memory, store))
+}
+
+/// Whether each pointer and function that was handed over is in the row of what lies outside.
+#[tactic(auto, unfolding(crate::specs::Frames::HandedAll))]
+pub fn are_handed_covered(scene: &Scene<'_>, memory: &[Instance], handed: &[(TypeId, Cell)]) -> bool
+    requires scene { IsScene scene.now }
+    requires known { AreKnown (length scene.now.trees.types.now.terms) memory.now }
+    ensures { IsTrue result ↔ HandedAll (sight_of scene.now) memory.now handed.now }
+{
+    are_in_row(scene, memory, outside_row(scene), handed)
 }

@@ -1,8 +1,8 @@
 -- Steps that leave a frame, and those without one: a function that was kept is called at the end, or the program begins.
-use Rattle.std.proofs.Common.{◌≡◌, ◌⊎◌, inr, ℕ, Bool, true, false, cond, List, [], ◌∷◌, ◌++◌, length, Option, Some, None, Result, Ok, Err, refl, sym, ap, subst}
+use Rattle.std.proofs.Common.{◌≡◌, ◌⊎◌, inr, ℕ, ◌+◌, ◌/◌, ◌%◌, Bool, true, false, cond, List, [], ◌∷◌, ◌++◌, length, slice_get, Option, Some, None, Result, Ok, Err, refl, sym, ap, subst}
 use Rattle.std.proofs.lemmas.Bool.{false≢true}
 use Rattle.c_types.specs.declared.key.ObjectKey.{ObjectKey}
-use Rattle.c_types.specs.declared.key.ObjectKey.TheVariants.{Entity as EntityKey, Text as TextKey, Call as CallKey, Library as LibraryKey, Star as StarKey, Function as FunctionKey, Varargs as VarargsKey}
+use Rattle.c_types.specs.declared.key.ObjectKey.TheVariants.{Entity as EntityKey, Text as TextKey, Call as CallKey, Library as LibraryKey, Star as StarKey, Function as FunctionKey, Varargs as VarargsKey, Outside as OutsideKey}
 use Rattle.c_types.specs.declared.term.TypeId.{TypeId}
 use Rattle.core_tree.specs.Typed.{CoreTrees}
 use Rattle.obj_space.specs.View.{view_of}
@@ -25,6 +25,7 @@ use Rattle.ref_frames.specs.OnTop.{only, on_top}
 use Rattle.ref_calls.specs.Calls.{signature_of}
 use Rattle.ref_calls.specs.Ending.{entry_of, but_last, last_of, pending_frame, kept_entered, kept_called}
 use Rattle.ref_start.specs.Begin.{main_of, main_entry, main_made, begun, begins_at, begins_with, begins, begin}
+use Rattle.ref_start.specs.Entries.{given_to, with_given, enters_or_ends, starts_by, starts}
 use Rattle.covering_laws.specs.covered_state.World.{World, trees_of}
 use Rattle.covered_values.proofs.Operands.{went, ok_one, err_ok}
 use Rattle.covered_effects.specs.Served.{IsServed}
@@ -38,12 +39,13 @@ use Rattle.machine_sound.specs.Carried.{Carried, BeginsSteady}
 use Rattle.machine_sound.proofs.Frames.{carries, stays, entered_stands}
 
 -- what is kept stays, whoever gets the value of a frame that is left
-left_kept : (u : CoreTrees) (state : State) (f : Frame) (rest : List Frame) (value : Value) (call by : Option ℕ) → (left_with u state f rest value call by).kept ≡ state.kept
-left_kept u state f rest value (Some n) by = refl
-left_kept u state f rest value None (Some k) = refl
-left_kept u state f rest value None None = refl
+left_kept : (u : CoreTrees) (entries : List ℕ) (state : State) (f : Frame) (rest : List Frame) (value : Value) (call by : Option ℕ) → (left_with u entries state f rest value call by).kept ≡ state.kept
+left_kept u entries state f rest value (Some n) by = refl
+left_kept u entries state f rest value None (Some k) = refl
+left_kept u [] state f rest value None None = refl
+left_kept u (e ∷ entries) state f rest value None None = refl
 
--- it stays where the program begins
+-- it stays where the program begins at main
 begun_kept : (w : Running) (state next : State) (word : ℕ) → begin w state word ≡ Ok next → next.kept ≡ state.kept
 unfolding begin
 begun_kept w state next word e = by_main (main_of w.trees) e
@@ -64,17 +66,34 @@ begun_kept w state next word e = by_main (main_of w.trees) e
     by_main None h = absurd (err_ok h)
     by_main (Some main) h = by_parameters main (parameters_of w.trees (view_of w.space) main) h
 
+-- and where one of its entries is entered, or it ends
+started_kept : (w : Running) (state next : State) (word : ℕ) → starts w state word ≡ Ok next → next.kept ≡ state.kept
+unfolding starts
+started_kept w state next word e = by_entries w.entries e
+  where
+    by_choice : (h : ℕ) (o : Option ℕ) → enters_or_ends w state h o ≡ Ok next → next.kept ≡ state.kept
+    by_choice h None k = ap (λ (s : State). s.kept) (sym (ok_one k))
+    by_choice h (Some entry) k =
+        let r =
+        went (entered w (length state.memory + length (given_to w state entry h).fresh) (main_entry entry) (given_to w state entry h).arguments)
+        (λ made. Ok (on_top (with_given state (given_to w state entry h)) state.frames (only made.stores) made)) next k in
+        ap (λ (s : State). s.kept) (sym (ok_one r.2))
+
+    by_entries : (entries : List ℕ) → starts_by w state word entries ≡ Ok next → next.kept ≡ state.kept
+    by_entries [] k = begun_kept w state next word k
+    by_entries (first ∷ rest) k = by_choice (word / (length (first ∷ rest) + 1)) (slice_get (first ∷ rest) (word % (length (first ∷ rest) + 1))) k
+
 module _ (world : World) (characters : TypeId) (runs : IsRunnable world) (state next : State) (carried : Carried world state) where
   -- a frame is left
   pub leaves : (f : Frame) (rest : List Frame) (value : Value) → state.frames ≡ f ∷ rest → ((f.items ≡ []) × (value ≡ no_value)) ⊎ ((items : List Item) × (f.items ≡ Returned value ∷ items))
-      → Carried world (record (left_frame (trees_of world) state f rest value) { notes = only [] })
+      → Carried world (record (left_frame (trees_of world) world.program.entries.items state f rest value) { notes = only [] })
   leaves f rest value frames_are done =
-      carries world state (record (left_frame (trees_of world) state f rest value) { notes = only [] }) carried (left_kept (trees_of world) state f rest value f.call f.by)
+      carries world state (record (left_frame (trees_of world) world.program.entries.items state f rest value) { notes = only [] }) carried (left_kept (trees_of world) world.program.entries.items state f rest value f.call f.by)
       (leaves_steady world state f rest value runs carried.steady frames_are done)
 
-  -- the program begins
-  pub begins_so : BeginsSteady world characters → (word : ℕ) → state.frames ≡ [] → begin (running_in world characters) state word ≡ Ok next → Carried world next
-  begins_so begins word frames_are e = carries world state next carried (begun_kept (running_in world characters) state next word e) (begins state next word carried.steady frames_are e)
+  -- the program begins, or is entered from outside
+  pub begins_so : BeginsSteady world characters → (word : ℕ) → state.frames ≡ [] → starts (running_in world characters) state word ≡ Ok next → Carried world next
+  begins_so begins word frames_are e = carries world state next carried (started_kept (running_in world characters) state next word e) (begins state next word carried.steady frames_are e)
 
   module _ (served : IsServed world runs.stands characters) (frames_are : state.frames ≡ []) (key : ObjectKey) (n : ℕ) (last : last_of state.kept ≡ Some (key, n)) (is_called : kept_called (running_in world characters) state key n ≡ Ok next) where
     after : StaysCovered world next
@@ -105,6 +124,7 @@ module _ (world : World) (characters : TypeId) (runs : IsRunnable world) (state 
     by_key (LibraryKey m) is h = absurd (err_ok h)
     by_key (StarKey m) is h = absurd (err_ok h)
     by_key (VarargsKey m) is h = absurd (err_ok h)
+    by_key OutsideKey is h = absurd (err_ok h)
 
     by_type : (b : Bool) → (let r : Result State Reason = cond b (kept_entered (running_in world characters) fewer key n) (Err BadCall) in r) ≡ Ok next → FramesStand world next.memory next.frames
     by_type true h = by_key key refl h

@@ -3,7 +3,7 @@
 use Rattle.std.proofs.Common.{◌≡◌, ◌∙◌, inl, inr, ℕ, true, false, List, ◌∷◌, ◌++◌, length, Option, Some, None, Ok, refl, sym, ap, subst}
 use Rattle.std.proofs.lemmas.Bool.{false≢true}
 use Rattle.c_types.specs.declared.key.ObjectKey.{ObjectKey}
-use Rattle.c_types.specs.declared.key.ObjectKey.TheVariants.{Entity as EntityKey, Text as TextKey, Call as CallKey, Library as LibraryKey, Star as StarKey, Function as FunctionKey, Varargs as VarargsKey}
+use Rattle.c_types.specs.declared.key.ObjectKey.TheVariants.{Entity as EntityKey, Text as TextKey, Call as CallKey, Library as LibraryKey, Star as StarKey, Function as FunctionKey, Varargs as VarargsKey, Outside as OutsideKey}
 use Rattle.c_types.specs.declared.term.TypeId.{TypeId}
 use Rattle.core_tree.specs.declared.node.Node.{Node}
 use Rattle.core_tree.specs.Typed.{ValueNode, sort_of}
@@ -84,6 +84,7 @@ module _ (world : World) (characters : TypeId) (runs : IsRunnable world) (served
     called_back callee given is (LibraryKey m) is_comparison h = absurd (err_ok h)
     called_back callee given is (StarKey m) is_comparison h = absurd (err_ok h)
     called_back callee given is (VarargsKey m) is_comparison h = absurd (err_ok h)
+    called_back callee given is OutsideKey is_comparison h = absurd (err_ok h)
 
     goes_stacked : (x : Next) → e.outcome.next ≡ x → goes_by (running_in world characters) (record state { memory = e.memory }) f rest n k e.outcome.value e.outcome.stores x ≡ Ok next → FramesStand world next.memory next.frames
     goes_stacked Done is h = subst (λ (s : State). FramesStand world s.memory s.frames) (ok_one h) (with_items (settled n e.outcome.value f.items) (settled_stacked e.outcome.value))

@@ -2,7 +2,7 @@
 use Rattle.std.proofs.Common.{◌≡◌, ◌∙◌, inl, inr, ℕ, Bool, true, false, cond, List, [], ◌∷◌, length, Option, Some, None, Result, Ok, Err, slice_get, refl, sym, ap, subst}
 use Rattle.std.proofs.lemmas.Bool.{false≢true}
 use Rattle.c_types.specs.declared.key.ObjectKey.{ObjectKey}
-use Rattle.c_types.specs.declared.key.ObjectKey.TheVariants.{Entity as EntityKey, Text as TextKey, Call as CallKey, Library as LibraryKey, Star as StarKey, Function as FunctionKey, Varargs as VarargsKey}
+use Rattle.c_types.specs.declared.key.ObjectKey.TheVariants.{Entity as EntityKey, Text as TextKey, Call as CallKey, Library as LibraryKey, Star as StarKey, Function as FunctionKey, Varargs as VarargsKey, Outside as OutsideKey}
 use Rattle.c_types.specs.declared.term.TypeId.{TypeId}
 use Rattle.core_tree.specs.declared.node.Node.{Node}
 use Rattle.core_tree.specs.declared.node.NodeKind.{NodeKind}
@@ -189,6 +189,7 @@ module _ (world : World) (characters : TypeId) (runs : IsRunnable world) (served
     reaches_by (LibraryKey m) is e = absurd (err_ok e)
     reaches_by (StarKey m) is e = absurd (err_ok e)
     reaches_by (VarargsKey m) is e = absurd (err_ok e)
+    reaches_by OutsideKey is e = absurd (err_ok e)
 
   calling : (n : ℕ) (left : List ℕ) (values : List (ℕ × Value)) (items : List Item) → f.items ≡ Wait n left values ∷ items → IsCall (trees_of world) n left → call_row (running_in world characters) state f rest n values ≡ Ok next → Carried world next
   calling n left values items items_are c e =

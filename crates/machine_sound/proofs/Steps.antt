@@ -12,7 +12,7 @@ use Rattle.ref_statements.specs.Nodes.{do_row}
 use Rattle.ref_calls.specs.Outcomes.{Goes, Ends, Stops, outcome}
 use Rattle.ref_calls.specs.Library.{library_row}
 use Rattle.ref_calls.specs.Ending.{last_of, kept_called, end_step}
-use Rattle.ref_start.specs.Begin.{begin}
+use Rattle.ref_start.specs.Entries.{starts}
 use Rattle.ref_machine.specs.Step.{placed, waited, item_step, outside_step, frames_step, step}
 use Rattle.covering_laws.specs.covered_state.World.{World, trees_of}
 use Rattle.covered_statements.specs.Rows.{running_in}
@@ -53,7 +53,7 @@ module _ (world : World) (characters : TypeId) (h : IsSteppable world characters
       calls_kept world characters h.runs state next carried h.served frames_are kept.0 kept.1 last (goes_ok kept.1 (kept_called (running_in world characters) state kept.0 kept.1) next e)
 
   outside_sound : state.frames ≡ [] → (status : Option ℤ) → outside_step (running_in world characters) state status word ≡ Goes next → Carried world next
-  outside_sound frames_are None e = begins_so world characters h.runs state next carried h.begins word frames_are (goes_ok 0 (begin (running_in world characters) state word) next e)
+  outside_sound frames_are None e = begins_so world characters h.runs state next carried h.begins word frames_are (goes_ok 0 (starts (running_in world characters) state word) next e)
   outside_sound frames_are (Some status) e = end_sound frames_are status (last_of state.kept) refl e
 
   frames_sound : (frames : List Frame) → state.frames ≡ frames → frames_step (running_in world characters) state frames word ≡ Goes next → Carried world next

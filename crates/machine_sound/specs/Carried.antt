@@ -3,7 +3,7 @@ use Rattle.std.specs.Prelude.{◌≡◌, ℕ, List, [], Ok}
 use Rattle.c_types.specs.declared.term.TypeId.{TypeId}
 use Rattle.ref_state.specs.declared.state.State.{State}
 use Rattle.ref_calls.specs.Outcomes.{Goes}
-use Rattle.ref_start.specs.Begin.{begin}
+use Rattle.ref_start.specs.Entries.{starts}
 use Rattle.ref_machine.specs.Step.{step}
 use Rattle.ref_machine.specs.Run.{run_from}
 use Rattle.covering_laws.specs.covered_state.World.{World}
@@ -18,17 +18,17 @@ pub record Carried (world : World) (state : State) : Type 0 where
   pub steady : Steady world state
   pub found : KeptFound world state
 
--- the program's first step, from whatever state without a frame, keeps what is covered
+-- the step of a program that isn't at its end, from whatever state without a frame, keeps what is covered
 abbrev pub BeginsSteady : World → TypeId → Type 0
 BeginsSteady world characters =
     (state next : State) (word : ℕ)
     → Steady world state
     → state.frames ≡ []
-    → begin (running_in world characters) state word ≡ Ok next
+    → starts (running_in world characters) state word ≡ Ok next
     → Steady world next
 
 -- what steps of a world stand on: its nodes stand in their rows, the library's functions have their shapes and objects,
--- and the first step is covered
+-- and a step without a frame is covered
 pub record IsSteppable (world : World) (characters : TypeId) : Type 0 where
   pub runs : IsRunnable world
   pub served : IsServed world runs.stands characters

@@ -4,7 +4,8 @@ ghost use Rattle.machine_sound.specs.Scenes.{EveryRunIsCovered};
 
 /// Each step of the machine that goes on, from a state that the sets cover, leads to a state that they cover: a node is begun or goes on,
 /// a call enters a function or waits for one of the library, the library's effect is done, calls back, keeps a function or ends the
-/// program, a frame is left, a kept function is called at the end, and the program begins (5.1.2.2, 6.5, 6.8, 7.22.4).
+/// program, a frame is left, what an entry gives goes outside, a kept function is called at the end, and the program begins at main or is
+/// entered from outside (5.1.2.2, 6.5, 6.8, 7.22.4).
 pub fn step_sound()
     ensures { StepSound }
 {}

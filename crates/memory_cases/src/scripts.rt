@@ -228,6 +228,26 @@ get whole.0 int`Mismatch
 get whole.1 int`0
 get element.1.0 int`Mismatch
 
+memory from outside that has its type is one element of it, whatever its size, and no call ends it
+outside int`
+outside record`
+outside empty`
+get element.0.0 int`0
+put element.0.0 int 7`written
+elements 0 int 2`7 OutOfRange
+put element.0.1 int 7`OutOfRange
+get whole.0 int`Mismatch
+get element.1.0 record`.0=0 .1=null
+get element.1.1 record`OutOfRange
+get element.2.0 empty`
+get element.2.1 empty`OutOfRange
+call 0 memset element.0.0 0 8`OutOfRange
+call 0 memset element.0.0 0 4`&0[0]
+elements 0 int 2`0 OutOfRange
+call 0 free element.0.0`BadCall
+call 0 realloc element.0.0 8`BadCall
+state 0`live 0 typed zero
+
 strcpy and strcat write the zero too; a refusal leaves all as it was
 hold char[4] char 104 105 0`
 object char[6] unset`

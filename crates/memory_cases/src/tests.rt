@@ -17,6 +17,9 @@ fn prepares(alloc: Global, world: &mut World, words: &[&str]) -> Result<bool, Fa
             let key = ObjectKey::Library(count(word(words, 1)));
             world.library(key, type_of(word(words, 2)), true)?;
         }
+        "outside" => {
+            world.library(ObjectKey::Outside, ty, true)?;
+        }
         "hold" => {
             let numbers = numbers_from(alloc, words, 3)?;
             world.holding(ty, type_of(word(words, 2)), numbers.as_slice())?;

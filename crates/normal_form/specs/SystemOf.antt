@@ -1,8 +1,9 @@
 -- The system of a program.
 use Rattle.std.specs.Prelude.{◌≡◌, ℕ, ◌<◌, ◌≤◌, ◌^◌, ◌↔◌, List, [], ◌∷◌, ◌++◌, Option, Some, None, length}
-use Rattle.std.specs.Prelude.{slice_get, Contains, option_and_then}
+use Rattle.std.specs.Prelude.{◌==◌, slice_get, Contains, option_and_then, map, filter, not}
+use Rattle.std.specs.List.{flat_map}
 use Rattle.c_types.specs.declared.key.ObjectKey.{ObjectKey}
-use Rattle.c_types.specs.declared.key.ObjectKey.TheVariants.{Entity as EntityKey, Library}
+use Rattle.c_types.specs.declared.key.ObjectKey.TheVariants.{Entity as EntityKey, Library, Outside}
 use Rattle.core_tree.specs.declared.node.Program.{Program}
 use Rattle.core_tree.specs.Typed.{CoreTrees, trees_in}
 use Rattle.sol_model.specs.declared.system.System.{System}
@@ -14,13 +15,14 @@ use Rattle.obj_space.specs.View.{SpaceView}
 use Rattle.normal_form.specs.declared.normal.Assignment.{Assignment}
 use Rattle.normal_form.specs.declared.normal.Assignment.TheVariants.{Address, Copy, Load, Store, Field}
 use Rattle.normal_form.specs.declared.normal.Normal.{Normal}
-use Rattle.row_numbers.specs.Functions.{keys_in, parameters_of}
+use Rattle.row_numbers.specs.Functions.{keys_in, number_of, parameters_of}
+use Rattle.row_numbers.specs.Kept.{row_list}
 use Rattle.row_numbers.specs.declared.functions.Role.TheVariants.{Main}
 use Rattle.row_numbers.specs.Around.{AreOwners}
-use Rattle.row_numbers.specs.Setting.{Setting, row_total}
+use Rattle.row_numbers.specs.Setting.{Setting, none_row, result_row, result_nodes, row_total}
 use Rattle.normal_form.specs.Assignments.{assignments_of}
 use Rattle.call_sites.specs.Calls.{AreCalls}
-use Rattle.normal_form.specs.Facts.{location_facts, type_facts, AreFunctions}
+use Rattle.normal_form.specs.Facts.{location_facts, type_facts, parameter_rows, AreFunctions}
 
 -- an assignment as the constraint of its name
 abbrev pub constraint_of : Assignment → Constraint
@@ -50,19 +52,53 @@ second_of u s (EntityKey main ∷ rest) = slice_get (parameters_of u s main) 1
 second_of u s keys = None
 
 -- where main has a second parameter, it has the list of arguments
-abbrev pub start_constraints : CoreTrees → SpaceView → List Constraint
-start_constraints u s =
+abbrev pub argument_constraints : CoreTrees → SpaceView → List Constraint
+argument_constraints u s =
     held_by (option_and_then s.first (second_of u s (keys_in Main u.entities))) (s.first (Library 9))
 
--- what a program demands: what its nodes do, the rule of each call, and what holds at the start
+-- of these rows, those that aren't the one of nodes without a row
+abbrev pub present_rows : CoreTrees → SpaceView → List ℕ → List ℕ
+present_rows u s rows = filter (λ row. not (row == none_row u s)) rows
+
+-- what lies outside is copied into each of these rows
+abbrev pub taken_in : CoreTrees → SpaceView → ℕ → List ℕ → List Constraint
+taken_in u s outside rows = map (λ row. CopyForm outside row) (present_rows u s rows)
+
+-- and each of these rows is copied into what lies outside
+abbrev pub given_out : CoreTrees → SpaceView → ℕ → List ℕ → List Constraint
+given_out u s outside rows = map (λ row. CopyForm row outside) (present_rows u s rows)
+
+-- the rows of the result of the function that an entity is
+abbrev pub result_rows : CoreTrees → SpaceView → ℕ → List ℕ
+result_rows u s e = row_list (none_row u s) (result_row u s (number_of u s e)) (result_nodes u (EntityKey e))
+
+-- what lies outside goes into each parameter of an entry, and what the entry gives goes outside
+abbrev pub entry_constraints : CoreTrees → SpaceView → ℕ → ℕ → List Constraint
+entry_constraints u s outside e =
+    flat_map (λ key. taken_in u s outside (parameter_rows u s key)) (parameters_of u s e)
+    ++ given_out u s outside (result_rows u s e)
+
+-- what lies outside may point to itself
+abbrev pub outside_constraints : CoreTrees → SpaceView → List ℕ → Option ℕ → List Constraint
+outside_constraints u s entries None = []
+outside_constraints u s entries (Some outside) =
+    AddressForm outside outside ∷ flat_map (entry_constraints u s outside) entries
+
+-- what is there when the program begins: at main, its arguments; else what lies outside
+abbrev pub start_constraints : CoreTrees → SpaceView → List ℕ → List Constraint
+start_constraints u s [] = argument_constraints u s
+start_constraints u s entries = outside_constraints u s entries (s.first Outside)
+
+-- what a program demands: what its nodes do, the rule of each call, what the library's objects hold, and what is there
+-- when it begins
 pub data Demands (w : Setting) (calls : ℕ) (c : Constraint) : Type 0 where
   by_node : {a : Assignment} → Contains (assignments_of w) a → constraint_of a ≡ c → Demands w calls c
   by_call : {call : ℕ} → call < calls → Call call ≡ c → Demands w calls c
   by_library : Contains (library_constraints w.space) c → Demands w calls c
-  by_start : Contains (start_constraints w.trees w.space) c → Demands w calls c
+  by_start : Contains (start_constraints w.trees w.space w.entries) c → Demands w calls c
 
 abbrev pub setting_of : Program → SpaceView → List (Option ℕ) → Setting
-setting_of p s owners = record { trees = trees_in p; space = s; owners = owners }
+setting_of p s owners = record { trees = trees_in p; space = s; owners = owners; entries = p.entries.items }
 
 -- S is the system of P, whose locations are those of the space. The order of its constraints is free.
 pub record SystemOf (p : Program) (s : SpaceView) (system : System) : Type 0 where

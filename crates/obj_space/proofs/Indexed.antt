@@ -14,7 +14,7 @@ use Rattle.std.proofs.Common.{inl, inr}
 use mathlib.Core.Logic.{⊎_elim, ◌⊎◌}
 use Rattle.c_types.specs.Index.{number_at}
 use Rattle.c_types.specs.declared.key.ObjectKey.{ObjectKey}
-use Rattle.c_types.specs.declared.key.ObjectKey.TheVariants.{Entity, Text, Call, Library, Star, Function, Varargs}
+use Rattle.c_types.specs.declared.key.ObjectKey.TheVariants.{Entity, Text, Call, Library, Star, Function, Varargs, Outside}
 use Rattle.obj_space.specs.declared.location.Location.{Location}
 use Rattle.c_types.specs.declared.term.PathStep.{PathStep}
 use Rattle.c_types.specs.Table.{Table}
@@ -88,7 +88,8 @@ object_by (suc (suc zero)) k = Call k
 object_by (suc (suc (suc zero))) k = Library k
 object_by (suc (suc (suc (suc zero)))) k = Star k
 object_by (suc (suc (suc (suc (suc zero))))) k = Function k
-object_by (suc (suc (suc (suc (suc (suc n)))))) k = Varargs k
+object_by (suc (suc (suc (suc (suc (suc zero)))))) k = Varargs k
+object_by (suc (suc (suc (suc (suc (suc (suc n))))))) k = Outside
 
 object_back : (a : ObjectKey) → object_by (kind_of a) (number_of a) ≡ a
 unfolding object_by
@@ -99,6 +100,7 @@ object_back (Library k) = refl
 object_back (Star k) = refl
 object_back (Function k) = refl
 object_back (Varargs e) = refl
+object_back Outside = refl
 
 both : (a b c d : ℕ) → (nat_eq a b && nat_eq c d) ≡ true → (a ≡ b) × (c ≡ d)
 both a b c d h = (grind (arith, nat_tests), grind (arith, nat_tests))

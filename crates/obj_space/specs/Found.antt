@@ -6,6 +6,7 @@ use Rattle.std.specs.Ordering.{nat_cmp, ordering_then}
 use Rattle.c_types.specs.Index.{number_at}
 use Rattle.c_types.specs.declared.key.ObjectKey.{ObjectKey}
 use Rattle.c_types.specs.declared.key.ObjectKey.TheVariants.{Entity, Text, Call, Library, Star, Function, Varargs}
+use Rattle.c_types.specs.declared.key.ObjectKey.TheVariants.{Outside}
 use Rattle.obj_space.specs.declared.location.Location.{Location}
 use Rattle.obj_space.specs.declared.space.Space.TheInside.{Inside}
 
@@ -47,6 +48,7 @@ kind_of (Library k) = 3
 kind_of (Star k) = 4
 kind_of (Function k) = 5
 kind_of (Varargs e) = 6
+kind_of Outside = 7
 
 abbrev pub number_of : ObjectKey → ℕ
 number_of (Entity e) = e
@@ -56,6 +58,7 @@ number_of (Library k) = k
 number_of (Star k) = k
 number_of (Function k) = k
 number_of (Varargs e) = e
+number_of Outside = 0
 
 abbrev pub same_object : ObjectKey → ObjectKey → Bool
 same_object a b = nat_eq (kind_of a) (kind_of b) && nat_eq (number_of a) (number_of b)

@@ -27,6 +27,7 @@ fn pair_of(key: ObjectKey) -> (u32, u32)
         ObjectKey::Star(k) => (4, k),
         ObjectKey::Function(k) => (5, k),
         ObjectKey::Varargs(e) => (6, e),
+        ObjectKey::Outside => (7, 0),
     }
 }
 

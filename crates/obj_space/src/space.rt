@@ -8,7 +8,9 @@ ghost use Rattle.obj_space.specs.Spots.{HasWholes, ReachesParts};
 ghost use Rattle.obj_space.specs.Space.{AreTyped, HasTrees, locations_of, locations_in};
 
 use crate::firsts::{Firsts, first_of, index_firsts};
-use crate::library::{takes_arguments, write_functions, write_library, write_one, write_stars};
+use crate::library::{
+    takes_arguments, write_functions, write_library, write_one, write_outside, write_stars,
+};
 use crate::location::Location;
 use crate::names::{NameIndex, index_names};
 use crate::parts::{Whole, write_parts};
@@ -65,7 +67,7 @@ fn write_made(
     Ok(())
 }
 
-// Writes the library's objects.
+// Writes the library's objects, and what lies outside.
 fn write_library_objects(
     alloc: Global,
     program: &Program,
@@ -81,6 +83,7 @@ fn write_library_objects(
     let direct = called(alloc, nodes)?;
     let stars = starred(alloc, entities, nodes, direct.as_slice())?;
     write_stars(alloc, stars.as_slice(), out)?;
+    write_outside(alloc, program.entries.as_slice(), out)?;
     Ok(())
 }
 

@@ -1,6 +1,7 @@
 pub mod Images
 pub mod Pairing
 pub mod Firsts
+pub mod Starts
 pub mod Tags
 pub mod Sorting
 pub mod Twinned

@@ -10,9 +10,13 @@ mod calls;
 #[cfg(test)]
 mod effects;
 #[cfg(test)]
+mod entries;
+#[cfg(test)]
 mod generated;
 #[cfg(test)]
 mod long;
+#[cfg(test)]
+mod machine_runs;
 #[cfg(test)]
 mod outside;
 #[cfg(test)]

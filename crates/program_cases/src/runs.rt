@@ -135,6 +135,10 @@ stopped Mismatch a.i:5:8
 store main/p <arg>
 finished 0
 `~
+--run 1000 a.i`a.i words`0`void*getenv(void*);int main(void){void*p=getenv(0);return p==0;}^`run 1
+store main/p <getenv>
+finished 0
+`~
 --run 99 a.i`a.i words`8`int x,*p; int main(void){p=&x;return 0;}^`run 1
 sto`sink fault
 ```0`9";

@@ -1,7 +1,9 @@
 // Worked rows, whole and with reads and writes of one byte.
 use crate::calls::{Case, OpenGate, ROOM, is_answered};
 use crate::effects::EFFECTS;
+use crate::entries::ENTRIES;
 use crate::generated::GENERATED;
+use crate::machine_runs::MACHINE_RUNS;
 use crate::outside::OUTSIDE;
 use crate::rows::ROWS;
 use crate::runs::RUNS;
@@ -43,7 +45,9 @@ fn rows_of(number: u32) -> &'static str {
         4 => RUNS,
         5 => GENERATED,
         6 => EFFECTS,
-        _ => STOPS,
+        7 => STOPS,
+        8 => MACHINE_RUNS,
+        _ => ENTRIES,
     }
 }
 
@@ -88,16 +92,22 @@ fn worked_rows(rt: HostRuntime) -> Result<(), OutOfMemory> {
         (5, 0, 0),
         (6, 0, 0),
         (7, 0, 0),
+        (8, 0, 0),
+        (9, 0, 0),
         (0, 1, 0),
         (1, 1, 0),
         (2, 1, 0),
         (4, 1, 0),
+        (9, 1, 0),
+        (0, 0, 2),
+        (0, 0, 64),
         (1, 0, 1),
         (1, 0, 2),
         (1, 0, 4),
         (1, 0, 64),
         (4, 0, 4),
         (7, 0, 4),
+        (9, 0, 4),
     ] {
         let wrong = first_wrong(&rt, rt.alloc(), rows_of(number), step, workers)?;
         assert!(rt;

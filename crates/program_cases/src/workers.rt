@@ -1,5 +1,7 @@
 // Which workers come to the gate.
 use crate::calls::{Case, ROOM, is_answered};
+use crate::rows::ROWS;
+use crate::tests::case_of;
 use pta_base::{Gate, OutOfMemory};
 use std::sync::atomic::{AtomicU64, Ordering};
 use std::thread::yield_now;
@@ -61,7 +63,17 @@ fn have_met(gate: &Both) -> bool {
     [first, second, late] == [1, 1, 0]
 }
 
-/// Two pointers with an address each, so that two workers have a piece each in the first round.
+/// The first of the worked rows that begins so; an empty one, which no call answers, where there is none.
+fn row_with(beginning: &str) -> &'static str {
+    for row in ROWS.split("~\n") {
+        if row.starts_with(beginning) {
+            return row;
+        }
+    }
+    ""
+}
+
+/// Two pointers with an address each.
 fn two_pointers(words: &'static str) -> Case<'static> {
     Case {
         words,
@@ -77,10 +89,12 @@ fn two_pointers(words: &'static str) -> Case<'static> {
     }
 }
 
+// One thread that does the pieces of both workers waits at the gate in vain.
 #[test]
 fn two_workers_meet_at_the_gate(rt: HostRuntime) -> Result<(), OutOfMemory> {
     let gate = gate(0, 0);
-    let answered = is_answered(&rt, rt.alloc(), &two_pointers("--workers 2 a.i"), &gate)?;
+    let case = case_of(row_with("--workers 2 list.i`"), 0);
+    let answered = is_answered(&rt, rt.alloc(), &case, &gate)?;
     assert!(rt; answered && have_met(&gate), "{answered}");
     Ok(())
 }

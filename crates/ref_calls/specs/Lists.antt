@@ -1,6 +1,6 @@
 -- The next one of a list (C11 7.16.1.1).
 use Rattle.std.specs.Prelude.{◌≡◌, ℕ, ◌+◌, ◌==◌, nat_le, Bool, true, false, if◌then◌else◌, List, [], ◌∷◌, Option}
-use Rattle.std.specs.Prelude.{Some, None, Result, Ok, Err, drop, length, reverse, slice_get}
+use Rattle.std.specs.Prelude.{Some, None, Result, Ok, Err, drop, length, slice_get}
 use Rattle.std.specs.List.{list_any}
 use Rattle.c_types.specs.declared.key.ObjectKey.{ObjectKey}
 use Rattle.c_types.specs.declared.key.ObjectKey.TheVariants.{Varargs as VarargsKey}
@@ -39,7 +39,7 @@ use Rattle.ref_calls.specs.declared.lists.Taken.{Taken}
 abbrev pub has : ℕ → List ℕ → Bool
 has i list = list_any (λ j. j == i) list
 
--- the call of the activation that made an instance, the bottom one first
+-- the call of the activation that made an instance, of these, the top one first
 abbrev pub call_over : ℕ → List Frame → Option ℕ
 call_over i [] = None
 call_over i (f ∷ rest) = if has i f.instances then f.call else call_over i rest
@@ -56,7 +56,7 @@ call_child nodes (Some n) first k = child_of (slice_get nodes n) first k
 abbrev pub node_of : Running → List Frame → ℕ → ℕ → ℕ → Option Entity → Option ℕ
 node_of w frames i k e None = None
 node_of w frames i k e (Some entity) =
-    call_child w.trees.nodes (call_over i (reverse frames)) (length (parameters_of w.trees (view_of w.space) e) + 1) k
+    call_child w.trees.nodes (call_over i frames) (length (parameters_of w.trees (view_of w.space) e) + 1) k
 
 -- the node of the k-th argument that a function was passed past its parameters, by the instance of these arguments
 abbrev pub argument_node : Running → List Frame → ℕ → ℕ → ObjectKey → Option ℕ

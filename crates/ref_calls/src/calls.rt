@@ -28,7 +28,7 @@ pub fn function_type(trees: &Trees<'_>, key: ObjectKey) -> Option<TypeId>
             None => None,
         },
         ObjectKey::Text(_) | ObjectKey::Call(_) | ObjectKey::Library(_) => None,
-        ObjectKey::Star(_) | ObjectKey::Varargs(_) => None,
+        ObjectKey::Star(_) | ObjectKey::Varargs(_) | ObjectKey::Outside => None,
     }
 }
 

@@ -110,7 +110,9 @@ fn enter_kept(
         ObjectKey::Text(_) | ObjectKey::Call(_) | ObjectKey::Library(_) => {
             Err(MemFault::Stop(Reason::BadCall))
         }
-        ObjectKey::Star(_) | ObjectKey::Varargs(_) => Err(MemFault::Stop(Reason::BadCall)),
+        ObjectKey::Star(_) | ObjectKey::Varargs(_) | ObjectKey::Outside => {
+            Err(MemFault::Stop(Reason::BadCall))
+        }
     }
 }
 

@@ -1,6 +1,6 @@
 // The row of NextArg (C11 7.16.1.1).
 
-ghost use Rattle.std.specs.Prelude.{◌≡◌, [], ◌∷◌, ◌+◌, ◌<◌, ◌^◌, true, List, Ok, IfOk, IfSome, OnErr, drop, length, slice_get};
+ghost use Rattle.std.specs.Prelude.{◌≡◌, [], ◌∷◌, ◌+◌, ◌<◌, ◌^◌, true, List, Ok, IfOk, IfSome, OnErr, drop, length, reverse, slice_get};
 ghost use Rattle.c_types.specs.declared.term.PathStep.TheVariants.{Index};
 ghost use Rattle.c_types.specs.Table.{type_of};
 ghost use Rattle.core_tree.specs.Range.{InRange};
@@ -57,13 +57,13 @@ fn has(i: u32, list: &[u32]) -> bool
     list.iter().any(|j| *j == i)
 }
 
-// The call of the activation that made an instance, the bottom one first.
+// The call of the activation that made an instance, of activations of which the top one stands last.
 fn call_over(i: u32, frames: &[Frame]) -> Option<u32>
-    ensures { result ≡ spec.call_over i frames.now }
+    ensures { result ≡ spec.call_over i (reverse frames.now) }
 {
-    for frame in frames {
-        if has(i, frame.instances.as_slice()) {
-            return frame.call;
+    for k in (0..frames.len()).rev() {
+        if has(i, frames[k].instances.as_slice()) {
+            return frames[k].call;
         }
     }
     None
@@ -117,6 +117,7 @@ fn argument_node(
         }
         ObjectKey::Entity(_) | ObjectKey::Text(_) | ObjectKey::Call(_) => None,
         ObjectKey::Library(_) | ObjectKey::Star(_) | ObjectKey::Function(_) => None,
+        ObjectKey::Outside => None,
     }
 }
 

@@ -1,7 +1,7 @@
 -- The type of an instance. What was allocated is an array of as many elements as its bytes hold.
 use Rattle.std.specs.Prelude.{ℕ, ◌<◌, ◌/◌, ◌==◌, Bool, true, false, if◌then◌else◌, Option, Some, None}
 use Rattle.c_types.specs.declared.key.ObjectKey.{ObjectKey}
-use Rattle.c_types.specs.declared.key.ObjectKey.TheVariants.{Call, Star, Library}
+use Rattle.c_types.specs.declared.key.ObjectKey.TheVariants.{Call, Star, Library, Outside}
 use Rattle.c_types.specs.declared.term.TypeId.{TypeId}
 use Rattle.c_types.specs.Trees.{Ctype, ArrayOf}
 use Rattle.c_types.specs.Table.{Table, type_of, extent_in, size_below}
@@ -9,10 +9,11 @@ use Rattle.ref_cells.specs.declared.instance.Instance.{Instance}
 use Rattle.ref_cells.specs.declared.wholes.Whole.{Whole}
 use Rattle.ref_cells.specs.declared.wholes.Whole.TheVariants.{One, Many}
 
--- what a call allocates, and the library's `<FILE>`, the third of its objects
+-- what a call allocates, the library's `<FILE>`, the third of its objects, and memory from outside
 abbrev pub is_allocated : ObjectKey → Bool
 is_allocated (Call node) = true
 is_allocated (Star function) = true
+is_allocated Outside = true
 is_allocated (Library object) = object == 2
 is_allocated key = false
 
@@ -27,14 +28,21 @@ abbrev pub elements_in : ℕ → Option ℕ → ℕ
 elements_in bytes None = 0
 elements_in bytes (Some size) = if size == 0 then 0 else bytes / size
 
--- an array of elements of a type in so many bytes
-abbrev pub array_in : Table → ℕ → Ctype → Ctype
-array_in table bytes t = ArrayOf t (Some (elements_in bytes (size_below (extent_in table t))))
+-- how many elements of a size an object has: memory from outside that is made with its type is one element, and has
+-- no number of bytes
+abbrev pub elements_of : ObjectKey → ℕ → Option ℕ → ℕ
+elements_of Outside bytes size = if bytes == 0 then 1 else elements_in bytes size
+elements_of key bytes size = elements_in bytes size
+
+-- the elements of a type that an object has, as an array
+abbrev pub array_in : Table → ObjectKey → ℕ → Ctype → Ctype
+array_in table key bytes t = ArrayOf t (Some (elements_of key bytes (size_below (extent_in table t))))
 
 abbrev pub typed_whole : Table → Instance → Option TypeId → Option Ctype
 typed_whole table inst None = None
 typed_whole table inst (Some id) =
-    Some (if is_allocated inst.key then array_in table inst.bytes (type_of table id.0) else type_of table id.0)
+    let t = type_of table id.0 in
+    Some (if is_allocated inst.key then array_in table inst.key inst.bytes t else t)
 
 -- the type of an instance, where it has one
 abbrev pub whole_of : Table → Instance → Option Ctype

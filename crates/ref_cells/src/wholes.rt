@@ -5,7 +5,7 @@ ghost use Rattle.c_types.specs.Trees.{Ctype, grow};
 ghost use Rattle.std.specs.Option.{option_map};
 ghost use Rattle.c_types.specs.Table.{Table, type_of, extent_in, size_below};
 ghost use Rattle.c_types.specs.Paths.{part_type, part_below};
-ghost use Rattle.ref_cells.specs.Wholes.{is_heap, is_allocated, elements_in, typed_whole, whole_of, shape_of, shape_in, IsOver};
+ghost use Rattle.ref_cells.specs.Wholes.{is_heap, is_allocated, elements_in, elements_of, typed_whole, whole_of, shape_of, shape_in, IsOver};
 ghost use Rattle.ref_cells.specs.Places.{is_out, IsKnown};
 
 use crate::instance::Instance;
@@ -21,12 +21,13 @@ pub enum Whole {
     Many(TypeId, u64),
 }
 
-/// Whether an object is allocated: its type is that of its elements, of which there are as many as its bytes hold.
+/// Whether an object is allocated: its type is that of its elements, of which there are as many as its bytes hold. So it is
+/// with what a call allocates, the library's `<FILE>`, and memory from outside.
 pub fn is_allocated(key: ObjectKey) -> bool
     ensures { result ≡ is_allocated key }
 {
     match key {
-        ObjectKey::Call(_) | ObjectKey::Star(_) => true,
+        ObjectKey::Call(_) | ObjectKey::Star(_) | ObjectKey::Outside => true,
         ObjectKey::Library(object) => object == 2,
         ObjectKey::Entity(_) | ObjectKey::Text(_) => false,
         ObjectKey::Function(_) | ObjectKey::Varargs(_) => false,
@@ -39,7 +40,7 @@ pub fn is_heap(key: ObjectKey) -> bool
 {
     match key {
         ObjectKey::Call(_) | ObjectKey::Star(_) => true,
-        ObjectKey::Library(_) => false,
+        ObjectKey::Library(_) | ObjectKey::Outside => false,
         ObjectKey::Entity(_) | ObjectKey::Text(_) => false,
         ObjectKey::Function(_) | ObjectKey::Varargs(_) => false,
     }
@@ -53,6 +54,27 @@ pub fn elements_in(types: &TypeTable, ty: TypeId, bytes: u64) -> u64
     match types.size_of(ty) {
         None => 0,
         Some(size) => { if size == 0 { 0 } else { bytes / size } }
+    }
+}
+
+/// How many elements of a type an object has, in so many bytes: as many as they hold, but one where memory from outside has
+/// none, since it was made with its type.
+pub fn elements_of(types: &TypeTable, key: ObjectKey, ty: TypeId, bytes: u64) -> u64
+    requires { ty.0 < length types.now.terms }
+    ensures { result ≡ elements_of key bytes (size_below (extent_in types.now (type_of types.now ty.0))) }
+{
+    match key {
+        ObjectKey::Outside => {
+            if bytes == 0 {
+                1
+            } else {
+                elements_in(types, ty, bytes)
+            }
+        }
+        ObjectKey::Call(_) | ObjectKey::Star(_) => elements_in(types, ty, bytes),
+        ObjectKey::Library(_) | ObjectKey::Varargs(_) => elements_in(types, ty, bytes),
+        ObjectKey::Entity(_) | ObjectKey::Text(_) => elements_in(types, ty, bytes),
+        ObjectKey::Function(_) => elements_in(types, ty, bytes),
     }
 }
 
@@ -75,7 +97,7 @@ pub fn whole_as(types: &TypeTable, inst: &Instance, ty: Option<TypeId>) -> Optio
         None => None,
         Some(id) => {
             if is_allocated(inst.key) {
-                Some(Whole::Many(id, elements_in(types, id, inst.bytes)))
+                Some(Whole::Many(id, elements_of(types, inst.key, id, inst.bytes)))
             } else {
                 Some(Whole::One(id))
             }

@@ -19,7 +19,7 @@ use Rattle.ref_cells.specs.declared.wholes.Whole.{Whole}
 use Rattle.ref_cells.specs.declared.wholes.Whole.TheVariants.{One, Many}
 use Rattle.ref_elements.specs.declared.runs.Run.{Run}
 use Rattle.ref_elements.specs.declared.runs.Found.{Found}
-use Rattle.ref_cells.specs.Wholes.{is_allocated, elements_in, shape_of}
+use Rattle.ref_cells.specs.Wholes.{is_allocated, elements_of, shape_of}
 use Rattle.ref_cells.specs.Cells.{CellList}
 use Rattle.ref_cells.specs.Places.{is_out}
 use Rattle.ref_mem.specs.Reads.{content}
@@ -33,7 +33,7 @@ abbrev pub ◌>>=◌ : {A B : Type 0} → Result A Reason → (A → Result B Re
 abbrev pub whole_id : Table → Instance → TypeId → Whole
 whole_id table inst id =
     if is_allocated inst.key
-    then Many id (elements_in inst.bytes (size_below (extent_in table (type_of table id.0)))) else One id
+    then Many id (elements_of inst.key inst.bytes (size_below (extent_in table (type_of table id.0)))) else One id
 
 abbrev pub member_id : Table → ℕ → ℕ → Option TypeId
 member_id table tag k = option_map (λ m. m.ty) (member_at table (Some tag) k)

@@ -43,7 +43,7 @@ fn is_object(position: u32, key: ObjectKey) -> bool
 {
     match key {
         ObjectKey::Library(other) => other == position,
-        ObjectKey::Call(_) | ObjectKey::Star(_) => false,
+        ObjectKey::Call(_) | ObjectKey::Star(_) | ObjectKey::Outside => false,
         ObjectKey::Entity(_) | ObjectKey::Text(_) => false,
         ObjectKey::Function(_) | ObjectKey::Varargs(_) => false,
     }

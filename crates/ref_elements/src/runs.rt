@@ -12,7 +12,7 @@ use c_types::term::{OutOfMemory, PathStep, Term, TypeId};
 use pta_base::Listing;
 use ref_cells::cells::{Cell, MemFault, Path, Reason, copy_path};
 use ref_cells::instance::Instance;
-use ref_cells::wholes::{Whole, elements_in, is_allocated, is_out};
+use ref_cells::wholes::{Whole, elements_of, is_allocated, is_out};
 use ref_mem::memory::Memory;
 use std::alloc::Global;
 use type_rules::members::member_at;
@@ -41,7 +41,7 @@ fn whole_id(types: &TypeTable, inst: &Instance, id: TypeId) -> Whole
     ensures known { IsOver (length types.now.terms) result }
 {
     if is_allocated(inst.key) {
-        Whole::Many(id, elements_in(types, id, inst.bytes))
+        Whole::Many(id, elements_of(types, inst.key, id, inst.bytes))
     } else {
         Whole::One(id)
     }

@@ -1,4 +1,3 @@
-pub mod Reversed
 pub mod ChangedFrames
 pub mod Owned
 pub mod Arguments

@@ -7,6 +7,8 @@ use Rattle.c_types.specs.declared.key.ObjectKey.TheVariants.{Entity as EntityKey
 use Rattle.row_numbers.specs.Setting.{takes_further}
 use Rattle.ref_mem.specs.Arguments.{arguments_object}
 use Rattle.c_types.specs.declared.term.TypeId.{TypeId}
+use Rattle.c_types.specs.declared.term.Term.{Term}
+use Rattle.c_types.specs.declared.term.Term.TheVariants.{Function as FunctionTerm}
 use Rattle.c_types.specs.Trees.{Ctype, IntegerType, FunctionFrom, Ctypes, NoTypes, MoreTypes}
 use Rattle.c_types.specs.Table.{Table, type_of}
 use Rattle.core_tree.specs.declared.node.Entity.{Entity}
@@ -18,7 +20,7 @@ use Rattle.call_sites.specs.Signatures.{called_type}
 use Rattle.ref_cells.specs.declared.cells.Reason.{Reason}
 use Rattle.ref_cells.specs.declared.cells.Reason.TheVariants.{Mismatch}
 use Rattle.ref_cells.specs.declared.cells.Cell.{Cell}
-use Rattle.ref_cells.specs.declared.cells.Cell.TheVariants.{Number}
+use Rattle.ref_cells.specs.declared.cells.Cell.TheVariants.{Number, Pointer, Function}
 use Rattle.ref_cells.specs.declared.cells.Value.{Value}
 use Rattle.ref_cells.specs.declared.instance.Instance.{Instance}
 use Rattle.ref_cells.specs.Cells.{CellList}
@@ -154,16 +156,42 @@ finished state status at_once = record state {
   status = Some status;
 }
 
-abbrev pub left_with : CoreTrees → State → Frame → List Frame → Value → Option ℕ → Option ℕ → State
-left_with u state f rest value (Some n) by =
+-- the type of what a function of a type gives
+abbrev pub result_in : Option Term → Option TypeId
+result_in (Some (FunctionTerm result parameters form)) = Some result
+result_in term = None
+
+abbrev pub result_of : CoreTrees → Option Entity → Option TypeId
+result_of u None = None
+result_of u (Some entity) = result_in (slice_get u.types.terms entity.ty.0)
+
+-- a pointer that isn't null is handed over, with its type
+abbrev pub handed_over : List (TypeId × Cell) → Option TypeId → Cell → List (TypeId × Cell)
+handed_over handed (Some id) (Pointer i path past) = handed ++ (id, Pointer i path past) ∷ []
+handed_over handed (Some id) (Function key) = handed ++ (id, Function key) ∷ []
+handed_over handed ty cell = handed
+
+-- a function that the start entered is left: at `main` the program ends, and an entry hands over a pointer that it
+-- gives
+abbrev pub left_start : CoreTrees → List ℕ → State → Frame → List Frame → Value → State
+left_start u [] state f rest value = finished state (status_by (cell_of value)) false
+left_start u entries state f rest value =
+    record state {
+      memory = ended_all state.memory f.instances;
+      frames = rest;
+      handed = handed_over state.handed (result_of u (entity_in u f.function)) (cell_of value);
+    }
+
+abbrev pub left_with : CoreTrees → List ℕ → State → Frame → List Frame → Value → Option ℕ → Option ℕ → State
+left_with u entries state f rest value (Some n) by =
     record state {
       memory = ended_all state.memory f.instances;
       frames = caller_given n (given_by u f.function value) rest;
     }
-left_with u state f rest value None (Some k) =
+left_with u entries state f rest value None (Some k) =
     record state { memory = ended_all state.memory f.instances; frames = rest }
-left_with u state f rest value None None = finished state (status_by (cell_of value)) false
+left_with u entries state f rest value None None = left_start u entries state f rest value
 
--- the top frame is left with a value
-abbrev pub left_frame : CoreTrees → State → Frame → List Frame → Value → State
-left_frame u state f rest value = left_with u state f rest value f.call f.by
+-- the top frame is left with a value, in a program that has these entries
+abbrev pub left_frame : CoreTrees → List ℕ → State → Frame → List Frame → Value → State
+left_frame u entries state f rest value = left_with u entries state f rest value f.call f.by

@@ -15,7 +15,12 @@ use Rattle.ref_frames.specs.declared.running.Running.{Running as Made}
 use Rattle.ref_frames.specs.Running.{Running, element_in, entity_of}
 
 abbrev pub seen : Made → Running
-seen made = record { trees = core_of made.trees; space = made.space.now; characters = made.characters }
+seen made = record {
+  trees = core_of made.trees;
+  space = made.space.now;
+  characters = made.characters;
+  entries = made.entries.now;
+}
 
 -- for each function its parameters
 pub record AreParameters (u : CoreTrees) (s : SpaceView) (lists : List (List ℕ)) : Type 0 where

@@ -1,4 +1,4 @@
--- What the steps of a run are over: a program's trees, its locations, and the type of characters.
+-- What the steps of a run are over: a program's trees, its locations, the type of characters, and its entries.
 use Rattle.std.specs.Prelude.{ℕ, List, Option, Some, None, slice_get}
 use Rattle.c_types.specs.declared.key.ObjectKey.{ObjectKey}
 use Rattle.c_types.specs.declared.key.ObjectKey.TheVariants.{Entity as EntityKey}
@@ -14,6 +14,7 @@ pub record Running : Type 0 where
   pub trees : CoreTrees
   pub space : List Location
   pub characters : TypeId
+  pub entries : List ℕ
 
 abbrev pub location_in : List Location → Option ℕ → Option Location
 location_in space None = None

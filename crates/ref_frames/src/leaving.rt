@@ -1,6 +1,7 @@
 // A function is left, and the program ends.
 
 ghost use Rattle.std.specs.Prelude.{◌≡◌, ◌∷◌, [], List, true, OnOk, OnErr, IfOk, slice_get};
+ghost use Rattle.core_tree.specs.Range.{InRange};
 ghost use Rattle.core_tree.specs.Seen.{core_of};
 ghost use Rattle.c_types.specs.Trees.{IntegerType};
 ghost use Rattle.row_numbers.specs.Functions.{entity_in};
@@ -8,12 +9,12 @@ ghost use Rattle.ref_cells.specs.Numbers.{converted};
 ghost use Rattle.ref_state.specs.declared.frames.Frame.{Frame};
 ghost use Rattle.ref_state.specs.Changes.{ended_all};
 ghost use Rattle.ref_state.specs.Values.{cell_of};
-ghost use Rattle.ref_frames.specs.Frames.{all_ended, caller_given, finished, given_by, is_main_in, left_frame, status_by};
+ghost use Rattle.ref_frames.specs.Frames.{all_ended, caller_given, finished, given_by, handed_over, is_main_in, left_frame, left_start, result_of, status_by};
 
 use crate::frames::depth;
 use crate::tops::settle;
 use c_types::key::ObjectKey;
-use c_types::term::OutOfMemory;
+use c_types::term::{OutOfMemory, Term, TypeId};
 use core_tree::Entity;
 use core_tree::trees::Trees;
 use pta_base::Listing;
@@ -22,7 +23,7 @@ use ref_mem::memory::Memory;
 use ref_state::doors::end_all;
 use ref_state::frames::{Frame, Frames};
 use ref_state::state::State;
-use ref_state::values::cell_of;
+use ref_state::values::{cell_of, scalar_of};
 use row_numbers::functions::{Role, plays};
 use std::alloc::Global;
 
@@ -34,6 +35,7 @@ fn is_main(trees: &Trees<'_>, key: ObjectKey) -> bool
         ObjectKey::Entity(e) => is_main_at(trees.entities, e),
         ObjectKey::Text(_) | ObjectKey::Call(_) | ObjectKey::Library(_) => false,
         ObjectKey::Star(_) | ObjectKey::Function(_) | ObjectKey::Varargs(_) => false,
+        ObjectKey::Outside => false,
     }
 }
 
@@ -136,15 +138,98 @@ fn give_back(
     Ok(())
 }
 
-/// The top frame is left with a value, which goes to the call that entered it. At `Err` nothing has changed.
+// The type of what a function gives.
+fn result_of(trees: &Trees<'_>, function: ObjectKey) -> Option<TypeId>
+    requires { InRange (core_of trees.now) }
+    ensures { result ≡ result_of (core_of trees.now) (entity_in (core_of trees.now) function) }
+{
+    match function {
+        ObjectKey::Entity(e) => result_at(trees, e),
+        ObjectKey::Text(_) | ObjectKey::Call(_) | ObjectKey::Library(_) => None,
+        ObjectKey::Star(_) | ObjectKey::Function(_) | ObjectKey::Varargs(_) => None,
+        ObjectKey::Outside => None,
+    }
+}
+
+// The type of what the function of an entity gives.
+fn result_at(trees: &Trees<'_>, e: u32) -> Option<TypeId>
+    requires { InRange (core_of trees.now) }
+    ensures { result ≡ result_of (core_of trees.now) (slice_get trees.now.entities.now e) }
+{
+    match trees.entities.get(e as usize) {
+        Some(entity) => match trees.types.term(entity.ty) {
+            Term::Function { result, .. } => Some(*result),
+            _ => None,
+        },
+        None => None,
+    }
+}
+
+/// Hands over a pointer that isn't null, or a function, with its type. At `Err` nothing has changed.
+pub fn hand_over(
+    alloc: Global,
+    handed: &mut Listing<(TypeId, Cell)>,
+    ty: Option<TypeId>,
+    cell: &Cell,
+) -> Result<(), OutOfMemory>
+    ensures ok { OnOk result (handed.new ≡ handed_over handed.old ty cell.now) }
+    ensures err { OnErr result (handed.new ≡ handed.old) }
+{
+    let Some(id) = ty else {
+        return Ok(());
+    };
+    match cell {
+        Cell::Pointer { .. } | Cell::Function(_) => {
+            let copy = cell.copy(alloc)?;
+            handed.push((id, copy))?;
+            Ok(())
+        }
+        Cell::Unset | Cell::Number(_) | Cell::Null => Ok(()),
+    }
+}
+
+// The top frame goes, of a function that the start entered. At `Err` nothing has changed.
+fn leave_start(
+    alloc: Global,
+    trees: &Trees<'_>,
+    entries: &[u32],
+    state: &mut State,
+    function: ObjectKey,
+    value: &Value,
+) -> Result<(), OutOfMemory>
+    requires { InRange (core_of trees.now) }
+    ensures ok { (f : Frame) (rest : List Frame) → state.old.frames ≡ f ∷ rest → f.function ≡ function →
+        OnOk result (state.new ≡ left_start (core_of trees.now) entries.now state.old f rest value.now) }
+    ensures err { OnErr result (state.new ≡ state.old) }
+{
+    match entries {
+        [] => {
+            finish(alloc, state, status_of(value), false);
+            Ok(())
+        }
+        [_, ..] => {
+            let cell = scalar_of(alloc, value)?;
+            let ty = result_of(trees, function);
+            hand_over(alloc, &mut state.handed, ty, &cell)?;
+            end_top(&mut state.memory, &mut state.frames);
+            Ok(())
+        }
+    }
+}
+
+/// The top frame is left with a value, which goes to the call that entered it. Where the start entered it, `main` ends the
+/// program with the value as the status, and one of these entries hands over a pointer that it gives. At `Err` nothing has
+/// changed.
 pub fn leave(
     alloc: Global,
     trees: &Trees<'_>,
+    entries: &[u32],
     state: &mut State,
     value: Value,
 ) -> Result<(), OutOfMemory>
+    requires { InRange (core_of trees.now) }
     ensures ok { (f : Frame) (rest : List Frame) → state.old.frames ≡ f ∷ rest →
-        OnOk result (state.new ≡ left_frame (core_of trees.now) state.old f rest value) }
+        OnOk result (state.new ≡ left_frame (core_of trees.now) entries.now state.old f rest value) }
     ensures err { OnErr result (state.new ≡ state.old) }
 {
     let Some(frame) = state.frames.top() else {
@@ -160,9 +245,6 @@ pub fn leave(
             end_top(&mut state.memory, &mut state.frames);
             Ok(())
         }
-        (None, None) => {
-            finish(alloc, state, status_of(&value), false);
-            Ok(())
-        }
+        (None, None) => leave_start(alloc, trees, entries, state, function, &value),
     }
 }

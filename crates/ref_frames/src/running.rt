@@ -21,7 +21,8 @@ use pta_base::Listing;
 use row_numbers::functions::{Role, keys_in, objects_at, present};
 use std::alloc::Global;
 
-/// A program with its locations, the parameters of each of its functions by its entity, and the type of characters.
+/// A program with its locations, the parameters of each of its functions by its entity, the type of characters, and the
+/// entities at which it is entered from outside, none where it begins at main.
 #[derive(Clone, Copy)]
 pub struct Running<'a> {
     pub alloc: Global,
@@ -29,6 +30,7 @@ pub struct Running<'a> {
     pub space: &'a Space,
     pub parameters: &'a [Listing<u32>],
     pub characters: TypeId,
+    pub entries: &'a [u32],
 }
 
 // The entity that a key is.
@@ -39,6 +41,7 @@ fn entity_of(key: ObjectKey) -> Option<u32>
         ObjectKey::Entity(e) => Some(e),
         ObjectKey::Text(_) | ObjectKey::Call(_) | ObjectKey::Library(_) => None,
         ObjectKey::Star(_) | ObjectKey::Function(_) | ObjectKey::Varargs(_) => None,
+        ObjectKey::Outside => None,
     }
 }
 

@@ -1,7 +1,9 @@
 -- The types of instances stay those of a table, and their keys stay, where instances change, end and come.
 use Rattle.std.proofs.Common.{◌≡◌, ℕ, zero, suc, List, [], ◌∷◌, ◌++◌, Option, Some, None, map, filter, set, get_or, slice_get, refl, ap, sym, ◌∙◌}
-use Rattle.std.specs.Prelude.{Bool, false}
+use Rattle.std.specs.Prelude.{Bool, true, false, if◌then◌else◌, is_some}
 use Rattle.c_types.specs.declared.key.ObjectKey.{ObjectKey}
+use Rattle.c_types.specs.declared.term.TypeId.{TypeId}
+use Rattle.c_types.specs.Table.{Table, type_of, extent_in}
 use Rattle.std.proofs.lemmas.List.Elements.{All-append, All-map, All-set}
 use Rattle.core_tree.specs.declared.node.Entity.{Entity}
 use Rattle.core_tree.specs.Typed.{CoreTrees}
@@ -10,6 +12,8 @@ use Rattle.std.specs.Prelude.{length}
 use Rattle.ref_cells.specs.declared.instance.Instance.{Instance}
 use Rattle.ref_cells.specs.Places.{IsKnown, AreKnown}
 use Rattle.ref_mem.specs.Writes.{changed}
+use Rattle.ref_values.specs.Memory.{complete_only}
+use Rattle.covering_laws.proofs.covered_needs.Grounded.{complete_known}
 use Rattle.ref_lib.specs.memory_laws.Kept.{Follows, Stands, is_ended}
 use Rattle.ref_lib.proofs.memory_laws.Follow.{known_at}
 use Rattle.ref_state.specs.Changes.{Blocks, ended_one, ended_all}
@@ -76,6 +80,15 @@ ended_one_known types first memory i h = changed_known types first memory i (λ 
 pub ended_known : (types : ℕ) (first memory : List Instance) (ended : List ℕ) → IsAfter types first memory → IsAfter types first (ended_all memory ended)
 ended_known types first memory [] h = h
 ended_known types first memory (i ∷ rest) h = ended_known types first (ended_one memory i) rest (ended_one_known types first memory i h)
+
+-- an object that gets a type gets a complete one
+complete_if : (table : Table) (b : Bool) (to : TypeId) → is_some (extent_in table (type_of table to.0)) ≡ b → IsKnown (length table.terms) (if b then Some to else None)
+complete_if table true to q = complete_known table to.0 q
+complete_if table false to q = tt
+
+pub complete_only_known : (table : Table) (o : Option TypeId) → IsKnown (length table.terms) (complete_only table o)
+complete_only_known table None = tt
+complete_only_known table (Some to) = complete_if table (is_some (extent_in table (type_of table to.0))) to refl
 
 module _ (u : CoreTrees) (first : List Instance) (range : InRange u) where
   abbrev K : List Instance → Type 0

@@ -6,7 +6,7 @@ use Rattle.c_types.specs.declared.key.ObjectKey.TheVariants.{Entity as EntityKey
 use Rattle.c_types.specs.declared.term.PathStep.{PathStep}
 use Rattle.c_types.specs.declared.term.PathStep.TheVariants.{Member}
 use Rattle.c_types.specs.Trees.{Ctype, VoidType, BoolType, IntegerType, PointerTo}
-use Rattle.c_types.specs.Table.{type_of, extent_in}
+use Rattle.c_types.specs.Table.{type_of}
 use Rattle.core_tree.specs.declared.node.Node.{Node}
 use Rattle.core_tree.specs.declared.node.Op.{Op}
 use Rattle.core_tree.specs.declared.node.NodeKind.{NodeKind}
@@ -39,7 +39,6 @@ use Rattle.ref_places.specs.Places.{instance_of, decay_row, upcast_row}
 use Rattle.ref_values.specs.Memory.{assign_row, type_given, complete_only, pointee, typed_by, pointer_converted, scalar_converted, converted_to, convert_row, number_converted, pointer_moved, cell_updated, update_written, update_row, member_of_value_row, is_union, is_empty, value_within, stores_at}
 use Rattle.ref_values.specs.Values.{computed, one_computed, two_computed, pair_computed, value_computed, cell_given, number_given, cell_computed, gives_cell, one_of, two_of, one_row, two_row, uses_all, lacks, is_true}
 use Rattle.ref_blocks.specs.declared.block.Block.TheVariants.{Part}
-use Rattle.covering_laws.proofs.covered_needs.Grounded.{complete_known}
 use Rattle.ref_statements.specs.declared.forms.Form.{Form}
 use Rattle.ref_statements.specs.Forms.{form_of, goto_name, branches, part_before}
 use Rattle.ref_statements.specs.Rows.{Move, Next, Row, changes, computes}
@@ -49,7 +48,7 @@ use Rattle.ref_statements.specs.Nodes.{begun_value, begun_initialiser, begun_by,
 use Rattle.ref_calls.specs.declared.lists.Taken.{Taken}
 use Rattle.ref_calls.specs.Lists.{put_back}
 use Rattle.ref_machine.specs.Standing.{IsAfter}
-use Rattle.ref_machine.proofs.Known.{changed_known, followed, left_known}
+use Rattle.ref_machine.proofs.Known.{changed_known, followed, left_known, complete_only_known}
 use Rattle.ref_machine.proofs.KnownMoves.{Kept, begun_kept, finished_kept}
 
 module _ (u : CoreTrees) (first : List Instance) (range : InRange u) where
@@ -73,15 +72,6 @@ module _ (u : CoreTrees) (first : List Instance) (range : InRange u) where
         (written_follows u.types (length u.types.terms) memory h.known place t value)
         (λ m f. keeps m (followed (length u.types.terms) None first memory m f h))
 
-    -- an object that gets a type gets a complete one
-    complete_if : (b : Bool) (to : TypeId) → is_some (extent_in u.types (type_of u.types to.0)) ≡ b → IsKnown (length u.types.terms) (if b then Some to else None)
-    complete_if true to q = complete_known u.types to.0 q
-    complete_if false to q = tt
-
-    complete_only_known : (o : Option TypeId) → IsKnown (length u.types.terms) (complete_only u.types o)
-    complete_only_known None = tt
-    complete_only_known (Some to) = complete_if (is_some (extent_in u.types (type_of u.types to.0))) to refl
-
     type_given_kept : (i : ℕ) (id : Option TypeId) → IsKnown (length u.types.terms) id → K (type_given memory i id (slice_get memory i))
     type_given_kept i id known = at (slice_get memory i) refl id known
       where
@@ -100,7 +90,7 @@ module _ (u : CoreTrees) (first : List Instance) (range : InRange u) where
 
     typed_kept : (cell : Cell) (ty : TypeId) → K (typed_by u.types memory cell ty)
     typed_kept (Pointer i path past) ty =
-        type_given_kept i (complete_only u.types (pointee (slice_get u.types.terms ty.0))) (complete_only_known (pointee (slice_get u.types.terms ty.0)))
+        type_given_kept i (complete_only u.types (pointee (slice_get u.types.terms ty.0))) (complete_only_known u.types (pointee (slice_get u.types.terms ty.0)))
     typed_kept (Number n) ty = h
     typed_kept Null ty = h
     typed_kept (Function key) ty = h

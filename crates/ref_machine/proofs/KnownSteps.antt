@@ -1,11 +1,11 @@
 -- A step leaves the types of instances those of the machine's table, and their keys.
-use Rattle.std.proofs.Common.{◌≡◌, ℕ, suc, ℤ, ◌+◌, ◌%◌, ◌<◌, Bool, true, false, List, [], ◌∷◌, Option, Some, None, Result, Ok, Err, IfOk, length, slice_get, refl, sym, subst}
+use Rattle.std.proofs.Common.{◌≡◌, ℕ, suc, ℤ, ◌+◌, ◌/◌, ◌%◌, ◌++◌, ◌<◌, Bool, true, false, List, [], ◌∷◌, Option, Some, None, Result, Ok, Err, IfOk, length, slice_get, refl, sym, subst}
 use Rattle.std.specs.Prelude.{find, drop, if◌then◌else◌}
 use Rattle.std.specs.Option.{option_map}
 use Rattle.std.proofs.lemmas.List.Elements.{All-nil, All-cons, All-append, All-replicate}
 use Rattle.c_types.specs.declared.key.ObjectKey.{ObjectKey}
 use Rattle.c_types.specs.declared.key.ObjectKey.TheVariants.{Entity as EntityKey, Function as FunctionKey, Text as TextKey, Call as CallKey, Library as LibraryKey, Star}
-use Rattle.c_types.specs.declared.key.ObjectKey.TheVariants.{Varargs as VarargsKey}
+use Rattle.c_types.specs.declared.key.ObjectKey.TheVariants.{Varargs as VarargsKey, Outside}
 use Rattle.c_types.specs.declared.term.TypeId.{TypeId}
 use Rattle.c_types.specs.Trees.{Ctype}
 use Rattle.core_tree.specs.declared.node.Entity.{Entity}
@@ -46,7 +46,7 @@ use Rattle.ref_frames.specs.declared.entering.Entry.{Entry}
 use Rattle.ref_frames.specs.declared.entering.Activation.{Activation}
 use Rattle.ref_frames.specs.Running.{Running, location_in, element_by, element_type}
 use Rattle.ref_frames.specs.OnTop.{only, on_top}
-use Rattle.ref_frames.specs.Frames.{parameter_object, parameter_objects, further_objects, entered_objects, list_of, activation, activation_over, activation_by, activation_of, entered, have_types, all_ended, left_with}
+use Rattle.ref_frames.specs.Frames.{parameter_object, parameter_objects, further_objects, entered_objects, list_of, activation, activation_over, activation_by, activation_of, entered, have_types, all_ended, left_start, left_with}
 use Rattle.ref_calls.specs.Calls.{signature_of}
 use Rattle.ref_calls.specs.Reached.{reached}
 use Rattle.ref_calls.specs.Library.{object_of, result_in, term_in, performed_as, performed, comparison_of, back_by, goes_by, library_row}
@@ -54,6 +54,7 @@ use Rattle.ref_state.specs.declared.state.StepAnswer.{StepAnswer}
 use Rattle.ref_state.specs.declared.state.StepAnswer.TheVariants.{Went, Finished, Stopped}
 use Rattle.ref_calls.specs.Outcomes.{Outcome, Goes, Ends, Stops, Steps, outcome}
 use Rattle.ref_calls.specs.Ending.{entry_of, enters, but_last, last_of, kept_entered, kept_called, end_step}
+use Rattle.ref_start.specs.Entries.{Given, given_to, entered_given, enters_or_ends, starts_by, starts}
 use Rattle.ref_start.specs.Begin.{text_of_word, texts, main_entry, made_by, begun, begins_at, begins_with, begins, begin, main_of}
 use Rattle.core_tree.specs.declared.node.Node.{Node}
 use Rattle.core_tree.specs.Typed.{type_at}
@@ -64,6 +65,7 @@ use Rattle.ref_machine.specs.Machines.{IsGrounded}
 use Rattle.ref_machine.specs.Standing.{IsAfter}
 use Rattle.ref_machine.proofs.Known.{after_itself, joined_known, followed, changed_known, ended_known}
 use Rattle.ref_machine.proofs.KnownRows.{do_kept, wait_kept, put_back_kept}
+use Rattle.ref_machine.proofs.KnownEntries.{all_given}
 
 module _ (w : Running) (first : List Instance) (g : IsGrounded w) where
   abbrev KS : Result State Reason → Type 0
@@ -99,6 +101,7 @@ module _ (w : Running) (first : List Instance) (g : IsGrounded w) where
   key_known (LibraryKey n) = tt
   key_known (Star n) = tt
   key_known (VarargsKey n) = tt
+  key_known Outside = tt
 
   parameters_known : (keys : List ObjectKey) (values : List Value) → AreKnown (length w.trees.types.terms) (parameter_objects w.trees keys values)
   parameters_known [] values = All-nil (λ (inst : Instance). IsKnown (length w.trees.types.terms) inst.ty)
@@ -142,11 +145,16 @@ module _ (w : Running) (first : List Instance) (g : IsGrounded w) where
   all_ended_known memory [] h = h
   all_ended_known memory (f ∷ rest) h = all_ended_known (ended_all memory f.instances) rest (ended_known (length w.trees.types.terms) first memory f.instances h)
 
+  left_start_known : (entries : List ℕ) (state : State) (f : Frame) (rest : List Frame) (value : Value) → IsAfter (length w.trees.types.terms) first state.memory
+      → IsAfter (length w.trees.types.terms) first (left_start w.trees entries state f rest value).memory
+  left_start_known [] state f rest value h = all_ended_known state.memory state.frames h
+  left_start_known (e ∷ entries) state f rest value h = ended_known (length w.trees.types.terms) first state.memory f.instances h
+
   left_with_known : (state : State) (f : Frame) (rest : List Frame) (value : Value) (call by : Option ℕ) → IsAfter (length w.trees.types.terms) first state.memory
-      → IsAfter (length w.trees.types.terms) first (left_with w.trees state f rest value call by).memory
+      → IsAfter (length w.trees.types.terms) first (left_with w.trees w.entries state f rest value call by).memory
   left_with_known state f rest value (Some n) by h = ended_known (length w.trees.types.terms) first state.memory f.instances h
   left_with_known state f rest value None (Some k) h = ended_known (length w.trees.types.terms) first state.memory f.instances h
-  left_with_known state f rest value None None h = all_ended_known state.memory state.frames h
+  left_with_known state f rest value None None h = left_start_known w.entries state f rest value h
 
   leaves_known : (state : State) (f : Frame) (rest : List Frame) (value : Value) → IsAfter (length w.trees.types.terms) first state.memory
       → IsAfter (length w.trees.types.terms) first (leaves w state f rest value).memory
@@ -167,6 +175,7 @@ module _ (w : Running) (first : List Instance) (g : IsGrounded w) where
   called_kept state f rest n (LibraryKey k) values h = tt
   called_kept state f rest n (Star k) values h = tt
   called_kept state f rest n (VarargsKey k) values h = tt
+  called_kept state f rest n Outside values h = tt
 
   call_kept : (state : State) (f : Frame) (rest : List Frame) (n : ℕ) (values : List (ℕ × Value)) → IsAfter (length w.trees.types.terms) first state.memory
       → KS (call_row w state f rest n values)
@@ -208,6 +217,7 @@ module _ (w : Running) (first : List Instance) (g : IsGrounded w) where
   back_kept state f rest n by values (LibraryKey k) h = tt
   back_kept state f rest n by values (Star k) h = tt
   back_kept state f rest n by values (VarargsKey k) h = tt
+  back_kept state f rest n by values Outside h = tt
 
   goes_kept : (state : State) (f : Frame) (rest : List Frame) (n k : ℕ) (value : Value) (stores : List (Cell × Cell)) (next : Next) → IsAfter (length w.trees.types.terms) first state.memory
       → KS (goes_by w state f rest n k value stores next)
@@ -274,6 +284,35 @@ module _ (w : Running) (first : List Instance) (g : IsGrounded w) where
   unfolding begin
   begin_kept state word h = begins_kept state word (main_of w.trees) h
 
+  -- entries
+
+  given_kept : (state : State) (e h : ℕ) → AreKnown (length w.trees.types.terms) (given_to w state e h).fresh
+  given_kept state e h =
+      all_given w.trees (length state.memory) h (record { fresh = []; handed = state.handed; arguments = [] })
+      (parameters_of w.trees (view_of w.space) e) (All-nil (λ (inst : Instance). IsKnown (length w.trees.types.terms) inst.ty))
+
+  entry_kept : (state : State) (e : ℕ) (given : Given) → AreKnown (length w.trees.types.terms) given.fresh → IsAfter (length w.trees.types.terms) first state.memory
+      → KS (entered_given w state e given)
+  entry_kept state e given known h =
+      and_then (entered w (length state.memory + length given.fresh) (main_entry e) given.arguments) _
+      (λ (made : Activation). AreKnown (length w.trees.types.terms) made.fresh) (λ (s : State). IsAfter (length w.trees.types.terms) first s.memory)
+      (entered_kept (length state.memory + length given.fresh) (main_entry e) given.arguments)
+      (λ made k. joined_known (length w.trees.types.terms) first (state.memory ++ given.fresh) made.fresh
+      (joined_known (length w.trees.types.terms) first state.memory given.fresh h known) k)
+
+  one_kept : (state : State) (h : ℕ) (o : Option ℕ) → IsAfter (length w.trees.types.terms) first state.memory → KS (enters_or_ends w state h o)
+  one_kept state h None k = all_ended_known state.memory state.frames k
+  one_kept state h (Some e) k = entry_kept state e (given_to w state e h) (given_kept state e h) k
+
+  starts_by_kept : (state : State) (word : ℕ) (entries : List ℕ) → IsAfter (length w.trees.types.terms) first state.memory → KS (starts_by w state word entries)
+  starts_by_kept state word [] h = begin_kept state word h
+  starts_by_kept state word (e ∷ entries) h =
+      one_kept state (word / (length (e ∷ entries) + 1)) (slice_get (e ∷ entries) (word % (length (e ∷ entries) + 1))) h
+
+  starts_kept : (state : State) (word : ℕ) → IsAfter (length w.trees.types.terms) first state.memory → KS (starts w state word)
+  unfolding starts
+  starts_kept state word h = starts_by_kept state word w.entries h
+
   kept_entered_kept : (state : State) (key : ObjectKey) (n : ℕ) → IsAfter (length w.trees.types.terms) first state.memory → KS (kept_entered w state key n)
   kept_entered_kept state (EntityKey e) n h = enters_kept state (entry_of e (Some 24)) [] h
   kept_entered_kept state (FunctionKey k) n h = h
@@ -282,6 +321,7 @@ module _ (w : Running) (first : List Instance) (g : IsGrounded w) where
   kept_entered_kept state (LibraryKey k) n h = tt
   kept_entered_kept state (Star k) n h = tt
   kept_entered_kept state (VarargsKey k) n h = tt
+  kept_entered_kept state Outside n h = tt
 
   outcome_kept : (n : ℕ) (r : Result State Reason) → KS r → KO (outcome n r)
   outcome_kept n (Ok s) h = h
@@ -343,7 +383,7 @@ module _ (w : Running) (first : List Instance) (g : IsGrounded w) where
   item_kept state f rest (Returned value ∷ items) word h = leaves_known state f rest value h
 
   outside_kept : (state : State) (status : Option ℤ) (word : ℕ) → IsAfter (length w.trees.types.terms) first state.memory → KO (outside_step w state status word)
-  outside_kept state None word h = outcome_kept 0 (begin w state word) (begin_kept state word h)
+  outside_kept state None word h = outcome_kept 0 (starts w state word) (starts_kept state word h)
   outside_kept state (Some status) word h = end_kept state status (last_of state.kept) h
 
   frames_kept : (state : State) (frames : List Frame) (word : ℕ) → IsAfter (length w.trees.types.terms) first state.memory → KO (frames_step w state frames word)

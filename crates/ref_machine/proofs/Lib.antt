@@ -1,6 +1,7 @@
 pub mod Known
 pub mod KnownMoves
 pub mod KnownRows
+pub mod KnownEntries
 pub mod KnownSteps
 pub mod Longer
 pub mod PreparedFacts

@@ -12,6 +12,7 @@ use Rattle.core_tree.specs.Seen.{core_of}
 use Rattle.obj_space.specs.declared.location.Location.{Location}
 use Rattle.obj_space.specs.Space.{locations_in}
 use Rattle.obj_space.specs.View.{view_of}
+use Rattle.ref_cells.specs.declared.cells.Cell.{Cell}
 use Rattle.ref_cells.specs.declared.instance.Instance.{Instance}
 use Rattle.ref_cells.specs.Places.{IsKnown}
 use Rattle.ref_state.specs.declared.frames.Frame.{Frame}
@@ -76,12 +77,13 @@ module _ (p : Program) (prepared : Prepared) (h : IsPreparedOf p prepared) where
         (subst (λ (ids : LibraryTypes). AreElementsKnown (length (types_with p.types).terms) ids.character (locations_in p)) (sym h.library) h.elements)))));
   }
 
-  pub running_seen : (trees : CoreTrees) (space : List Location) → trees ≡ trees_by p prepared.types → space ≡ prepared.space
-      → ◌≡◌ {A = Running} (record { trees = trees; space = space; characters = prepared.library.character }) (running p)
-  running_seen trees space et es =
-      ap (λ (u : CoreTrees). let w : Running = record { trees = u; space = space; characters = prepared.library.character } in w) (et ∙ trees_same)
-      ∙ (ap (λ (locations : List Location). let w : Running = record { trees = trees_with p; space = locations; characters = prepared.library.character } in w) (es ∙ h.space)
-      ∙ ap (λ (ids : LibraryTypes). let w : Running = record { trees = trees_with p; space = locations_in p; characters = ids.character } in w) h.library)
+  pub running_seen : (trees : CoreTrees) (space : List Location) (entries : List ℕ) → trees ≡ trees_by p prepared.types → space ≡ prepared.space → entries ≡ p.entries.items
+      → ◌≡◌ {A = Running} (record { trees = trees; space = space; characters = prepared.library.character; entries = entries }) (running p)
+  running_seen trees space entries et es ee =
+      ap (λ (u : CoreTrees). let w : Running = record { trees = u; space = space; characters = prepared.library.character; entries = entries } in w) (et ∙ trees_same)
+      ∙ (ap (λ (locations : List Location). let w : Running = record { trees = trees_with p; space = locations; characters = prepared.library.character; entries = entries } in w) (es ∙ h.space)
+      ∙ (ap (λ (ids : LibraryTypes). let w : Running = record { trees = trees_with p; space = locations_in p; characters = ids.character; entries = entries } in w) h.library
+      ∙ ap (λ (es : List ℕ). record (running p) { entries = es }) ee))
 
   pub grounded : IsMade prepared.types → AreNamed prepared.types → IsGrounded (running p)
   grounded made named = record {
@@ -107,11 +109,12 @@ module _ (p : Program) (prepared : Prepared) (h : IsPreparedOf p prepared) where
       ∙ (ap (λ (locations : List Location). start_memory (trees_with p) locations prepared.library) h.space
       ∙ ap (λ (ids : LibraryTypes). start_memory (trees_with p) (locations_in p) ids) h.library))
 
-pub starts : (p : Program) (memory : List Instance) (frames : List Frame) (kept : List (ObjectKey × ℕ)) (notes : Notes)
-    → memory ≡ start_memory (trees_with p) (locations_in p) (library_ids (length p.types.terms)) → frames ≡ [] → kept ≡ [] → notes ≡ only []
-    → ◌≡◌ {A = State} (record { memory = memory; frames = frames; kept = kept; status = None; notes = notes }) (start p)
-starts p memory frames kept notes m f k n =
-    ap (λ (x : List Instance). let s : State = record { memory = x; frames = frames; kept = kept; status = None; notes = notes } in s) m
-    ∙ (ap (λ (x : List Frame). let s : State = record (start p) { frames = x; kept = kept; notes = notes } in s) f
-    ∙ (ap (λ (x : List (ObjectKey × ℕ)). let s : State = record (start p) { kept = x; notes = notes } in s) k
-    ∙ ap (λ (x : Notes). let s : State = record (start p) { notes = x } in s) n))
+pub starts : (p : Program) (memory : List Instance) (frames : List Frame) (kept : List (ObjectKey × ℕ)) (notes : Notes) (handed : List (TypeId × Cell))
+    → memory ≡ start_memory (trees_with p) (locations_in p) (library_ids (length p.types.terms)) → frames ≡ [] → kept ≡ [] → notes ≡ only [] → handed ≡ []
+    → ◌≡◌ {A = State} (record { memory = memory; frames = frames; kept = kept; status = None; notes = notes; handed = handed }) (start p)
+starts p memory frames kept notes handed m f k n l =
+    ap (λ (x : List Instance). let s : State = record { memory = x; frames = frames; kept = kept; status = None; notes = notes; handed = handed } in s) m
+    ∙ (ap (λ (x : List Frame). let s : State = record (start p) { frames = x; kept = kept; notes = notes; handed = handed } in s) f
+    ∙ (ap (λ (x : List (ObjectKey × ℕ)). let s : State = record (start p) { kept = x; notes = notes; handed = handed } in s) k
+    ∙ (ap (λ (x : Notes). let s : State = record (start p) { notes = x; handed = handed } in s) n
+    ∙ ap (λ (x : List (TypeId × Cell)). let s : State = record (start p) { handed = x } in s) l)))

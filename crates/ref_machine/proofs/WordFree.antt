@@ -40,7 +40,8 @@ use Rattle.ref_calls.specs.Library.{object_of, result_in, term_in, performed_as,
 use Rattle.ref_calls.specs.Lists.{next_row}
 use Rattle.ref_calls.specs.Outcomes.{outcome}
 use Rattle.ref_start.specs.Begin.{begins_with, begins, begin, main_of}
-use Rattle.ref_machine.specs.Step.{placed, calls, takes, call_row, item_step, outside_step, frames_step, step, library_chooses, is_pointer, is_measure, measures, has_some, node_chooses, item_chooses, main_chooses, outside_chooses, frames_choose, chooses}
+use Rattle.ref_start.specs.Entries.{starts_by, starts}
+use Rattle.ref_machine.specs.Step.{placed, calls, takes, call_row, item_step, outside_step, frames_step, step, library_chooses, is_pointer, is_measure, measures, has_some, node_chooses, item_chooses, main_chooses, start_chooses, outside_chooses, frames_choose, chooses}
 
 -- Library functions.
 
@@ -289,9 +290,17 @@ module _ (w : Running) (a b : ℕ) where
   unfolding begin
   begin_same state h = begins_same state (main_of w.trees) h
 
+  starts_by_same : (state : State) (entries : List ℕ) → start_chooses w entries ≡ false → starts_by w state a entries ≡ starts_by w state b entries
+  starts_by_same state [] h = begin_same state h
+  starts_by_same state (e ∷ entries) h = cc
+
+  starts_same : (state : State) → start_chooses w w.entries ≡ false → starts w state a ≡ starts w state b
+  unfolding starts
+  starts_same state h = starts_by_same state w.entries h
+
   outside_same : (state : State) (status : Option ℤ) → outside_chooses w status ≡ false
       → outside_step w state status a ≡ outside_step w state status b
-  outside_same state None h = ap (λ (r : Result State Reason). outcome 0 r) (begin_same state h)
+  outside_same state None h = ap (λ (r : Result State Reason). outcome 0 r) (starts_same state h)
   outside_same state (Some status) h = refl
 
   frames_same : (state : State) (frames : List Frame) → frames_choose w state.status frames ≡ false

@@ -11,7 +11,7 @@ use Rattle.ref_start.specs.Start.{start_memory}
 use Rattle.ref_machine.specs.Types.{running, trees_with}
 use Rattle.ref_machine.specs.Step.{step, chooses}
 
--- the start: no frame, no status, nothing kept or noted
+-- the start: no frame, no status, nothing kept, noted or handed over
 abbrev pub start : Program → State
 start p = record {
   memory = start_memory (trees_with p) (locations_in p) (library_ids (length p.types.terms));
@@ -19,6 +19,7 @@ start p = record {
   kept = [];
   status = None;
   notes = only [];
+  handed = [];
 }
 
 abbrev pub first_word : List ℕ → ℕ

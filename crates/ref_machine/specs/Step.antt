@@ -36,7 +36,8 @@ use Rattle.ref_calls.specs.Library.{library_row}
 use Rattle.ref_calls.specs.Lists.{is_next, next_row}
 use Rattle.ref_calls.specs.Outcomes.{Outcome, Goes, outcome}
 use Rattle.ref_calls.specs.Ending.{end_step, last_of}
-use Rattle.ref_start.specs.Begin.{begin, main_of}
+use Rattle.ref_start.specs.Begin.{main_of}
+use Rattle.ref_start.specs.Entries.{starts}
 
 -- the items of the top frame
 abbrev pub top_items : List Frame → List Item
@@ -111,7 +112,7 @@ waited w state f rest n operands values word =
 
 -- a frame that is left notes nothing
 abbrev pub leaves : Running → State → Frame → List Frame → Value → State
-leaves w state f rest value = record (left_frame w.trees state f rest value) { notes = only [] }
+leaves w state f rest value = record (left_frame w.trees w.entries state f rest value) { notes = only [] }
 
 -- the top item of the top frame
 abbrev pub item_step : Running → State → Frame → List Frame → List Item → ℕ → Outcome
@@ -123,9 +124,9 @@ item_step w state f rest (Library n k arguments ∷ items) word =
     outcome n (library_row w state f rest n k arguments word)
 item_step w state f rest (Returned value ∷ items) word = Goes (leaves w state f rest value)
 
--- without a frame the program begins, or is at its end
+-- without a frame the program begins, or is entered from outside, or is at its end
 abbrev pub outside_step : Running → State → Option ℤ → ℕ → Outcome
-outside_step w state None word = outcome 0 (begin w state word)
+outside_step w state None word = outcome 0 (starts w state word)
 outside_step w state (Some status) word = end_step w state status (last_of state.kept)
 
 abbrev pub frames_step : Running → State → List Frame → ℕ → Outcome
@@ -181,8 +182,13 @@ abbrev pub main_chooses : Running → Option ℕ → Bool
 main_chooses w None = false
 main_chooses w (Some main) = has_some (parameters_of w.trees (view_of w.space) main)
 
+-- without a frame one of the entries is chosen, where there are any
+abbrev pub start_chooses : Running → List ℕ → Bool
+start_chooses w [] = main_chooses w (main_of w.trees)
+start_chooses w (e ∷ entries) = true
+
 abbrev pub outside_chooses : Running → Option ℤ → Bool
-outside_chooses w None = main_chooses w (main_of w.trees)
+outside_chooses w None = start_chooses w w.entries
 outside_chooses w (Some status) = false
 
 abbrev pub frames_choose : Running → Option ℤ → List Frame → Bool

@@ -15,4 +15,5 @@ running p = record {
   trees = trees_with p;
   space = locations_in p;
   characters = id (length p.types.terms);
+  entries = p.entries.items;
 }

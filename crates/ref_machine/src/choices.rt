@@ -8,7 +8,7 @@ ghost use Rattle.core_tree.specs.Typed.{type_at};
 ghost use Rattle.ref_statements.specs.Nodes.{picks};
 ghost use Rattle.ref_frames.specs.Made.{IsRunning, seen};
 ghost use Rattle.ref_start.specs.Begin.{main_of};
-ghost use Rattle.ref_machine.specs.Step.{library_chooses, is_pointer, is_measure, measures, node_chooses, item_chooses, main_chooses, outside_chooses};
+ghost use Rattle.ref_machine.specs.Step.{library_chooses, is_pointer, is_measure, measures, node_chooses, item_chooses, main_chooses, start_chooses, outside_chooses};
 
 use c_types::table::TypeTable;
 use c_types::term::{Term, TypeId};
@@ -130,13 +130,25 @@ fn main_chooses(running: &Running<'_>) -> bool
     }
 }
 
-/// Whether the step of a program without a frame chooses: the first one, where main has parameters.
+// Whether what is outside chooses: which entry it calls, or what it hands to main.
+fn start_chooses(running: &Running<'_>) -> bool
+    requires { IsRunning running.now }
+    ensures { result ≡ start_chooses (seen running.now) running.now.entries.now }
+{
+    match running.entries {
+        [] => main_chooses(running),
+        [_, ..] => true,
+    }
+}
+
+/// Whether the step of a program without a frame chooses: with entries each one up to the program's end, without them the
+/// first one, where main has parameters.
 pub fn outside_chooses(running: &Running<'_>, status: Option<i32>) -> bool
     requires { IsRunning running.now }
     ensures { result ≡ outside_chooses (seen running.now) status }
 {
     match status {
         Some(_) => false,
-        None => main_chooses(running),
+        None => start_chooses(running),
     }
 }

@@ -16,10 +16,11 @@ use crate::prepared::Prepared;
 use crate::steps::{frame_step, outside_step};
 use c_types::key::ObjectKey;
 use c_types::table::TypeTable;
-use c_types::term::OutOfMemory;
+use c_types::term::{OutOfMemory, TypeId};
 use core_tree::Program;
 use obj_space::Space;
 use pta_base::Listing;
+use ref_cells::cells::Cell;
 use ref_frames::frames::depth;
 use ref_mem::memory::Memory;
 use ref_start::standing::{Standing, standing_in};
@@ -77,7 +78,7 @@ impl Machine {
     ghost use Rattle.ref_calls.specs.Outcomes.{Steps};
 
     /// The machine of a program that starts: the objects that live for the whole run are there, with their initialisers, and
-    /// main isn't entered yet.
+    /// neither main nor an entry is entered yet.
     pub fn start(alloc: Global, program: &Program) -> Result<Machine, OutOfMemory>
         requires { InRange (trees_in program.now) }
         ensures machine { IfOk result (IsMachineOf program.now) }
@@ -97,6 +98,7 @@ impl Machine {
                 kept: Listing::new(alloc),
                 status: None,
                 notes: Notes::none(alloc),
+                handed: Listing::new(alloc),
             },
         })
     }
@@ -156,6 +158,14 @@ impl Machine {
         ensures { result.now ≡ self.now.state.notes }
     {
         &self.state.notes
+    }
+
+    /// The pointers to data and to functions that were handed over between the program and those who call its entries, each
+    /// with its type, in order: those that entries were given new, and those that they gave. It takes no memory.
+    pub fn handed(&self) -> &[(TypeId, Cell)]
+        ensures { result.now ≡ self.now.state.handed }
+    {
+        self.state.handed.as_slice()
     }
 
     /// The types of its objects: those of the program, and behind them those of the library's objects.

@@ -79,6 +79,7 @@ impl Prepared {
             space: &self.space,
             parameters: self.parameters.as_slice(),
             characters: self.library.character,
+            entries: program.entries.as_slice(),
         }
     }
 }

@@ -40,7 +40,7 @@ use ref_frames::frames::{no_frame, replace};
 use ref_frames::leaving::leave;
 use ref_frames::running::Running;
 use ref_frames::tops::replace_item;
-use ref_start::begin::begin;
+use ref_start::entries::starts;
 use ref_start::standing::{Standing, place_value};
 use ref_state::items::Item;
 use ref_state::notes::Notes;
@@ -266,7 +266,9 @@ fn call(
         ObjectKey::Text(_) | ObjectKey::Call(_) | ObjectKey::Library(_) => {
             Err(MemFault::Stop(Reason::BadCall))
         }
-        ObjectKey::Star(_) | ObjectKey::Varargs(_) => Err(MemFault::Stop(Reason::BadCall)),
+        ObjectKey::Star(_) | ObjectKey::Varargs(_) | ObjectKey::Outside => {
+            Err(MemFault::Stop(Reason::BadCall))
+        }
     }
 }
 
@@ -303,10 +305,11 @@ fn call_row(running: &Running<'_>, state: &mut State, n: u32) -> Result<Notes, M
 
 // The top frame is left with a value; it notes nothing.
 fn leaves(running: &Running<'_>, state: &mut State, value: Value) -> Result<StepAnswer, OutOfMemory>
+    requires { IsRunning running.now }
     ensures { (f : Frame) (rest : List Frame) → state.old.frames ≡ f ∷ rest →
         Steps result state.old state.new (Goes (leaves (seen running.now) state.old f rest value)) }
 {
-    leave(running.alloc, &running.trees, state, value)?;
+    leave(running.alloc, &running.trees, running.entries, state, value)?;
     state.notes = Notes::none(running.alloc);
     Ok(StepAnswer::Went)
 }
@@ -407,7 +410,7 @@ pub fn frame_step(
     }
 }
 
-/// A step of a program without a frame: it begins, or is at its end.
+/// A step of a program without a frame: it begins, or is entered from outside, or is at its end.
 pub fn outside_step(
     running: &Running<'_>,
     library: LibraryTypes,
@@ -421,9 +424,9 @@ pub fn outside_step(
     if let Some(status) = state.status {
         return end_step(running, state, status);
     }
-    match begin(running, library, state, word) {
-        Ok(()) => {
-            state.notes = Notes::none(running.alloc);
+    match starts(running, library, state, word) {
+        Ok(stores) => {
+            state.notes = Notes::of(stores);
             Ok(StepAnswer::Went)
         }
         Err(MemFault::Stop(reason)) => Ok(StepAnswer::Stopped(reason, 0)),

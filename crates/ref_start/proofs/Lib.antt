@@ -6,3 +6,4 @@ pub mod BodySteps
 pub mod MemoryKept
 pub mod FilledSteps
 pub mod BeginSteps
+pub mod EntrySteps

@@ -52,7 +52,7 @@ texts w count word = replicate count (text_of_word w word)
 abbrev pub argument_pointers : ℕ → ℕ → List Cell
 argument_pointers first count = map start_of (range_with_len first count) ++ Null ∷ []
 
--- main is entered by nothing
+-- main is entered by nothing, and so is an entry
 abbrev pub main_entry : ℕ → Entry
 main_entry main = record { function = main; call = None; by = None }
 

@@ -3,3 +3,4 @@ pub mod Standing
 pub mod Fixed
 pub mod Start
 pub mod Begin
+pub mod Entries

@@ -93,16 +93,19 @@ fn arguments(alloc: Global, argv: u32, count: u32) -> Result<Vec<Value>, OutOfMe
     Ok(values)
 }
 
-// What is made where a function is entered, with these objects before those of its parameters.
-fn with_texts(made: Activation, texts: Vec<Instance>) -> Result<Activation, OutOfMemory>
-    ensures { IfOk result (λ all. all ≡ record made { fresh = texts.items ++ made.fresh }) }
+/// What is made where a function is entered, with these objects before those of its parameters.
+pub(crate) fn with_objects(
+    made: Activation,
+    objects: Vec<Instance>,
+) -> Result<Activation, OutOfMemory>
+    ensures { IfOk result (λ all. all ≡ record made { fresh = objects.items ++ made.fresh }) }
 {
     let Activation {
         frame,
         fresh,
         stores,
     } = made;
-    let mut all = texts;
+    let mut all = objects;
     let mut more = fresh.into_vec();
     all.append(&mut more)?;
     Ok(Activation {
@@ -135,8 +138,8 @@ fn enter_with(
     Ok(())
 }
 
-// Main is entered by nothing.
-fn main_entry(main: u32) -> Entry
+/// Main is entered by nothing, and so is an entry.
+pub(crate) fn main_entry(main: u32) -> Entry
     ensures { result ≡ main_entry main }
 {
     Entry {
@@ -172,7 +175,7 @@ fn main_made(
         values.as_slice(),
     )?;
     let texts = texts(running, types, count, word)?;
-    let made = with_texts(made, texts)?;
+    let made = with_objects(made, texts)?;
     let cells = argument_cells(alloc, before as u32, count)?;
     Ok((cells, made))
 }

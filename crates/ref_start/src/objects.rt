@@ -158,7 +158,7 @@ fn object_of(
             }
         }
         ObjectKey::Call(_) | ObjectKey::Star(_) => Ok(None),
-        ObjectKey::Function(_) | ObjectKey::Varargs(_) => Ok(None),
+        ObjectKey::Function(_) | ObjectKey::Varargs(_) | ObjectKey::Outside => Ok(None),
     }
 }
 

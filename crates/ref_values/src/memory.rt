@@ -85,8 +85,8 @@ pub fn assign_row(
     Ok(stores_and_gives(value, stores))
 }
 
-// The complete type that a pointer's type points to.
-fn pointee(types: &TypeTable, ty: TypeId) -> Option<TypeId>
+/// The complete type that a pointer's type points to.
+pub fn pointee(types: &TypeTable, ty: TypeId) -> Option<TypeId>
     requires { ty.0 < length types.now.terms }
     ensures { result ≡ complete_only types.now (pointee (slice_get types.now.terms ty.0)) }
 {

@@ -26,12 +26,12 @@ system_printed form no_side program system text status h = formed form program s
 system_printed form (with_questions script) program system text status ((short, (space, own, answers)), zero) = (space, own)
 system_printed form (with_words steps words) program system text status h = (h.space, h.system_of)
 
-pub printed_covered : (told : Told) (program : Program) (system : System) (text : List ℕ) (status : ℕ) → AreDistinct (map (λ (unit : NamedText). unit.0) told.units) → Denotes told.units program
+pub printed_covered : (told : Told) (program : Program) (system : System) (text : List ℕ) (status : ℕ) → AreDistinct (map (λ (unit : NamedText). unit.0) told.units) → Denotes told.entries told.units program
     → IsPrinted told.form told.side program system text status → AreRunsCovered program system
 unfolding Denotes
 printed_covered told program system text status distinct (units, right, of) printed =
     let own = system_printed told.form told.side program system text status printed in
-    reports_covered told.units units program own.0 system distinct right of own.1
+    reports_covered told.entries told.units units program own.0 system distinct right of own.1
 
 -- ---- the names of the units that are told
 

@@ -109,11 +109,11 @@ first_read number (text ∷ texts) answer alone (inl (inl h)) = absurd (alone_or
 first_read number (text ∷ texts) answer alone (inl (inr h)) = inl h
 first_read number (text ∷ texts) answer alone (inr h) = inr (h.0, h.1, first_read (number + 1) texts answer alone.1 h.2)
 
-refuses_read : (texts : List NamedText) (answer : Answer) → AreReadAlone texts → Refuses texts answer → RefusesRead texts answer
+refuses_read : (entries : List (List ℕ)) (texts : List NamedText) (answer : Answer) → AreReadAlone texts → Refuses entries texts answer → RefusesRead entries texts answer
 unfolding Refuses
-refuses_read texts answer alone (inl h) = inl (first_read 0 texts answer alone h)
-refuses_read texts answer alone (inr h) = inr h
+refuses_read entries texts answer alone (inl h) = inl (first_read 0 texts answer alone h)
+refuses_read entries texts answer alone (inr h) = inr h
 
 pub told_read : (told : Told) (answer : Answer) → AreReadAlone told.units → RefusesTold told answer → RefusesToldRead told answer
-told_read told answer alone (inl h) = inl (refuses_read told.units answer alone h)
+told_read told answer alone (inl h) = inl (refuses_read told.entries told.units answer alone h)
 told_read told answer alone (inr h) = inr h

@@ -1,5 +1,5 @@
 -- What holds of texts that were read as far as a limit holds of the whole texts.
-use Rattle.std.proofs.Common.{◌≡◌, ℕ, Bool, ◌+◌, ◌<◌, ◌≤◌, ◌^◌, ◌⊎◌, List, [], ◌∷◌, zero, suc, Option, Some, None, option_map, IfSome, map, take, slice_get, length, min, refl, sym, ◌∙◌, ap, subst, inl, inr, arith, take_all, length-take}
+use Rattle.std.proofs.Common.{◌≡◌, ◌≢◌, ℕ, Bool, ◌+◌, ◌<◌, ◌≤◌, ◌^◌, ◌⊎◌, List, [], ◌∷◌, ◌++◌, zero, suc, Option, Some, None, option_map, IfSome, map, take, slice_get, length, min, refl, sym, ◌∙◌, ap, subst, inl, inr, arith, take_all, length-take}
 use Rattle.std.specs.Prelude.{option_and_then, zip, IsSome}
 use Rattle.c_lexer.specs.declared.Token.{Token}
 use Rattle.c_lexer.specs.declared.LexFault.{LexFault}
@@ -14,7 +14,7 @@ use Rattle.core_tree.specs.declared.node.Unit.{Unit}
 use Rattle.core_tree.specs.declared.node.Program.{Program}
 use Rattle.link_names.specs.declared.fault.LinkFault.{LinkFault}
 use Rattle.link_names.specs.declared.fault.LinkFault.TheVariants as link
-use Rattle.unit_link.specs.Linked.{LinksBadly}
+use Rattle.unit_link.specs.Linked.{LinksBadlyAt}
 use Rattle.text_units.specs.declared.fault.UnitsFault.{UnitsFault}
 use Rattle.text_units.specs.declared.fault.UnitsFault.TheVariants.{Refused}
 use Rattle.sol_model.specs.declared.system.System.{System}
@@ -24,16 +24,16 @@ use Rattle.std.proofs.lemmas.List.{length-map}
 use Rattle.command_line.specs.Language.{found_in}
 use Rattle.command_line.specs.Meaning.{Says}
 use Rattle.command_line.specs.declared.command.Command.{Command}
-use Rattle.report_cli.specs.Words.{effects_read, names_read, number_read, script_read as script_asked, side_name, steps_read, stops_read, units_read, with_side}
+use Rattle.report_cli.specs.Words.{effects_read, entries_read, names_read, number_read, script_read as script_asked, side_name, steps_read, stops_read, units_read, with_side}
 use Rattle.report_cli.specs.declared.form.Form.{Form}
 use Rattle.report_cli.specs.Told.{Side, no_side, with_questions, with_words, Told, side_of, form_of, form_read, form_for, parted, told_by, names_for, read_as, told_as, told_for}
 use Rattle.report_cli.specs.Printed.{AreAnswersTo, IsRun, IsPrinted, IsLongScript, HasRefusedLine, HasRefusedByte, IsRefusedScript, AreRefusedWords, IsRefusedSide}
 use Rattle.report_cli.specs.Faults.{IsFaultOfTold}
-use Rattle.text_units.specs.Answers.{NamedText, Answer, told_units}
+use Rattle.text_units.specs.Answers.{NamedText, Answer, names_of, told_units}
 use Rattle.text_units.specs.Alone.{IsReadAs, IsRefusedAlone, lexical_refusal, syntax_refusal, name_refusal}
 use Rattle.text_units.specs.Lowered.{IsParsed, IsRightText, AreRightTexts, IsRefusedRow}
 use Rattle.report_cli.specs.Linking.{IsLinkRefusal, HaveManyNodes, HaveManyWords, link_refusal}
-use Rattle.report_cli.specs.Outcome.{Denotes, AreRefusedTogether, Refuses, RefusesSide, RefusesTold}
+use Rattle.report_cli.specs.Outcome.{Denotes, AreRefusedTogether, IsRefusedBy, Refuses, RefusesSide, RefusesTold}
 use Rattle.text_units.specs.Refused.{IsRefusedText, FirstRefused}
 
 -- the names of told units are those that were asked for
@@ -120,8 +120,8 @@ unfolding read_units
 names_whole [] = refl
 names_whole (unit ∷ told) = ap (λ (rest : List (List ℕ)). unit.0 ∷ rest) (names_whole told)
 
-links_whole : (told : List NamedText) (answer : Answer) → IsLinkRefusal (read_units told) answer → IsLinkRefusal told answer
-links_whole told answer h = record {
+links_whole : (entries : List (List ℕ)) (told : List NamedText) (answer : Answer) → IsLinkRefusal entries (read_units told) answer → IsLinkRefusal entries told answer
+links_whole entries told answer h = record {
   units = h.units;
   right = rights_whole 0 told h.units h.right;
   fault = h.fault;
@@ -129,8 +129,8 @@ links_whole told answer h = record {
   answer_is = h.answer_is ∙ ap (λ (names : List (List ℕ)). link_refusal names h.fault) (names_whole told);
 }
 
-nodes_whole : (told : List NamedText) (answer : Answer) → HaveManyNodes (read_units told) answer → HaveManyNodes told answer
-nodes_whole told answer h = record {
+nodes_whole : (entries : List (List ℕ)) (told : List NamedText) (answer : Answer) → HaveManyNodes entries (read_units told) answer → HaveManyNodes entries told answer
+nodes_whole entries told answer h = record {
   units = h.units;
   right = rights_whole 0 told h.units h.right;
   program = h.program;
@@ -140,8 +140,8 @@ nodes_whole told answer h = record {
   answer_is = h.answer_is;
 }
 
-words_whole : (told : List NamedText) (answer : Answer) → HaveManyWords (read_units told) answer → HaveManyWords told answer
-words_whole told answer h = record {
+words_whole : (entries : List (List ℕ)) (told : List NamedText) (answer : Answer) → HaveManyWords entries (read_units told) answer → HaveManyWords entries told answer
+words_whole entries told answer h = record {
   units = h.units;
   right = rights_whole 0 told h.units h.right;
   program = h.program;
@@ -161,19 +161,19 @@ first_whole number [] answer h = h
 first_whole number (unit ∷ told) answer (inl h) = inl (text_whole number unit answer h)
 first_whole number (unit ∷ told) answer (inr h) = inr (h.0, right_whole number unit h.0 h.1, first_whole (number + 1) told answer h.2)
 
-together_whole : (told : List NamedText) (answer : Answer) → AreRefusedTogether (read_units told) answer → AreRefusedTogether told answer
-together_whole told answer (inl h) = inl (links_whole told answer h)
-together_whole told answer (inr (inl h)) = inr (inl (nodes_whole told answer h))
-together_whole told answer (inr (inr h)) = inr (inr (words_whole told answer h))
+together_whole : (entries : List (List ℕ)) (told : List NamedText) (answer : Answer) → AreRefusedTogether entries (read_units told) answer → AreRefusedTogether entries told answer
+together_whole entries told answer (inl h) = inl (links_whole entries told answer h)
+together_whole entries told answer (inr (inl h)) = inr (inl (nodes_whole entries told answer h))
+together_whole entries told answer (inr (inr h)) = inr (inr (words_whole entries told answer h))
 
-denotes_whole : (told : List NamedText) (program : Program) → Denotes (read_units told) program → Denotes told program
+denotes_whole : (entries : List (List ℕ)) (told : List NamedText) (program : Program) → Denotes entries (read_units told) program → Denotes entries told program
 unfolding Denotes
-denotes_whole told program h = (h.0, rights_whole 0 told h.0 h.1, h.2)
+denotes_whole entries told program h = (h.0, rights_whole 0 told h.0 h.1, h.2)
 
-refuses_whole : (told : List NamedText) (answer : Answer) → Refuses (read_units told) answer → Refuses told answer
+refuses_whole : (entries : List (List ℕ)) (told : List NamedText) (answer : Answer) → Refuses entries (read_units told) answer → Refuses entries told answer
 unfolding Refuses
-refuses_whole told answer (inl h) = inl (first_whole 0 told answer h)
-refuses_whole told answer (inr h) = inr (together_whole told answer h)
+refuses_whole entries told answer (inl h) = inl (first_whole 0 told answer h)
+refuses_whole entries told answer (inr h) = inr (together_whole entries told answer h)
 
 -- what was read of what is told: its units as far as they were read, and what stands beside them
 pub cut : NamedText → NamedText
@@ -195,6 +195,7 @@ pub record IsCutOf (read told : Told) : Type 0 where
   pub units : read.units ≡ read_units told.units
   pub side : read.side ≡ cut_side told.side
   pub form : read.form ≡ told.form
+  pub entries : read.entries ≡ told.entries
 
 -- a generated program is told as it is
 pub IsReadOf : Told → Told → Type 0
@@ -212,9 +213,9 @@ script_read n [] = refl
 script_read zero (text ∷ texts) = refl
 script_read (suc n) (text ∷ texts) = script_read n texts
 
-parted_read : (names texts : List (List ℕ)) (told : List NamedText) (j k : Form) (s t : Option ℕ) (m n : ℕ) → j ≡ k → s ≡ t → m ≡ n → AreReadUnits names texts told
-    → IsCutOf (parted j s m (zip names texts)) (parted k t n told)
-parted_read names texts told j k s t m n form steps same read =
+parted_read : (names texts : List (List ℕ)) (told : List NamedText) (e f : List (List ℕ)) (j k : Form) (s t : Option ℕ) (m n : ℕ) → e ≡ f → j ≡ k → s ≡ t → m ≡ n → AreReadUnits names texts told
+    → IsCutOf (parted e j s m (zip names texts)) (parted f k t n told)
+parted_read names texts told e f j k s t m n entries form steps same read =
     let is : zip names texts ≡ read_units told = zip_is_read names texts told read in record {
       units = ap (λ (k : ℕ). take k (zip names texts)) same ∙ ap (take n) is ∙ take_read n told;
       side =
@@ -224,13 +225,15 @@ parted_read names texts told j k s t m n form steps same read =
           ∙ side_of-cut s (slice_get told n)
           ∙ ap (λ (o : Option ℕ). cut_side (side_of o (slice_get told n))) steps;
       form = form;
+      entries = entries;
     }
 
-pub told_denotes : (read told : Told) (program : Program) → IsReadOf read told → Denotes read.units program → Denotes told.units program
+pub told_denotes : (read told : Told) (program : Program) → IsReadOf read told → Denotes read.entries read.units program → Denotes told.entries told.units program
 unfolding IsReadOf
-told_denotes read told program (inl same) denoted = let P : Told → Type 0 = λ known. Denotes known.units program in subst P same denoted
+told_denotes read told program (inl same) denoted = let P : Told → Type 0 = λ known. Denotes known.entries known.units program in subst P same denoted
 told_denotes read told program (inr of) denoted =
-    let P : List NamedText → Type 0 = λ units. Denotes units program in denotes_whole told.units program (subst P of.units denoted)
+    let P : List NamedText → Type 0 = λ units. Denotes read.entries units program in
+    let E : List (List ℕ) → Type 0 = λ entries. Denotes entries (read_units told.units) program in denotes_whole told.entries told.units program (subst E of.entries (subst P of.units denoted))
 
 -- what is printed for a script as far as it was read
 answers_whole : (script : NamedText) (program : Program) (system : System) (text : List ℕ) → AreAnswersTo (take 16777217 script.1) program system text → AreAnswersTo script.1 program system text
@@ -267,10 +270,10 @@ stopped_run form None None program system text h = absurd (not_both 11 h.1 refl)
 stopped_run form None (Some script) program system text h = absurd (not_both 11 h.1 refl)
 
 -- so a run is asked for
-pub run_asked : (number : Option ℕ) (form : Form) (steps : Option ℕ) (count : ℕ) (texts : List NamedText) (program : Program) (system : System) (text : List ℕ)
-    → IsPrinted (told_by number (parted form steps count texts)).form (told_by number (parted form steps count texts)).side program system text 11 → IsSome steps
-run_asked None form steps count texts program system text h = stopped_run form steps (slice_get texts count) program system text h
-run_asked (Some number) form steps count texts program system text h = absurd (not_both 11 h.1 refl)
+pub run_asked : (number : Option ℕ) (entries : List (List ℕ)) (form : Form) (steps : Option ℕ) (count : ℕ) (texts : List NamedText) (program : Program) (system : System) (text : List ℕ)
+    → IsPrinted (told_by number (parted entries form steps count texts)).form (told_by number (parted entries form steps count texts)).side program system text 11 → IsSome steps
+run_asked None entries form steps count texts program system text h = stopped_run form steps (slice_get texts count) program system text h
+run_asked (Some number) entries form steps count texts program system text h = absurd (not_both 11 h.1 refl)
 
 -- the same of a script's refusal
 long_whole : (script : NamedText) (answer : Answer) → IsLongScript (script.0, take 16777217 script.1) answer → IsLongScript script answer
@@ -302,10 +305,10 @@ refused_side_whole no_side program space system answer h = h
 refused_side_whole (with_questions script) program space system answer h = script_whole program space system script answer h
 refused_side_whole (with_words steps words) program space system answer h = run_words_whole words answer h
 
-side_refused_whole : (told : List NamedText) (side : Side) (answer : Answer) → RefusesSide (read_units told) (cut_side side) answer → RefusesSide told side answer
-side_refused_whole told side answer h = record {
+side_refused_whole : (entries : List (List ℕ)) (told : List NamedText) (side : Side) (answer : Answer) → RefusesSide entries (read_units told) (cut_side side) answer → RefusesSide entries told side answer
+side_refused_whole entries told side answer h = record {
   program = h.program;
-  denoted = denotes_whole told h.program h.denoted;
+  denoted = denotes_whole entries told h.program h.denoted;
   space = h.space;
   system = h.system;
   system_of = h.system_of;
@@ -316,11 +319,13 @@ pub told_refuses : (read told : Told) (answer : Answer) → IsReadOf read told �
 unfolding IsReadOf
 told_refuses read told answer (inl same) h = let P : Told → Type 0 = λ known. RefusesTold known answer in subst P same h
 told_refuses read told answer (inr of) (inl h) =
-    let P : List NamedText → Type 0 = λ units. Refuses units answer in inl (refuses_whole told.units answer (subst P of.units h))
+    let P : List NamedText → Type 0 = λ units. Refuses read.entries units answer in
+    let E : List (List ℕ) → Type 0 = λ entries. Refuses entries (read_units told.units) answer in inl (refuses_whole told.entries told.units answer (subst E of.entries (subst P of.units h)))
 told_refuses read told answer (inr of) (inr h) =
-    let P : List NamedText → Type 0 = λ units. RefusesSide units read.side answer in
-    let Q : Side → Type 0 = λ side. RefusesSide (read_units told.units) side answer in
-    inr (side_refused_whole told.units told.side answer (subst Q of.side (subst P of.units h)))
+    let P : List NamedText → Type 0 = λ units. RefusesSide read.entries units read.side answer in
+    let Q : Side → Type 0 = λ side. RefusesSide read.entries (read_units told.units) side answer in
+    let E : List (List ℕ) → Type 0 = λ entries. RefusesSide entries (read_units told.units) (cut_side told.side) answer in
+    inr (side_refused_whole told.entries told.units told.side answer (subst E of.entries (subst Q of.side (subst P of.units h))))
 
 -- what follows from the told texts and what was read of them
 with_told : (told : Option (List NamedText)) (names texts : List (List ℕ)) (Q : List NamedText → Type 0) → IfSome told (λ units. names ≡ map (λ (unit : NamedText). unit.0) units)
@@ -369,6 +374,10 @@ form_asked words command says =
     ∙ ap (λ (stops : Bool). form_of (effects_read words) stops command.json) says.stops
     ∙ ap (λ (json : Bool). form_of (effects_read words) (stops_read words) json) says.json
 
+-- and the program is entered where its words ask
+entries_asked : (words : List (List ℕ)) (command : Command) → Says (found_in words) command → names_of command.entries.items ≡ entries_read words
+entries_asked words command says = says.entries
+
 -- what follows of what a call is told from what was read
 pub with_told_for : (text_of : List ℕ → Option (List ℕ)) (words : List (List ℕ)) (command : Command) (sliced texts slice : List (List ℕ)) (Q : Told → Type 0) → Says (found_in words) command
     → sliced ≡ names_for command → slice ≡ texts → IfSome (told_units text_of sliced) (λ units. texts ≡ map (λ (unit : NamedText). take 16777217 unit.1) units)
@@ -377,84 +386,123 @@ with_told_for text_of words command sliced texts slice Q says names slice_is rea
     let n : ℕ = length (units_read words) in
     let form : Form = form_read words in
     let steps : Option ℕ = steps_read words in
-    let f : List NamedText → Told = λ units. told_by (number_read words) (parted form steps n units) in
+    let entries : List (List ℕ) = entries_read words in
+    let f : List NamedText → Told = λ units. told_by (number_read words) (parted entries form steps n units) in
     with_mapped (told_units text_of (names_read words)) f Q
     (with_names text_of sliced (names_for command) (names_read words) texts slice (λ units. Q (f units)) names (names_asked words command says) slice_is read
-    (λ units h. follows (f units) (generated_read command.generated (number_read words) (read_as command slice) (parted form steps n units) says.generated
-    (parted_read (names_for command) slice units (form_for command) form command.steps steps (length command.units.items) n (form_asked words command says) says.steps (units_asked words command says) h))))
+    (λ units h. follows (f units) (generated_read command.generated (number_read words) (read_as command slice) (parted entries form steps n units) says.generated
+    (parted_read (names_for command) slice units (names_of command.entries.items) entries (form_for command) form command.steps steps (length command.units.items) n (entries_asked words command says) (form_asked words command says) says.steps (units_asked words command says) h))))
 
 -- the statuses of refusals
 abbrev pub IsStatus : ℕ → Type 0
-IsStatus status = (status ≡ 3) ⊎ ((status ≡ 4) ⊎ ((status ≡ 5) ⊎ ((status ≡ 6) ⊎ (status ≡ 10))))
+IsStatus status = (status ≡ 3) ⊎ ((status ≡ 4) ⊎ ((status ≡ 5) ⊎ ((status ≡ 6) ⊎ ((status ≡ 10) ⊎ (status ≡ 12)))))
 
-lexical_status : (unit : NamedText) (fault : LexFault) → (fault ≡ OutOfMemory → ⊥) → IsStatus (lexical_refusal unit fault).status
-lexical_status unit (BadByte at) real = inl refl
-lexical_status unit (Unended at) real = inl refl
-lexical_status unit (BadNumber at) real = inl refl
-lexical_status unit TooLong real = inr (inr (inr (inl refl)))
-lexical_status unit OutOfMemory real = absurd (real refl)
+-- the same where those entries are named: 12 comes where there are some
+abbrev IsStatusOf : List (List ℕ) → ℕ → Type 0
+IsStatusOf entries status = (status ≡ 3) ⊎ ((status ≡ 4) ⊎ ((status ≡ 5) ⊎ ((status ≡ 6) ⊎ ((status ≡ 10) ⊎ ((status ≡ 12) × (entries ≢ []))))))
 
-syntax_status : (name : List ℕ) (list : List Token) (fault : Fault) → IsStatus (syntax_refusal name list fault).status
-syntax_status name list (malformed number) = inl refl
-syntax_status name list (unsupported kind number) = inr (inl refl)
-syntax_status name list (too_deep number) = inr (inr (inr (inl refl)))
+named_so : (before after : List (List ℕ)) (name : List ℕ) (entries : List (List ℕ)) → entries ≡ before ++ name ∷ after → entries ≢ []
+named_so [] after name entries split none = absurd (cc)
+named_so (first ∷ before) after name entries split none = absurd (cc)
 
-name_status : (name : List ℕ) (list : List Token) (nodes : List Node) (fault : NameFault) → (fault ≡ names.OutOfMemory → ⊥) → IsStatus (name_refusal name list nodes fault).status
-name_status name list nodes (names.Undeclared node) real = inr (inl refl)
-name_status name list nodes (names.Redeclared node) real = inr (inl refl)
-name_status name list nodes names.OutOfMemory real = absurd (real refl)
+module _ (entries : List (List ℕ)) where
+  lexical_status : (unit : NamedText) (fault : LexFault) → (fault ≡ OutOfMemory → ⊥) → IsStatusOf entries (lexical_refusal unit fault).status
+  lexical_status unit (BadByte at) real = inl refl
+  lexical_status unit (Unended at) real = inl refl
+  lexical_status unit (BadNumber at) real = inl refl
+  lexical_status unit TooLong real = inr (inr (inr (inl refl)))
+  lexical_status unit OutOfMemory real = absurd (real refl)
 
-status_of : (answer other : Answer) → answer ≡ other → IsStatus other.status → IsStatus answer.status
-status_of answer other same h = let P : Answer → Type 0 = λ a. IsStatus a.status in subst P (sym same) h
+  syntax_status : (name : List ℕ) (list : List Token) (fault : Fault) → IsStatusOf entries (syntax_refusal name list fault).status
+  syntax_status name list (malformed number) = inl refl
+  syntax_status name list (unsupported kind number) = inr (inl refl)
+  syntax_status name list (too_deep number) = inr (inr (inr (inl refl)))
 
-alone_status : (unit : NamedText) (answer : Answer) → IsRefusedAlone unit answer → IsStatus answer.status
-unfolding IsRefusedAlone
-alone_status unit answer (inl h) = status_of answer _ h.3 (lexical_status unit h.0 h.1)
-alone_status unit answer (inr (inl h)) = status_of answer _ h.4 (syntax_status unit.0 h.0 h.2)
-alone_status unit answer (inr (inr h)) = status_of answer _ h.7 (name_status unit.0 h.0 h.2.nodes h.4 h.5)
+  name_status : (name : List ℕ) (list : List Token) (nodes : List Node) (fault : NameFault) → (fault ≡ names.OutOfMemory → ⊥) → IsStatusOf entries (name_refusal name list nodes fault).status
+  name_status name list nodes (names.Undeclared node) real = inr (inl refl)
+  name_status name list nodes (names.Redeclared node) real = inr (inl refl)
+  name_status name list nodes names.OutOfMemory real = absurd (real refl)
 
-first_status : (number : ℕ) (units : List NamedText) (answer : Answer) → FirstRefused IsRefusedText number units answer → IsStatus answer.status
-first_status number [] answer h = absurd h
-first_status number (unit ∷ units) answer (inl (inl h)) = alone_status unit answer h
-first_status number (unit ∷ units) answer (inl (inr h)) = status_of answer _ h.answer_is (inr (inl refl))
-first_status number (unit ∷ units) answer (inr h) = first_status (number + 1) units answer h.2
+  status_of : (answer other : Answer) → answer ≡ other → IsStatusOf entries other.status → IsStatusOf entries answer.status
+  status_of answer other same h = let P : Answer → Type 0 = λ a. IsStatusOf entries a.status in subst P (sym same) h
 
-link_status : (units : List Unit) (names : List (List ℕ)) (fault : LinkFault) → LinksBadly units fault → IsStatus (link_refusal names fault).status
-link_status units names (link.Conflict name unit) h = inr (inr (inl refl))
-link_status units names (link.Twice name unit) h = inr (inr (inl refl))
-link_status units names (link.Undefined place name) h = inr (inr (inl refl))
-link_status units names link.NoMain h = inr (inr (inl refl))
-link_status units names link.OutOfMemory h = absurd h.fault_is
+  alone_status : (unit : NamedText) (answer : Answer) → IsRefusedAlone unit answer → IsStatusOf entries answer.status
+  unfolding IsRefusedAlone
+  alone_status unit answer (inl h) = status_of answer _ h.3 (lexical_status unit h.0 h.1)
+  alone_status unit answer (inr (inl h)) = status_of answer _ h.4 (syntax_status unit.0 h.0 h.2)
+  alone_status unit answer (inr (inr h)) = status_of answer _ h.7 (name_status unit.0 h.0 h.2.nodes h.4 h.5)
 
-together_status : (units : List NamedText) (answer : Answer) → AreRefusedTogether units answer → IsStatus answer.status
-together_status units answer (inl h) = status_of answer _ h.answer_is (link_status h.units (map (λ (unit : NamedText). unit.0) units) h.fault h.badly)
-together_status units answer (inr (inl h)) = status_of answer _ h.answer_is (inr (inr (inr (inl refl))))
-together_status units answer (inr (inr h)) = status_of answer _ h.answer_is (inr (inr (inr (inl refl))))
+  first_status : (number : ℕ) (units : List NamedText) (answer : Answer) → FirstRefused IsRefusedText number units answer → IsStatusOf entries answer.status
+  first_status number [] answer h = absurd h
+  first_status number (unit ∷ units) answer (inl (inl h)) = alone_status unit answer h
+  first_status number (unit ∷ units) answer (inl (inr h)) = status_of answer _ h.answer_is (inr (inl refl))
+  first_status number (unit ∷ units) answer (inr h) = first_status (number + 1) units answer h.2
 
-refuses_status : (units : List NamedText) (answer : Answer) → Refuses units answer → IsStatus answer.status
-unfolding Refuses
-refuses_status units answer (inl h) = first_status 0 units answer h
-refuses_status units answer (inr h) = together_status units answer h
+  link_status : (units : List Unit) (names : List (List ℕ)) (fault : LinkFault) → LinksBadlyAt entries units fault → IsStatusOf entries (link_refusal names fault).status
+  link_status units names (link.Conflict name unit) h = inr (inr (inl refl))
+  link_status units names (link.Twice name unit) h = inr (inr (inl refl))
+  link_status units names (link.Undefined place name) h = inr (inr (inl refl))
+  link_status units names link.NoMain h = inr (inr (inl refl))
+  link_status units names (link.NoEntry name) h = inr (inr (inr (inr (inr (refl, named_so h.fault_is.2.before h.fault_is.2.after name entries h.fault_is.2.split)))))
+  link_status units names link.OutOfMemory h = absurd h.fault_is
 
-refused_script_status : (program : Program) (space : List Location) (system : System) (script : NamedText) (answer : Answer) → IsRefusedScript program space system script answer → IsStatus answer.status
-refused_script_status program space system script answer (inl h) = status_of answer _ h.answer_is (inr (inr (inr (inl refl))))
-refused_script_status program space system script answer (inr h) = status_of answer _ h.answer_is (inr (inr (inr (inr refl))))
+  together_status : (units : List NamedText) (answer : Answer) → AreRefusedTogether entries units answer → IsStatusOf entries answer.status
+  together_status units answer (inl h) = status_of answer _ h.answer_is (link_status h.units (map (λ (unit : NamedText). unit.0) units) h.fault h.badly)
+  together_status units answer (inr (inl h)) = status_of answer _ h.answer_is (inr (inr (inr (inl refl))))
+  together_status units answer (inr (inr h)) = status_of answer _ h.answer_is (inr (inr (inr (inl refl))))
 
-refused_side_status : (side : Side) (program : Program) (space : List Location) (system : System) (answer : Answer) → IsRefusedSide side program space system answer → IsStatus answer.status
-refused_side_status no_side program space system answer h = absurd h
-refused_side_status (with_questions script) program space system answer h = refused_script_status program space system script answer h
-refused_side_status (with_words steps words) program space system answer (inl h) = status_of answer _ h.answer_is (inr (inr (inr (inl refl))))
-refused_side_status (with_words steps words) program space system answer (inr h) = status_of answer _ h.answer_is (inl refl)
+  refuses_status : (units : List NamedText) (answer : Answer) → Refuses entries units answer → IsStatusOf entries answer.status
+  unfolding Refuses
+  refuses_status units answer (inl h) = first_status 0 units answer h
+  refuses_status units answer (inr h) = together_status units answer h
 
-side_status : (units : List NamedText) (side : Side) (answer : Answer) → RefusesSide units side answer → IsStatus answer.status
-side_status units side answer h = refused_side_status side h.program h.space h.system answer h.refused
+  refused_script_status : (program : Program) (space : List Location) (system : System) (script : NamedText) (answer : Answer) → IsRefusedScript program space system script answer → IsStatusOf entries answer.status
+  refused_script_status program space system script answer (inl h) = status_of answer _ h.answer_is (inr (inr (inr (inl refl))))
+  refused_script_status program space system script answer (inr h) = status_of answer _ h.answer_is (inr (inr (inr (inr (inl refl)))))
+
+  refused_side_status : (side : Side) (program : Program) (space : List Location) (system : System) (answer : Answer) → IsRefusedSide side program space system answer → IsStatusOf entries answer.status
+  refused_side_status no_side program space system answer h = absurd h
+  refused_side_status (with_questions script) program space system answer h = refused_script_status program space system script answer h
+  refused_side_status (with_words steps words) program space system answer (inl h) = status_of answer _ h.answer_is (inr (inr (inr (inl refl))))
+  refused_side_status (with_words steps words) program space system answer (inr h) = status_of answer _ h.answer_is (inl refl)
+
+  side_status : (units : List NamedText) (side : Side) (answer : Answer) → RefusesSide entries units side answer → IsStatusOf entries answer.status
+  side_status units side answer h = refused_side_status side h.program h.space h.system answer h.refused
 
 -- a refusal has one of these statuses
-pub told_status : (told : Told) (answer : Answer) → RefusesTold told answer → IsStatus answer.status
-told_status told answer (inl h) = refuses_status told.units answer h
-told_status told answer (inr h) = side_status told.units told.side answer h
+told_status : (told : Told) (answer : Answer) → RefusesTold told answer → IsStatusOf told.entries answer.status
+told_status told answer (inl h) = refuses_status told.entries told.units answer h
+told_status told answer (inr h) = side_status told.entries told.units told.side answer h
+
+listed : (entries : List (List ℕ)) (status : ℕ) → IsStatusOf entries status → IsStatus status
+listed entries status (inl three) = inl three
+listed entries status (inr (inl four)) = inr (inl four)
+listed entries status (inr (inr (inl five))) = inr (inr (inl five))
+listed entries status (inr (inr (inr (inl six)))) = inr (inr (inr (inl six)))
+listed entries status (inr (inr (inr (inr (inl ten))))) = inr (inr (inr (inr (inl ten))))
+listed entries status (inr (inr (inr (inr (inr twelve))))) = inr (inr (inr (inr (inr twelve.0))))
 
 pub refused_status : (told : Told) (fault : UnitsFault) (status : ℕ) (line : List ℕ) → fault ≡ Refused status line → IsFaultOfTold told fault → IsStatus status
 refused_status told fault status line is refused =
     let P : UnitsFault → Type 0 = λ f. IsFaultOfTold told f in
-    told_status told (record { status = status; out = []; err = line }) (subst P is refused)
+    listed told.entries status (told_status told (record { status = status; out = []; err = line }) (subst P is refused))
+
+-- with the status 12 some entry was named
+twelve_named : (entries : List (List ℕ)) (status : ℕ) → IsStatusOf entries status → status ≡ 12 → entries ≢ []
+twelve_named entries status (inl three) is = absurd (omega arith)
+twelve_named entries status (inr (inl four)) is = absurd (omega arith)
+twelve_named entries status (inr (inr (inl five))) is = absurd (omega arith)
+twelve_named entries status (inr (inr (inr (inl six)))) is = absurd (omega arith)
+twelve_named entries status (inr (inr (inr (inr (inl ten))))) is = absurd (omega arith)
+twelve_named entries status (inr (inr (inr (inr (inr twelve))))) is = twelve.1
+
+entry_of_units : (number : Option ℕ) (read : Told) → (told_by number read).entries ≢ [] → read.entries ≢ []
+entry_of_units None read named = named
+entry_of_units (Some number) read named = absurd (named refl)
+
+pub entry_asked : (words : List (List ℕ)) (command : Command) (texts : List (List ℕ)) (status : ℕ) (line : List ℕ) → Says (found_in words) command → IsRefusedBy (told_as command texts) status line → status ≡ 12 → entries_read words ≢ []
+entry_asked words command texts status line says refused is =
+    let told : Told = told_as command texts in
+    let named : told.entries ≢ [] = twelve_named told.entries status (told_status told (record { status = status; out = []; err = line }) refused) is in
+    let N : List (List ℕ) → Type 0 = λ names. names ≢ [] in
+    subst N (entries_asked words command says) (entry_of_units command.generated (read_as command texts) named)

@@ -5,7 +5,7 @@ use Rattle.core_tree.specs.declared.node.Program.{Program}
 use Rattle.sol_model.specs.declared.system.System.{System}
 use Rattle.link_names.specs.declared.fault.LinkFault.{LinkFault}
 use Rattle.link_names.specs.declared.fault.LinkFault.TheVariants as link
-use Rattle.unit_link.specs.Linked.{LinksBadly}
+use Rattle.unit_link.specs.Linked.{LinksBadlyAt}
 use Rattle.obj_space.specs.declared.location.Location.{Location}
 use Rattle.unit_report.specs.declared.unit_system.fault.UnitFault.{UnitFault}
 use Rattle.unit_report.specs.declared.unit_system.fault.UnitFault.TheVariants as unit
@@ -28,49 +28,50 @@ use Rattle.text_units.specs.Faults.{fault_of, IsFirstFault}
 use Rattle.report_cli.specs.Faults.{IsFaultOf, IsSystemRefusal}
 
 -- the first fault of all texts is theirs
-pub fault_of_texts : (texts : List NamedText) (fault : UnitsFault) → IsFirstFault 0 texts fault → IsFaultOf texts fault
+pub fault_of_texts : (entries : List (List ℕ)) (texts : List NamedText) (fault : UnitsFault) → IsFirstFault 0 texts fault → IsFaultOf entries texts fault
 unfolding Refuses
-fault_of_texts texts (Refused status line) h = inl h
-fault_of_texts texts Memory h = tt
+fault_of_texts entries texts (Refused status line) h = inl h
+fault_of_texts entries texts Memory h = tt
 
 -- a refusal of texts that are right
-refused_so : (texts : List NamedText) (answer : Answer) (fault : UnitsFault) → fault ≡ fault_of answer → answer.out ≡ [] → AreRefusedTogether texts answer → IsFaultOf texts fault
+refused_so : (entries : List (List ℕ)) (texts : List NamedText) (answer : Answer) (fault : UnitsFault) → fault ≡ fault_of answer → answer.out ≡ [] → AreRefusedTogether entries texts answer → IsFaultOf entries texts fault
 unfolding Refuses
-refused_so texts answer fault is nothing refused =
-    let P : UnitsFault → Type 0 = λ f. IsFaultOf texts f in
-    let Q : List ℕ → Type 0 = λ out. AreRefusedTogether texts (record { status = answer.status; out = out; err = answer.err }) in
+refused_so entries texts answer fault is nothing refused =
+    let P : UnitsFault → Type 0 = λ f. IsFaultOf entries texts f in
+    let Q : List ℕ → Type 0 = λ out. AreRefusedTogether entries texts (record { status = answer.status; out = out; err = answer.err }) in
     subst P (sym is) (inr (subst Q nothing refused))
 
-memory_so : (texts : List NamedText) (fault : UnitsFault) → fault ≡ Memory → IsFaultOf texts fault
-memory_so texts fault is = let P : UnitsFault → Type 0 = λ f. IsFaultOf texts f in subst P (sym is) tt
+memory_so : (entries : List (List ℕ)) (texts : List NamedText) (fault : UnitsFault) → fault ≡ Memory → IsFaultOf entries texts fault
+memory_so entries texts fault is = let P : UnitsFault → Type 0 = λ f. IsFaultOf entries texts f in subst P (sym is) tt
 
-module _ (texts : List NamedText) (units : List Unit) (right : AreRightTexts 0 texts units) where
+module _ (entries : List (List ℕ)) (texts : List NamedText) (units : List Unit) (right : AreRightTexts 0 texts units) where
   abbrev names : List (List ℕ)
   names = map (λ (text : NamedText). text.0) texts
 
-  badly_refused : (cause : LinkFault) (fault : UnitsFault) → LinksBadly units cause → fault ≡ fault_of (link_refusal names cause) → (link_refusal names cause).out ≡ [] → IsFaultOf texts fault
+  badly_refused : (cause : LinkFault) (fault : UnitsFault) → LinksBadlyAt entries units cause → fault ≡ fault_of (link_refusal names cause) → (link_refusal names cause).out ≡ [] → IsFaultOf entries texts fault
   badly_refused cause fault badly is nothing =
-      refused_so texts (link_refusal names cause) fault is nothing (inl (record { units = units; right = right; fault = cause; badly = badly; answer_is = refl }))
+      refused_so entries texts (link_refusal names cause) fault is nothing (inl (record { units = units; right = right; fault = cause; badly = badly; answer_is = refl }))
 
   -- a fault of linking, and a limit
-  all_refused : (cause : UnitFault) (fault : UnitsFault) → core.IsFaultOf units cause → IsSystemRefusal names cause fault → IsFaultOf texts fault
+  all_refused : (cause : UnitFault) (fault : UnitsFault) → core.IsFaultOf entries units cause → IsSystemRefusal names cause fault → IsFaultOf entries texts fault
   all_refused (unit.Link (link.Conflict name k)) fault h is = badly_refused (link.Conflict name k) fault h is refl
   all_refused (unit.Link (link.Twice name k)) fault h is = badly_refused (link.Twice name k) fault h is refl
   all_refused (unit.Link (link.Undefined place name)) fault h is = badly_refused (link.Undefined place name) fault h is refl
   all_refused (unit.Link link.NoMain) fault h is = badly_refused link.NoMain fault h is refl
-  all_refused (unit.Link link.OutOfMemory) fault h is = memory_so texts fault is
+  all_refused (unit.Link (link.NoEntry name)) fault h is = badly_refused (link.NoEntry name) fault h is refl
+  all_refused (unit.Link link.OutOfMemory) fault h is = memory_so entries texts fault is
   all_refused (unit.Nodes nodes) fault h is =
-      refused_so texts _ fault is refl (inr (inl (record { units = units; right = right; program = h.0; own = h.1; nodes = nodes; many = h.2; answer_is = refl })))
+      refused_so entries texts _ fault is refl (inr (inl (record { units = units; right = right; program = h.0; own = h.1; nodes = nodes; many = h.2; answer_is = refl })))
   all_refused (unit.Words words) fault h is =
-      refused_so texts _ fault is refl (inr (inr (record { units = units; right = right; program = h.0; own = h.1; words = words; many = h.2; answer_is = refl })))
-  all_refused unit.OutOfMemory fault h is = memory_so texts fault is
+      refused_so entries texts _ fault is refl (inr (inr (record { units = units; right = right; program = h.0; own = h.1; words = words; many = h.2; answer_is = refl })))
+  all_refused unit.OutOfMemory fault h is = memory_so entries texts fault is
 
   -- the same under names that are the texts'
-  pub system_refused : (given : List (List ℕ)) (cause : UnitFault) (fault : UnitsFault) → given ≡ names → core.IsFaultOf units cause → IsSystemRefusal given cause fault → IsFaultOf texts fault
+  pub system_refused : (given : List (List ℕ)) (cause : UnitFault) (fault : UnitsFault) → given ≡ names → core.IsFaultOf entries units cause → IsSystemRefusal given cause fault → IsFaultOf entries texts fault
   system_refused given cause fault named h is = let P : List (List ℕ) → Type 0 = λ n. IsSystemRefusal n cause fault in all_refused cause fault h (subst P named is)
 
   -- the program of the units is that which their texts denote
-  pub denoted : (program : Program) (space : List Location) (system : System) → AreLinkedAs units program space system → Denotes texts program × IsSystemOf program space system
+  pub denoted : (program : Program) (space : List Location) (system : System) → AreLinkedAs entries units program space system → Denotes entries texts program × IsSystemOf program space system
   unfolding Denotes
   denoted program space system h = ((units, right, h.own), h.system_of)
 

@@ -65,8 +65,8 @@ are_named texts units bytes right u x at =
     named_of (0 + u) own.text x own.right (subst P same (bytes u own.text.0 within))
 
 -- and the locations of their program
-pub are_distinct : (units : List Unit) (program : Program) (space : List Location) (system : System) → AreLinkable units → AreNamedUnits units → AreLinkedAs units program space system → DistinctNames space
-are_distinct units program space system linkable named h =
+pub are_distinct : (entries : List (List ℕ)) (units : List Unit) (program : Program) (space : List Location) (system : System) → AreLinkable units → AreNamedUnits units → AreLinkedAs entries units program space system → DistinctNames space
+are_distinct entries units program space system linkable named h =
     let P : List Location → Type 0 = λ locations. DistinctNames locations in
     subst P (sym h.system_of.space_is) (linked_distinct units program linkable named h.own.linked h.own.made h.own.named)
 

@@ -101,21 +101,21 @@ each_right number [] (u ∷ us) h = absurd h
 each_right number (text ∷ texts) [] h = absurd h
 each_right number (text ∷ texts) (u ∷ us) h = ((u, h.0), each_right (number + 1) texts us h.1)
 
-pub denoted_right : (texts : List NamedText) (program : Program) → Denotes texts program → HaveRightUnits 0 texts
+pub denoted_right : (entries : List (List ℕ)) (texts : List NamedText) (program : Program) → Denotes entries texts program → HaveRightUnits 0 texts
 unfolding Denotes
-denoted_right texts program h = each_right 0 texts h.0 h.1
+denoted_right entries texts program h = each_right 0 texts h.0 h.1
 
-pub together_right : (texts : List NamedText) (answer : Answer) → AreRefusedTogether texts answer → HaveRightUnits 0 texts
-together_right texts answer (inl h) = each_right 0 texts h.units h.right
-together_right texts answer (inr (inl h)) = each_right 0 texts h.units h.right
-together_right texts answer (inr (inr h)) = each_right 0 texts h.units h.right
+pub together_right : (entries : List (List ℕ)) (texts : List NamedText) (answer : Answer) → AreRefusedTogether entries texts answer → HaveRightUnits 0 texts
+together_right entries texts answer (inl h) = each_right 0 texts h.units h.right
+together_right entries texts answer (inr (inl h)) = each_right 0 texts h.units h.right
+together_right entries texts answer (inr (inr h)) = each_right 0 texts h.units h.right
 
 -- what refuses texts that each have a right unit refuses them together
-pub refuses_right : (texts : List NamedText) (answer : Answer) → HaveRightUnits 0 texts → Refuses texts answer → AreRefusedTogether texts answer
+pub refuses_right : (entries : List (List ℕ)) (texts : List NamedText) (answer : Answer) → HaveRightUnits 0 texts → Refuses entries texts answer → AreRefusedTogether entries texts answer
 unfolding Refuses
-refuses_right texts answer right (inl h) = absurd (none_right 0 texts answer h right)
-refuses_right texts answer right (inr h) = h
+refuses_right entries texts answer right (inl h) = absurd (none_right 0 texts answer h right)
+refuses_right entries texts answer right (inr h) = h
 
 pub told_right : (told : Told) (answer : Answer) → HaveRightUnits 0 told.units → RefusesTold told answer → RefusesToldRight told answer
-told_right told answer right (inl h) = inl (refuses_right told.units answer right h)
+told_right told answer right (inl h) = inl (refuses_right told.entries told.units answer right h)
 told_right told answer right (inr h) = inr h

@@ -4,7 +4,7 @@ use Rattle.std.specs.List.{fold}
 use Rattle.core_tree.specs.declared.node.Unit.{Unit}
 use Rattle.core_tree.specs.declared.node.Program.{Program}
 use Rattle.c_senses.specs.Names.{source_of, numbered}
-use Rattle.unit_link.specs.Linked.{Linked}
+use Rattle.unit_link.specs.Linked.{LinkedAt}
 use Rattle.reading_laws.specs.right_laws.Alike.{AreAlike}
 use Rattle.reading_laws.proofs.right_laws.RightAlike.{right_alike}
 use Rattle.text_units.specs.Answers.{NamedText, Answer}
@@ -41,16 +41,16 @@ same_sum number a b (text ∷ texts) (u ∷ us) (v ∷ vs) same h k =
     let more : a + length u.nodes.items ≡ b + length v.nodes.items = omega (arith, here, same) in
     same_sum (number + 1) (a + length u.nodes.items) (b + length v.nodes.items) texts us vs more h.1 k.1
 
-pub linked_count : (texts : List NamedText) (us vs : List Unit) (p q : Program) → AreRightTexts 0 texts us → AreRightTexts 0 texts vs → Linked us p → Linked vs q → length p.nodes.items ≡ length q.nodes.items
-linked_count texts us vs p q h k one other = one.nodes.count ∙ (same_sum 0 0 0 texts us vs refl h k ∙ sym other.nodes.count)
+pub linked_count : (entries : List (List ℕ)) (texts : List NamedText) (us vs : List Unit) (p q : Program) → AreRightTexts 0 texts us → AreRightTexts 0 texts vs → LinkedAt entries us p → LinkedAt entries vs q → length p.nodes.items ≡ length q.nodes.items
+linked_count entries texts us vs p q h k one other = one.nodes.count ∙ (same_sum 0 0 0 texts us vs refl h k ∙ sym other.nodes.count)
 
-count : (texts : List NamedText) (p q : Program) → Denotes texts p → Denotes texts q → length p.nodes.items ≡ length q.nodes.items
+count : (entries : List (List ℕ)) (texts : List NamedText) (p q : Program) → Denotes entries texts p → Denotes entries texts q → length p.nodes.items ≡ length q.nodes.items
 unfolding Denotes
-count texts p q h k = linked_count texts h.0 k.0 p q h.1 k.1 h.2.linked k.2.linked
+count entries texts p q h k = linked_count entries texts h.0 k.0 p q h.1 k.1 h.2.linked k.2.linked
 
-pub many : (texts : List NamedText) (one other : Answer) → HaveManyNodes texts one → HaveManyNodes texts other → one ≡ other
-many texts one other h k =
-    let same : length h.program.nodes.items ≡ length k.program.nodes.items = linked_count texts h.units k.units h.program k.program h.right k.right h.own.linked k.own.linked in
+pub many : (entries : List (List ℕ)) (texts : List NamedText) (one other : Answer) → HaveManyNodes entries texts one → HaveManyNodes entries texts other → one ≡ other
+many entries texts one other h k =
+    let same : length h.program.nodes.items ≡ length k.program.nodes.items = linked_count entries texts h.units k.units h.program k.program h.right k.right h.own.linked k.own.linked in
     let number : h.nodes ≡ k.nodes = h.many.nodes_are ∙ (same ∙ sym k.many.nodes_are) in
     h.answer_is ∙ (ap nodes_refusal number ∙ sym k.answer_is)
 
@@ -62,32 +62,32 @@ rooted texts units right = record {
       record { nodes = own.right.right.no_other_node; initialisers = own.right.right.initialises_once };
 }
 
-word_count : (texts : List NamedText) (us vs : List Unit) (p q : Program) → AreRightTexts 0 texts us → AreRightTexts 0 texts vs → IsProgramOf us p → IsProgramOf vs q
+word_count : (entries : List (List ℕ)) (texts : List NamedText) (us vs : List Unit) (p q : Program) → AreRightTexts 0 texts us → AreRightTexts 0 texts vs → IsProgramOf entries us p → IsProgramOf entries vs q
     → word_total p (view_of (locations_in p)) ≡ word_total q (view_of (locations_in q))
-word_count texts us vs p q h k one other =
+word_count entries texts us vs p q h k one other =
     one_word_total us vs p q (right_twins.all us vs (same_texts 0 texts us vs h k)) (rooted texts us h) (rooted texts vs k) one.linked other.linked
     (record { made = one.made; named = one.named; range = one.range }) (record { made = other.made; named = other.named; range = other.range })
 
-words : (texts : List NamedText) (p q : Program) → Denotes texts p → Denotes texts q → word_total p (view_of (locations_in p)) ≡ word_total q (view_of (locations_in q))
+words : (entries : List (List ℕ)) (texts : List NamedText) (p q : Program) → Denotes entries texts p → Denotes entries texts q → word_total p (view_of (locations_in p)) ≡ word_total q (view_of (locations_in q))
 unfolding Denotes
-words texts p q h k = word_count texts h.0 k.0 p q h.1 k.1 h.2 k.2
+words entries texts p q h k = word_count entries texts h.0 k.0 p q h.1 k.1 h.2 k.2
 
-pub many_words : (texts : List NamedText) (one other : Answer) → HaveManyWords texts one → HaveManyWords texts other → one ≡ other
-many_words texts one other h k =
+pub many_words : (entries : List (List ℕ)) (texts : List NamedText) (one other : Answer) → HaveManyWords entries texts one → HaveManyWords entries texts other → one ≡ other
+many_words entries texts one other h k =
     let same : word_total h.program (view_of (locations_in h.program)) ≡ word_total k.program (view_of (locations_in k.program)) =
-    word_count texts h.units k.units h.program k.program h.right k.right h.own k.own in
+    word_count entries texts h.units k.units h.program k.program h.right k.right h.own k.own in
     let number : h.words ≡ k.words = h.many.words_are ∙ (same ∙ sym k.many.words_are) in
     h.answer_is ∙ (ap words_refusal number ∙ sym k.answer_is)
 
-pub few : (texts : List NamedText) (p : Program) (answer : Answer) → Denotes texts p → IsWithin p (view_of (locations_in p)) → HaveManyNodes texts answer ⊎ HaveManyWords texts answer → ⊥
+pub few : (entries : List (List ℕ)) (texts : List NamedText) (p : Program) (answer : Answer) → Denotes entries texts p → IsWithin p (view_of (locations_in p)) → HaveManyNodes entries texts answer ⊎ HaveManyWords entries texts answer → ⊥
 unfolding Denotes
-few texts p answer h within (inl k) =
-    let same : length p.nodes.items ≡ length k.program.nodes.items = linked_count texts h.0 k.units p k.program h.1 k.right h.2.linked k.own.linked in
+few entries texts p answer h within (inl k) =
+    let same : length p.nodes.items ≡ length k.program.nodes.items = linked_count entries texts h.0 k.units p k.program h.1 k.right h.2.linked k.own.linked in
     let over : 2 ^ 24 < length k.program.nodes.items = k.many.many in
     let below : length p.nodes.items ≤ 2 ^ 24 = within.nodes in
     omega arith
-few texts p answer h within (inr k) =
-    let same : word_total p (view_of (locations_in p)) ≡ word_total k.program (view_of (locations_in k.program)) = word_count texts h.0 k.units p k.program h.1 k.right h.2 k.own in
+few entries texts p answer h within (inr k) =
+    let same : word_total p (view_of (locations_in p)) ≡ word_total k.program (view_of (locations_in k.program)) = word_count entries texts h.0 k.units p k.program h.1 k.right h.2 k.own in
     let over : 2 ^ 24 < word_total k.program (view_of (locations_in k.program)) = k.many.many in
     let below : word_total p (view_of (locations_in p)) ≤ 2 ^ 24 = within.words in
     omega arith

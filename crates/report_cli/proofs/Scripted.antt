@@ -40,9 +40,9 @@ module _ (program : Program) (space : List Location) (system : System) (side : S
       subst P (sym is) (subst Q nothing refused)
 
   -- the refusal of what is read beside the units, on the program that texts denote
-  pub side_told : (texts : List NamedText) (form : Form) (fault : UnitsFault) → Denotes texts program → IsSystemOf program space system → IsFaultOfSide program space system side fault → IsFaultOfTold (told_with texts side form) fault
-  side_told texts form (Refused status line) denoted of h = inr (record { program = program; denoted = denoted; space = space; system = system; system_of = of; refused = h })
-  side_told texts form Memory denoted of h = tt
+  pub side_told : (entries : List (List ℕ)) (texts : List NamedText) (form : Form) (fault : UnitsFault) → Denotes entries texts program → IsSystemOf program space system → IsFaultOfSide program space system side fault → IsFaultOfTold (told_with entries texts side form) fault
+  side_told entries texts form (Refused status line) denoted of h = inr (record { program = program; denoted = denoted; space = space; system = system; system_of = of; refused = h })
+  side_told entries texts form Memory denoted of h = tt
 
 module _ (program : Program) (space : List Location) (system : System) (script : NamedText) where
   -- a script over the limit is refused
@@ -91,9 +91,9 @@ on_fault (Ok x) P Q f p = tt
 on_fault (Err e) P Q f p = f e p
 
 -- the refusal of units, whatever is read beside them
-pub units_told : (texts : List NamedText) (side : Side) (form : Form) (fault : UnitsFault) → IsFaultOf texts fault → IsFaultOfTold (told_with texts side form) fault
-units_told texts side form (Refused status line) h = inl h
-units_told texts side form Memory h = tt
+pub units_told : (entries : List (List ℕ)) (texts : List NamedText) (side : Side) (form : Form) (fault : UnitsFault) → IsFaultOf entries texts fault → IsFaultOfTold (told_with entries texts side form) fault
+units_told entries texts side form (Refused status line) h = inl h
+units_told entries texts side form Memory h = tt
 
 -- units with their texts stand first
 zip_front : (units more texts : List (List ℕ)) → zip units (take (length units) texts) ≡ take (length units) (zip (units ++ more) texts)

@@ -41,6 +41,6 @@ TakesSide program (with_words steps words) = AreTakenWords words
 -- read beside them.
 pub record AreAccepted (told : Told) : Type 0 where
   pub program : Program
-  pub denoted : Denotes told.units program
+  pub denoted : Denotes told.entries told.units program
   pub within : IsWithin program (view_of (locations_in program))
-  pub side : (other : Program) → Denotes told.units other → TakesSide other told.side
+  pub side : (other : Program) → Denotes told.entries told.units other → TakesSide other told.side

@@ -21,10 +21,10 @@ use Rattle.report_cli.specs.Told.{Side, Told}
 use Rattle.report_cli.specs.Printed.{AreRefusedWords, IsRefusedSide}
 use Rattle.report_cli.specs.Outcome.{IsRefusedBy, Refuses}
 
--- a refusal is that of the units; want of memory says nothing of them
-abbrev pub IsFaultOf : List NamedText → UnitsFault → Type 0
-IsFaultOf units (Refused status line) = Refuses units (record { status = status; out = []; err = line })
-IsFaultOf units Memory = Unit {0}
+-- a refusal is that of the units, where those entries are named; want of memory says nothing of them
+abbrev pub IsFaultOf : List (List ℕ) → List NamedText → UnitsFault → Type 0
+IsFaultOf entries units (Refused status line) = Refuses entries units (record { status = status; out = []; err = line })
+IsFaultOf entries units Memory = Unit {0}
 
 -- a refusal is that of what is told
 abbrev pub IsFaultOfTold : Told → UnitsFault → Type 0

@@ -1,4 +1,4 @@
--- Texts have one refusal at most, and none where they are accepted.
+-- Texts have one refusal at most, whatever entries are named, and none where they are accepted.
 use Rattle.std.specs.Prelude.{◌≡◌, ◌⊎◌, ℕ, List, length}
 use Rattle.core_tree.specs.declared.node.Unit.{Unit}
 use Rattle.core_tree.specs.declared.node.Program.{Program}
@@ -37,22 +37,23 @@ pub record OneOutcome : Type 0 where
       → FirstRefused IsRefusedText number texts answer
       → HaveRightUnits number texts → ⊥
   -- texts that denote a program are refused for a limit alone that their program passes
-  pub denoted : (texts : List NamedText) (program : Program) (answer : Answer)
-      → Denotes texts program
-      → Refuses texts answer
-      → HaveManyNodes texts answer ⊎ HaveManyWords texts answer
+  pub denoted : (entries : List (List ℕ)) (texts : List NamedText) (program : Program) (answer : Answer)
+      → Denotes entries texts program
+      → Refuses entries texts answer
+      → HaveManyNodes entries texts answer ⊎ HaveManyWords entries texts answer
   -- and not at all where it is within the limits
-  pub within : (texts : List NamedText) (program : Program) (answer : Answer) → Denotes texts program
-      → IsWithin program (view_of (locations_in program)) → Refuses texts answer → ⊥
+  pub within : (entries : List (List ℕ)) (texts : List NamedText) (program : Program) (answer : Answer)
+      → Denotes entries texts program
+      → IsWithin program (view_of (locations_in program)) → Refuses entries texts answer → ⊥
   -- for a fault of linking texts are refused with one answer
-  pub linking : (texts : List NamedText) (one other : Answer)
-      → IsLinkRefusal texts one
-      → IsLinkRefusal texts other
+  pub linking : (entries : List (List ℕ)) (texts : List NamedText) (one other : Answer)
+      → IsLinkRefusal entries texts one
+      → IsLinkRefusal entries texts other
       → one ≡ other
   -- two refusals of the same texts are one answer
-  pub refused : (texts : List NamedText) (one other : Answer)
-      → Refuses texts one
-      → Refuses texts other
+  pub refused : (entries : List (List ℕ)) (texts : List NamedText) (one other : Answer)
+      → Refuses entries texts one
+      → Refuses entries texts other
       → one ≡ other
   -- what is accepted isn't refused
   pub accepted : (told : Told) (answer : Answer) → AreAccepted told → RefusesTold told answer → ⊥
@@ -64,20 +65,25 @@ pub record OneProgramSize : Type 0 where
       → IsRightText number text u
       → IsRightText number text v
       → AreAlike u v
-  pub count : (texts : List NamedText) (program other : Program) → Denotes texts program → Denotes texts other
+  pub count : (entries : List (List ℕ)) (texts : List NamedText) (program other : Program)
+      → Denotes entries texts program
+      → Denotes entries texts other
       → length program.nodes.items ≡ length other.nodes.items
-  pub words : (texts : List NamedText) (program other : Program) → Denotes texts program → Denotes texts other
+  pub words : (entries : List (List ℕ)) (texts : List NamedText) (program other : Program)
+      → Denotes entries texts program
+      → Denotes entries texts other
       → word_total program (view_of (locations_in program)) ≡ word_total other (view_of (locations_in other))
   -- texts are over a limit with one answer, and not where they denote a program that is within it
-  pub many : (texts : List NamedText) (one other : Answer)
-      → HaveManyNodes texts one
-      → HaveManyNodes texts other
+  pub many : (entries : List (List ℕ)) (texts : List NamedText) (one other : Answer)
+      → HaveManyNodes entries texts one
+      → HaveManyNodes entries texts other
       → one ≡ other
-  pub many_words : (texts : List NamedText) (one other : Answer)
-      → HaveManyWords texts one
-      → HaveManyWords texts other
+  pub many_words : (entries : List (List ℕ)) (texts : List NamedText) (one other : Answer)
+      → HaveManyWords entries texts one
+      → HaveManyWords entries texts other
       → one ≡ other
-  pub few : (texts : List NamedText) (program : Program) (answer : Answer) → Denotes texts program
+  pub few : (entries : List (List ℕ)) (texts : List NamedText) (program : Program) (answer : Answer)
+      → Denotes entries texts program
       → IsWithin program (view_of (locations_in program))
-      → HaveManyNodes texts answer ⊎ HaveManyWords texts answer
+      → HaveManyNodes entries texts answer ⊎ HaveManyWords entries texts answer
       → ⊥

@@ -13,28 +13,29 @@ use Rattle.report_cli.specs.Linking.{IsLinkRefusal, HaveManyNodes, HaveManyWords
 use Rattle.report_cli.specs.Told.{Side, Told}
 use Rattle.report_cli.specs.Printed.{IsPrinted, IsRefusedSide}
 
--- a program that texts denote: each is right, as a core unit, and the program is linked from these, on a table that
--- its own functions made
-unfoldable pub Denotes : List NamedText → Program → Type 0
-Denotes texts program = (units : List Unit) × AreRightTexts 0 texts units × IsProgramOf units program
+-- a program that texts denote where those entries are named, or none and it begins at `main`: each text is right, as a
+-- core unit, and the program is linked from these, on a table that its own functions made
+unfoldable pub Denotes : List (List ℕ) → List NamedText → Program → Type 0
+Denotes entries texts program = (units : List Unit) × AreRightTexts 0 texts units × IsProgramOf entries units program
 
 -- the refusal of texts that are right: for a fault of linking, or for a limit that their program passes
-abbrev pub AreRefusedTogether : List NamedText → Answer → Type 0
-AreRefusedTogether texts answer =
-    IsLinkRefusal texts answer ⊎ (HaveManyNodes texts answer ⊎ HaveManyWords texts answer)
+abbrev pub AreRefusedTogether : List (List ℕ) → List NamedText → Answer → Type 0
+AreRefusedTogether entries texts answer =
+    IsLinkRefusal entries texts answer ⊎ (HaveManyNodes entries texts answer ⊎ HaveManyWords entries texts answer)
 
 -- the first refusal of texts: that of the first one that isn't right, else that of all together
-unfoldable pub Refuses : List NamedText → Answer → Type 0
-Refuses texts answer = FirstRefused IsRefusedText 0 texts answer ⊎ AreRefusedTogether texts answer
+unfoldable pub Refuses : List (List ℕ) → List NamedText → Answer → Type 0
+Refuses entries texts answer = FirstRefused IsRefusedText 0 texts answer ⊎ AreRefusedTogether entries texts answer
 
 -- the same of texts that are read alone
-abbrev pub RefusesRead : List NamedText → Answer → Type 0
-RefusesRead texts answer = FirstRefused IsRefusedRow 0 texts answer ⊎ AreRefusedTogether texts answer
+abbrev pub RefusesRead : List (List ℕ) → List NamedText → Answer → Type 0
+RefusesRead entries texts answer = FirstRefused IsRefusedRow 0 texts answer ⊎ AreRefusedTogether entries texts answer
 
 -- what is read beside the units is refused on the program that their texts denote
-pub record RefusesSide (texts : List NamedText) (side : Side) (answer : Answer) : Type 0 where
+pub record RefusesSide (entries : List (List ℕ)) (texts : List NamedText) (side : Side)
+    (answer : Answer) : Type 0 where
   pub program : Program
-  pub denoted : Denotes texts program
+  pub denoted : Denotes entries texts program
   pub space : List Location
   pub system : System
   pub system_of : IsSystemOf program space system
@@ -42,20 +43,22 @@ pub record RefusesSide (texts : List NamedText) (side : Side) (answer : Answer) 
 
 -- the first refusal of what is told: that of the units, else that of what is read beside them on their program
 abbrev pub RefusesTold : Told → Answer → Type 0
-RefusesTold told answer = Refuses told.units answer ⊎ RefusesSide told.units told.side answer
+RefusesTold told answer = Refuses told.entries told.units answer ⊎ RefusesSide told.entries told.units told.side answer
 
 -- the same of units whose texts are read alone
 abbrev pub RefusesToldRead : Told → Answer → Type 0
-RefusesToldRead told answer = RefusesRead told.units answer ⊎ RefusesSide told.units told.side answer
+RefusesToldRead told answer =
+    RefusesRead told.entries told.units answer ⊎ RefusesSide told.entries told.units told.side answer
 
 -- the same of units whose texts each have a right unit
 abbrev pub RefusesToldRight : Told → Answer → Type 0
-RefusesToldRight told answer = AreRefusedTogether told.units answer ⊎ RefusesSide told.units told.side answer
+RefusesToldRight told answer =
+    AreRefusedTogether told.entries told.units answer ⊎ RefusesSide told.entries told.units told.side answer
 
 -- the answer of what is told: what is printed of the program that the units denote, or the first refusal
 abbrev pub OutcomeOf : Told → Answer → Type 0
 OutcomeOf told answer =
-    ((program : Program) × (system : System) × Denotes told.units program
+    ((program : Program) × (system : System) × Denotes told.entries told.units program
     × IsPrinted told.form told.side program system answer.out answer.status × (answer.err ≡ []))
     ⊎ RefusesTold told answer
 

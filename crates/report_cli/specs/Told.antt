@@ -5,8 +5,8 @@ use Rattle.gen_units.specs.Generated.{unit_text}
 use Rattle.command_line.specs.declared.command.Command.{Command}
 use Rattle.report_cli.specs.declared.form.Form.{Form}
 use Rattle.report_cli.specs.declared.form.Form.TheVariants.{Report, Summary, Effects, Stops}
-use Rattle.report_cli.specs.Words.{effects_read, json_read, names_read, number_read, side_name, steps_read}
-use Rattle.report_cli.specs.Words.{stops_read, units_read}
+use Rattle.report_cli.specs.Words.{effects_read, entries_read, json_read, names_read, number_read, side_name}
+use Rattle.report_cli.specs.Words.{steps_read, stops_read, units_read}
 use Rattle.text_units.specs.Answers.{names_of, NamedText, told_units}
 use Rattle.report_cli.specs.Words.{with_side}
 
@@ -16,8 +16,10 @@ pub data Side : Type 0 where
   with_questions : (script : NamedText) → Side
   with_words : (steps : ℕ) (words : NamedText) → Side
 
--- the units with their texts, what is read beside them, and what is printed where that is nothing
+-- the names of the functions at which the program is entered, none where that is `main`, the units with their texts,
+-- what is read beside them, and what is printed where that is nothing
 pub record Told : Type 0 where
+  pub entries : List (List ℕ)
   pub units : List NamedText
   pub side : Side
   pub form : Form
@@ -42,8 +44,9 @@ abbrev pub form_for : Command → Form
 form_for command = form_of command.effects command.stops command.json
 
 -- of named texts the first so many are units, and the one behind them stands beside them
-abbrev pub parted : Form → Option ℕ → ℕ → List NamedText → Told
-parted form steps count texts = record {
+abbrev pub parted : List (List ℕ) → Form → Option ℕ → ℕ → List NamedText → Told
+parted entries form steps count texts = record {
+  entries = entries;
   units = take count texts;
   side = side_of steps (slice_get texts count);
   form = form;
@@ -51,7 +54,12 @@ parted form steps count texts = record {
 
 -- the generated program of a number: the one unit `gen`, of which a summary is printed
 abbrev pub generated : ℕ → Told
-generated number = record { units = (codes "gen", unit_text number) ∷ []; side = no_side; form = Summary number }
+generated number = record {
+  entries = [];
+  units = (codes "gen", unit_text number) ∷ [];
+  side = no_side;
+  form = Summary number;
+}
 
 -- the generated program of a number, where there is one, and else what was read
 abbrev pub told_by : Option ℕ → Told → Told
@@ -63,7 +71,7 @@ told_by (Some number) read = generated number
 abbrev pub told_for : (List ℕ → Option (List ℕ)) → List (List ℕ) → Option Told
 told_for text_of words =
     option_map (λ texts. told_by (number_read words)
-    (parted (form_read words) (steps_read words) (length (units_read words)) texts))
+    (parted (entries_read words) (form_read words) (steps_read words) (length (units_read words)) texts))
     (told_units text_of (names_read words))
 
 -- the names that a command reads, and what was read for it
@@ -74,7 +82,8 @@ names_for command =
 -- what was read for a command
 abbrev pub read_as : Command → List (List ℕ) → Told
 read_as command texts =
-    parted (form_for command) command.steps (length command.units.items) (zip (names_for command) texts)
+    parted (names_of command.entries.items) (form_for command) command.steps (length command.units.items)
+    (zip (names_for command) texts)
 
 abbrev pub told_as : Command → List (List ℕ) → Told
 told_as command texts = told_by command.generated (read_as command texts)

@@ -4,7 +4,7 @@ use Rattle.std.specs.List.{All}
 use Rattle.std.specs.declared.alloc.Global.{Global}
 use Rattle.location_laws.specs.name_shapes.Bytes.{is_unit_byte, IsMadeOf}
 use Rattle.command_line.specs.Language.{found_in}
-use Rattle.command_line.specs.Rules.{asks_effects, asks_json, asks_stops, script_word, unit_words}
+use Rattle.command_line.specs.Rules.{asks_effects, asks_json, asks_stops, entry_names, script_word, unit_words}
 use Rattle.command_line.specs.Meaning.{number_of}
 
 -- the bytes of words
@@ -18,6 +18,10 @@ AreUnitNames names = All (IsMadeOf is_unit_byte) names
 -- the names of the units that words ask for, in order
 abbrev pub units_read : List (List ℕ) → List (List ℕ)
 units_read words = unit_words (found_in words)
+
+-- the names of the functions at which words ask the program to be entered, in order
+abbrev pub entries_read : List (List ℕ) → List (List ℕ)
+entries_read words = entry_names (found_in words)
 
 -- the name of the script of questions, where words ask for one
 abbrev pub script_read : List (List ℕ) → Option (List ℕ)

@@ -13,7 +13,7 @@ pub(crate) struct Printed {
 
 /// What is printed of a program where nothing is read beside its units: its report, as JSON or as lines, the summary of the generated
 /// program of a number, what each of its functions may read and write, or where a run of it may stop for a type.
-#[derive(Clone, Copy)]
+#[derive(Clone, Copy, Drop)]
 pub(crate) enum Form {
     Report(bool),
     Summary(u32),

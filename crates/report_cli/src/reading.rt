@@ -7,7 +7,7 @@ ghost use Rattle.report_cli.specs.Told.{names_for};
 
 use crate::input::{ReadFault, read_text};
 use command_line::Command;
-use pta_base::{Listing, Units};
+use pta_base::{Listing, Text, Units};
 use std::alloc::{AllocError, AllocFailed, Global};
 use text_units::lowered::name_at;
 
@@ -71,6 +71,17 @@ pub(crate) fn names_for<'a>(
         names.push(side)?;
     }
     Ok(names)
+}
+
+/// A copy of each name.
+pub(crate) fn copied(alloc: Global, names: &[&str]) -> Result<Vec<Text>, AllocError>
+    ensures { IfOk result (λ copies. copies.items ≡ names_of names.now) }
+{
+    let mut copies = Vec::new(alloc);
+    for name in names {
+        copies.push(Text::copy_of(alloc, name)?)?;
+    }
+    Ok(copies)
 }
 
 /// Reads the texts of the names in order, of each at most so many bytes.

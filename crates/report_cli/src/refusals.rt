@@ -68,6 +68,15 @@ fn use_refusal(
     refused(5, line)
 }
 
+/// The refusal of a name that isn't an entry.
+fn entry_refusal(alloc: Global, name: &Text) -> Result<UnitsFault, AllocError>
+    ensures { IfOk result (λ fault. fault ≡ fault_of (refusal 12 (codes "entry " ++ name.now))) }
+{
+    let mut line = Vec::from_slice(alloc, b"entry ")?;
+    line.extend_from_slice(name.as_str().as_bytes())?;
+    refused(12, line)
+}
+
 /// The refusal for a fault of linking.
 fn link_refusal(alloc: Global, names: &[&str], fault: LinkFault) -> Result<UnitsFault, AllocError>
     ensures { IfOk result (IsSystemRefusal (names_of names.now) (UnitFault.Link fault)) }
@@ -92,6 +101,7 @@ fn link_refusal(alloc: Global, names: &[&str], fault: LinkFault) -> Result<Units
             &name,
         ),
         LinkFault::NoMain => refused(5, Vec::from_slice(alloc, b"link no main")?),
+        LinkFault::NoEntry(name) => entry_refusal(alloc, &name),
         LinkFault::OutOfMemory => Ok(UnitsFault::Memory),
     }
 }

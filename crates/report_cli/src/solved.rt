@@ -1,5 +1,5 @@
 // From the texts of units to what is printed of their program, or to their first refusal.
-ghost use Rattle.std.specs.Prelude.{◌≡◌, ◌<◌, ◌≤◌, ◌^◌, List, length, map, zip, IfOk, IfErr};
+ghost use Rattle.std.specs.Prelude.{◌≡◌, ℕ, ◌<◌, ◌≤◌, ◌^◌, List, length, map, zip, IfOk, IfErr};
 ghost use Rattle.command_line.specs.Distinct.{AreDistinct};
 ghost use Rattle.link_model.specs.filled_units.Filled.{AreFilled};
 ghost use Rattle.unit_link.specs.Needs.{AreLinkable};
@@ -23,11 +23,11 @@ ghost use Rattle.report_cli.specs.Faults.{IsFaultOf, IsFaultOfSide, IsFaultOfTol
 use crate::form::{Form, Printed};
 use crate::refusals::{answers_refusal, system_refusal};
 use crate::running::ran;
-use crate::side::{MOST, Side, SideText};
+use crate::side::{Asked, MOST, Side, SideText};
 use core_tree::Unit;
 use effects_text::effects_of_system;
 use gen_summary::summary_of_system;
-use pta_base::{Gate, Listing, OutOfMemory};
+use pta_base::{Gate, Listing, OutOfMemory, Text};
 use std::alloc::Global;
 use std::sync::Wait;
 use std::thread::Threads;
@@ -39,20 +39,25 @@ use unit_report::unit_answers::answers_of_system;
 use unit_report::unit_system::{UnitSystem, linked_system};
 use unit_report::{Solved, report_of_system};
 
-/// The program that the texts of core units denote, with its locations, no two of which have one name, and its system, or the fault that
-/// refuses them.
-fn linked(alloc: Global, names: &[&str], units: Vec<Unit>) -> Result<UnitSystem, UnitsFault>
+/// The program that the texts of core units denote where those entries are named, with its locations, no two of which have one name, and
+/// its system, or the fault that refuses them.
+fn linked(
+    alloc: Global,
+    names: &[&str],
+    units: Vec<Unit>,
+    entries: &[Text],
+) -> Result<UnitSystem, UnitsFault>
     requires linkable { AreLinkable units.items }
     requires filled { AreFilled units.items }
     requires named { AreNamedUnits units.items }
     ensures linked { (texts : List NamedText) → AreRightTexts 0 texts units.items →
-        IfOk result (λ made. Denotes texts made.program × IsSystemOf made.program made.space made.system) }
+        IfOk result (λ made. Denotes entries.now texts made.program × IsSystemOf made.program made.space made.system) }
     ensures refused { (texts : List NamedText) → names_of names.now ≡ map (λ text. text.0) texts → AreRightTexts 0 texts units.items →
-        IfErr result (IsFaultOf texts) }
+        IfErr result (IsFaultOf entries.now texts) }
     ensures distinct { IfOk result (λ made. DistinctNames made.space) }
     ensures range { IfOk result (λ made. InRange (trees_in made.program)) }
 {
-    match linked_system(alloc, units) {
+    match linked_system(alloc, units, entries) {
         Ok(made) => Ok(made),
         Err(fault) => Err(system_refusal(alloc, names, fault)?),
     }
@@ -125,7 +130,7 @@ fn lower_texts<R: Threads + Sync, G: Gate + Sync>(
     requires count { length texts.now ≡ length names.now }
     requires few { length names.now ≤ 2 ^ 8 }
     ensures right { IfOk result (λ units. AreRightTexts 0 (zip (names_of names.now) texts.now) units.items) }
-    ensures refused { IfErr result (IsFaultOf (zip (names_of names.now) texts.now)) }
+    ensures refused { (entries : List (List ℕ)) → IfErr result (IsFaultOf entries (zip (names_of names.now) texts.now)) }
 {
     lower_each(rt, alloc, names, texts, workers, gate)
 }
@@ -138,8 +143,7 @@ pub(crate) fn text_of_units<R: Threads + Wait + Sync, G: Gate + Sync>(
     alloc: Global,
     names: &[&str],
     texts: &[Listing<u8>],
-    side: Side<'_>,
-    form: Form,
+    asked: Asked<'_>,
     workers: u32,
     gate: &G,
 ) -> Result<Printed, UnitsFault>
@@ -148,18 +152,21 @@ pub(crate) fn text_of_units<R: Threads + Wait + Sync, G: Gate + Sync>(
     requires bytes { AreUnitNames (names_of names.now) }
     requires count { length texts.now ≡ length names.now }
     requires workers { (0 < workers) × (workers ≤ 64) }
-    ensures printed { IfOk result (λ made. (program : Program) × (system : System) × Denotes (zip (names_of names.now) texts.now) program
-        × IsPrinted form (named_side side.entry) program system made.text.items made.status × IsSolvedShared system made.solved) }
-    ensures refused { IfErr result (IsFaultOfTold (told_with (zip (names_of names.now) texts.now) (named_side side.entry) form)) }
+    ensures printed { IfOk result (λ made. (program : Program) × (system : System)
+        × Denotes asked.entry.entries.now (zip (names_of names.now) texts.now) program
+        × IsPrinted asked.entry.form (named_side asked.entry.side) program system made.text.items made.status
+        × IsSolvedShared system made.solved) }
+    ensures refused { IfErr result (IsFaultOfTold (told_with asked.entry.entries.now (zip (names_of names.now) texts.now)
+        (named_side asked.entry.side) asked.entry.form)) }
 {
     let units = lower_texts(rt, alloc, names, texts, workers, gate)?;
-    let made = match linked(alloc, names, units) {
+    let made = match linked(alloc, names, units, asked.entries) {
         Ok(made) => made,
         Err(fault) => return Err(fault),
     };
-    match side {
+    match asked.side {
         Side::Nothing => {
-            let (text, solved) = text_in_form(rt, alloc, made, form, workers, gate)?;
+            let (text, solved) = text_in_form(rt, alloc, made, asked.form, workers, gate)?;
             Ok(Printed {
                 text,
                 status: 0,

@@ -1,5 +1,5 @@
 // The top call.
-ghost use Rattle.std.specs.Prelude.{◌≡◌, ◌≢◌, ◌⊎◌, ℕ, ◌<◌, ◌≤◌, ◌^◌, None, Some, List, length, zip, IfErr, IfOk, IfSome, IsSome, Contains};
+ghost use Rattle.std.specs.Prelude.{◌≡◌, ◌≢◌, ◌⊎◌, ℕ, ◌<◌, ◌≤◌, ◌^◌, None, Some, List, [], length, zip, IfErr, IfOk, IfSome, IsSome, Contains};
 ghost use Rattle.pta_base.specs.Outside.{HasRisen, IsSteady};
 ghost use Rattle.core_tree.specs.declared.node.Program.{Program};
 ghost use Rattle.sol_model.specs.declared.system.System.{System};
@@ -7,7 +7,7 @@ ghost use Rattle.command_line.specs.Rules.{AreRight};
 ghost use Rattle.command_line.specs.Distinct.{AreDistinct};
 ghost use Rattle.text_units.specs.Answers.{names_of, Answer};
 ghost use Rattle.covered_reports.specs.Reports.{AreRunsCovered};
-ghost use Rattle.report_cli.specs.Words.{names_read, steps_read, texts_of, AreUnitNames};
+ghost use Rattle.report_cli.specs.Words.{entries_read, names_read, steps_read, texts_of, AreUnitNames};
 ghost use Rattle.report_cli.specs.Told.{form_for, generated, names_for, read_as, told_as, told_for};
 ghost use Rattle.report_cli.specs.Printed.{IsPrinted};
 ghost use Rattle.text_units.specs.Alone.{AreReadAlone};
@@ -22,8 +22,8 @@ ghost use Rattle.report_cli.specs.Faults.{IsFaultOfTold};
 
 use crate::form::{Form, Printed};
 use crate::output::say;
-use crate::reading::{ReadingFault, names_for, read_units, side_name};
-use crate::side::{Side, SideText};
+use crate::reading::{ReadingFault, copied, names_for, read_units, side_name};
+use crate::side::{Asked, Side, SideText};
 use crate::solved::text_of_units;
 use command_line::{Command, WordsFault, parse_words};
 use gen_units::generate;
@@ -136,7 +136,8 @@ fn text_of_generated<R: Threads + Wait + Sync, G: Gate + Sync>(
 ) -> Result<Printed, UnitsFault>
     requires number { (1 ≤ number) × (number ≤ 1000) }
     requires workers { (0 < workers) × (workers ≤ 64) }
-    ensures printed { IfOk result (λ made. (program : Program) × (system : System) × Denotes (generated number).units program
+    ensures printed { IfOk result (λ made. (program : Program) × (system : System)
+        × Denotes (generated number).entries (generated number).units program
         × IsPrinted (generated number).form (generated number).side program system made.text.items made.status
         × IsSolvedShared system made.solved) }
     ensures refused { IfErr result (IsFaultOfTold (generated number)) }
@@ -147,8 +148,11 @@ fn text_of_generated<R: Threads + Wait + Sync, G: Gate + Sync>(
         alloc,
         &["gen"],
         &[Listing::of(text)],
-        Side::Nothing,
-        Form::Summary(number),
+        Asked {
+            entries: &[],
+            side: Side::Nothing,
+            form: Form::Summary(number),
+        },
         workers,
         gate,
     )
@@ -167,6 +171,40 @@ fn form_of(command: &Command<'_>) -> Form
     Form::Report(command.json)
 }
 
+/// What is printed for a command that asks for no generated program, by the texts that were read for it, with the system that was solved
+/// for it, or the fault that refuses what was read.
+fn text_of_read<R: Threads + Wait + Sync, G: Gate + Sync>(
+    rt: &R,
+    alloc: Global,
+    command: &Command<'_>,
+    texts: &[Listing<u8>],
+    gate: &G,
+) -> Result<Printed, UnitsFault>
+    requires distinct { AreDistinct (names_of command.now.units.items) }
+    requires bytes { AreUnitNames (names_of command.now.units.items) }
+    requires few { length command.now.units.items ≤ 2 ^ 8 }
+    requires workers { (0 < command.now.workers) × (command.now.workers ≤ 64) }
+    requires count { length texts.now ≡ length (names_for command.now) }
+    ensures printed { IfOk result (λ made. let told = read_as command.now texts.now in (program : Program) × (system : System)
+        × Denotes told.entries told.units program × IsPrinted told.form told.side program system made.text.items made.status
+        × IsSolvedShared system made.solved) }
+    ensures refused { IfErr result (IsFaultOfTold (read_as command.now texts.now)) }
+{
+    let named = command.entries.as_slice();
+    let copies = copied(alloc, named)?;
+    let entries = copies.as_slice();
+    let side = side_of(command, texts);
+    let form = form_of(command);
+    let asked = Asked {
+        entries,
+        side,
+        form,
+    };
+    let names = command.units.as_slice();
+    let own = unit_texts(command, texts);
+    text_of_units(rt, alloc, names, own, asked, command.workers, gate)
+}
+
 /// What is printed for a command by the texts that were read for it, with the system that was solved for it, or the fault that refuses
 /// what it is told.
 fn text_of_command<R: Threads + Wait + Sync, G: Gate + Sync>(
@@ -183,22 +221,13 @@ fn text_of_command<R: Threads + Wait + Sync, G: Gate + Sync>(
     requires number { IfSome command.now.generated (λ number. (1 ≤ number) × (number ≤ 1000)) }
     requires count { length texts.now ≡ length (names_for command.now) }
     ensures printed { IfOk result (λ made. let told = told_as command.now texts.now in (program : Program) × (system : System)
-        × Denotes told.units program × IsPrinted told.form told.side program system made.text.items made.status
+        × Denotes told.entries told.units program × IsPrinted told.form told.side program system made.text.items made.status
         × IsSolvedShared system made.solved) }
     ensures refused { IfErr result (IsFaultOfTold (told_as command.now texts.now)) }
 {
     match command.generated {
         Some(number) => text_of_generated(rt, alloc, number, command.workers, gate),
-        None => text_of_units(
-            rt,
-            alloc,
-            command.units.as_slice(),
-            unit_texts(command, texts),
-            side_of(command, texts),
-            form_of(command),
-            command.workers,
-            gate,
-        ),
+        None => text_of_read(rt, alloc, command, texts, gate),
     }
 }
 
@@ -220,19 +249,19 @@ fn answer_units<R: Threads + Wait + Sync, O: Sink, E: Sink, G: Gate + Sync>(
     requires number { IfSome command.now.generated (λ number. (1 ≤ number) × (number ≤ 1000)) }
     requires count { length texts.now ≡ length (names_for command.now) }
     ensures listed { IsWritten result
-        ⊎ (((result ≡ 3) ⊎ ((result ≡ 4) ⊎ ((result ≡ 5) ⊎ ((result ≡ 6) ⊎ (result ≡ 10)))))
+        ⊎ (((result ≡ 3) ⊎ ((result ≡ 4) ⊎ ((result ≡ 5) ⊎ ((result ≡ 6) ⊎ ((result ≡ 10) ⊎ (result ≡ 12))))))
         ⊎ ((result ≡ 8) ⊎ (result ≡ 9))) }
     ensures delivered { result ≡ 0 → (program : Program) × (system : System) × (text : List ℕ)
-        × Denotes (told_as command.now texts.now).units program
+        × Denotes (told_as command.now texts.now).entries (told_as command.now texts.now).units program
         × IsPrinted (told_as command.now texts.now).form (told_as command.now texts.now).side program system text 0
         × Grows (O.written out.old) (O.written out.new) text × (E.written err.new ≡ E.written err.old) × IsKept system kept.new }
     ensures stopped { result ≡ 11 → (program : Program) × (system : System) × (text : List ℕ)
-        × Denotes (told_as command.now texts.now).units program
+        × Denotes (told_as command.now texts.now).entries (told_as command.now texts.now).units program
         × IsPrinted (told_as command.now texts.now).form (told_as command.now texts.now).side program system text 11
         × Grows (O.written out.old) (O.written out.new) text × (E.written err.new ≡ E.written err.old) }
     ensures unsolved { result ≢ 0 → kept.new ≡ kept.old }
     ensures broken { result ≡ 8 → (program : Program) × (system : System) × (text : List ℕ) × (status : ℕ)
-        × Denotes (told_as command.now texts.now).units program
+        × Denotes (told_as command.now texts.now).entries (told_as command.now texts.now).units program
         × IsPrinted (told_as command.now texts.now).form (told_as command.now texts.now).side program system text status
         × GrowsInPart (O.written out.old) (O.written out.new) text }
     ensures refused { (IsWritten result → ⊥) → result ≢ 8 → result ≢ 9
@@ -313,17 +342,20 @@ pub fn analyse<R: Threads + Wait + Sync, U: Units, O: Sink, E: Sink, G: Gate + S
     // in every run of defined steps of the reference machine on that program, each pointer held in memory and each
     // function called through a pointer stands in the sets of that solution.
     ensures headline { result ≡ 0 → IfSome (told_for (U.text units.old) (texts_of words.now)) (λ told.
-        (program : Program) × (system : System) × (text : List ℕ) × Denotes told.units program
+        (program : Program) × (system : System) × (text : List ℕ) × Denotes told.entries told.units program
         × IsPrinted told.form told.side program system text 0 × AreRunsCovered program system
         × Grows (O.written out.old) (O.written out.new) text) }
 
     // Status 11 means that the bytes written are the text of a run whose last step stopped; words without `--run` don't
     // give it, whatever they name.
     ensures stopped { result ≡ 11 → IfSome (told_for (U.text units.old) (texts_of words.now)) (λ told.
-        (program : Program) × (system : System) × (text : List ℕ) × Denotes told.units program
+        (program : Program) × (system : System) × (text : List ℕ) × Denotes told.entries told.units program
         × IsPrinted told.form told.side program system text 11
         × Grows (O.written out.old) (O.written out.new) text) }
     ensures run { result ≡ 11 → IsSome (steps_read (texts_of words.now)) }
+
+    // Nor do words without `--entry` give status 12.
+    ensures entry { result ≡ 12 → entries_read (texts_of words.now) ≢ [] }
 
     // Where neither the outside nor memory failed, the answer is that of the words and the texts.
     ensures outcome { result ≢ 7 → result ≢ 8 → result ≢ 9 → IfSome (told_for (U.text units.old) (texts_of words.now)) (λ told.
@@ -333,14 +365,14 @@ pub fn analyse<R: Threads + Wait + Sync, U: Units, O: Sink, E: Sink, G: Gate + S
     ensures said { result ≡ 2 → Receives (E.written err.old) (E.written err.new) (E.faults err.old) (E.faults err.new) usage_line }
     ensures usage { (result ≡ 2 → AreRight (texts_of words.now) → ⊥) × (AreRight (texts_of words.now) ⊎ ((result ≡ 2) ⊎ (result ≡ 9))) }
     ensures listed { IsWritten result ⊎ ((result ≡ 2)
-        ⊎ (((result ≡ 3) ⊎ ((result ≡ 4) ⊎ ((result ≡ 5) ⊎ ((result ≡ 6) ⊎ (result ≡ 10)))))
+        ⊎ (((result ≡ 3) ⊎ ((result ≡ 4) ⊎ ((result ≡ 5) ⊎ ((result ≡ 6) ⊎ ((result ≡ 10) ⊎ (result ≡ 12))))))
         ⊎ ((result ≡ 7) ⊎ ((result ≡ 8) ⊎ (result ≡ 9))))) }
     ensures unwritten { (IsWritten result → ⊥) → result ≢ 8 → O.written out.new ≡ O.written out.old }
 
     // With status 0 the program's own system, with one row for all rows of a class, was solved on the table that is left, by its seat and
     // those split from it, which were joined into it; with any other status nothing is left.
     ensures solved { result ≡ 0 → IfSome (told_for (U.text units.old) (texts_of words.now)) (λ told.
-        (program : Program) × (system : System) × (text : List ℕ) × Denotes told.units program
+        (program : Program) × (system : System) × (text : List ℕ) × Denotes told.entries told.units program
         × IsPrinted told.form told.side program system text 0
         × Grows (O.written out.old) (O.written out.new) text × IsKept system kept.new) }
     ensures unsolved { result ≢ 0 → kept.new ≡ None }
@@ -380,7 +412,7 @@ pub fn analyse<R: Threads + Wait + Sync, U: Units, O: Sink, E: Sink, G: Gate + S
         × Receives (E.written err.old) (E.written err.new) (E.faults err.old) (E.faults err.new) sink_fault }
     ensures sink_risen { O.faults out.old < O.faults out.new → result ≡ 8 }
     ensures broken { result ≡ 8 → IfSome (told_for (U.text units.old) (texts_of words.now)) (λ told.
-        (program : Program) × (system : System) × (text : List ℕ) × (status : ℕ) × Denotes told.units program
+        (program : Program) × (system : System) × (text : List ℕ) × (status : ℕ) × Denotes told.entries told.units program
         × IsPrinted told.form told.side program system text status
         × GrowsInPart (O.written out.old) (O.written out.new) text) }
     ensures memory { result ≡ 9 → Receives (E.written err.old) (E.written err.new) (E.faults err.old) (E.faults err.new) out_of_memory }

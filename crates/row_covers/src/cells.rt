@@ -57,6 +57,7 @@ fn room(inst: &Instance) -> u64
         ObjectKey::Varargs(_) => inst.bytes,
         ObjectKey::Entity(_) | ObjectKey::Text(_) | ObjectKey::Call(_) => 0,
         ObjectKey::Library(_) | ObjectKey::Star(_) | ObjectKey::Function(_) => 0,
+        ObjectKey::Outside => 0,
     }
 }
 

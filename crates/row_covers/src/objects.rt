@@ -211,6 +211,7 @@ fn is_further(key: ObjectKey) -> bool
         ObjectKey::Varargs(_) => true,
         ObjectKey::Entity(_) | ObjectKey::Text(_) | ObjectKey::Call(_) => false,
         ObjectKey::Library(_) | ObjectKey::Star(_) | ObjectKey::Function(_) => false,
+        ObjectKey::Outside => false,
     }
 }
 

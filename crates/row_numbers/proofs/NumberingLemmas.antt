@@ -6,13 +6,16 @@ use Rattle.std.proofs.lemmas.List.{take_more}
 use Rattle.std.proofs.lemmas.List.Elements.{filter_map-append}
 use Rattle.std.proofs.lemmas.List.FromFn.{map-range_with_len_more}
 use Rattle.c_types.specs.declared.key.ObjectKey.{ObjectKey}
-use Rattle.std.specs.Prelude.{nat_lt}
+use Rattle.std.specs.Prelude.{◌↔◌, IsTrue, nat_lt}
+use Rattle.std.proofs.lemmas.Bool.{false≢true}
 use borrow.Author.Tests.{ltb-true}
 use Rattle.std.proofs.lemmas.List.Sums.{sum_by-take-le}
-use Rattle.c_types.specs.Trees.{Ctype}
+use Rattle.c_types.specs.declared.term.Form.TheVariants.{Variadic}
+use Rattle.c_types.specs.Trees.{Ctype, FunctionFrom}
 use Rattle.c_types.specs.Layout.{Extent}
 use Rattle.c_types.specs.Table.{Table, type_of, extent_in}
 use Rattle.type_rules.specs.Conversions.{result_of}
+use Rattle.type_rules.specs.Kinds.{IsVariadic}
 use Rattle.core_tree.specs.declared.node.Node.{Node}
 use Rattle.core_tree.specs.Typed.{CoreTrees, Sort, NoNode, PlaceNode, ValueNode, StatementNode, sort_of}
 use Rattle.row_numbers.specs.Kept.{nodes_in, nodes_of, kept_count}
@@ -21,7 +24,7 @@ use Rattle.row_numbers.proofs.KeptLemmas.{kept_length}
 use Rattle.core_tree.specs.declared.node.NodeKind.{NodeKind}
 use Rattle.core_tree.specs.declared.node.NodeKind.TheVariants.{NextArg, CallNode}
 use Rattle.core_tree.specs.Typed.{type_at}
-use Rattle.row_numbers.specs.Setting.{start_at, width_by, own_width, width, widths, lead, trail, calls_further, result_nodes}
+use Rattle.row_numbers.specs.Setting.{start_at, width_by, own_width, width, widths, lead, trail, takes_further, calls_further, result_nodes}
 use Rattle.row_numbers.specs.Numbering.{present_before}
 
 present_one : (o : Option ObjectKey) → length (filter_map (λ (found : Option ObjectKey). found) (o ∷ [])) ≡ cond (is_some o) 1 0
@@ -90,3 +93,14 @@ widths_few u = all_small (width u) u.nodes (2 ^ 24 + 2) (width_small u)
 
 pub result_widths_few : (u : CoreTrees) (keys : List ObjectKey) → All (λ y. y ≤ 2 ^ 24 + 2) (map (λ key. kept_count (result_nodes u key)) keys)
 result_widths_few u keys = all_small (λ key. kept_count (result_nodes u key)) keys (2 ^ 24 + 2) (λ key. omega (arith, kept_few u.types (result_of (key_type u key))))
+
+-- a test of a type tells whether it is that of a function that takes arguments past its parameters
+pub further_told : (b : Bool) (t : Ctype) → IsTrue b ↔ IsVariadic t → b ≡ takes_further t
+further_told true t h = there t (h.0 refl) where
+  there : (t : Ctype) → IsVariadic t → true ≡ takes_further t
+  there (FunctionFrom r ps Variadic) x = refl
+  there t x = elim x [ ]
+further_told false t h = there t (λ x. false≢true (h.1 x)) where
+  there : (t : Ctype) → (IsVariadic t → ⊥) → false ≡ takes_further t
+  there (FunctionFrom r ps Variadic) x = absurd (x tt)
+  there t x = refl

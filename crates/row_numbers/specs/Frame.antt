@@ -33,7 +33,13 @@ NumbersOf u s (Many rows) = (rows ≡ none_row u s + 1) × (2 ^ 24 < rows)
 
 -- the setting that a frame shows
 abbrev pub setting_in : Frame → Setting
-setting_in f = record { trees = trees_in f.program.now; space = view_of f.space.now; owners = f.owners.now }
+setting_in f =
+    record {
+      trees = trees_in f.program.now;
+      space = view_of f.space.now;
+      owners = f.owners.now;
+      entries = f.program.now.entries.items;
+    }
 
 pub record IsFrame (f : Frame) : Type 0 where
   pub range : InRange (trees_in f.program.now)

@@ -16,11 +16,12 @@ use Rattle.obj_space.specs.View.{SpaceView}
 use Rattle.row_numbers.specs.Kept.{nodes_of, kept_count, row_list}
 use Rattle.row_numbers.specs.Functions.{functions_of, key_type}
 
--- a program's trees, its locations, and the function around each node
+-- a program's trees, its locations, the function around each node, and the functions at which it is entered
 pub record Setting : Type 0 where
   pub trees : CoreTrees
   pub space : SpaceView
   pub owners : List (Option ℕ)
+  pub entries : List ℕ
 
 -- a place has one row, a value one for each of its kept nodes, a statement none
 abbrev pub width_by : Sort → ℕ → ℕ

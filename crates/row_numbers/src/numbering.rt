@@ -18,11 +18,12 @@ use crate::kept::kept_count;
 use crate::objects::library_id;
 use c_types::key::ObjectKey;
 use c_types::table::TypeTable;
-use c_types::term::{Form, Term, TypeId};
+use c_types::term::{Term, TypeId};
 use core_tree::kinds::{is_place_kind, is_value_kind};
 use core_tree::{Entity, Node, NodeKind, Program};
 use pta_base::OutOfMemory;
 use std::alloc::Global;
+use type_rules::kinds::is_variadic;
 
 // The declared type of an entity.
 fn entity_id(entities: &[Entity], e: usize) -> Option<TypeId>
@@ -46,7 +47,8 @@ pub fn key_id(program: &Program, key: ObjectKey) -> Option<TypeId>
         ObjectKey::Entity(e) => entity_id(program.entities.as_slice(), e as usize),
         ObjectKey::Function(k) => library_id(k, program.entities.as_slice()),
         ObjectKey::Text(_) | ObjectKey::Call(_) => None,
-        ObjectKey::Library(_) | ObjectKey::Star(_) | ObjectKey::Varargs(_) => None,
+        ObjectKey::Library(_) | ObjectKey::Star(_) => None,
+        ObjectKey::Varargs(_) | ObjectKey::Outside => None,
     }
 }
 
@@ -67,10 +69,7 @@ pub fn takes_further(types: &TypeTable, id: TypeId) -> bool
     requires { id.0 < length types.now.terms }
     ensures { result ≡ takes_further (type_of types.now id.0) }
 {
-    match types.term(id) {
-        Term::Function { form, .. } => *form == Form::Variadic,
-        _ => false,
-    }
+    is_variadic(types, id)
 }
 
 /// Whether a type is a pointer to a function that takes arguments past its parameters.

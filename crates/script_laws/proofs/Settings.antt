@@ -33,8 +33,8 @@ rooted texts units right = record {
       record { nodes = own.right.right.no_other_node; initialisers = own.right.right.initialises_once };
 }
 
-one_program : (texts : List NamedText) (us vs : List Unit) (p q : Program) → AreRightTexts 0 texts us → AreRightTexts 0 texts vs → IsProgramOf us p → IsProgramOf vs q → AreOne p q
-one_program texts us vs p q h k one other =
+one_program : (entries : List (List ℕ)) (texts : List NamedText) (us vs : List Unit) (p q : Program) → AreRightTexts 0 texts us → AreRightTexts 0 texts vs → IsProgramOf entries us p → IsProgramOf entries vs q → AreOne p q
+one_program entries texts us vs p q h k one other =
     twin_programs us vs p q (right_twins.all us vs (same_texts 0 texts us vs h k)) (rooted texts us h) (rooted texts vs k) one.linked other.linked
 
 read_so : (p : Program) (space : List Location) (system : System) → IsSystemOf p space system → read_with p system ≡ setting_of p space system
@@ -43,18 +43,18 @@ read_so p space system of = ap (λ (locations : List Location). made_setting loc
 system_so : (p : Program) (space : List Location) (system : System) → IsSystemOf p space system → SystemOf p (view_of (locations_in p)) system
 system_so p space system of = subst (λ (locations : List Location). SystemOf p (view_of locations) system) of.space_is of.system_is
 
-scripts_of : (texts : List NamedText) (us vs : List Unit) (p q : Program) (space there : List Location) (system other : System) → AreRightTexts 0 texts us → AreRightTexts 0 texts vs
-    → IsProgramOf us p → IsProgramOf vs q → IsSystemOf p space system → IsSystemOf q there other → SameScripts (setting_of p space system) (setting_of q there other)
-scripts_of texts us vs p q space there system other h k one two s z =
+scripts_of : (entries : List (List ℕ)) (texts : List NamedText) (us vs : List Unit) (p q : Program) (space there : List Location) (system other : System) → AreRightTexts 0 texts us → AreRightTexts 0 texts vs
+    → IsProgramOf entries us p → IsProgramOf entries vs q → IsSystemOf p space system → IsSystemOf q there other → SameScripts (setting_of p space system) (setting_of q there other)
+scripts_of entries texts us vs p q space there system other h k one two s z =
     let same : SameScripts (read_with p system) (read_with q other) =
-    (twin_scripts p q system other (one_program texts us vs p q h k one two) one.made one.named two.made two.named (system_so p space system s) (system_so q there other z)).1 in
+    (twin_scripts p q system other (one_program entries texts us vs p q h k one two) one.made one.named two.made two.named (system_so p space system s) (system_so q there other z)).1 in
     subst (λ x. SameScripts x (setting_of q there other)) (read_so p space system s) (subst (λ x. SameScripts (read_with p system) x) (read_so q there other z) same)
 
 -- two programs that texts denote, with their systems, take the same scripts
-pub same_scripts : (texts : List NamedText) (p q : Program) (space there : List Location) (system other : System) → Denotes texts p → Denotes texts q
+pub same_scripts : (entries : List (List ℕ)) (texts : List NamedText) (p q : Program) (space there : List Location) (system other : System) → Denotes entries texts p → Denotes entries texts q
     → IsSystemOf p space system → IsSystemOf q there other → SameScripts (setting_of p space system) (setting_of q there other)
 unfolding Denotes
-same_scripts texts p q space there system other h k s z = scripts_of texts h.0 k.0 p q space there system other h.1 k.1 h.2 k.2 s z
+same_scripts entries texts p q space there system other h k s z = scripts_of entries texts h.0 k.0 p q space there system other h.1 k.1 h.2 k.2 s z
 
 -- a program with a system is within the limits
 pub within : (p : Program) (space : List Location) (system : System) → IsSystemOf p space system → IsWithin p (view_of (locations_in p))

@@ -21,29 +21,29 @@ use Rattle.report_cli.proofs.Together.{one_outcome}
 use Rattle.script_laws.specs.Scripted.{OneScript, SameStatus, SameFate, OneFate}
 use Rattle.script_laws.proofs.Settings.{same_scripts, within}
 
-taken : (texts : List NamedText) (p q : Program) (space : List Location) (system : System) (side : Side) → Denotes texts p → Denotes texts q → IsSystemOf p space system
+taken : (entries : List (List ℕ)) (texts : List NamedText) (p q : Program) (space : List Location) (system : System) (side : Side) → Denotes entries texts p → Denotes entries texts q → IsSystemOf p space system
     → TakesSide p side → TakesSide q side
-taken texts p q space system no_side h k of takes = tt
-taken texts p q space system (with_words steps words) h k of takes = takes
-taken texts p q space system (with_questions script) h k of takes = λ there other z.
+taken entries texts p q space system no_side h k of takes = tt
+taken entries texts p q space system (with_words steps words) h k of takes = takes
+taken entries texts p q space system (with_questions script) h k of takes = λ there other z.
     let mine : IsTakenScript p space system script = takes space system of in
-    let its = (same_scripts texts p q space there system other h k of z).taken (lines_of script.1) mine.questions mine.asked in
+    let its = (same_scripts entries texts p q space there system other h k of z).taken (lines_of script.1) mine.questions mine.asked in
     record { short = mine.short; questions = its.0; asked = its.1 }
 
 -- ---- a script on two programs
-module _ (texts : List NamedText) (p q : Program) (space there : List Location) (system other : System) (h : Denotes texts p) (k : Denotes texts q) (s : IsSystemOf p space system) (z : IsSystemOf q there other)
+module _ (entries : List (List ℕ)) (texts : List NamedText) (p q : Program) (space there : List Location) (system other : System) (h : Denotes entries texts p) (k : Denotes entries texts q) (s : IsSystemOf p space system) (z : IsSystemOf q there other)
     (script : NamedText) where
   one_refusal : (one two : Answer) → IsRefusedScript p space system script one → IsRefusedScript q there other script two → one ≡ two
   one_refusal one two (inl a) (inl b) = a.answer_is ∙ sym b.answer_is
   one_refusal one two (inl a) (inr b) = (let long = a.long in let short = b.short in absurd (omega arith))
   one_refusal one two (inr a) (inl b) = (let long = b.long in let short = a.short in absurd (omega arith))
   one_refusal one two (inr a) (inr b) =
-      let line : a.number ≡ b.number = (same_scripts texts p q space there system other h k s z).refused (lines_of script.1) a.number b.number a.line b.line in
+      let line : a.number ≡ b.number = (same_scripts entries texts p q space there system other h k s z).refused (lines_of script.1) a.number b.number a.line b.line in
       a.answer_is ∙ (ap (λ (n : ℕ). refusal 10 (codes "question " ++ decimal n)) line ∙ sym b.answer_is)
 
   asked_or_refused : (answer : Answer) → IsTakenScript p space system script → IsRefusedScript q there other script answer → ⊥
   asked_or_refused answer a (inl b) = (let short = a.short in let long = b.long in omega arith)
-  asked_or_refused answer a (inr b) = (same_scripts texts p q space there system other h k s z).apart (lines_of script.1) a.questions b.number a.asked b.line
+  asked_or_refused answer a (inr b) = (same_scripts entries texts p q space there system other h k s z).apart (lines_of script.1) a.questions b.number a.asked b.line
 
 -- ---- the words of a run
 err_of : (a b : ℕ) → ◌≡◌ {A = Result (List ℕ) ℕ} (Err a) (Err b) → a ≡ b
@@ -57,39 +57,39 @@ one_words words one two (inr a) (inr b) =
     let same : a.at ≡ b.at = err_of a.at b.at (one_reading 0 words.1 (Err a.at) (Err b.at) a.reading b.reading) in
     a.answer_is ∙ (ap (λ (n : ℕ). malformed_at (place_text words.0 (line_of words.1 n) (column_of words.1 n))) same ∙ sym b.answer_is)
 
-refused : (texts : List NamedText) (side : Side) (one other : Answer) → RefusesSide texts side one → RefusesSide texts side other → one ≡ other
-refused texts no_side one other h k = absurd h.refused
-refused texts (with_words steps words) one other h k = one_words words one other h.refused k.refused
-refused texts (with_questions script) one other h k =
-    one_refusal texts h.program k.program h.space k.space h.system k.system h.denoted k.denoted h.system_of k.system_of script one other h.refused k.refused
+refused : (entries : List (List ℕ)) (texts : List NamedText) (side : Side) (one other : Answer) → RefusesSide entries texts side one → RefusesSide entries texts side other → one ≡ other
+refused entries texts no_side one other h k = absurd h.refused
+refused entries texts (with_words steps words) one other h k = one_words words one other h.refused k.refused
+refused entries texts (with_questions script) one other h k =
+    one_refusal entries texts h.program k.program h.space k.space h.system k.system h.denoted k.denoted h.system_of k.system_of script one other h.refused k.refused
 
-apart_so : (texts : List NamedText) (p : Program) (space : List Location) (system : System) (script : NamedText) (answer : Answer) → Denotes texts p → IsSystemOf p space system
-    → IsTakenScript p space system script → RefusesSide texts (with_questions script) answer → ⊥
-apart_so texts p space system script answer h of takes k =
-    asked_or_refused texts p k.program space k.space system k.system h k.denoted of k.system_of script answer takes k.refused
+apart_so : (entries : List (List ℕ)) (texts : List NamedText) (p : Program) (space : List Location) (system : System) (script : NamedText) (answer : Answer) → Denotes entries texts p → IsSystemOf p space system
+    → IsTakenScript p space system script → RefusesSide entries texts (with_questions script) answer → ⊥
+apart_so entries texts p space system script answer h of takes k =
+    asked_or_refused entries texts p k.program space k.space system k.system h k.denoted of k.system_of script answer takes k.refused
 
-apart : (texts : List NamedText) (p : Program) (space : List Location) (system : System) (side : Side) (answer : Answer) → Denotes texts p → IsSystemOf p space system
-    → TakesSide p side → RefusesSide texts side answer → ⊥
-apart texts p space system no_side answer h of takes k = k.refused
-apart texts p space system (with_words steps words) answer h of takes k = words_taken_or_refused words answer takes k.refused
-apart texts p space system (with_questions script) answer h of takes k = apart_so texts p space system script answer h of (takes space system of) k
+apart : (entries : List (List ℕ)) (texts : List NamedText) (p : Program) (space : List Location) (system : System) (side : Side) (answer : Answer) → Denotes entries texts p → IsSystemOf p space system
+    → TakesSide p side → RefusesSide entries texts side answer → ⊥
+apart entries texts p space system no_side answer h of takes k = k.refused
+apart entries texts p space system (with_words steps words) answer h of takes k = words_taken_or_refused words answer takes k.refused
+apart entries texts p space system (with_questions script) answer h of takes k = apart_so entries texts p space system script answer h of (takes space system of) k
 
 pub one_script : OneScript
 one_script = record { taken = taken; refused = refused; apart = apart }
 
 -- ---- what is told
 -- units that refuse nothing where a program has a system
-units_or_system : (texts : List NamedText) (p : Program) (space : List Location) (system : System) (answer : Answer) → Denotes texts p → IsSystemOf p space system → Refuses texts answer → ⊥
-units_or_system texts p space system answer h of k = one_outcome.within texts p answer h (within p space system of) k
+units_or_system : (entries : List (List ℕ)) (texts : List NamedText) (p : Program) (space : List Location) (system : System) (answer : Answer) → Denotes entries texts p → IsSystemOf p space system → Refuses entries texts answer → ⊥
+units_or_system entries texts p space system answer h of k = one_outcome.within entries texts p answer h (within p space system of) k
 
-units_or_side : (texts : List NamedText) (side : Side) (one other : Answer) → Refuses texts one → RefusesSide texts side other → ⊥
-units_or_side texts side one other h k = units_or_system texts k.program k.space k.system one k.denoted k.system_of h
+units_or_side : (entries : List (List ℕ)) (texts : List NamedText) (side : Side) (one other : Answer) → Refuses entries texts one → RefusesSide entries texts side other → ⊥
+units_or_side entries texts side one other h k = units_or_system entries texts k.program k.space k.system one k.denoted k.system_of h
 
 told_refused : (told : Told) (one other : Answer) → RefusesTold told one → RefusesTold told other → one ≡ other
-told_refused told one other (inl h) (inl k) = one_outcome.refused told.units one other h k
-told_refused told one other (inl h) (inr k) = absurd (units_or_side told.units told.side one other h k)
-told_refused told one other (inr h) (inl k) = absurd (units_or_side told.units told.side other one k h)
-told_refused told one other (inr h) (inr k) = refused told.units told.side one other h k
+told_refused told one other (inl h) (inl k) = one_outcome.refused told.entries told.units one other h k
+told_refused told one other (inl h) (inr k) = absurd (units_or_side told.entries told.units told.side one other h k)
+told_refused told one other (inr h) (inl k) = absurd (units_or_side told.entries told.units told.side other one k h)
+told_refused told one other (inr h) (inr k) = refused told.entries told.units told.side one other h k
 
 -- what is printed of a program has its system, and takes what is read beside the units
 HasSystem : Program → System → Side → Type 0
@@ -103,25 +103,25 @@ printed_system told p system no_side out status h = formed told.form p system ou
 printed_system told p system (with_words steps words) out status h = (h.space, h.system_of, record { short = h.short; numbers = h.numbers; reading = h.reading })
 printed_system told p system (with_questions script) out status h = (h.0.1.0, h.0.1.1, record { short = h.0.0; questions = h.0.1.2.questions; asked = h.0.1.2.asked })
 
-system_or_refused : (texts : List NamedText) (p : Program) (system : System) (side : Side) (answer : Answer) → Denotes texts p → HasSystem p system side
-    → Refuses texts answer ⊎ RefusesSide texts side answer → ⊥
+system_or_refused : (entries : List (List ℕ)) (texts : List NamedText) (p : Program) (system : System) (side : Side) (answer : Answer) → Denotes entries texts p → HasSystem p system side
+    → Refuses entries texts answer ⊎ RefusesSide entries texts side answer → ⊥
 unfolding HasSystem
-system_or_refused texts p system no_side answer h has (inl k) = units_or_system texts p has.0 system answer h has.1 k
-system_or_refused texts p system no_side answer h has (inr k) = k.refused
-system_or_refused texts p system (with_words steps words) answer h has (inl k) = units_or_system texts p has.0 system answer h has.1 k
-system_or_refused texts p system (with_words steps words) answer h has (inr k) = words_taken_or_refused words answer has.2 k.refused
-system_or_refused texts p system (with_questions script) answer h has (inl k) = units_or_system texts p has.0 system answer h has.1 k
-system_or_refused texts p system (with_questions script) answer h has (inr k) = apart_so texts p has.0 system script answer h has.1 has.2 k
+system_or_refused entries texts p system no_side answer h has (inl k) = units_or_system entries texts p has.0 system answer h has.1 k
+system_or_refused entries texts p system no_side answer h has (inr k) = k.refused
+system_or_refused entries texts p system (with_words steps words) answer h has (inl k) = units_or_system entries texts p has.0 system answer h has.1 k
+system_or_refused entries texts p system (with_words steps words) answer h has (inr k) = words_taken_or_refused words answer has.2 k.refused
+system_or_refused entries texts p system (with_questions script) answer h has (inl k) = units_or_system entries texts p has.0 system answer h has.1 k
+system_or_refused entries texts p system (with_questions script) answer h has (inr k) = apart_so entries texts p has.0 system script answer h has.1 has.2 k
 
-printed : (told : Told) (p : Program) (system : System) (out : List ℕ) (status : ℕ) (answer : Answer) → Denotes told.units p → IsPrinted told.form told.side p system out status → RefusesTold told answer → ⊥
-printed told p system out status answer h print k = system_or_refused told.units p system told.side answer h (printed_system told p system told.side out status print) k
+printed : (told : Told) (p : Program) (system : System) (out : List ℕ) (status : ℕ) (answer : Answer) → Denotes told.entries told.units p → IsPrinted told.form told.side p system out status → RefusesTold told answer → ⊥
+printed told p system out status answer h print k = system_or_refused told.entries told.units p system told.side answer h (printed_system told p system told.side out status print) k
 
-accepted : (told : Told) (p : Program) (space : List Location) (system : System) → Denotes told.units p → IsSystemOf p space system → TakesSide p told.side → AreAccepted told
+accepted : (told : Told) (p : Program) (space : List Location) (system : System) → Denotes told.entries told.units p → IsSystemOf p space system → TakesSide p told.side → AreAccepted told
 accepted told p space system h of takes = record {
   program = p;
   denoted = h;
   within = within p space system of;
-  side = λ q k. taken told.units p q space system told.side h k of takes;
+  side = λ q k. taken told.entries told.units p q space system told.side h k of takes;
 }
 
 -- one status, but for that of a run

@@ -14,16 +14,20 @@ use Rattle.report_cli.specs.Accepted.{TakesSide, AreAccepted}
 -- What is read beside the units, a script of questions or the words of a run, on the programs that texts denote.
 pub record OneScript : Type 0 where
   -- where one program with a system takes it, all take it
-  pub taken : (texts : List NamedText) (p q : Program) (space : List Location) (system : System) (side : Side)
-      → Denotes texts p → Denotes texts q → IsSystemOf p space system → TakesSide p side → TakesSide q side
+  pub taken : (entries : List (List ℕ)) (texts : List NamedText) (p q : Program) (space : List Location)
+      (system : System) (side : Side)
+      → Denotes entries texts p
+      → Denotes entries texts q
+      → IsSystemOf p space system → TakesSide p side → TakesSide q side
   -- it is refused with one answer: for its length, at one line of questions, or at one byte of words
-  pub refused : (texts : List NamedText) (side : Side) (one other : Answer)
-      → RefusesSide texts side one
-      → RefusesSide texts side other → one ≡ other
+  pub refused : (entries : List (List ℕ)) (texts : List NamedText) (side : Side) (one other : Answer)
+      → RefusesSide entries texts side one
+      → RefusesSide entries texts side other → one ≡ other
   -- and not where one program with a system takes it
-  pub apart : (texts : List NamedText) (p : Program) (space : List Location) (system : System) (side : Side)
-      (answer : Answer)
-      → Denotes texts p → IsSystemOf p space system → TakesSide p side → RefusesSide texts side answer → ⊥
+  pub apart : (entries : List (List ℕ)) (texts : List NamedText) (p : Program) (space : List Location)
+      (system : System) (side : Side) (answer : Answer)
+      → Denotes entries texts p
+      → IsSystemOf p space system → TakesSide p side → RefusesSide entries texts side answer → ⊥
 
 -- the same status; of a run it is only said that both are those of a text that is written whole
 abbrev pub SameStatus : Side → ℕ → ℕ → Type 0
@@ -42,10 +46,11 @@ pub record OneFate : Type 0 where
   pub refused : (told : Told) (one other : Answer) → RefusesTold told one → RefusesTold told other → one ≡ other
   -- and there is none where a report, answers or the text of a run are printed
   pub printed : (told : Told) (p : Program) (system : System) (out : List ℕ) (status : ℕ) (answer : Answer)
-      → Denotes told.units p
+      → Denotes told.entries told.units p
       → IsPrinted told.form told.side p system out status → RefusesTold told answer → ⊥
   -- what is told is accepted where one program with a system takes what is read beside the units
-  pub accepted : (told : Told) (p : Program) (space : List Location) (system : System) → Denotes told.units p
+  pub accepted : (told : Told) (p : Program) (space : List Location) (system : System)
+      → Denotes told.entries told.units p
       → IsSystemOf p space system → TakesSide p told.side → AreAccepted told
   -- two answers to what is told have one status and one line
   pub told : (told : Told) (one other : Answer) → OutcomeOf told one → OutcomeOf told other

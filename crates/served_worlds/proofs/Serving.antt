@@ -6,7 +6,7 @@ use Rattle.std.proofs.lemmas.Bool.{false≢true}
 use Rattle.std.proofs.lemmas.Bool.Decides.{eqb_tells}
 use Rattle.std.proofs.lemmas.List.Elements.{Contains-append_left, Contains-append_right}
 use Rattle.c_types.specs.declared.key.ObjectKey.{ObjectKey}
-use Rattle.c_types.specs.declared.key.ObjectKey.TheVariants.{Entity as EntityKey, Text as TextKey, Call as CallKey, Library as LibraryKey, Star as StarKey, Function as FunctionKey, Varargs as VarargsKey}
+use Rattle.c_types.specs.declared.key.ObjectKey.TheVariants.{Entity as EntityKey, Text as TextKey, Call as CallKey, Library as LibraryKey, Star as StarKey, Function as FunctionKey, Varargs as VarargsKey, Outside as OutsideKey}
 use Rattle.c_types.specs.declared.term.Form.TheVariants.{Fixed, Variadic, Unspecified}
 use Rattle.c_types.specs.declared.term.Term.{Term}
 use Rattle.c_types.specs.declared.term.TypeId.{TypeId}
@@ -43,7 +43,7 @@ use Rattle.obj_space.specs.View.{first_from}
 use Rattle.link_model.specs.filled_units.Filled.{AreFilled}
 use Rattle.link_names.specs.Shape.{HasShape, is_function_shape}
 use Rattle.link_names.specs.Together.{is_listed}
-use Rattle.unit_link.specs.Linked.{Linked}
+use Rattle.unit_link.specs.Linked.{LinkedAt}
 use Rattle.unit_link.specs.Needs.{AreLinkable}
 use Rattle.row_numbers.specs.declared.functions.Role.TheVariants.{Defined}
 use Rattle.row_numbers.specs.Objects.{is_open, library_number}
@@ -51,7 +51,7 @@ use Rattle.row_numbers.specs.Kept.{nodes_of, kept_at}
 use Rattle.row_numbers.specs.Functions.{has_body, key_if, keys_in, function_keys, key_id, type_or_void, key_type, parameters_of}
 use Rattle.call_sites.specs.Signatures.{called_type}
 use Rattle.call_sites.specs.Calls.{named_library}
-use Rattle.linked_laws.proofs.main_laws.Mains.{main_body}
+use Rattle.linked_laws.proofs.main_laws.Mains.{start_body}
 use Rattle.system_laws.proofs.fact_laws.Facts.{nodes_known}
 use Rattle.ref_calls.specs.Calls.{is_function, signature_of}
 use Rattle.library_names.specs.Names.{IsTypedBy}
@@ -180,7 +180,7 @@ library_listed a (suc n) (suc k) lt =
     let same : (a + 1) + k ≡ a + suc k = omega arith in
     subst (λ (j : ℕ). Contains (map (λ (j : ℕ). FunctionKey j) (range_with_len a (suc n))) (FunctionKey j)) same (suc m, omega arith, own)
 
-module _ (units : List Unit) (p : Program) (more : List Term) (world : World) (characters : TypeId) (linkable : AreLinkable units) (filled : AreFilled units) (linked : Linked units p) (valid : ValidProgram p) (made : IsMade p.types)
+module _ (entered : List (List ℕ)) (units : List Unit) (p : Program) (more : List Term) (world : World) (characters : TypeId) (linkable : AreLinkable units) (filled : AreFilled units) (linked : LinkedAt entered units p) (valid : ValidProgram p) (made : IsMade p.types)
     (named : AreNamed p.types) (fit : HasFit p.types) (follow : MayFollow (length p.types.terms) more) (over : IsOver p more world) (runs : IsRunnable world) (system_valid : IsValid world.system) (least : IsLeast world.system world.family)
     (characters_are : type_of world.program.types characters.0 ≡ IntegerType 1 1 true) where
   abbrev stands : Stands world
@@ -254,6 +254,7 @@ module _ (units : List Unit) (p : Program) (more : List Term) (world : World) (c
   function_by (LibraryKey m) l first function = absurd (false≢true function)
   function_by (StarKey m) l first function = absurd (false≢true function)
   function_by (VarargsKey m) l first function = absurd (false≢true function)
+  function_by OutsideKey l first function = absurd (false≢true function)
 
   -- a conversion over a call alone
   converted_by : (node : Node) (n : ℕ) (kind : node.kind ≡ Convert) (children : List ℕ) → node.children ≡ children → ConvertRow (trees_in p) (type_of p.types node.ty.0) children → slice_get children 0 ≡ Some n → node.children ≡ n ∷ []
@@ -317,7 +318,7 @@ module _ (units : List Unit) (p : Program) (more : List Term) (world : World) (c
   }
 
   spaced_base : AreSpaced p (locations_in p)
-  spaced_base = (let main = main_body units p linkable linked in objects_spaced p main.0 main.1 made main.2 main.3)
+  spaced_base = (let start = start_body units p linkable linked in objects_spaced p start.0 start.1 made start.2 start.3)
 
   trees_more : HasTrees (with_terms p.types more) (locations_in p)
   trees_more l tag i x t at apart number node = spaced_base.trees l tag i x t at apart number (ap (λ (o : Option Extent). slice_get (tree_nodes o) i) (sym (kept.extents (StructureOf tag))) ∙ node)
@@ -383,5 +384,5 @@ module _ (units : List Unit) (p : Program) (more : List Term) (world : World) (c
   }
 
 pub worlds_served : WorldsServed
-worlds_served units p more world characters linkable filled linked valid made named fit follow over runs system_valid least characters_are =
-    served units p more world characters linkable filled linked valid made named fit follow over runs system_valid least characters_are
+worlds_served entered units p more world characters linkable filled linked valid made named fit follow over runs system_valid least characters_are =
+    served entered units p more world characters linkable filled linked valid made named fit follow over runs system_valid least characters_are

@@ -13,7 +13,7 @@ use Rattle.obj_made.specs.declared.object.Object.{Object}
 use Rattle.obj_made.specs.Made.{allocated_content, made_in_order, objects_in}
 use Rattle.obj_made.specs.Uses.{is_allocator, is_named, is_starred}
 use Rattle.obj_space.specs.declared.location.Location.{Location}
-use Rattle.obj_space.specs.Objects.{named_object, library_name, functions_below, library_objects, star_if, star_object, star_objects, library_part, takes_arguments}
+use Rattle.obj_space.specs.Objects.{named_object, library_name, functions_below, library_objects, star_if, star_object, star_objects, outside_objects, library_part, takes_arguments}
 use Rattle.obj_space.specs.Space.{locations_by, locations_of, locations_in}
 use Rattle.obj_space.specs.View.{first_from}
 use Rattle.covering_laws.proofs.object_contents.Made.{HasLocation, behind, front, first_some}
@@ -86,8 +86,9 @@ module _ (p : Program) where
   unfolding locations_in
   all_there k allocates starred =
       joined_behind k (objects_in (made_in_order p)) (library_part p)
-      (joined_behind k (functions_below p 55) (library_objects (is_named p.entities.items p.nodes.items) (takes_arguments p) ++ star_objects p)
-      (joined_behind k (library_objects (is_named p.entities.items p.nodes.items) (takes_arguments p)) (star_objects p) (stars_there k allocates starred)))
+      (joined_behind k (functions_below p 55) (library_objects (is_named p.entities.items p.nodes.items) (takes_arguments p) ++ (star_objects p ++ outside_objects p.entries.items))
+      (joined_behind k (library_objects (is_named p.entities.items p.nodes.items) (takes_arguments p)) (star_objects p ++ outside_objects p.entries.items)
+      (joined_front k (star_objects p) (outside_objects p.entries.items) (stars_there k allocates starred))))
 
   pub star_located : (k : ℕ) → is_allocator k ≡ true → is_starred p.entities.items p.nodes.items k ≡ true → (l : ℕ) × (first_from 0 (locations_in p) (StarKey k) ≡ Some l)
   star_located k allocates starred = (let r = all_there k allocates starred in first_some 0 r.0 (locations_in p) r.1 (StarKey k) r.2 r.3)

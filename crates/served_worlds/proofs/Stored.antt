@@ -16,7 +16,7 @@ use Rattle.link_model.specs.Renamed.{renamed}
 use Rattle.link_names.specs.declared.declared.Declared.{Declared}
 use Rattle.link_names.specs.Externals.{Joined, entities_if, entity_at, item_of, is_external, is_function_type, type_in}
 use Rattle.link_names.proofs.Ordering.{external_is, is_external_of}
-use Rattle.unit_link.specs.Linked.{IsLinkedName, IsLinkedOther, entity_of, joined, Linked}
+use Rattle.unit_link.specs.Linked.{IsLinkedName, IsLinkedOther, entity_of, joined, LinkedAt}
 use Rattle.unit_link.specs.Needs.{AreLinkable}
 use Rattle.linked_laws.proofs.link_laws.Wholeness.{maker_found, named_so}
 use Rattle.linked_laws.proofs.alike_laws.Entities.{external_keeps}
@@ -55,7 +55,7 @@ IsStored x = (x.storage ≡ FunctionBody) ⊎ (x.storage ≡ DeclaredStorage)
 stored_as : (x y : Entity) → x.storage ≡ y.storage → IsStored y → IsStored x
 stored_as x y same h = elim h [ inl body ↦ inl (same ∙ body) | inr declared ↦ inr (same ∙ declared) ]
 
-module _ (units : List Unit) (p : Program) (linkable : AreLinkable units) (stores : StoreFunctions units) (h : Linked units p) where
+module _ (entered : List (List ℕ)) (units : List Unit) (p : Program) (linkable : AreLinkable units) (stores : StoreFunctions units) (h : LinkedAt entered units p) where
   abbrev j : Joined
   j = joined units h.numbers p.types
 
@@ -121,8 +121,8 @@ module _ (units : List Unit) (p : Program) (linkable : AreLinkable units) (store
       ]
 
 pub functions_stored : FunctionsStored
-functions_stored units p linkable stores linked = record {
-  functions = entity_stored units p linkable stores linked;
-  automatic = automatic_objects units p linkable stores linked;
-  declared = declared_only units p linkable stores linked;
+functions_stored entered units p linkable stores linked = record {
+  functions = entity_stored entered units p linkable stores linked;
+  automatic = automatic_objects entered units p linkable stores linked;
+  declared = declared_only entered units p linkable stores linked;
 }

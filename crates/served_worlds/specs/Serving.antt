@@ -1,5 +1,5 @@
 -- What a world over a linked program has of the library.
-use Rattle.std.specs.Prelude.{◌≡◌, true, List, length}
+use Rattle.std.specs.Prelude.{◌≡◌, ℕ, true, List, length}
 use Rattle.c_types.specs.declared.term.Term.{Term}
 use Rattle.c_types.specs.declared.term.TypeId.{TypeId}
 use Rattle.c_types.specs.Trees.{IntegerType}
@@ -11,7 +11,7 @@ use Rattle.core_tree.specs.Valid.{ValidProgram}
 use Rattle.sol_model.specs.Solutions.{IsLeast}
 use Rattle.sol_model.specs.Systems.{IsValid}
 use Rattle.link_model.specs.filled_units.Filled.{AreFilled}
-use Rattle.unit_link.specs.Linked.{Linked}
+use Rattle.unit_link.specs.Linked.{LinkedAt}
 use Rattle.unit_link.specs.Needs.{AreLinkable}
 use Rattle.covering_laws.specs.grown_programs.Grown.{MayFollow}
 use Rattle.covering_laws.specs.covered_state.World.{World}
@@ -23,10 +23,11 @@ use Rattle.covered_effects.specs.Served.{IsServed}
 -- closed under its system, where the machine's characters are characters
 abbrev pub WorldsServed : Type 0
 WorldsServed =
-    (units : List Unit) (p : Program) (more : List Term) (world : World) (characters : TypeId)
+    (entered : List (List ℕ)) (units : List Unit) (p : Program) (more : List Term) (world : World)
+    (characters : TypeId)
     → AreLinkable units
     → AreFilled units
-    → Linked units p
+    → LinkedAt entered units p
     → ValidProgram p
     → IsMade p.types
     → AreNamed p.types

@@ -4,7 +4,7 @@ use Rattle.core_tree.specs.declared.node.Program.{Program}
 use Rattle.core_tree.specs.declared.node.Unit.{Unit}
 use Rattle.core_tree.specs.Typed.{trees_of, trees_in}
 use Rattle.object_size_laws.specs.function_storage.Stored.{StoresFunctions}
-use Rattle.unit_link.specs.Linked.{Linked}
+use Rattle.unit_link.specs.Linked.{LinkedAt}
 use Rattle.unit_link.specs.Needs.{AreLinkable}
 use Rattle.library_names.specs.Names.{AreDeclaredOnly}
 use Rattle.covered_statements.specs.Founded.{AutomaticObjects}
@@ -22,8 +22,8 @@ pub record AreStored (units : List Unit) (p : Program) : Type 0 where
 
 abbrev pub FunctionsStored : Type 0
 FunctionsStored =
-    (units : List Unit) (p : Program)
+    (entered : List (List ℕ)) (units : List Unit) (p : Program)
     → AreLinkable units
     → StoreFunctions units
-    → Linked units p
+    → LinkedAt entered units p
     → AreStored units p

@@ -8,6 +8,7 @@ pub mod Owners
 pub mod Statements
 pub mod Calls
 pub mod Functions
+pub mod Starts
 pub mod Facts
 pub mod Systems
 pub mod Tags

@@ -1,12 +1,15 @@
 -- A path that has left a type stays out of it.
 use Rattle.std.proofs.Common.{arith, ◌≡◌, ℕ, ◌+◌, ◌<◌, ◌≤◌, List, [], ◌∷◌, Option, Some, None, length, get_or, drop, refl, ap, ◌∙◌}
+use Rattle.std.proofs.Common.{All}
 use Rattle.std.proofs.lemmas.List.{at_drop_more}
+use Rattle.std.proofs.lemmas.List.Elements.{All-head, All-tail, All-cons}
 use Rattle.c_types.specs.declared.term.PathStep.{PathStep}
 use Rattle.c_types.specs.Table.{Table}
 use Rattle.c_types.specs.Paths.{part_type, type_at_path}
-use Rattle.c_types.specs.Trees.{Ctype, NoTypes, FunctionFrom, trees_at}
+use Rattle.c_types.specs.Trees.{Ctype, NoTypes, FunctionFrom, tree_at, trees_at}
 use Rattle.c_types.specs.declared.term.TypeId.{TypeId}
 use Rattle.c_types.specs.declared.term.Form.{Form}
+use Rattle.type_rules.specs.Kinds.{IsScalar, AreScalars}
 use Rattle.type_rules.specs.Sizes.{HasSignature}
 
 pub none_below : (table : Table) (rest : List PathStep) → type_at_path table None rest ≡ None
@@ -28,3 +31,16 @@ more_types trees (id ∷ rest) h e = cc
 pub listed_signature : (table : Table) (trees : List Ctype) (ids : List TypeId) (r : Ctype) (f : Form) → 1 ≤ length ids → HasSignature table (FunctionFrom r (trees_at trees ids) f)
 listed_signature table trees [] r f h = absurd (omega arith)
 listed_signature table trees (id ∷ rest) r f h = tt
+
+-- types of a list one by one, and as the list of a function's parameters
+pub listed_scalars : (trees : List Ctype) (ids : List TypeId) → All (λ (id : TypeId). IsScalar (tree_at trees id.0)) ids → AreScalars (trees_at trees ids)
+listed_scalars trees [] h = tt
+listed_scalars trees (id ∷ rest) h = (
+  All-head (λ (x : TypeId). IsScalar (tree_at trees x.0)) id rest h,
+  listed_scalars trees rest (All-tail (λ (x : TypeId). IsScalar (tree_at trees x.0)) id rest h),
+)
+
+pub scalars_listed : (trees : List Ctype) (ids : List TypeId) → AreScalars (trees_at trees ids) → All (λ (id : TypeId). IsScalar (tree_at trees id.0)) ids
+scalars_listed trees [] h = λ k d lt. absurd (omega (arith, lt))
+scalars_listed trees (id ∷ rest) h =
+    All-cons (λ (x : TypeId). IsScalar (tree_at trees x.0)) id rest h.0 (scalars_listed trees rest h.1)

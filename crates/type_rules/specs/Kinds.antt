@@ -1,7 +1,7 @@
 -- What a type is.
-use Rattle.std.specs.Prelude.{◌≤◌, ⊤, true, None, ◌⊎◌}
-use Rattle.c_types.specs.Trees.{Ctype, BoolType, IntegerType, PointerTo, ArrayOf, FunctionFrom, StructureOf}
-use Rattle.c_types.specs.Trees.{UnionOf, VaListType}
+use Rattle.std.specs.Prelude.{◌≡◌, ◌≢◌, ◌≤◌, ⊤, true, None, ◌⊎◌}
+use Rattle.c_types.specs.Trees.{Ctype, Ctypes, NoTypes, MoreTypes, VoidType, BoolType, IntegerType, PointerTo}
+use Rattle.c_types.specs.Trees.{ArrayOf, FunctionFrom, StructureOf, UnionOf, VaListType}
 use Rattle.c_types.specs.declared.term.Form.TheVariants.{Variadic}
 
 -- a type of whole numbers
@@ -39,6 +39,16 @@ IsList t = ⊥
 abbrev pub IsVariadic : Ctype → Type 0
 IsVariadic (FunctionFrom r ps Variadic) = ⊤
 IsVariadic t = ⊥
+
+-- integers and pointers alone
+abbrev pub AreScalars : Ctypes → Type 0
+AreScalars NoTypes = ⊤
+AreScalars (MoreTypes t rest) = IsScalar t × AreScalars rest
+
+-- a function that may be called from outside: of integers and pointers alone, and of no more arguments than these
+abbrev pub IsEntryType : Ctype → Type 0
+IsEntryType (FunctionFrom r ps f) = (f ≢ Variadic) × ((r ≡ VoidType) ⊎ IsScalar r) × AreScalars ps
+IsEntryType t = ⊥
 
 -- a type that a fetch or an assignment may have
 abbrev pub IsStored : Ctype → Type 0

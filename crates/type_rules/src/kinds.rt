@@ -1,9 +1,9 @@
 // What a type is (C11 6.2.5).
 
-ghost use Rattle.std.specs.Prelude.{◌≡◌, ℕ, ◌+◌, ◌<◌, ◌↔◌, Some, true, IsTrue, length};
-ghost use Rattle.c_types.specs.Trees.{VoidType, IntegerType, PointerTo, ArrayOf};
-ghost use Rattle.c_types.specs.Table.{type_of};
-ghost use Rattle.type_rules.specs.Kinds.{IsInteger, IsPointer, IsScalar, IsAggregate, IsArray, IsFunction, IsStored, IsPromoted, IsPassed, IsComparable, IsList, IsVariadic, LacksLength, character};
+ghost use Rattle.std.specs.Prelude.{◌≡◌, ℕ, ◌+◌, ◌<◌, ◌↔◌, Some, true, IsTrue, All, length};
+ghost use Rattle.c_types.specs.Trees.{VoidType, IntegerType, PointerTo, ArrayOf, trees_at};
+ghost use Rattle.c_types.specs.Table.{type_of, types_of};
+ghost use Rattle.type_rules.specs.Kinds.{IsInteger, IsPointer, IsScalar, IsAggregate, IsArray, IsFunction, IsStored, IsPromoted, IsPassed, IsComparable, IsList, IsVariadic, AreScalars, IsEntryType, LacksLength, character};
 
 use c_types::table::TypeTable;
 use c_types::term::{Form, Term, TypeId};
@@ -124,6 +124,42 @@ pub fn is_variadic(types: &TypeTable, id: TypeId) -> bool
 {
     match types.term(id) {
         Term::Function { form, .. } => *form == Form::Variadic,
+        _ => false,
+    }
+}
+
+// Whether each type of a list is an integer or a pointer.
+fn each_scalar(types: &TypeTable, ids: &[TypeId]) -> bool
+    requires { All (λ id. id.0 < length types.now.terms) ids.now }
+    ensures { IsTrue result ↔ All (λ id. IsScalar (type_of types.now id.0)) ids.now }
+{
+    ids.iter().all(|id| is_scalar(types, *id))
+}
+
+// Whether parameters are integers and pointers alone.
+fn are_scalars(types: &TypeTable, ids: &[TypeId]) -> bool
+    requires { All (λ id. id.0 < length types.now.terms) ids.now }
+    ensures { IsTrue result ↔ AreScalars (trees_at (types_of types.now) ids.now) }
+{
+    each_scalar(types, ids)
+}
+
+/// Whether a function of that type may be called from outside: it takes integers and pointers and no arguments past
+/// them, and gives nothing, an integer or a pointer.
+pub fn is_entry_type(types: &TypeTable, id: TypeId) -> bool
+    requires { id.0 < length types.now.terms }
+    ensures { IsTrue result ↔ IsEntryType (type_of types.now id.0) }
+{
+    match types.term(id) {
+        Term::Function {
+            result: given,
+            parameters,
+            form,
+        } => {
+            *form != Form::Variadic
+                && (is_void(types, *given) || is_scalar(types, *given))
+                && are_scalars(types, parameters.as_slice())
+        }
         _ => false,
     }
 }

@@ -304,6 +304,7 @@ fn program_with(alloc: Global, fault: Fault, names: u32) -> Result<Program, OutO
         types: types_of(alloc, fault)?,
         nodes: nodes_of(alloc, fault)?,
         entities: entities_of(alloc, fault)?,
+        entries: Vec::new(alloc),
     })
 }
 

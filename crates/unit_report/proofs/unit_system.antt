@@ -1,4 +1,5 @@
 pub mod Numbering
 pub mod Rightness
 pub mod Refused
+pub mod Unnamed
 pub mod Validity

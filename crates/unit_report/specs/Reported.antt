@@ -27,9 +27,11 @@ pub record IsProgramReport (json : Bool) (p : Program) (space : List Location) (
   pub names_are : map string_bytes names ≡ p.names.items
   pub report : IsReportAs json space names system family text
 
--- a text is the report of the least solution of the system of the program that is linked from units
-pub record IsUnitReport (units : List Unit) (system : System) (text : List ℕ) : Type 0 where
+-- a text is the report of the least solution of the system of the program that is linked from units and entered at
+-- those names, or begins at main
+pub record IsUnitReport (entered : List (List ℕ)) (units : List Unit) (system : System)
+    (text : List ℕ) : Type 0 where
   pub program : Program
   pub space : List Location
-  pub linked : AreLinkedAs units program space system
+  pub linked : AreLinkedAs entered units program space system
   pub reported : IsProgramReport false program space system text

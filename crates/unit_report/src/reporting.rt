@@ -19,7 +19,7 @@ use crate::solving::{Solved, solve_on_rows};
 use crate::unit_system::{UnitFault, UnitSystem, linked_system};
 use core_tree::Unit;
 use obj_space::Space;
-use pta_base::{Gate, OutOfMemory};
+use pta_base::{Gate, OutOfMemory, Text};
 use sol_model::{Rows, System};
 use std::alloc::Global;
 use std::thread::Threads;
@@ -74,11 +74,13 @@ pub fn report_of_system<R: Threads + Sync, G: Gate + Sync>(
 
 /// The report of the program that valid units of distinct names are, which initialise only objects that they define, with the system that
 /// was solved for it by so many workers; or the first fault of linking the units, or the limit that their program passes first. The text
-/// stands whole in memory before any of it is written.
+/// stands whole in memory before any of it is written. The program is entered at the functions of these names, or where there are none it
+/// begins at main.
 pub fn report_of_units<R: Threads + Sync, G: Gate + Sync>(
     rt: &R,
     alloc: Global,
     units: Vec<Unit>,
+    entries: &[Text],
     workers: u32,
     gate: &G,
 ) -> Result<(Vec<u8>, Solved), UnitFault>
@@ -86,10 +88,10 @@ pub fn report_of_units<R: Threads + Sync, G: Gate + Sync>(
     requires filled { AreFilled units.items }
     requires workers { (0 < workers) × (workers ≤ 64) }
     ensures reported { IfOk result (λ found. (system : System)
-        × IsUnitReport units.items system found.0.items × IsSolvedShared system found.1) }
-    ensures refused { IfErr result (IsFaultOf units.items) }
+        × IsUnitReport entries.now units.items system found.0.items × IsSolvedShared system found.1) }
+    ensures refused { IfErr result (IsFaultOf entries.now units.items) }
 {
-    let made = linked_system(alloc, units)?;
+    let made = linked_system(alloc, units, entries)?;
     let found = report_of_system(rt, alloc, made, false, workers, gate)?;
     Ok(found)
 }

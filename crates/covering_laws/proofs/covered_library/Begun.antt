@@ -14,7 +14,7 @@ use Rattle.obj_made.specs.declared.object.Content.TheVariants.{Function as Funct
 use Rattle.obj_space.specs.Spots.{reached, node_in}
 use Rattle.ref_cells.specs.declared.instance.Instance.{Instance}
 use Rattle.ref_cells.specs.Cells.{CellList}
-use Rattle.ref_cells.specs.Wholes.{is_allocated, elements_in, whole_of}
+use Rattle.ref_cells.specs.Wholes.{is_allocated, elements_of, whole_of}
 use Rattle.ref_elements.proofs.SameTypes.{type_true}
 use Rattle.ref_lib.specs.ref_alloc.Allocation.{takes}
 use Rattle.covering_laws.specs.covered_memory.Covered.{Sets, HasShape, InstanceIn, MemoryIn}
@@ -78,12 +78,12 @@ module _ (g : Sets) (system : System) (grounds : Grounds g.table g.space system)
         (subst (λ (o : Option TypeId). HasShape g.table (all i old old_is).location.content (whole_of g.table (let r : Instance = record old { ty = o } in r))) ty_is (all i old old_is).shape)
       where
         by : (b : Bool)
-            → HasShape g.table (all i old old_is).location.content (Some (cond b (ArrayOf (type_of g.table id.0) (Some (elements_in old.bytes (size_below (extent_in g.table (type_of g.table id.0)))))) (type_of g.table id.0)))
+            → HasShape g.table (all i old old_is).location.content (Some (cond b (ArrayOf (type_of g.table id.0) (Some (elements_of old.key old.bytes (size_below (extent_in g.table (type_of g.table id.0)))))) (type_of g.table id.0)))
             → IsSome (extent_in g.table (type_of g.table id.0))
         by false h = shape_complete g system grounds (all i old old_is).location.content (type_of g.table id.0) h
         by true h =
-            path_complete g.table grounds.made (ArrayOf (type_of g.table id.0) (Some (elements_in old.bytes (size_below (extent_in g.table (type_of g.table id.0)))))) 0 false (Index 0 ∷ []) (reached (type_of g.table id.0) 0 false)
-            (shape_complete g system grounds (all i old old_is).location.content (ArrayOf (type_of g.table id.0) (Some (elements_in old.bytes (size_below (extent_in g.table (type_of g.table id.0)))))) h) refl
+            path_complete g.table grounds.made (ArrayOf (type_of g.table id.0) (Some (elements_of old.key old.bytes (size_below (extent_in g.table (type_of g.table id.0)))))) 0 false (Index 0 ∷ []) (reached (type_of g.table id.0) 0 false)
+            (shape_complete g system grounds (all i old old_is).location.content (ArrayOf (type_of g.table id.0) (Some (elements_of old.key old.bytes (size_below (extent_in g.table (type_of g.table id.0)))))) h) refl
 
     -- An object of elements of a type has that type fixed: so what realloc makes may have the old object's type.
     pub grown_suits : (fixed : Option TypeId) (content : Content) → ((other : TypeId) → content ≡ Elements other → (id : TypeId) × (fixed ≡ Some id) × (type_of g.table id.0 ≡ type_of g.table other.0))
@@ -108,8 +108,8 @@ module _ (g : Sets) (system : System) (grounds : Grounds g.table g.space system)
 
 module _ (g : Sets) (key : ObjectKey) (id : TypeId) (f : IsScalars g key id) (bytes : ℕ) (cells : CellList) where
   whole_is : whole_of g.table (record { key = key; live = true; ty = Some id; bytes = bytes; zero = false; cells = cells })
-      ≡ Some (ArrayOf (type_of g.table id.0) (Some (elements_in bytes (size_below (extent_in g.table (type_of g.table id.0))))))
-  whole_is = ap (λ (b : Bool). Some (cond b (ArrayOf (type_of g.table id.0) (Some (elements_in bytes (size_below (extent_in g.table (type_of g.table id.0)))))) (type_of g.table id.0))) f.allocated
+      ≡ Some (ArrayOf (type_of g.table id.0) (Some (elements_of key bytes (size_below (extent_in g.table (type_of g.table id.0))))))
+  whole_is = ap (λ (b : Bool). Some (cond b (ArrayOf (type_of g.table id.0) (Some (elements_of key bytes (size_below (extent_in g.table (type_of g.table id.0)))))) (type_of g.table id.0))) f.allocated
 
   scalars_spot : spot g.table g.space key (Index 0 ∷ []) ≡ Some f.first
   scalars_spot =
@@ -126,7 +126,7 @@ module _ (g : Sets) (key : ObjectKey) (id : TypeId) (f : IsScalars g key id) (by
         first_is = f.first_is;
         location_is = f.location_is;
         shape = subst (λ (c : Content). HasShape g.table c (whole_of g.table (record { key = key; live = true; ty = Some id; bytes = bytes; zero = false; cells = cells }))) (sym f.content_is)
-            (type_of g.table id.0, elements_in bytes (size_below (extent_in g.table (type_of g.table id.0))), whole_is, f.is_scalar, f.scalar_is);
+            (type_of g.table id.0, elements_of key bytes (size_below (extent_in g.table (type_of g.table id.0))), whole_is, f.is_scalar, f.scalar_is);
         untyped = λ e. absurd (some_none e);
         further = λ x. absurd (heap_plain key f.allocated x);
       };

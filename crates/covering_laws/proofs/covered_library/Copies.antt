@@ -3,7 +3,7 @@ use Rattle.std.proofs.Common.{◌≡◌, ◌∙◌, inl, inr, ℕ, zero, suc, �
 use Rattle.std.specs.Option.{option_map}
 use Rattle.std.proofs.lemmas.Bool.{false≢true}
 use Rattle.c_types.specs.declared.key.ObjectKey.{ObjectKey}
-use Rattle.c_types.specs.declared.key.ObjectKey.TheVariants.{Varargs as VarargsKey, Entity as EntityKey, Text as TextKey, Call as CallKey, Library as LibraryKey, Star as StarKey, Function as FunctionKey}
+use Rattle.c_types.specs.declared.key.ObjectKey.TheVariants.{Varargs as VarargsKey, Outside as OutsideKey, Entity as EntityKey, Text as TextKey, Call as CallKey, Library as LibraryKey, Star as StarKey, Function as FunctionKey}
 use Rattle.c_types.specs.declared.term.PathStep.{PathStep}
 use Rattle.c_types.specs.declared.term.PathStep.TheVariants.{Index}
 use Rattle.c_types.specs.declared.term.Term.{Term}
@@ -27,7 +27,7 @@ use Rattle.ref_cells.specs.declared.instance.Instance.{Instance}
 use Rattle.ref_cells.specs.declared.wholes.Whole.{Whole}
 use Rattle.ref_cells.specs.declared.wholes.Whole.TheVariants.{One, Many}
 use Rattle.ref_cells.specs.Cells.{CellList}
-use Rattle.ref_cells.specs.Wholes.{is_allocated, elements_in, whole_of, typed_whole, shape_of}
+use Rattle.ref_cells.specs.Wholes.{is_allocated, elements_of, whole_of, typed_whole, shape_of}
 use Rattle.ref_cells.specs.Values.{filled}
 use Rattle.ref_mem.specs.Reads.{opened, content}
 use Rattle.ref_mem.specs.Writes.{put_all, with_parts, type_or, typed_as}
@@ -96,6 +96,7 @@ further_plain (TextKey n) f = absurd f
 further_plain (CallKey n) f = absurd f
 further_plain (LibraryKey k) f = absurd f
 further_plain (StarKey k) f = absurd f
+further_plain OutsideKey f = absurd f
 further_plain (FunctionKey k) f = absurd f
 
 -- where a target is, and what its elements are once it has a type
@@ -271,7 +272,7 @@ module _ (g : Sets) (system : System) (grounds : Grounds g.table g.space system)
           (subst (λ (x : Instance). IsInTree g.table (whole_of g.table x) (room x) t.path) (some_one (sym target_points.inst_is ∙ t.inst_is)) target_points.in_tree) in
           let own_is : source.run.of ≡ t.own = some_one (sym (ap (type_or source.run.of) none) ∙ t.ty_is) in
           let whole_is : whole_id g.table (typed_as source.run.of t.inst) t.own ≡ One t.own =
-          ap (λ (b : Bool). cond b (Many t.own (elements_in t.inst.bytes (size_below (extent_in g.table (type_of g.table t.own.0))))) (One t.own)) (further_plain t.inst.key f) in
+          ap (λ (b : Bool). cond b (Many t.own (elements_of t.inst.key t.inst.bytes (size_below (extent_in g.table (type_of g.table t.own.0))))) (One t.own)) (further_plain t.inst.key f) in
           let run : run_from g.table (Some (One t.own)) (Index tree.0 ∷ []) t.past ≡ Some target.run =
           ap (λ (w : Whole). run_from g.table (Some w) (Index tree.0 ∷ []) t.past) (sym whole_is)
           ∙ (ap (λ (p : List PathStep). run_from g.table (Some (whole_id g.table (typed_as source.run.of t.inst) t.own)) p t.past) (sym tree.1) ∙ t.run_is) in

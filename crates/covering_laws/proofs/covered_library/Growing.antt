@@ -3,7 +3,7 @@ use Rattle.std.proofs.Common.{arith, ◌≡◌, ◌∙◌, ℕ, pos, ◌<◌, �
 use Rattle.std.proofs.lemmas.Bool.{false≢true}
 use Rattle.pta_base.specs.declared.effect.Effect.TheVariants.{GivesNew, GivesObject, Copies}
 use Rattle.c_types.specs.declared.key.ObjectKey.{ObjectKey}
-use Rattle.c_types.specs.declared.key.ObjectKey.TheVariants.{Varargs as VarargsKey}
+use Rattle.c_types.specs.declared.key.ObjectKey.TheVariants.{Varargs as VarargsKey, Outside as OutsideKey}
 use Rattle.c_types.specs.declared.key.ObjectKey.TheVariants.{Entity as EntityKey, Text as TextKey, Call as CallKey, Library as LibraryKey, Star as StarKey, Function as FunctionKey}
 use Rattle.c_types.specs.declared.term.PathStep.{PathStep}
 use Rattle.c_types.specs.declared.term.PathStep.TheVariants.{Index, Member}
@@ -35,7 +35,7 @@ use Rattle.ref_cells.specs.declared.cells.Cell.TheVariants.{Unset, Number, Null,
 use Rattle.ref_cells.specs.declared.instance.Instance.{Instance}
 use Rattle.ref_cells.specs.Cells.{CellList}
 use Rattle.ref_cells.specs.Values.{filled, listed as all_listed}
-use Rattle.ref_cells.specs.Wholes.{is_allocated, is_heap, elements_in, typed_whole, whole_of}
+use Rattle.ref_cells.specs.Wholes.{is_allocated, is_heap, elements_in, elements_of, typed_whole, whole_of}
 use Rattle.ref_mem.specs.Reads.{one_cell}
 use Rattle.ref_elements.specs.declared.outcome.Next.TheVariants.{Done}
 use Rattle.ref_elements.specs.Arguments.{count_of}
@@ -80,6 +80,7 @@ err_ok h = cc
 heap_allocated : (key : ObjectKey) → is_heap key ≡ true → is_allocated key ≡ true
 heap_allocated (CallKey k) h = refl
 heap_allocated (StarKey k) h = refl
+heap_allocated OutsideKey h = absurd (false≢true h)
 heap_allocated (EntityKey k) h = absurd (false≢true h)
 heap_allocated (TextKey k) h = absurd (false≢true h)
 heap_allocated (VarargsKey k) h = absurd (false≢true h)
@@ -137,9 +138,9 @@ row_zero (Scalars number) l = omega arith
 row_zero (Typed id) l = omega arith
 row_zero (Elements id) l = omega arith
 
-array_whole : (table : Table) (a : Instance) (id : TypeId) → is_allocated a.key ≡ true → a.ty ≡ Some id → whole_of table a ≡ Some (ArrayOf (type_of table id.0) (Some (elements_in a.bytes (size_below (extent_in table (type_of table id.0))))))
+array_whole : (table : Table) (a : Instance) (id : TypeId) → is_allocated a.key ≡ true → a.ty ≡ Some id → whole_of table a ≡ Some (ArrayOf (type_of table id.0) (Some (elements_of a.key a.bytes (size_below (extent_in table (type_of table id.0))))))
 array_whole table a id h ty =
-    ap (typed_whole table a) ty ∙ ap (λ (b : Bool). Some (cond b (ArrayOf (type_of table id.0) (Some (elements_in a.bytes (size_below (extent_in table (type_of table id.0)))))) (type_of table id.0))) h
+    ap (typed_whole table a) ty ∙ ap (λ (b : Bool). Some (cond b (ArrayOf (type_of table id.0) (Some (elements_of a.key a.bytes (size_below (extent_in table (type_of table id.0)))))) (type_of table id.0))) h
 
 -- each cell of an object is a number
 numbers_quiet : (k : ℕ) (cells : CellList) → AreQuiet (map (λ e. (e.0, Number (pos k))) cells)
@@ -178,8 +179,8 @@ module _ (p : Program) (space : List Location) (system : System) (is : SystemOf 
     kept_cells i heap old old_is bytes None ty_is b fresh made_key = tt
     kept_cells i heap old old_is bytes (Some id) ty_is b fresh made_key =
         subst (λ (z : Option Ctype). CellsIn g memory (object_row b.begins.location.content b.begins.first) (whole_part z) (kept_elements p.types old bytes (Some id))) (sym new_whole)
-        (grown_in g system grounds memory old (made key (Some id) bytes []) (all i old old_is) new_in (type_of p.types id.0) (elements_in old.bytes (size_below (extent_in p.types (type_of p.types id.0))))
-        (elements_in bytes (size_below (extent_in p.types (type_of p.types id.0)))) old_whole new_whole (few id) (counts id) joined old.zero
+        (grown_in g system grounds memory old (made key (Some id) bytes []) (all i old old_is) new_in (type_of p.types id.0) (elements_of old.key old.bytes (size_below (extent_in p.types (type_of p.types id.0))))
+        (elements_of key bytes (size_below (extent_in p.types (type_of p.types id.0)))) old_whole new_whole (few id) (counts id) joined old.zero
         (min (elements_in old.bytes (size_below (extent_in p.types (type_of p.types id.0)))) (elements_in bytes (size_below (extent_in p.types (type_of p.types id.0))))))
       where
         new_in : InstanceIn g memory (made key (Some id) bytes [])
@@ -188,10 +189,10 @@ module _ (p : Program) (space : List Location) (system : System) (is : SystemOf 
         old_in : InstanceIn g memory old
         old_in = all i old old_is
 
-        old_whole : whole_of p.types old ≡ Some (ArrayOf (type_of p.types id.0) (Some (elements_in old.bytes (size_below (extent_in p.types (type_of p.types id.0))))))
+        old_whole : whole_of p.types old ≡ Some (ArrayOf (type_of p.types id.0) (Some (elements_of old.key old.bytes (size_below (extent_in p.types (type_of p.types id.0))))))
         old_whole = array_whole p.types old id (heap.allocated old old_is) ty_is
 
-        new_whole : whole_of p.types (made key (Some id) bytes []) ≡ Some (ArrayOf (type_of p.types id.0) (Some (elements_in bytes (size_below (extent_in p.types (type_of p.types id.0))))))
+        new_whole : whole_of p.types (made key (Some id) bytes []) ≡ Some (ArrayOf (type_of p.types id.0) (Some (elements_of key bytes (size_below (extent_in p.types (type_of p.types id.0))))))
         new_whole = array_whole p.types (made key (Some id) bytes []) id made_key refl
 
         points : PointsIn g memory (Some (row_in w a)) i (Index heap.j ∷ [])
@@ -200,7 +201,7 @@ module _ (p : Program) (space : List Location) (system : System) (is : SystemOf 
         source : Has F (row_in w a) (object_row (all i old old_is).location.content (all i old old_is).first 0)
         source =
             has_part g system grounds memory all (row_in w a) i (Index heap.j ∷ []) old old old_is points refl (all i old old_is)
-            (ArrayOf (type_of p.types id.0) (Some (elements_in old.bytes (size_below (extent_in p.types (type_of p.types id.0)))))) old_whole (reached (type_of p.types id.0) 0 false) refl
+            (ArrayOf (type_of p.types id.0) (Some (elements_of old.key old.bytes (size_below (extent_in p.types (type_of p.types id.0)))))) old_whole (reached (type_of p.types id.0) 0 false) refl
 
         joined : (x y : ℕ) → Contains (deep system (object_row b.begins.location.content b.begins.first 0) (object_row (all i old old_is).location.content (all i old old_is).first 0)) (x, y) → IsContained F y x
         joined x y c =

@@ -3,7 +3,7 @@ use Rattle.std.proofs.Common.{arith, ◌≡◌, ◌∙◌, inl, inr, ℕ, suc, �
 use Rattle.std.proofs.lemmas.Bool.{false≢true}
 use Rattle.c_types.specs.declared.key.ObjectKey.{ObjectKey}
 use Rattle.c_types.specs.declared.key.ObjectKey.TheVariants.{Entity as EntityKey, Text as TextKey, Call as CallKey, Library as LibraryKey, Star as StarKey, Function as FunctionKey}
-use Rattle.c_types.specs.declared.key.ObjectKey.TheVariants.{Varargs as VarargsKey}
+use Rattle.c_types.specs.declared.key.ObjectKey.TheVariants.{Varargs as VarargsKey, Outside as OutsideKey}
 use Rattle.c_types.specs.declared.term.PathStep.TheVariants.{Index}
 use Rattle.c_types.specs.declared.term.TypeId.{TypeId}
 use Rattle.c_types.specs.Trees.{Ctype, ArrayOf}
@@ -16,7 +16,7 @@ use Rattle.obj_space.specs.declared.location.Location.{Location}
 use Rattle.obj_space.specs.Spots.{reached, part_at, node_in}
 use Rattle.obj_space.specs.View.{first_from}
 use Rattle.ref_cells.specs.declared.instance.Instance.{Instance}
-use Rattle.ref_cells.specs.Wholes.{is_allocated, elements_in, typed_whole, whole_of}
+use Rattle.ref_cells.specs.Wholes.{is_allocated, elements_of, typed_whole, whole_of}
 use Rattle.ref_elements.specs.Objects.{is_object, object_from}
 use Rattle.covering_laws.specs.covered_memory.Spots.{spot_at, spot_from, spot, IsFurther, room, IsInTree}
 use Rattle.covering_laws.specs.covered_memory.Covered.{Sets, HasShape, object_row, InstanceIn, MemoryIn}
@@ -36,6 +36,7 @@ is_the_object position (EntityKey k) h = absurd (false≢true h)
 is_the_object position (TextKey k) h = absurd (false≢true h)
 is_the_object position (CallKey k) h = absurd (false≢true h)
 is_the_object position (StarKey k) h = absurd (false≢true h)
+is_the_object position OutsideKey h = absurd (false≢true h)
 is_the_object position (VarargsKey k) h = absurd (false≢true h)
 is_the_object position (FunctionKey k) h = absurd (false≢true h)
 
@@ -111,6 +112,6 @@ module _ (g : Sets) (system : System) (grounds : Grounds g.table g.space system)
       by : (inst : Instance) → inst.key ≡ LibraryKey position → (t : Option TypeId) → inst.ty ≡ t → IsInTree g.table (whole_of g.table inst) (room inst) (Index 0 ∷ [])
       by inst key None none = subst (λ (w : Option Ctype). IsInTree g.table w (room inst) (Index 0 ∷ [])) (sym (ap (typed_whole g.table inst) none)) (0, refl, omega arith)
       by inst key (Some id) typed =
-          let array : Ctype = ArrayOf (type_of g.table id.0) (Some (elements_in inst.bytes (size_below (extent_in g.table (type_of g.table id.0))))) in
+          let array : Ctype = ArrayOf (type_of g.table id.0) (Some (elements_of inst.key inst.bytes (size_below (extent_in g.table (type_of g.table id.0))))) in
           subst (λ (w : Option Ctype). IsInTree g.table w (room inst) (Index 0 ∷ []))
-          (sym (ap (typed_whole g.table inst) typed ∙ ap (λ (b : Bool). Some (cond b (ArrayOf (type_of g.table id.0) (Some (elements_in inst.bytes (size_below (extent_in g.table (type_of g.table id.0)))))) (type_of g.table id.0))) (ap is_allocated key ∙ heap))) refl
+          (sym (ap (typed_whole g.table inst) typed ∙ ap (λ (b : Bool). Some (cond b (ArrayOf (type_of g.table id.0) (Some (elements_of inst.key inst.bytes (size_below (extent_in g.table (type_of g.table id.0)))))) (type_of g.table id.0))) (ap is_allocated key ∙ heap))) refl

@@ -22,7 +22,7 @@ use Rattle.ref_cells.specs.declared.cells.Cell.TheVariants.{Unset, Number, Null,
 use Rattle.ref_cells.specs.declared.instance.Instance.{Instance}
 use Rattle.ref_cells.specs.declared.wholes.Whole.{Whole}
 use Rattle.ref_cells.specs.declared.wholes.Whole.TheVariants.{One, Many}
-use Rattle.ref_cells.specs.Wholes.{is_allocated, elements_in, typed_whole, shape_of}
+use Rattle.ref_cells.specs.Wholes.{is_allocated, elements_of, typed_whole, shape_of}
 use Rattle.ref_cells.specs.Places.{is_out}
 use Rattle.ref_elements.specs.declared.runs.Run.{Run}
 use Rattle.ref_elements.specs.declared.runs.Found.{Found}
@@ -172,10 +172,10 @@ pub whole_shape : (table : Table) (inst : Instance) (id : TypeId) → typed_whol
 whole_shape table inst id = by (is_allocated inst.key)
   where
     count : ℕ
-    count = elements_in inst.bytes (size_below (extent_in table (type_of table id.0)))
+    count = elements_of inst.key inst.bytes (size_below (extent_in table (type_of table id.0)))
 
-    by : (b : Bool) → Some (cond b (ArrayOf (type_of table id.0) (Some (elements_in inst.bytes (size_below (extent_in table (type_of table id.0)))))) (type_of table id.0))
-        ≡ Some (shape_of table (cond b (Many id (elements_in inst.bytes (size_below (extent_in table (type_of table id.0))))) (One id)))
+    by : (b : Bool) → Some (cond b (ArrayOf (type_of table id.0) (Some (elements_of inst.key inst.bytes (size_below (extent_in table (type_of table id.0)))))) (type_of table id.0))
+        ≡ Some (shape_of table (cond b (Many id (elements_of inst.key inst.bytes (size_below (extent_in table (type_of table id.0))))) (One id)))
     by true = refl
     by false = refl
 

@@ -16,7 +16,7 @@ use Rattle.covering_laws.specs.covered_memory.Covered.{Sets, CellIn, row_by, poi
 use Rattle.covering_laws.specs.covered_memory.Demands.{Grounds}
 use Rattle.covering_laws.specs.covered_library.Calls.{instance_row, StoresIn}
 use Rattle.c_types.specs.declared.key.ObjectKey.{ObjectKey}
-use Rattle.c_types.specs.declared.key.ObjectKey.TheVariants.{Varargs as VarargsKey, Entity as EntityKey, Text as TextKey, Call as CallKey, Library as LibraryKey, Star as StarKey, Function as FunctionKey}
+use Rattle.c_types.specs.declared.key.ObjectKey.TheVariants.{Varargs as VarargsKey, Outside as OutsideKey, Entity as EntityKey, Text as TextKey, Call as CallKey, Library as LibraryKey, Star as StarKey, Function as FunctionKey}
 use Rattle.covering_laws.proofs.covered_memory.Anchors.{spot_is}
 use Rattle.covering_laws.proofs.covered_memory.Cells.{each_change}
 use Rattle.covering_laws.proofs.covered_memory.Changes.{PartsIn}
@@ -96,6 +96,7 @@ module _ (g : Sets) (system : System) (grounds : Grounds g.table g.space system)
       by (CallKey n) at x = plain x
       by (LibraryKey n) at x = plain x
       by (StarKey n) at x = plain x
+      by OutsideKey at x = plain x
       by (FunctionKey n) at x = plain x
 
   -- the cells of an instance that is covered

@@ -14,7 +14,7 @@ use Rattle.obj_space.specs.View.{first_from}
 use Rattle.ref_cells.specs.declared.instance.Instance.{Instance}
 use Rattle.ref_cells.specs.Cells.{CellList}
 use Rattle.ref_cells.specs.Puts.{put}
-use Rattle.ref_cells.specs.Wholes.{is_allocated, elements_in, typed_whole, whole_of}
+use Rattle.ref_cells.specs.Wholes.{is_allocated, elements_of, typed_whole, whole_of}
 use Rattle.ref_mem.specs.Writes.{changed, put_all, with_parts}
 use Rattle.covering_laws.specs.covered_memory.Cells.{EachCell}
 use Rattle.covering_laws.specs.covered_memory.Spots.{whole_part, IsFurther, room, IsInTree}
@@ -108,9 +108,9 @@ module _ (g : Sets) (system : System) (grounds : Grounds g.table g.space system)
   whole_with a id = typed_whole g.table a (Some id)
 
   array_of : (a : Instance) (id : TypeId) → IsTrue (is_allocated a.key)
-      → whole_with a id ≡ Some (ArrayOf (type_of g.table id.0) (Some (elements_in a.bytes (size_below (extent_in g.table (type_of g.table id.0))))))
+      → whole_with a id ≡ Some (ArrayOf (type_of g.table id.0) (Some (elements_of a.key a.bytes (size_below (extent_in g.table (type_of g.table id.0))))))
   array_of a id h =
-      ap (λ (b : Bool). Some (cond b (ArrayOf (type_of g.table id.0) (Some (elements_in a.bytes (size_below (extent_in g.table (type_of g.table id.0)))))) (type_of g.table id.0))) h
+      ap (λ (b : Bool). Some (cond b (ArrayOf (type_of g.table id.0) (Some (elements_of a.key a.bytes (size_below (extent_in g.table (type_of g.table id.0)))))) (type_of g.table id.0))) h
 
   untyped_whole : (a : Instance) → a.ty ≡ None → whole_of g.table a ≡ None
   untyped_whole a e = ap (typed_whole g.table a) e
@@ -133,7 +133,7 @@ module _ (g : Sets) (system : System) (grounds : Grounds g.table g.space system)
   pub typed_in : (memory : List Instance) (a : Instance) (id : TypeId) → a.ty ≡ None → IsTrue (is_allocated a.key) → IsSome (extent_in g.table (type_of g.table id.0)) → (h : InstanceIn g memory a)
       → Takes id h.location.content → GoesOn g a (record a { ty = Some id }) × InstanceIn g memory (record a { ty = Some id })
   typed_in memory a id none heap complete h takes =
-      let n = elements_in a.bytes (size_below (extent_in g.table (type_of g.table id.0))) in
+      let n = elements_of a.key a.bytes (size_below (extent_in g.table (type_of g.table id.0))) in
       let array = array_of a id heap in
       let before = untyped_whole a none in (
         record {

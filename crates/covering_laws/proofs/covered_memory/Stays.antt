@@ -3,7 +3,7 @@ use Rattle.std.proofs.Common.{arith, ◌≡◌, ◌∙◌, ℕ, zero, suc, ◌+�
 use Rattle.std.specs.Option.{option_map}
 use Rattle.std.proofs.lemmas.Bool.{cases_eq, false≢true}
 use Rattle.c_types.specs.declared.key.ObjectKey.{ObjectKey}
-use Rattle.c_types.specs.declared.key.ObjectKey.TheVariants.{Varargs as VarargsKey, Entity as EntityKey, Text as TextKey, Call as CallKey, Library as LibraryKey, Star as StarKey, Function as FunctionKey}
+use Rattle.c_types.specs.declared.key.ObjectKey.TheVariants.{Varargs as VarargsKey, Outside as OutsideKey, Entity as EntityKey, Text as TextKey, Call as CallKey, Library as LibraryKey, Star as StarKey, Function as FunctionKey}
 use Rattle.c_types.specs.declared.term.PathStep.{PathStep}
 use Rattle.c_types.specs.declared.term.TypeId.{TypeId}
 use Rattle.c_types.specs.Trees.{Ctype}
@@ -37,6 +37,7 @@ heap_plain (TextKey n) heap f = f
 heap_plain (CallKey n) heap f = f
 heap_plain (LibraryKey k) heap f = f
 heap_plain (StarKey k) heap f = f
+heap_plain OutsideKey heap f = f
 heap_plain (FunctionKey k) heap f = f
 
 -- any other object's cells are in the rows of their parts
@@ -47,6 +48,7 @@ plain_row (TextKey n) first row plain = refl
 plain_row (CallKey n) first row plain = refl
 plain_row (LibraryKey k) first row plain = refl
 plain_row (StarKey k) first row plain = refl
+plain_row OutsideKey first row plain = refl
 plain_row (FunctionKey k) first row plain = refl
 
 module _ (g : Sets) where
@@ -132,6 +134,7 @@ module _ (g : Sets) where
         by (CallKey n) none = h
         by (LibraryKey k) none = h
         by (StarKey k) none = h
+        by OutsideKey none = h
         by (FunctionKey k) none = h
 
     -- a cell of any other object is covered in the row of its part

@@ -4,7 +4,7 @@ use Rattle.std.specs.List.{AllZip, list_any, enumerate_from}
 use Rattle.pta_base.specs.declared.effect.Effect.{Effect}
 use Rattle.c_types.specs.declared.key.ObjectKey.{ObjectKey}
 use Rattle.c_types.specs.declared.key.ObjectKey.TheVariants.{Entity as EntityKey, Text as TextKey, Call as CallKey, Library as LibraryKey, Star as StarKey, Function as FunctionKey}
-use Rattle.c_types.specs.declared.key.ObjectKey.TheVariants.{Varargs as VarargsKey}
+use Rattle.c_types.specs.declared.key.ObjectKey.TheVariants.{Varargs as VarargsKey, Outside as OutsideKey}
 use Rattle.c_types.specs.declared.term.PathStep.TheVariants.{Index}
 use Rattle.core_tree.specs.declared.node.Node.{Node}
 use Rattle.core_tree.specs.Typed.{CoreTrees, trees_in}
@@ -178,6 +178,7 @@ library_key (TextKey j) k h = absurd (none_some h)
 library_key (CallKey j) k h = absurd (none_some h)
 library_key (LibraryKey j) k h = absurd (none_some h)
 library_key (StarKey j) k h = absurd (none_some h)
+library_key OutsideKey k h = absurd (none_some h)
 library_key (VarargsKey j) k h = absurd (none_some h)
 
 module _ (s : Solved) (n : ℕ) (node : Node) (site : CallSite) (target : ℕ) (function : Function) (library : ℕ) (call : IsLibraryCall s n node site target function library) where

@@ -49,7 +49,7 @@ none_some h = cc
 some_one : {X : Type 0} → {x y : X} → ◌≡◌ {A = Option X} (Some x) (Some y) → x ≡ y
 some_one h = cc
 
-slice_has : {X : Type 0} (xs : List X) (k : ℕ) (x : X) → slice_get xs k ≡ Some x → Contains xs x
+pub slice_has : {X : Type 0} (xs : List X) (k : ℕ) (x : X) → slice_get xs k ≡ Some x → Contains xs x
 slice_has [] k x h = absurd (none_some h)
 slice_has {X = X} (y ∷ xs) zero x h = subst (λ (z : X). Contains (y ∷ xs) z) (some_one h) (first_has y xs)
 slice_has (y ∷ xs) (suc k) x h = behind_has x y xs (slice_has xs k x h)

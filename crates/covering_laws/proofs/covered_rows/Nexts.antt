@@ -1,7 +1,7 @@
 -- VarArgs and NextArg: lists of what variadic functions are passed past their parameters.
 use Rattle.std.proofs.Common.{arith, ◌≡◌, ◌∙◌, ℕ, ◌+◌, ◌<◌, ◌≤◌, true, false, List, [], ◌∷◌, Option, Some, None, Ok, slice_get, unwrap_or, refl, sym, ap, subst}
 use Rattle.c_types.specs.declared.key.ObjectKey.{ObjectKey}
-use Rattle.c_types.specs.declared.key.ObjectKey.TheVariants.{Varargs as VarargsKey, Entity as EntityKey, Text as TextKey, Call as CallKey, Library as LibraryKey, Star as StarKey, Function as FunctionKey}
+use Rattle.c_types.specs.declared.key.ObjectKey.TheVariants.{Varargs as VarargsKey, Outside as OutsideKey, Entity as EntityKey, Text as TextKey, Call as CallKey, Library as LibraryKey, Star as StarKey, Function as FunctionKey}
 use Rattle.c_types.specs.declared.term.PathStep.TheVariants.{Index}
 use Rattle.c_types.specs.Trees.{Ctype, VaListType, PointerTo}
 use Rattle.core_tree.specs.declared.node.NodeKind.TheVariants.{VarArgs, NextArg}
@@ -53,6 +53,7 @@ own_row (TextKey n) f first row = absurd f
 own_row (CallKey n) f first row = absurd f
 own_row (LibraryKey n) f first row = absurd f
 own_row (StarKey n) f first row = absurd f
+own_row OutsideKey f first row = absurd f
 own_row (FunctionKey n) f first row = absurd f
 
 -- the first cell of what is listed under a step

@@ -4,15 +4,19 @@ use Rattle.std.specs.List.{range_with_len, enumerate_from, cons_option, AllZip}
 use Rattle.std.specs.Option.{option_map_or}
 use Rattle.std.proofs.lemmas.Bool.{false≢true, cases_lt}
 use Rattle.std.proofs.lemmas.Bool.Decides.{eqb_tells}
+use Rattle.std.proofs.lemmas.List.Elements.{Contains-append_left}
 use Rattle.std.proofs.lemmas.Option.{slice_get_within}
 use Rattle.c_types.specs.declared.key.ObjectKey.{ObjectKey}
-use Rattle.c_types.specs.declared.key.ObjectKey.TheVariants.{Entity as EntityKey}
+use Rattle.c_types.specs.declared.key.ObjectKey.TheVariants.{Entity as EntityKey, Function as FunctionKey}
 use Rattle.c_types.specs.Trees.{Ctype, PointerTo, trees_at}
 use Rattle.c_types.specs.Table.{Table, types_of, IsFirstOf}
+use Rattle.core_tree.specs.declared.node.Entity.{Entity}
 use Rattle.core_tree.specs.declared.node.Node.{Node}
 use Rattle.core_tree.specs.declared.node.NodeKind.{NodeKind}
 use Rattle.core_tree.specs.declared.node.NodeKind.TheVariants.{CallNode}
 use Rattle.core_tree.specs.declared.node.Program.{Program}
+use Rattle.core_tree.specs.declared.node.Storage.{Storage}
+use Rattle.core_tree.specs.declared.node.Storage.TheVariants.{FunctionBody}
 use Rattle.core_tree.specs.Typed.{CoreTrees, trees_in, type_at}
 use Rattle.sol_model.specs.declared.system.System.{System}
 use Rattle.sol_model.specs.declared.system.CallSite.{CallSite}
@@ -22,7 +26,8 @@ use Rattle.sol_model.specs.Rules.{IsTarget}
 use Rattle.sol_model.specs.Solutions.{IsClosed}
 use Rattle.obj_space.specs.declared.location.Location.{Location}
 use Rattle.obj_space.specs.View.{SpaceView, first_from, view_of}
-use Rattle.row_numbers.specs.Functions.{begins_at, object_at, objects_at, function_keys, functions_below, functions_of, number_at, number_of, key_type}
+use Rattle.row_numbers.specs.declared.functions.Role.TheVariants.{Defined}
+use Rattle.row_numbers.specs.Functions.{has_body, key_if, keys_in, begins_at, object_at, objects_at, function_keys, functions_below, functions_of, number_at, number_of, key_type}
 use Rattle.row_numbers.specs.Setting.{Setting}
 use Rattle.ref_cells.specs.declared.cells.Cell.TheVariants.{Function as FunctionCell}
 use Rattle.ref_cells.specs.declared.instance.Instance.{Instance}
@@ -120,6 +125,25 @@ signature_one table t a b (unknown o f i) (compares y j) = absurd (o.no_comparis
 signature_one table t a b (unknown o f i) (ends y j) = absurd (o.not_at_end y)
 signature_one table t a b (unknown o f i) (known {id = n} q h j) = absurd (f.none n h.known h.same)
 signature_one table t a b (unknown o f i) (unknown q h j) = i ∙ sym j
+
+-- a function with a body is one of the program's functions
+body_listed : (i e : ℕ) (xs : List Entity) (j : ℕ) (x : Entity) → slice_get xs j ≡ Some x → i + j ≡ e → x.storage ≡ FunctionBody → Contains (filter_map (λ entry. key_if Defined entry.0 entry.1) (enumerate_from i xs)) (EntityKey e)
+body_listed i e [] j x at is storage = absurd (none_some at)
+body_listed i e (y ∷ rest) zero x at is storage =
+    let same : y.storage ≡ FunctionBody = ap (λ (z : Entity). z.storage) (some_one at) ∙ storage in
+    let number : i ≡ e = omega arith in
+    let kept : key_if Defined i y ≡ Some (EntityKey e) = ap (λ (s : Storage). cond (has_body s) (Some (EntityKey i)) None) same ∙ ap (λ (k : ℕ). let o : Option ObjectKey = Some (EntityKey k) in o) number in
+    subst (λ (o : Option ObjectKey). Contains (cons_option o (filter_map (λ entry. key_if Defined entry.0 entry.1) (enumerate_from (i + 1) rest))) (EntityKey e)) (sym kept) (0, omega arith, refl)
+body_listed i e (y ∷ rest) (suc j) x at is storage = by (key_if Defined i y) (body_listed (i + 1) e rest j x at (omega arith) storage)
+  where
+    by : (o : Option ObjectKey) → Contains (filter_map (λ entry. key_if Defined entry.0 entry.1) (enumerate_from (i + 1) rest)) (EntityKey e)
+        → Contains (cons_option o (filter_map (λ entry. key_if Defined entry.0 entry.1) (enumerate_from (i + 1) rest))) (EntityKey e)
+    by None h = h
+    by (Some key) (m, lt, own) = (suc m, omega arith, own)
+
+pub entity_listed : (u : CoreTrees) (e : ℕ) (x : Entity) → slice_get u.entities e ≡ Some x → x.storage ≡ FunctionBody → Contains (function_keys u) (EntityKey e)
+entity_listed u e x at storage =
+    Contains-append_left (keys_in Defined u.entities) (map (λ (j : ℕ). FunctionKey j) (range_with_len 0 55)) (EntityKey e) (body_listed 0 e u.entities e x at (omega arith) storage)
 
 module _ (u : CoreTrees) (space : List Location) where
   abbrev s : SpaceView

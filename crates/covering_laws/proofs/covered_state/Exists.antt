@@ -2,7 +2,7 @@
 use Rattle.std.proofs.Common.{arith, ◌≡◌, inl, inr, ℕ, ◌≤◌, false, List, [], ◌∷◌, length, Option, Some, sym, subst}
 use Rattle.std.proofs.lemmas.Option.{slice_get_within}
 use Rattle.c_types.specs.declared.key.ObjectKey.{ObjectKey}
-use Rattle.c_types.specs.declared.key.ObjectKey.TheVariants.{Entity as EntityKey, Text as TextKey, Call as CallKey, Library as LibraryKey, Star as StarKey, Varargs as VarargsKey, Function as FunctionKey}
+use Rattle.c_types.specs.declared.key.ObjectKey.TheVariants.{Entity as EntityKey, Text as TextKey, Call as CallKey, Library as LibraryKey, Star as StarKey, Varargs as VarargsKey, Outside as OutsideKey, Function as FunctionKey}
 use Rattle.c_types.specs.declared.term.PathStep.{PathStep}
 use Rattle.core_tree.specs.Typed.{Sort, NoNode, PlaceNode, ValueNode, StatementNode, sort_at, type_at}
 use Rattle.obj_space.specs.Spots.{Reached, reached, part_at}
@@ -20,14 +20,14 @@ use Rattle.ref_state.specs.declared.items.Item.TheVariants.{Do, Wait, Library, R
 use Rattle.ref_state.specs.Values.{cell_of}
 use Rattle.normal_form.specs.Assignments.{row_in, given_type, type_nodes}
 use Rattle.covering_laws.specs.covered_memory.Cells.{EachCell}
-use Rattle.covering_laws.specs.covered_memory.Covered.{Sets, CellIn, pointer_row, CellsIn, cell_row}
+use Rattle.covering_laws.specs.covered_memory.Covered.{Sets, CellIn, pointer_row, CellsIn, cell_row, outside_row}
 use Rattle.covering_laws.proofs.covered_memory.Cells.{each_change}
 use Rattle.covering_laws.specs.covered_rows.Nodes.{node_row}
 use Rattle.covering_laws.specs.covered_state.World.{World, trees_of, view_in, sets_of, setting_in}
 use Rattle.covering_laws.specs.covered_state.Items.{Each, SortIn, NodeIn, ReturnedIn, ArgumentsIn, ExistsIn, AllExist, ItemIn}
 use Rattle.covering_laws.specs.covered_state.Awaited.{IsApart, AreApart, ItemApart}
 use Rattle.ref_state.specs.declared.frames.Frame.{Frame}
-use Rattle.covering_laws.specs.covered_state.State.{FrameIn}
+use Rattle.covering_laws.specs.covered_state.State.{FrameIn, HandedIn}
 use Rattle.covering_laws.specs.covered_state.Exists.{NamesBelow, AllBelow, ItemBelow, CoveredExist}
 use Rattle.covering_laws.proofs.covered_state.Stays.{each_change as each_one}
 
@@ -73,6 +73,7 @@ module _ (world : World) (memory : List Instance) where
   returned_below (CallKey n) v h = absurd h
   returned_below (LibraryKey n) v h = absurd h
   returned_below (StarKey n) v h = absurd h
+  returned_below OutsideKey v h = absurd h
   returned_below (VarargsKey n) v h = absurd h
   returned_below (FunctionKey n) v h = absurd h
 
@@ -139,4 +140,5 @@ covered_exist world state covered = record {
   memory = λ i inst at. (let h = covered.memory i inst at in rows_below (sets_of world) state.memory (cell_row world.program.types inst h.location.content h.first) inst.cells h.cells);
   frames = each_one (FrameIn world state.memory) (λ f. Each (ItemBelow (length state.memory)) f.items)
       (λ f h. each_one (ItemIn world state.memory f.function) (ItemBelow (length state.memory)) (item_below world state.memory f.function) f.items h.items) state.frames covered.frames;
+  handed = each_one (HandedIn world state.memory) (λ entry. NamesBelow (length state.memory) entry.1) (λ entry x. cell_below (sets_of world) state.memory (outside_row (sets_of world)) entry.1 x) state.handed covered.handed;
 }

@@ -2,7 +2,8 @@
 use Rattle.std.proofs.Common.{inl, inr, ℕ, List, [], ◌∷◌, ◌++◌, Some}
 use Rattle.c_types.specs.declared.key.ObjectKey.{ObjectKey}
 use Rattle.c_types.specs.declared.key.ObjectKey.TheVariants.{Entity as EntityKey, Text as TextKey, Call as CallKey, Library as LibraryKey, Star as StarKey, Function as FunctionKey}
-use Rattle.c_types.specs.declared.key.ObjectKey.TheVariants.{Varargs as VarargsKey}
+use Rattle.c_types.specs.declared.key.ObjectKey.TheVariants.{Varargs as VarargsKey, Outside as OutsideKey}
+use Rattle.c_types.specs.declared.term.TypeId.{TypeId}
 use Rattle.core_tree.specs.Typed.{Sort, NoNode, PlaceNode, ValueNode, StatementNode, sort_at, type_at}
 use Rattle.row_numbers.specs.Kept.{kept_row}
 use Rattle.row_numbers.specs.Functions.{number_of}
@@ -18,13 +19,13 @@ use Rattle.ref_state.specs.Items.{given, deliver, settled}
 use Rattle.ref_state.specs.Values.{cell_of}
 use Rattle.normal_form.specs.Assignments.{row_in, given_type, type_nodes}
 use Rattle.covering_laws.specs.covered_memory.Cells.{EachCell}
-use Rattle.covering_laws.specs.covered_memory.Covered.{Sets, Extends}
+use Rattle.covering_laws.specs.covered_memory.Covered.{Sets, Extends, outside_row}
 use Rattle.covering_laws.proofs.covered_memory.Cells.{each_change as cells_change}
 use Rattle.covering_laws.proofs.covered_memory.Stays.{cell_stays, value_stays}
 use Rattle.covering_laws.specs.covered_rows.Nodes.{node_row}
 use Rattle.covering_laws.specs.covered_state.World.{World, trees_of, view_in, sets_of, setting_in}
 use Rattle.covering_laws.specs.covered_state.Items.{Each, SortIn, NodeIn, ReturnedIn, ArgumentsIn, ExistsIn, IsPendingBack, ItemIn}
-use Rattle.covering_laws.specs.covered_state.State.{FrameIn}
+use Rattle.covering_laws.specs.covered_state.State.{FrameIn, HandedIn}
 
 pub each_change : {X : Type 0} (P Q : X → Type 0) → ((x : X) → P x → Q x) → (xs : List X) → Each P xs → Each Q xs
 each_change P Q f [] h = tt
@@ -55,6 +56,7 @@ module _ (world : World) (old new : List Instance) (extends : Extends (sets_of w
   returned_stays (CallKey n) v h = absurd h
   returned_stays (LibraryKey n) v h = absurd h
   returned_stays (StarKey n) v h = absurd h
+  returned_stays OutsideKey v h = absurd h
   returned_stays (VarargsKey n) v h = absurd h
   returned_stays (FunctionKey n) v h = absurd h
 
@@ -91,10 +93,13 @@ module _ (world : World) (old new : List Instance) (extends : Extends (sets_of w
 
   -- What a step doesn't touch stays covered.
   pub frame_stays : (f : Frame) → FrameIn world old f → FrameIn world new f
-  frame_stays f h = record { called = h.called; back = h.back; items = items_stay f.function f.items h.items }
+  frame_stays f h = record { called = h.called; back = h.back; entered = h.entered; items = items_stay f.function f.items h.items }
 
   pub frames_stay : (frames : List Frame) → Each (FrameIn world old) frames → Each (FrameIn world new) frames
   frames_stay frames h = each_change (FrameIn world old) (FrameIn world new) frame_stays frames h
+
+  pub handed_stay : (handed : List (TypeId × Cell)) → Each (HandedIn world old) handed → Each (HandedIn world new) handed
+  handed_stay handed h = each_change (HandedIn world old) (HandedIn world new) (λ entry x. cell_stays g old new extends (outside_row g) entry.1 x) handed h
 
 -- a covered value goes to the item below
 module _ (world : World) (memory : List Instance) (f : ObjectKey) where

@@ -31,7 +31,7 @@ use Rattle.covering_laws.specs.grown_programs.Grown.{with_terms, MayFollow, IsKe
 use Rattle.covering_laws.proofs.grown_programs.Types.{both, three, nodes_same, path_same, first_same}
 use Rattle.covering_laws.proofs.grown_programs.Numbers.{type_same, key_type_same, key_known, number_same, row_same, list_row_same, rest_row_same, result_row_same}
 
-flat_same : {X Y : Type 0} (f g : X → List Y) (xs : List X) → ((x : X) → f x ≡ g x) → flat_map f xs ≡ flat_map g xs
+pub flat_same : {X Y : Type 0} (f g : X → List Y) (xs : List X) → ((x : X) → f x ≡ g x) → flat_map f xs ≡ flat_map g xs
 flat_same f g [] h = refl
 flat_same {Y = Y} f g (x ∷ xs) h = both (λ (a b : List Y). a ++ b) (h x) (flat_same f g xs h)
 

@@ -4,7 +4,7 @@ use Rattle.std.specs.Prelude.{sum}
 use Rattle.std.specs.Option.{option_map, option_map_or}
 use Rattle.c_types.specs.declared.key.ObjectKey.{ObjectKey}
 use Rattle.c_types.specs.declared.key.ObjectKey.TheVariants.{Entity as EntityKey, Text as TextKey, Call as CallKey, Library as LibraryKey, Star as StarKey, Function as FunctionKey}
-use Rattle.c_types.specs.declared.key.ObjectKey.TheVariants.{Varargs as VarargsKey}
+use Rattle.c_types.specs.declared.key.ObjectKey.TheVariants.{Varargs as VarargsKey, Outside as OutsideKey}
 use Rattle.c_types.specs.declared.term.Term.{Term}
 use Rattle.c_types.specs.declared.term.TypeId.{TypeId}
 use Rattle.c_types.specs.Trees.{Ctype}
@@ -85,6 +85,7 @@ module _ (p : Program) (more : List Term) (made : IsMade p.types) (follow : MayF
   key_known (CallKey n) id h = absurd (none_some h)
   key_known (LibraryKey k) id h = absurd (none_some h)
   key_known (StarKey k) id h = absurd (none_some h)
+  key_known OutsideKey id h = absurd (none_some h)
   key_known (VarargsKey k) id h = absurd (none_some h)
 
   pub key_id_same : (key : ObjectKey) → key_id u' key ≡ key_id u key
@@ -94,6 +95,7 @@ module _ (p : Program) (more : List Term) (made : IsMade p.types) (follow : MayF
   key_id_same (CallKey n) = refl
   key_id_same (LibraryKey k) = refl
   key_id_same (StarKey k) = refl
+  key_id_same OutsideKey = refl
   key_id_same (VarargsKey k) = refl
 
   pub key_type_same : (key : ObjectKey) → key_type u' key ≡ key_type u key

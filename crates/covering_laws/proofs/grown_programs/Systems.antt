@@ -6,7 +6,7 @@ use Rattle.std.specs.Option.{option_map}
 use Rattle.std.proofs.lemmas.Bool.{cases_lt}
 use Rattle.c_types.specs.declared.key.ObjectKey.{ObjectKey}
 use Rattle.c_types.specs.declared.key.ObjectKey.TheVariants.{Entity as EntityKey, Text as TextKey, Call as CallKey, Library as LibraryKey, Star as StarKey, Function as FunctionKey}
-use Rattle.c_types.specs.declared.key.ObjectKey.TheVariants.{Varargs as VarargsKey}
+use Rattle.c_types.specs.declared.key.ObjectKey.TheVariants.{Varargs as VarargsKey, Outside as OutsideKey}
 use Rattle.c_types.specs.declared.term.Form.TheVariants.{Fixed, Variadic, Unspecified}
 use Rattle.c_types.specs.declared.term.Term.{Term}
 use Rattle.c_types.specs.declared.term.Term.TheVariants.{Function as FunctionTerm, Structure, Union}
@@ -34,22 +34,23 @@ use Rattle.obj_space.specs.Space.{locations_in}
 use Rattle.obj_space.specs.View.{SpaceView, first_from, view_of}
 use Rattle.obj_space.proofs.Preorder.{get_behind}
 use Rattle.row_numbers.specs.Around.{IsOwner, AreOwners}
-use Rattle.row_numbers.specs.Kept.{nodes_of, row_list}
+use Rattle.row_numbers.specs.Kept.{row_list}
 use Rattle.row_numbers.specs.Objects.{is_library}
 use Rattle.row_numbers.specs.Functions.{functions_of, function_at, parameters_of, key_id, type_or_void, key_type}
 use Rattle.row_numbers.specs.Setting.{Setting, value_rows, takes_further}
 use Rattle.call_sites.specs.Signatures.{IsSignature, compares, ends, known, unknown, called_type, calling_type}
 use Rattle.call_sites.specs.Calls.{calls_upto, head_of, rest_of, givers_in, fresh_in, caller_by, ids_of, named_library, variadic_count, rows_past, argument_rows, IsCallSite, IsSiteAt, AreCalls}
 use Rattle.normal_form.specs.declared.normal.Assignment.{Assignment}
-use Rattle.normal_form.specs.Facts.{location_fact, location_facts, cell_list, parameter_rows, parameters_by, IsFunctionFact, AreFunctions, number_if}
+use Rattle.normal_form.specs.Facts.{location_fact, location_facts, parameter_rows, parameters_by, IsFunctionFact, AreFunctions, number_if}
 use Rattle.normal_form.specs.SystemOf.{Demands, by_node, by_call, by_library, by_start, setting_of, SystemOf}
 use Rattle.covering_laws.specs.object_contents.Contents.{IsMadeOf}
 use Rattle.covering_laws.proofs.object_contents.Contents.{contents_known}
 use Rattle.covering_laws.specs.grown_programs.Grown.{with_terms, IsSimple, MayFollow, IsKept, with_types, SystemsGrow}
 use Rattle.covering_laws.proofs.grown_programs.Tables.{map_same, tables_grow}
-use Rattle.covering_laws.proofs.grown_programs.Types.{both, three, nodes_same, facts_same}
+use Rattle.covering_laws.proofs.grown_programs.Types.{both, three, facts_same}
 use Rattle.covering_laws.proofs.grown_programs.Numbers.{type_same, key_known, key_type_same, functions_same, number_same, row_same, rest_row_same, result_row_same, none_row_same, total_same, value_rows_same, result_nodes_same}
 use Rattle.covering_laws.proofs.grown_programs.Demanded.{assignments_same}
+use Rattle.covering_laws.proofs.grown_programs.Starts.{parameter_same, starts_same}
 use Rattle.covering_laws.proofs.grown_programs.Listed.{IsFunctionKey, function_there, first_at, library_found, call_there}
 
 none_some : {X : Type 0} → {x : X} → ◌≡◌ {A = Option X} None (Some x) → ⊥
@@ -176,6 +177,7 @@ module _ (p : Program) (more : List Term) (valid : ValidProgram p) (made : IsMad
   key_some (CallKey n) function l first = absurd function
   key_some (LibraryKey k) function l first = absurd function
   key_some (StarKey k) function l first = absurd function
+  key_some OutsideKey function l first = absurd function
   key_some (VarargsKey k) function l first = absurd function
 
   function_callable : (k : ℕ) (key : ObjectKey) → slice_get (functions_of u s) k ≡ Some key → IsCallable (called_type (key_type u key))
@@ -245,14 +247,16 @@ module _ (p : Program) (more : List Term) (valid : ValidProgram p) (made : IsMad
         by_node {a = a} (subst (λ (list : List Assignment). Contains list a) (sym (assignments_same p more made follow kept nodes_known entities_known s is.owners)) has) same
     demands_more c (by_call {call = call} lt same) = by_call {call = call} lt same
     demands_more c (by_library has) = by_library has
-    demands_more c (by_start has) = by_start has
+    demands_more c (by_start has) =
+        by_start (subst (λ (list : List Constraint). Contains list c) (sym (starts_same p more made follow kept nodes_known entities_known s p.entries.items)) has)
 
     demands_less : (c : Constraint) → Demands w' (length system.calls) c → Demands w (length system.calls) c
     demands_less c (by_node {a = a} has same) =
         by_node {a = a} (subst (λ (list : List Assignment). Contains list a) (assignments_same p more made follow kept nodes_known entities_known s is.owners) has) same
     demands_less c (by_call {call = call} lt same) = by_call {call = call} lt same
     demands_less c (by_library has) = by_library has
-    demands_less c (by_start has) = by_start has
+    demands_less c (by_start has) =
+        by_start (subst (λ (list : List Constraint). Contains list c) (starts_same p more made follow kept nodes_known entities_known s p.entries.items) has)
 
     caller_same : (o : Option (Option ℕ)) → caller_by w' o ≡ caller_by w o
     caller_same None = refl
@@ -292,14 +296,9 @@ module _ (p : Program) (more : List Term) (valid : ValidProgram p) (made : IsMad
         zip_change (IsSiteAt w) (IsSiteAt w') (calls_upto p.nodes.items (length p.nodes.items)) system.calls
         (λ k n site at h. record { node = h.node; there = h.there; right = site_more n h.node h.there (call_there p.nodes.items (length p.nodes.items) k n at h.node h.there) site h.right }) is.calls
 
-    parameter_same : (key : ObjectKey) → parameter_rows u' s key ≡ parameter_rows u s key
-    parameter_same key =
-        both (λ (none : ℕ) (ts : List Ctype). cell_list none (unwrap_or (s.first key) 0) ts) (none_row_same p more made follow kept nodes_known entities_known s)
-        (ap (nodes_of new) (key_type_same p more made follow kept nodes_known entities_known key) ∙ nodes_same table more made follow kept (key_type u key))
-
     parameters_same : (key : ObjectKey) → parameters_by u' s key ≡ parameters_by u s key
     parameters_same (EntityKey e) =
-        both (λ (front rest : List (List ℕ)). front ++ rest) (map_same (parameter_rows u' s) (parameter_rows u s) (parameters_of u s e) (λ k key at. parameter_same key))
+        both (λ (front rest : List (List ℕ)). front ++ rest) (map_same (parameter_rows u' s) (parameter_rows u s) (parameters_of u s e) (λ k key at. parameter_same p more made follow kept nodes_known entities_known s key))
         (ap (λ (t : Ctype). if takes_further t then (unwrap_or (s.first (VarargsKey e)) 0 ∷ []) ∷ [] else []) (key_type_same p more made follow kept nodes_known entities_known (EntityKey e)))
     parameters_same key = refl
 

@@ -26,7 +26,7 @@ use Rattle.obj_made.specs.declared.object.Object.{Object}
 use Rattle.obj_made.specs.Uses.{entity_number, is_allocator, is_named, is_starred}
 use Rattle.obj_made.specs.Made.{Made, Spot, by_place, in_order, made_at, spot_at, object_unless_declared, entity_made, entities_made, called_object, object_of_call, called_entity, object_of_kind, node_made, nodes_made, has_varargs, varargs_object, varargs_spot, varargs_made, made_of_names, made_in_order, objects_in}
 use Rattle.obj_space.specs.declared.location.Location.{Location}
-use Rattle.obj_space.specs.Objects.{LibraryRow, named_object, function_if, functions_below, library_rows, library_object, library_objects_from, library_objects, is_needed, star_if, star_objects, library_part, objects_of, takes_arguments}
+use Rattle.obj_space.specs.Objects.{LibraryRow, named_object, function_if, functions_below, library_rows, library_object, library_objects_from, library_objects, is_needed, star_if, star_objects, outside_objects, library_part, objects_of, takes_arguments}
 use Rattle.obj_space.specs.Parts.{Part, parts_of, nodes_of}
 use Rattle.obj_space.specs.Space.{located, locations_by, locations_of, locations_in}
 use Rattle.obj_space.specs.Spots.{type_made}
@@ -169,11 +169,19 @@ module _ (p : Program) where
       let s = λ (k : ℕ). star_right (is_starred p.entities.items p.nodes.items k) k refl in
       right_append _ _ (s 0) (right_append _ _ (s 1) (right_append _ _ (s 2) (s 21)))
 
+  outside_right : (entries : List ℕ) → p.entries.items ≡ entries → AllRight (outside_objects entries)
+  outside_right [] is = tt
+  outside_right (e ∷ rest) is = ((refl, λ none. listed e rest (sym is ∙ none)), tt)
+    where
+      listed : (e : ℕ) (rest : List ℕ) → e ∷ rest ≡ [] → ⊥
+      listed e rest h = cc
+
   pub objects_right : AllRight (objects_of p)
   objects_right =
       right_append (objects_in (made_in_order p)) (library_part p) made_right
       (right_append (functions_below p 55) _ (functions_right 55)
-      (right_append (library_objects (is_named p.entities.items p.nodes.items) (takes_arguments p)) (star_objects p) (library_right _ _) stars_right))
+      (right_append (library_objects (is_named p.entities.items p.nodes.items) (takes_arguments p)) (star_objects p ++ outside_objects p.entries.items) (library_right _ _)
+      (right_append (star_objects p) (outside_objects p.entries.items) stars_right (outside_right p.entries.items refl))))
 
 -- an element of two lists joined is one of either
 of_either : {X : Type 0} (xs ys : List X) (l : ℕ) (x : X) → slice_get (xs ++ ys) l ≡ Some x → ((k : ℕ) × (slice_get xs k ≡ Some x)) ⊎ ((k : ℕ) × (slice_get ys k ≡ Some x))

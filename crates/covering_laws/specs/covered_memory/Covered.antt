@@ -1,7 +1,7 @@
 -- What it means that sets cover cells, values and a memory.
 use Rattle.std.specs.Prelude.{◌≡◌, ◌⊎◌, ℕ, ◌+◌, ⊤, false, IsTrue, IsSome, List, [], Option, Some, None, slice_get}
 use Rattle.c_types.specs.declared.key.ObjectKey.{ObjectKey}
-use Rattle.c_types.specs.declared.key.ObjectKey.TheVariants.{Varargs as VarargsKey}
+use Rattle.c_types.specs.declared.key.ObjectKey.TheVariants.{Varargs as VarargsKey, Outside as OutsideKey}
 use Rattle.c_types.specs.declared.term.PathStep.{PathStep}
 use Rattle.c_types.specs.Trees.{Ctype, VaListType, PointerTo, ArrayOf}
 use Rattle.c_types.specs.Table.{Table, type_of, extent_in}
@@ -49,6 +49,10 @@ abbrev pub CellIn : Sets → List Instance → Option ℕ → Cell → Type 0
 CellIn g memory row (Pointer i path past) = PointsIn g memory row i path
 CellIn g memory row (FunctionCell key) = Lands g.family row (spot g.table g.space key [])
 CellIn g memory row cell = ⊤
+
+-- the row of what lies outside, where the program is entered from there
+abbrev pub outside_row : Sets → Option ℕ
+outside_row g = first_from 0 g.space OutsideKey
 
 -- the row of a part that is a pointer or a variadic list, where each node has a row
 abbrev pub row_by : Ctype → ℕ → Option ℕ

@@ -31,10 +31,11 @@ abbrev pub MemoryBelow : ℕ → List Instance → Type 0
 MemoryBelow count memory =
     (i : ℕ) (inst : Instance) → slice_get memory i ≡ Some inst → AllBelow count inst.cells
 
--- the pointers of memory and items name instances of the memory
+-- the pointers of memory and items, and those that were handed over, name instances of the memory
 pub record PointersExist (state : State) : Type 0 where
   pub memory : MemoryBelow (length state.memory) state.memory
   pub frames : Each (λ f. Each (ItemBelow (length state.memory)) f.items) state.frames
+  pub handed : Each (λ entry. NamesBelow (length state.memory) entry.1) state.handed
 
 abbrev pub CoveredExist : Type 0
 CoveredExist = (world : World) (state : State) → Covered world state → PointersExist state

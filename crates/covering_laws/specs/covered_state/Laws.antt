@@ -2,6 +2,7 @@
 use Rattle.std.specs.Prelude.{◌≡◌, ℕ, List, ◌∷◌, Some, None, slice_get}
 use Rattle.c_types.specs.declared.key.ObjectKey.{ObjectKey}
 use Rattle.c_types.specs.declared.term.TypeId.{TypeId}
+use Rattle.ref_cells.specs.declared.cells.Cell.{Cell}
 use Rattle.ref_cells.specs.declared.cells.Value.{Value}
 use Rattle.ref_cells.specs.declared.instance.Instance.{Instance}
 use Rattle.ref_state.specs.declared.items.Item.{Item}
@@ -14,7 +15,7 @@ use Rattle.covering_laws.specs.covered_library.Calls.{Takes}
 use Rattle.covering_laws.specs.covered_state.World.{World, sets_of}
 use Rattle.covering_laws.specs.covered_state.Items.{Each, NodeIn, ItemIn}
 use Rattle.covering_laws.specs.covered_state.Awaited.{AwaitedIn}
-use Rattle.covering_laws.specs.covered_state.State.{FrameIn}
+use Rattle.covering_laws.specs.covered_state.State.{FrameIn, HandedIn}
 
 -- frames that a step doesn't touch stay covered, whatever it does to memory
 abbrev pub FramesStay : Type 0
@@ -23,6 +24,14 @@ FramesStay =
     → Extends (sets_of world) old new
     → Each (FrameIn world old) frames
     → Each (FrameIn world new) frames
+
+-- so does what was handed over
+abbrev pub HandedStay : Type 0
+HandedStay =
+    (world : World) (old new : List Instance) (handed : List (TypeId × Cell))
+    → Extends (sets_of world) old new
+    → Each (HandedIn world old) handed
+    → Each (HandedIn world new) handed
 
 -- the item that takes a covered value is covered
 abbrev pub ValuesSettle : Type 0

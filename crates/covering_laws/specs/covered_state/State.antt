@@ -1,17 +1,19 @@
 -- What it means that sets cover a state.
-use Rattle.std.specs.Prelude.{◌≡◌, ℕ, ⊤, List, Option, Some, None, slice_get}
+use Rattle.std.specs.Prelude.{◌≡◌, ◌≢◌, ℕ, ⊤, List, [], Option, Some, None, Contains, slice_get}
 use Rattle.c_types.specs.declared.key.ObjectKey.{ObjectKey}
-use Rattle.c_types.specs.declared.key.ObjectKey.TheVariants.{Function as FunctionKey}
+use Rattle.c_types.specs.declared.key.ObjectKey.TheVariants.{Entity as EntityKey, Function as FunctionKey}
+use Rattle.c_types.specs.declared.term.TypeId.{TypeId}
 use Rattle.type_rules.specs.Conversions.{result_of}
 use Rattle.core_tree.specs.Typed.{type_at}
 use Rattle.sol_model.specs.declared.system.Function.{Function}
 use Rattle.sol_model.specs.Targets.{IsGraphEdge}
 use Rattle.row_numbers.specs.Functions.{key_type}
+use Rattle.ref_cells.specs.declared.cells.Cell.{Cell}
 use Rattle.ref_cells.specs.declared.instance.Instance.{Instance}
 use Rattle.ref_state.specs.declared.frames.Frame.{Frame}
 use Rattle.ref_state.specs.declared.notes.Notes.{Notes}
 use Rattle.ref_state.specs.declared.state.State.{State}
-use Rattle.covering_laws.specs.covered_memory.Covered.{MemoryIn}
+use Rattle.covering_laws.specs.covered_memory.Covered.{CellIn, MemoryIn, outside_row}
 use Rattle.covering_laws.specs.covered_library.Calls.{StoresIn}
 use Rattle.covering_laws.specs.covered_state.World.{World, trees_of, sets_of, IsTargetAt, IsFunctionAt}
 use Rattle.covering_laws.specs.covered_state.Items.{Each, ItemIn}
@@ -35,9 +37,20 @@ abbrev pub BackIn : World → ObjectKey → Option ℕ → Type 0
 BackIn world key None = ⊤
 BackIn world key (Some library) = IsInGraph world library key
 
+-- where the program is entered from outside, a function at which it is
+abbrev pub IsEntered : World → ObjectKey → Type 0
+IsEntered world key =
+    world.program.entries.items ≢ [] → (e : ℕ) × (key ≡ EntityKey e) × Contains world.program.entries.items e
+
+-- a frame that neither a call nor a library function entered is of such a function
+abbrev pub EnteredIn : World → ObjectKey → Option ℕ → Option ℕ → Type 0
+EnteredIn world key None None = IsEntered world key
+EnteredIn world key call by = ⊤
+
 pub record FrameIn (world : World) (memory : List Instance) (f : Frame) : Type 0 where
   pub called : CalledIn world f.function f.call
   pub back : BackIn world f.function f.by
+  pub entered : EnteredIn world f.function f.call f.by
   pub items : Each (ItemIn world memory f.function) f.items
 
 -- atexit is the function of number 24 of the library
@@ -62,10 +75,15 @@ pub record NotesIn (world : World) (memory : List Instance) (notes : Notes) : Ty
   pub target : TargetNoted world notes.target
   pub stores : StoresIn (sets_of world) memory notes.stores
 
+-- what was handed over is in the row of what lies outside
+abbrev pub HandedIn : World → List Instance → TypeId × Cell → Type 0
+HandedIn world memory entry = CellIn (sets_of world) memory (outside_row (sets_of world)) entry.1
+
 -- the sets cover a state
 pub record Covered (world : World) (state : State) : Type 0 where
   pub memory : MemoryIn (sets_of world) state.memory
   pub frames : Each (FrameIn world state.memory) state.frames
   pub kept : Each (λ entry. KeptIn world entry.0 entry.1) state.kept
   pub notes : NotesIn world state.memory state.notes
+  pub handed : Each (HandedIn world state.memory) state.handed
   pub awaited : AwaitedIn world state

@@ -1,11 +1,11 @@
 -- What the objects of a program are made of.
-use Rattle.std.specs.Prelude.{◌≡◌, ℕ, IsSome, IsTrue, Some, None, slice_get}
+use Rattle.std.specs.Prelude.{◌≡◌, ◌≢◌, ℕ, IsSome, IsTrue, List, [], Some, None, slice_get}
 use Rattle.c_types.specs.declared.key.ObjectKey.{ObjectKey}
 use Rattle.c_types.specs.declared.key.ObjectKey.TheVariants.{Varargs as VarargsKey}
 use Rattle.obj_made.specs.Made.{has_varargs}
 use Rattle.c_types.specs.declared.key.ObjectKey.TheVariants.{Entity as EntityKey, Text as TextKey, Call as CallKey}
 use Rattle.c_types.specs.declared.key.ObjectKey.TheVariants.{Library as LibraryKey, Star as StarKey}
-use Rattle.c_types.specs.declared.key.ObjectKey.TheVariants.{Function as FunctionKey}
+use Rattle.c_types.specs.declared.key.ObjectKey.TheVariants.{Function as FunctionKey, Outside as OutsideKey}
 use Rattle.c_types.specs.declared.term.TypeId.{TypeId}
 use Rattle.c_types.specs.Table.{Table, type_of, extent_in}
 use Rattle.c_types.specs.Made.{IsMade}
@@ -50,6 +50,7 @@ IsMadeOf p (StarKey k) content =
     (content ≡ allocated_content k None) × IsTrue (is_starred p.entities.items p.nodes.items k)
 IsMadeOf p (FunctionKey k) content =
     (content ≡ Function) × IsTrue (is_named p.entities.items p.nodes.items k)
+IsMadeOf p OutsideKey content = (content ≡ Blob) × (p.entries.items ≢ [])
 
 -- what an object is made of is complete
 abbrev pub IsMadeWhole : Table → Content → Type 0
@@ -75,3 +76,15 @@ CallsMade =
     → entity_number function ≡ Some number
     → IsTrue (is_allocator number)
     → (l : ℕ) × (first_from 0 (locations_in p) (CallKey n) ≡ Some l)
+
+-- what lies outside has a location, and is memory without a type
+pub record IsOutside (space : List Location) : Type 0 where
+  pub first : ℕ
+  pub location : Location
+  pub first_is : first_from 0 space OutsideKey ≡ Some first
+  pub location_is : slice_get space first ≡ Some location
+  pub content_is : location.content ≡ Blob
+
+-- so it is where the program is entered from there
+abbrev pub OutsidePlaced : Type 0
+OutsidePlaced = (p : Program) → IsMade p.types → p.entries.items ≢ [] → IsOutside (locations_in p)

@@ -1,10 +1,15 @@
 //! What stays covered from step to step.
 ghost use Rattle.covering_laws.specs.covered_state.Exists.{CoveredExist};
-ghost use Rattle.covering_laws.specs.covered_state.Laws.{FramesStay, NothingAwaited, ValuesSettle};
+ghost use Rattle.covering_laws.specs.covered_state.Laws.{FramesStay, HandedStay, NothingAwaited, ValuesSettle};
 
 /// Frames that a step doesn't touch stay covered, whatever it does to memory.
 pub fn frames_stay()
     ensures { FramesStay }
+{}
+
+/// What was handed over stays covered, whatever a step does to memory.
+pub fn handed_stay()
+    ensures { HandedStay }
 {}
 
 /// The item that takes a covered value is covered.

@@ -9,11 +9,11 @@ use Rattle.unit_link.specs.declared.link_program.numbers.EntityNumbers.{EntityNu
 use Rattle.unit_link.specs.link_program.Rows.{AreEntityNumbers, OneNumber, OnlyNumbers}
 use Rattle.link_units.specs.link_entities.Row.{AreLinked, numbers_of}
 
--- the declarations are without fault, and the entities are the program's
-pub record AreEntitiesOf (j : Joined) (list : List Entity) (n : EntityNumbers) : Type 0 where
+-- the declarations are without fault where those entries are named, and the entities are the program's
+pub record AreEntitiesOf (entered : List (List ℕ)) (j : Joined) (list : List Entity) (n : EntityNumbers) : Type 0 where
   pub declarations : List Declared
   pub declared : AreDeclarations j.units declarations
-  pub faultless : AreFaultless j declarations (length declarations)
+  pub faultless : AreFaultless j declarations entered (length declarations)
   pub numbers : AreEntityNumbers j.units n
   pub one : OneNumber j.units (numbers_of n)
   pub only : OnlyNumbers j.units (numbers_of n) n.count

@@ -7,7 +7,7 @@ ghost use Rattle.core_tree.specs.Typed.{trees_of};
 ghost use Rattle.link_names.specs.Names.{AreNames};
 ghost use Rattle.link_names.specs.Said.{IsFaultUnless};
 ghost use Rattle.link_names.specs.Scene.{IsScene, joined_of};
-ghost use Rattle.unit_link.specs.Linked.{LinksBadly};
+ghost use Rattle.unit_link.specs.Linked.{LinksBadlyAt};
 ghost use Rattle.unit_link.specs.Needs.{AreLinkable};
 ghost use Rattle.unit_link.specs.link_program.Ready.{AreReady};
 ghost use Rattle.unit_link.specs.link_program.Rows.{AreEntityNumbers};
@@ -23,7 +23,7 @@ use c_types::table::TypeTable;
 use core_tree::{Entity, Unit};
 use link_model::link_types::starts::starts;
 use link_names::{LinkFault, Names, Scene};
-use pta_base::OutOfMemory;
+use pta_base::{OutOfMemory, Text};
 use std::alloc::Global;
 use unit_link::link_program::checked::checked;
 use unit_link::link_program::counts::{entity_counts, node_counts};
@@ -61,21 +61,23 @@ fn entities_in(
 }
 
 /// The entities of the program that units are whose types stand in one table, and their numbers, or the first fault: of the
-/// declarations in order of unit and place, then the first use of a name that nothing defines, then the want of `main`.
+/// declarations in order of unit and place, then the first use of a name that nothing defines, then the want of `main`, or
+/// where entries are named of the first name that isn't one.
 pub fn entities_of(
     alloc: Global,
     units: &[Unit],
     types: &TypeTable,
     type_starts: &[u32],
+    entries: &[Text],
 ) -> Result<(Vec<Entity>, EntityNumbers), LinkFault>
     requires linkable { AreLinkable units.now }
     requires merged { AreMerged units.now type_starts.now types.now }
     requires ready { AreReady types.now }
     requires few { length units.now < 2 ^ 32 }
-    ensures { MatchResult result (λ made. AreEntitiesOf (joined_by units.now types.now type_starts.now) made.0.items made.1) (λ fault.
-        IsFaultUnless fault (LinksBadly units.now fault)) }
+    ensures { MatchResult result (λ made. AreEntitiesOf entries.now (joined_by units.now types.now type_starts.now) made.0.items made.1) (λ fault.
+        IsFaultUnless fault (LinksBadlyAt entries.now units.now fault)) }
 {
-    let (declared, names) = checked(alloc, units, types, type_starts)?;
+    let (declared, names) = checked(alloc, units, types, type_starts, entries)?;
     let _types = types.type_count();
     let _entities = entity_counts(alloc, units)?;
     let numbers = entity_numbers(alloc, units)?;

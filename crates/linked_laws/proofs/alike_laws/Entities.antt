@@ -1,5 +1,6 @@
 -- The type of a program's entity fits those of its declarations.
-use Rattle.std.proofs.Common.{◌≡◌, ◌∙◌, Bool, true, false, List, Contains, Option, Some, None, refl, sym, ap, subst, inl, inr}
+use Rattle.std.proofs.Common.{ℕ, ◌≡◌, ◌∙◌, Bool, true, false, List, Contains, Option, Some, None, refl, sym, ap, subst, inl, inr}
+use Rattle.std.specs.List.{slice_get}
 use Rattle.std.specs.Option.{option_map, option_map_or}
 use Rattle.std.specs.Str.{bytes_eq}
 use Rattle.std.specs.Cmp.Lexicographic.{bytes_decides}
@@ -17,8 +18,8 @@ use Rattle.link_names.specs.Externals.{Joined, IsDeclaration, declared_as, entit
 use Rattle.link_names.specs.Together.{type_together, kept_type, linked_type}
 use Rattle.link_names.proofs.Ordering.{external_is, is_external_of}
 use Rattle.linked_laws.proofs.link_laws.Wholeness.{maker_found}
-use Rattle.unit_link.specs.Linked.{IsLinkedName, Linked, joined}
-use Rattle.linked_laws.specs.alike_laws.Alike.{IsClosed, Keeps, EntityTypes}
+use Rattle.unit_link.specs.Linked.{IsLinkedName, LinkedAt, joined, entity_of}
+use Rattle.linked_laws.specs.alike_laws.Alike.{IsClosed, Keeps}
 use Rattle.linked_laws.proofs.alike_laws.Together.{all_alike}
 
 some_one : {X : Type 0} → {x y : X} → ◌≡◌ {A = Option X} (Some x) (Some y) → x ≡ y
@@ -48,7 +49,7 @@ linked_keeps : (body defined : Bool) (d own t : Ctype) → Keeps own t → Keeps
 linked_keeps body true d own t o k = with_one_keeps d (kept_type body own t) (kept_keeps body d own t o k)
 linked_keeps body false d own t o k = kept_keeps body d own t o k
 
-module _ (units : List Unit) (p : Program) (h : Linked units p) where
+module _ {names : List (List ℕ)} (units : List Unit) (p : Program) (h : LinkedAt names units p) where
   abbrev j : Joined
   j = joined units h.numbers p.types
 
@@ -73,7 +74,8 @@ module _ (units : List Unit) (p : Program) (h : Linked units p) where
       let made = linked_keeps (has_body units (item_of linked.declared)) (is_defined j (item_of linked.declared)) (declared_type j d) (declared_type j linked.declared) t maker fits in
       subst (λ (s : Ctype). Keeps s (type_of p.types entity.ty.0)) (ap (type_in j) item_is) (subst (λ (s : Ctype). Keeps (declared_type j d) s) (sym linked.type) made)
 
-pub entity_types : EntityTypes
+pub entity_types : {names : List (List ℕ)} (units : List Unit) (p : Program) (h : LinkedAt names units p) (a : Item) (x entity : Entity) → entity_at units a ≡ Some x → slice_get p.entities.items (entity_of h.entity_numbers a) ≡ Some entity
+    → Keeps (type_in (joined units h.numbers p.types) a) (type_of p.types entity.ty.0)
 entity_types units p h a x entity at there = elim (cases_Bool (is_external x)) [
   | inl its ↦
       let (y, y_is, linked) = h.entities.names a x at (external_is x its) in

@@ -14,7 +14,7 @@ use Rattle.link_model.specs.Merged.{moved}
 use Rattle.link_names.specs.Externals.{entities_if, entity_at, item_of, type_if, type_in, is_external}
 use Rattle.link_names.proofs.Ordering.{external_is, is_external_of}
 use Rattle.linked_laws.proofs.link_laws.Wholeness.{maker_found, named_so}
-use Rattle.unit_link.specs.Linked.{IsMovedEntity, IsLinkedName, Linked, joined}
+use Rattle.unit_link.specs.Linked.{IsMovedEntity, IsLinkedName, LinkedAt, joined}
 use Rattle.unit_link.specs.Needs.{AreLinkable}
 use Rattle.linked_laws.specs.alike_laws.Alike.{Keeps}
 use Rattle.linked_laws.proofs.alike_laws.Entities.{external_keeps}
@@ -25,7 +25,7 @@ some_one h = cc
 none_some : {X : Type 0} → {x : X} → ◌≡◌ {A = Option X} None (Some x) → ⊥
 none_some h = cc
 
-module _ (units : List Unit) (p : Program) (linkable : AreLinkable units) (h : Linked units p) where
+module _ {names : List (List ℕ)} (units : List Unit) (p : Program) (linkable : AreLinkable units) (h : LinkedAt names units p) where
   -- the type of an entity of a unit in the table
   pub own_type : (u : ℕ) (of : Unit) (e : ℕ) (x : Entity) → slice_get units u ≡ Some of → slice_get of.entities.items e ≡ Some x
       → type_in (joined units h.numbers p.types) (item u e) ≡ moved h.numbers u (type_of of.types x.ty.0)

@@ -13,7 +13,7 @@ use Rattle.core_tree.specs.declared.node.NodeKind.{NodeKind}
 use Rattle.core_tree.specs.declared.node.NodeKind.TheVariants.{Named, FunctionName, Literal, VarArgs, Block, For, Initialise, CallNode}
 use Rattle.core_tree.specs.Typed.{CoreTrees, ValueNode, sort_of, sort_in, sort_at, type_at, trees_in, trees_of}
 use Rattle.core_tree.specs.Rows.{Arguments, Calls, IsFurther, CallRow, RowOf}
-use Rattle.unit_link.specs.Linked.{Linked}
+use Rattle.unit_link.specs.Linked.{LinkedAt}
 use Rattle.unit_link.specs.Needs.{AreLinkable}
 use Rattle.unit_link.specs.Places.{node_place, kind_renamed}
 use Rattle.linked_laws.specs.call_laws.Values.{AreCallsOfValues}
@@ -82,7 +82,7 @@ present [] k lt = absurd (omega arith)
 present (x ∷ xs) zero lt = (x, refl)
 present (x ∷ xs) (suc k) lt = present xs k (omega arith)
 
-pub calls_of_values : (units : List Unit) (p : Program) → AreLinkable units → Linked units p → AreCallsOfValues p
+pub calls_of_values : {names : List (List ℕ)} (units : List Unit) (p : Program) → AreLinkable units → LinkedAt names units p → AreCallsOfValues p
 calls_of_values units p linkable h = record {
   each = λ n node at call k c child.
       let f = node_from units p h n node at in

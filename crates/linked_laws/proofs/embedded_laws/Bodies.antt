@@ -15,7 +15,7 @@ use Rattle.link_names.specs.declared.declared.Declared.{Declared}
 use Rattle.link_names.specs.Externals.{Joined, IsExternal, entity_at, item_of, declared_as, name_at, is_named, has_body}
 use Rattle.link_names.specs.Together.{of_name, first_defined, maker_of}
 use Rattle.linked_laws.proofs.link_laws.Wholeness.{maker_found, named_so}
-use Rattle.unit_link.specs.Linked.{Linked, joined}
+use Rattle.unit_link.specs.Linked.{LinkedAt, joined}
 use Rattle.linked_laws.proofs.embedded_laws.Lists.{none_some}
 
 one_of : {A : Type 0} {a b : A} → Some a ≡ Some b → a ≡ b
@@ -78,7 +78,7 @@ maker_bodied j ds name d c h (i, lt, e) named bodied =
     let same : d ≡ y.0 = one_of (sym h ∙ ap (λ (o : Option Declared). option_or o (option_or (first_defined j (of_name j.units name ds)) (find (λ (z : Declared). true) (of_name j.units name ds)))) y.1) in
     ap t same ∙ y.2
 
-module _ (units : List Unit) (p : Program) (h : Linked units p) where
+module _ {names : List (List ℕ)} (units : List Unit) (p : Program) (h : LinkedAt names units p) where
   -- a declaration of a name with a body
   pub record IsBody (name : List ℕ) (a : Item) : Type 0 where
     pub entity : Entity

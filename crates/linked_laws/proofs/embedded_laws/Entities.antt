@@ -19,7 +19,7 @@ use Rattle.link_names.specs.Externals.{Joined, IsExternal, is_external, entities
 use Rattle.link_names.specs.Together.{maker_of, type_made}
 use Rattle.link_names.proofs.Ordering.{external_is, is_external_of}
 use Rattle.linked_laws.proofs.link_laws.Wholeness.{maker_found, named_so}
-use Rattle.unit_link.specs.Linked.{entity_of, IsMovedEntity, NameUsed, IsLinkedName, IsLinkedOther, Linked, joined}
+use Rattle.unit_link.specs.Linked.{entity_of, IsMovedEntity, NameUsed, IsLinkedName, IsLinkedOther, LinkedAt, joined}
 use Rattle.unit_link.specs.Needs.{AreLinkable}
 use Rattle.linked_laws.specs.alike_laws.Alike.{Keeps}
 use Rattle.linked_laws.proofs.alike_laws.Entities.{entity_types}
@@ -27,7 +27,7 @@ use Rattle.linked_laws.proofs.alike_laws.Origins.{own_type}
 use Rattle.linked_laws.proofs.embedded_laws.Lists.{some_one, none_some}
 use Rattle.linked_laws.proofs.embedded_laws.Bodies.{maker_is}
 
-module _ (units : List Unit) (p : Program) (linkable : AreLinkable units) (h : Linked units p) where
+module _ {names : List (List ℕ)} (units : List Unit) (p : Program) (linkable : AreLinkable units) (h : LinkedAt names units p) where
   abbrev j : Joined
   j = joined units h.numbers p.types
 

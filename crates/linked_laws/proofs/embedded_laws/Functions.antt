@@ -19,7 +19,7 @@ use Rattle.core_tree.specs.Range.{Under}
 use Rattle.core_tree.specs.Valid.{Valid, IsLabel, IsLabelOf, OnlyLabel, LabelOnce, ReturnsRight, FitsBody, FitsFunction, FitsFunctions, InFunctions, IsSwitch, IsCaseOf, IsCase, OnlyCase, DiffersIn, DiffersInAll, CaseDiffers, DistinctCases}
 use Rattle.link_model.specs.Renamed.{renamed}
 use Rattle.link_model.specs.Merged.{moved}
-use Rattle.unit_link.specs.Linked.{Linked}
+use Rattle.unit_link.specs.Linked.{LinkedAt}
 use Rattle.unit_link.specs.Needs.{AreLinkable}
 use Rattle.unit_link.specs.Places.{node_place, kind_renamed}
 use Rattle.linked_laws.proofs.node_laws.Children.{child_type}
@@ -33,7 +33,7 @@ result_renamed : (f : ℕ → ℕ) (t : Ctype) → renamed f (result_of t) ≡ r
 result_renamed f (FunctionFrom r ps form) = refl
 result_renamed f t = refl
 
-module _ (units : List Unit) (p : Program) (linkable : AreLinkable units) (h : Linked units p) where
+module _ {names : List (List ℕ)} (units : List Unit) (p : Program) (linkable : AreLinkable units) (h : LinkedAt names units p) where
   valid : (u : ℕ) (of : Unit) → slice_get units u ≡ Some of → Valid (trees_of of)
   valid u of is = (linkable.valid u of is).trees
 

@@ -16,7 +16,7 @@ use Rattle.core_tree.specs.Range.{named_by}
 use Rattle.core_tree.specs.Linkages.{HasNoLinkage, MakesUnlinked}
 use Rattle.core_tree.specs.Valid.{Valid, IsLocal, UnderBody, InBodyOf, InBody, InSomeBody, InOwnersBody, InOwnerIn, IsInOwner, InOwner, IsLiteralOf, IsLasting, OnlyLiteral, IsLiteral, Literals, Encloses, Within, MayStand, Standing}
 use Rattle.link_names.specs.Externals.{IsExternal}
-use Rattle.unit_link.specs.Linked.{Linked}
+use Rattle.unit_link.specs.Linked.{LinkedAt}
 use Rattle.unit_link.specs.Needs.{AreLinkable}
 use Rattle.unit_link.specs.Places.{node_place, kind_renamed}
 use Rattle.linked_laws.proofs.embedded_laws.Lists.{present}
@@ -28,7 +28,7 @@ use Rattle.linked_laws.proofs.embedded_laws.Trees.{function_to}
 pub local_linkage : (x : Entity) → x.linkage ≡ Local → IsExternal x → ⊥
 local_linkage x e external = let bad : Local ≡ External = sym e ∙ external.linkage in cc
 
-module _ (units : List Unit) (p : Program) (linkable : AreLinkable units) (h : Linked units p) where
+module _ {names : List (List ℕ)} (units : List Unit) (p : Program) (linkable : AreLinkable units) (h : LinkedAt names units p) where
   valid : (u : ℕ) (of : Unit) → slice_get units u ≡ Some of → Valid (trees_of of)
   valid u of is = (linkable.valid u of is).trees
 

@@ -15,7 +15,7 @@ use Rattle.core_tree.specs.Range.{Under, named_by, listed_by, listed_in, HoldsOn
 use Rattle.core_tree.specs.Rows.{Has}
 use Rattle.core_tree.specs.Valid.{Valid, IsLocal, InOwnersBody, IsLiteralOf, NoLiteral, IsNamedOrMade, NamesUnder, IsLister, HasLister, Listed, IsListed, AllListed, IsListableIn, IsListable, ListsRight}
 use Rattle.link_names.specs.Externals.{IsExternal}
-use Rattle.unit_link.specs.Linked.{Linked}
+use Rattle.unit_link.specs.Linked.{LinkedAt}
 use Rattle.unit_link.specs.Needs.{AreLinkable}
 use Rattle.unit_link.specs.Places.{node_place}
 use Rattle.linked_laws.proofs.embedded_laws.Lists.{mapped_at, has_mapped, all_at, all_mapped}
@@ -27,7 +27,7 @@ use Rattle.linked_laws.proofs.embedded_laws.Inside.{IsSame, same_entity, in_body
 automatic_local : (x : Entity) → x.storage ≡ Automatic → IsExternal x → ⊥
 automatic_local x e external = external.lasting (subst IsLocal (sym e) tt)
 
-module _ (units : List Unit) (p : Program) (linkable : AreLinkable units) (h : Linked units p) where
+module _ {names : List (List ℕ)} (units : List Unit) (p : Program) (linkable : AreLinkable units) (h : LinkedAt names units p) where
   valid : (u : ℕ) (of : Unit) → slice_get units u ≡ Some of → Valid (trees_of of)
   valid u of is = (linkable.valid u of is).trees
 

@@ -7,7 +7,7 @@ use Rattle.core_tree.specs.declared.node.Program.{Program}
 use Rattle.core_tree.specs.declared.node.Node.{Node}
 use Rattle.core_tree.specs.Typed.{trees_in, trees_of}
 use Rattle.core_tree.specs.Range.{EachNode, Under, here, below, child_in, child_at}
-use Rattle.unit_link.specs.Linked.{IsMovedNode, Linked}
+use Rattle.unit_link.specs.Linked.{IsMovedNode, LinkedAt}
 use Rattle.unit_link.specs.Needs.{AreLinkable}
 use Rattle.unit_link.specs.Places.{node_place}
 use Rattle.linked_laws.proofs.Origins.{node_from}
@@ -17,7 +17,7 @@ use Rattle.linked_laws.proofs.embedded_laws.Places.{places_apart}
 pub same_unit : (units : List Unit) (u v : ℕ) (x y : Unit) → slice_get units u ≡ Some x → slice_get units v ≡ Some y → u ≡ v → x ≡ y
 same_unit units u v x y at there e = some_one (sym at ∙ (ap (slice_get units) e ∙ there))
 
-module _ (units : List Unit) (p : Program) (linkable : AreLinkable units) (h : Linked units p) where
+module _ {names : List (List ℕ)} (units : List Unit) (p : Program) (linkable : AreLinkable units) (h : LinkedAt names units p) where
   -- the node m of the program is the node x of unit u
   abbrev pub Moves : ℕ → Node → Node → Type 0
   Moves u x m = IsMovedNode units h.numbers h.entity_numbers p.types u x m

@@ -19,7 +19,7 @@ use Rattle.core_tree.specs.Rows.{IsFunction, Has, Initialises, InitialisesIn, In
 use Rattle.core_tree.specs.Valid.{Valid, IsFunctionEntity, IsFunctionIn, IsOwned, Owned, IsBlock, IsBlockIn, OnlyBody, HasBody, Bodied}
 use Rattle.link_model.specs.Renamed.{renamed}
 use Rattle.link_names.specs.Externals.{is_function_type}
-use Rattle.unit_link.specs.Linked.{Linked}
+use Rattle.unit_link.specs.Linked.{LinkedAt}
 use Rattle.unit_link.specs.Needs.{AreLinkable}
 use Rattle.unit_link.specs.Places.{node_place}
 use Rattle.linked_laws.proofs.Origins.{node_from}
@@ -49,7 +49,7 @@ some_mapped : (f : ℕ → ℕ) (o : Option ℕ) (c : ℕ) → option_map f o �
 some_mapped f None c e = absurd (none_some e)
 some_mapped f (Some a) c e = (a, refl, some_one e)
 
-module _ (units : List Unit) (p : Program) (linkable : AreLinkable units) (h : Linked units p) where
+module _ {names : List (List ℕ)} (units : List Unit) (p : Program) (linkable : AreLinkable units) (h : LinkedAt names units p) where
   valid : (u : ℕ) (of : Unit) → slice_get units u ≡ Some of → Valid (trees_of of)
   valid u of is = (linkable.valid u of is).trees
 

@@ -15,7 +15,7 @@ use Rattle.core_tree.specs.Valid.{Valid, PlaceAtMost, IsUseOf, UsedAt, IsUsed, U
 use Rattle.link_model.specs.Units.{item}
 use Rattle.link_names.specs.declared.declared.Declared.{Declared}
 use Rattle.link_names.specs.Externals.{IsExternal, item_of}
-use Rattle.unit_link.specs.Linked.{UsesName, NameUsed, Linked}
+use Rattle.unit_link.specs.Linked.{UsesName, NameUsed, LinkedAt}
 use Rattle.unit_link.specs.Needs.{AreLinkable}
 use Rattle.unit_link.specs.Places.{node_place}
 use Rattle.linked_laws.proofs.embedded_laws.Lists.{some_one, present}
@@ -37,7 +37,7 @@ place_after a b c (inl x) (inr y) = (let e = y.0 in inl (omega arith))
 place_after a b c (inr x) (inl y) = (let e = x.0 in inl (omega arith))
 place_after a b c (inr x) (inr y) = inr (x.0 ∙ y.0, line_after a b c x.1 y.1)
 
-module _ (units : List Unit) (p : Program) (linkable : AreLinkable units) (h : Linked units p) where
+module _ {names : List (List ℕ)} (units : List Unit) (p : Program) (linkable : AreLinkable units) (h : LinkedAt names units p) where
   valid : (u : ℕ) (of : Unit) → slice_get units u ≡ Some of → Valid (trees_of of)
   valid u of is = (linkable.valid u of is).trees
 

@@ -19,7 +19,7 @@ use Rattle.link_model.specs.Units.{item}
 use Rattle.link_model.specs.Renamed.{renamed}
 use Rattle.link_model.specs.Merged.{moved}
 use Rattle.link_names.specs.Externals.{entities_if}
-use Rattle.unit_link.specs.Linked.{Linked}
+use Rattle.unit_link.specs.Linked.{LinkedAt}
 use Rattle.unit_link.specs.Needs.{AreLinkable}
 use Rattle.unit_link.specs.Places.{node_place, kind_renamed}
 use Rattle.linked_laws.proofs.Origins.{node_from}
@@ -28,7 +28,7 @@ use Rattle.linked_laws.proofs.node_laws.Children.{child_sort, child_type}
 use Rattle.linked_laws.specs.alike_laws.Alike.{IsClosed, Keeps}
 use Rattle.linked_laws.proofs.alike_laws.Entities.{entity_types}
 use Rattle.linked_laws.proofs.alike_laws.Origins.{own_type}
-use Rattle.linked_laws.specs.initial_laws.Initials.{Fills, AllFill, LinkedInitials}
+use Rattle.linked_laws.specs.initial_laws.Initials.{Fills, AllFill, HasInitials}
 use Rattle.linked_laws.proofs.initial_laws.Paths.{path_none, part_closed, path_moved}
 
 some_one : {X : Type 0} → {x y : X} → ◌≡◌ {A = Option X} (Some x) (Some y) → x ≡ y
@@ -80,7 +80,7 @@ open_path table t (step ∷ rest) s loose e = by (part_type table t step) refl e
     by None part h = absurd (path_none table rest s h)
     by (Some q) part h = absurd (loose (part_closed table t step q part))
 
-module _ (units : List Unit) (p : Program) (linkable : AreLinkable units) (tables : AreTables units) (h : Linked units p) (u : ℕ) (of : Unit) (is : slice_get units u ≡ Some of) where
+module _ {names : List (List ℕ)} (units : List Unit) (p : Program) (linkable : AreLinkable units) (tables : AreTables units) (h : LinkedAt names units p) (u : ℕ) (of : Unit) (is : slice_get units u ≡ Some of) where
   -- one value
   fills_there : (t now : Ctype) (path : List PathStep) (c : ℕ) → c < length of.nodes.items → Keeps (moved h.numbers u t) now → type_at_path of.types (Some t) path ≡ Some (type_at (trees_of of) c) → Fills (trees_in p) now path (node_place units u c)
   fills_there t now path c lt keeps e =
@@ -117,7 +117,7 @@ present [] k lt = absurd (omega arith)
 present (x ∷ xs) zero lt = (x, refl)
 present (x ∷ xs) (suc k) lt = present xs k (omega arith)
 
-pub linked_initials : LinkedInitials
+pub linked_initials : {names : List (List ℕ)} (units : List Unit) (p : Program) → AreLinkable units → AreTables units → LinkedAt names units p → HasInitials p
 linked_initials units p linkable tables h = record {
   each = λ n node e paths entity at kind there.
       let f = node_from units p h n node at in

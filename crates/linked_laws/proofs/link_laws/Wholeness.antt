@@ -16,7 +16,7 @@ use Rattle.link_names.specs.Externals.{Joined, IsExternal, is_external, entity_a
 use Rattle.link_names.specs.Together.{of_name, first_body, first_defined, maker_of, type_made}
 use Rattle.link_names.specs.Faults.{IsMainType, main_name}
 use Rattle.link_names.proofs.Ordering.{external_is, is_external_of}
-use Rattle.unit_link.specs.Linked.{Entities, entity_of, IsMovedEntity, IsLinkedName, EntitiesLinked, Linked, joined}
+use Rattle.unit_link.specs.Linked.{Entities, entity_of, IsMovedEntity, IsLinkedName, EntitiesLinked, LinkedAt, Linked, joined}
 use Rattle.unit_link.specs.Places.{node_place}
 use Rattle.linked_laws.specs.link_laws.Whole.{NamedOnce, DefinesMain}
 
@@ -81,7 +81,7 @@ external_moved units entities u x e m h = record {
   lasting = λ local. h.lasting (subst IsLocal (sym m.storage) local);
 }
 
-moved_external : (units : List Unit) (entities : Entities) (u : ℕ) (x e : Entity) → IsMovedEntity units entities u x e → IsExternal x → IsExternal e
+pub moved_external : (units : List Unit) (entities : Entities) (u : ℕ) (x e : Entity) → IsMovedEntity units entities u x e → IsExternal x → IsExternal e
 moved_external units entities u x e m h = record {
   linkage = m.linkage ∙ h.linkage;
   lasting = λ local. h.lasting (subst IsLocal m.storage local);
@@ -118,7 +118,7 @@ comes_from j ds entities p h e x at external =
           absurd (false≢true (sym not_its ∙ is_external_of y ex))
     ]
 
-pub named_once : (units : List Unit) (p : Program) → Linked units p → NamedOnce p
+pub named_once : {names : List (List ℕ)} (units : List Unit) (p : Program) → LinkedAt names units p → NamedOnce p
 named_once units p h = record {
   once = λ e f x y at there ex ey names.
       let j = joined units h.numbers p.types in
@@ -140,7 +140,7 @@ pub defines_main : (units : List Unit) (p : Program) → Linked units p → Defi
 defines_main units p h =
     let j = joined units h.numbers p.types in
     let ds = h.declarations in
-    let m = h.faultless.main in
+    let m = h.faultless.start in
     let d = m.declared in
     let found = maker_found j ds main_name d m.made in
     let declaration = (h.declared.each d).0 found.contained in

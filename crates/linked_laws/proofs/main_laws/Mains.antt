@@ -1,7 +1,8 @@
--- The `main` of a linked program is a function with a body in the unit that makes it.
+-- What a linked program begins at: a function with a body in the unit that makes it.
 use Rattle.std.proofs.Common.{arith, ◌≡◌, ◌≢◌, ◌∙◌, ℕ, zero, suc, ◌<◌, ◌≤◌, Bool, true, false, cond, is_some, List, [], ◌∷◌, ◌++◌, Contains, length, map, take, Option, Some, None, refl, sym, ap, subst, inl, inr}
-use Rattle.std.specs.Prelude.{fold, ◌||◌, ◌&&◌, not}
-use Rattle.std.specs.List.{slice_get, filter}
+use Rattle.std.specs.Prelude.{fold, ◌||◌, ◌&&◌, not, ◌↔◌, All}
+use Rattle.std.specs.List.{slice_get, filter, AllZip}
+use Rattle.std.proofs.lemmas.List.Elements.{All-head, All-tail, All-cons}
 use Rattle.std.specs.Option.{option_map_or}
 use Rattle.std.specs.Str.{bytes_eq}
 use Rattle.std.specs.Cmp.Lexicographic.{bytes_decides}
@@ -10,26 +11,27 @@ use Rattle.std.proofs.lemmas.Option.{slice_get_within, slice_get-get_or}
 use Rattle.c_types.specs.declared.term.Form.TheVariants.{Fixed, Variadic, Unspecified}
 use Rattle.c_types.specs.Trees.{Ctype, ArrayOf, FunctionFrom}
 use Rattle.c_types.specs.Table.{type_of}
-use Rattle.type_rules.specs.Kinds.{IsFunction}
+use Rattle.type_rules.specs.Kinds.{IsFunction, IsEntryType}
 use Rattle.type_rules.specs.Conversions.{Agree}
 use Rattle.type_rules.specs.Sizes.{with_one}
 use Rattle.core_tree.specs.declared.node.Unit.{Unit}
 use Rattle.core_tree.specs.declared.node.Program.{Program}
 use Rattle.core_tree.specs.declared.node.Entity.{Entity}
 use Rattle.core_tree.specs.declared.node.Storage.TheVariants.{FunctionBody}
-use Rattle.core_tree.specs.Typed.{trees_of}
-use Rattle.core_tree.specs.Valid.{HasBody}
+use Rattle.core_tree.specs.Typed.{trees_of, trees_in}
+use Rattle.core_tree.specs.Valid.{HasBody, IsEntryAt}
 use Rattle.link_model.specs.declared.item.Item.{Item}
 use Rattle.link_model.specs.Units.{item, types_if, types_in}
 use Rattle.link_model.specs.Renamed.{renamed}
 use Rattle.link_names.specs.declared.declared.Declared.{Declared}
-use Rattle.link_names.specs.Externals.{Joined, entities_if, entity_at, item_of, name_at, type_if, type_in, declared_type, is_named, is_function_type, is_declared_only, is_placed, is_defined}
-use Rattle.link_names.specs.Together.{composite, together, of_name, type_together, maker_of, kept_type, linked_type}
-use Rattle.link_names.specs.Faults.{IsClean, AreClean, IsMainType, main_name}
-use Rattle.linked_laws.proofs.link_laws.Wholeness.{maker_found, named_so}
-use Rattle.unit_link.specs.Linked.{entity_of, Linked, joined}
+use Rattle.link_names.specs.Externals.{Joined, IsExternal, entities_if, entity_at, item_of, name_at, type_if, type_in, declared_type, is_named, has_body, is_function_type, is_declared_only, is_placed, is_defined}
+use Rattle.link_names.specs.Together.{composite, together, of_name, type_together, maker_of, kept_type, linked_type, type_made}
+use Rattle.link_names.specs.Faults.{IsClean, AreClean, IsMainType, main_name, HasEntry, IsStarted}
+use Rattle.linked_laws.proofs.link_laws.Wholeness.{maker_found, named_so, linked_name, moved_external, named_once}
+use Rattle.unit_link.specs.Linked.{entity_of, IsOfName, LinkedAt, joined}
 use Rattle.unit_link.specs.Needs.{AreLinkable}
 use Rattle.obj_space.specs.Space.{locations_in}
+use Rattle.linked_laws.specs.main_laws.Located.{AreEntries}
 use Rattle.linked_laws.proofs.main_laws.Objects.{body_located}
 
 none_some : {X : Type 0} → {x : X} → ◌≡◌ {A = Option X} None (Some x) → ⊥
@@ -99,6 +101,26 @@ present (x ∷ xs) (suc k) lt = present xs k (omega arith)
 named_by : (o : Option (List ℕ)) (name : List ℕ) → option_map_or (λ other. bytes_eq other name) o false ≡ true → o ≡ Some name
 named_by None name e = absurd (false≢true e)
 named_by (Some other) name e = ap Some ((bytes_decides other name).0 e)
+
+-- as many entries as names
+zip_none : {X : Type 0} (R : X → ℕ → Type 0) (xs : List X) (es : List ℕ) → AllZip R xs es → (es ≡ []) ↔ (xs ≡ [])
+zip_none R [] [] zip = ((λ e. refl), (λ e. refl))
+zip_none R [] (e ∷ es) zip = absurd zip
+zip_none R (x ∷ xs) [] zip = absurd zip
+zip_none R (x ∷ xs) (e ∷ es) zip = ((λ h. absurd (cons_none h)), (λ h. absurd (cons_none h)))
+  where
+    cons_none : {Y : Type 0} → {y : Y} {ys : List Y} → ◌≡◌ {A = List Y} (y ∷ ys) [] → ⊥
+    cons_none h = cc
+
+-- a function of external linkage with a body in a program
+record FunctionNamed (p : Program) (name : List ℕ) (t : Ctype) : Type 0 where
+  number : ℕ
+  entity : Entity
+  entity_is : slice_get p.entities.items number ≡ Some entity
+  external : IsExternal entity
+  named : entity.name ≡ name
+  storage : entity.storage ≡ FunctionBody
+  type : type_of p.types entity.ty.0 ≡ t
 
 module _ (j : Joined) (ds : List Declared) (name : List ℕ) (clean : AreClean j ds (length ds)) where
   -- the declarations of the name among the first so many are functions where the type that they give together is one
@@ -181,16 +203,22 @@ or_true : (a b : Bool) → a ≡ true → (a || b) ≡ true
 or_true true b e = refl
 or_true false b e = absurd (false≢true e)
 
--- main's type is a function's
-main_function : (t : Ctype) → IsMainType (with_one t) → is_function_type t ≡ true
+-- the types of main and of entries are functions'
+main_function : (t : Ctype) → IsMainType t → is_function_type t ≡ true
 main_function (FunctionFrom r ps f) h = refl
-main_function (ArrayOf of None) h = absurd h
-main_function (ArrayOf of (Some n)) h = absurd h
 main_function t h = absurd h
 
-own_function : (own t : Ctype) → is_function_type own ≡ is_function_type t → IsMainType (with_one (kept_type true own t)) → is_function_type own ≡ true
+entry_function : (t : Ctype) → IsEntryType t → is_function_type t ≡ true
+entry_function (FunctionFrom r ps f) h = refl
+entry_function t h = absurd h
+
+with_one_function : (t : Ctype) → is_function_type (with_one t) ≡ is_function_type t
+with_one_function (ArrayOf of None) = refl
+with_one_function t = refl
+
+own_function : (own t : Ctype) → is_function_type own ≡ is_function_type t → is_function_type (with_one (kept_type true own t)) ≡ true → is_function_type own ≡ true
 own_function (FunctionFrom r ps f) t e h = refl
-own_function own t e h = e ∙ main_function t h
+own_function own t e h = e ∙ (sym (with_one_function t) ∙ h)
 
 renamed_function : (f : ℕ → ℕ) (t : Ctype) → is_function_type (renamed f t) ≡ is_function_type t
 renamed_function f (FunctionFrom r ps form) = refl
@@ -205,7 +233,7 @@ body_of_function of e x None some function h = absurd (false≢true some)
 body_of_function of e x (Some b) some function (inl body, only) = body.storage
 body_of_function of e x (Some b) some function (inr object, only) = absurd (object.object function)
 
-module _ (units : List Unit) (p : Program) (linkable : AreLinkable units) (h : Linked units p) where
+module _ {names : List (List ℕ)} (units : List Unit) (p : Program) (linkable : AreLinkable units) (h : LinkedAt names units p) where
   unit_of : (a : Item) (x : Entity) → entity_at units a ≡ Some x → (of : Unit) × (slice_get units a.unit ≡ Some of) × (slice_get of.entities.items a.number ≡ Some x)
   unit_of a x at = by (slice_get units a.unit) refl at
     where
@@ -223,33 +251,89 @@ module _ (units : List Unit) (p : Program) (linkable : AreLinkable units) (h : L
       ap (λ o. is_function_type (type_if (joined units h.numbers p.types) a.unit o)) at
       ∙ (ap is_function_type has.type_is ∙ (renamed_function (h.numbers.tag a.unit) (type_of (types_in units a.unit) x.ty.0) ∙ ap (λ t. is_function_type (type_of t x.ty.0)) types))
 
-  -- `main` in the program
-  pub main_body : (e : ℕ) × (x : Entity) × (slice_get p.entities.items e ≡ Some x) × (x.storage ≡ FunctionBody)
-  main_body =
+  -- a function with a body that makes a name is in the program
+  function_named : (name : List ℕ) (d : Declared) → maker_of (joined units h.numbers p.types) h.declarations name ≡ Some d → has_body units (item_of d) ≡ true
+      → is_function_type (type_made (joined units h.numbers p.types) h.declarations name d) ≡ true → FunctionNamed p name (type_made (joined units h.numbers p.types) h.declarations name d)
+  function_named name d made body function =
       let j = joined units h.numbers p.types in
       let ds = h.declarations in
-      let m = h.faultless.main in
-      let d = m.declared in
-      let found = maker_found j ds main_name d m.made in
+      let found = maker_found j ds name d made in
       let declaration = (h.declared.each d).0 found.contained in
       let own = declaration.entity in
       let at = declaration.entity_is in
-      let name : own.name ≡ main_name = named_so units main_name d own found.passes at in
+      let its : own.name ≡ name = named_so units name d own found.passes at in
       let (e, e_is, linked) = h.entities.names (item_of d) own at declaration.external in
-      let same : linked.declared ≡ d = some_one (sym linked.maker ∙ (ap (maker_of j ds) name ∙ m.made)) in
+      let same : linked.declared ≡ d = some_one (sym linked.maker ∙ (ap (maker_of j ds) its ∙ made)) in
       let there : linked.entity ≡ own = some_one (sym linked.entity_is ∙ (ap (λ (c : Declared). entity_at units (item_of c)) same ∙ at)) in
-      let bodied : is_some own.body ≡ true = sym (ap (λ o. option_map_or (λ (x : Entity). is_some x.body) o false) at) ∙ m.body in
+      let type : type_made j ds own.name linked.declared ≡ type_made j ds name d = ap (λ n. type_made j ds n linked.declared) its ∙ ap (type_made j ds name) same in
+      let bodied : is_some own.body ≡ true = sym (ap (λ o. option_map_or (λ (x : Entity). is_some x.body) o false) at) ∙ body in
       let defined : is_defined j (item_of d) ≡ true =
       ap (λ o. option_map_or (λ (x : Entity). is_placed (type_in j (item_of d)) x) o false) at ∙ or_true (is_some own.body) (not (is_function_type (type_in j (item_of d))) && not (is_declared_only own.storage)) bodied in
-      let alike = all_alike j ds main_name h.faultless.clean d found.contained found.passes in
-      let type : IsMainType (linked_type true true (declared_type j d) (type_together j main_name ds)) =
-      subst (λ b. IsMainType (linked_type true b (declared_type j d) (type_together j main_name ds))) defined
-      (subst (λ b. IsMainType (linked_type b (is_defined j (item_of d)) (declared_type j d) (type_together j main_name ds))) m.body m.type) in
-      let function = own_function (declared_type j d) (type_together j main_name ds) alike type in
+      let alike = all_alike j ds name h.faultless.clean d found.contained found.passes in
+      let whole : is_function_type (linked_type true true (declared_type j d) (type_together j name ds)) ≡ true =
+      subst (λ b. is_function_type (linked_type true b (declared_type j d) (type_together j name ds)) ≡ true) defined
+      (subst (λ b. is_function_type (linked_type b (is_defined j (item_of d)) (declared_type j d) (type_together j name ds)) ≡ true) body function) in
+      let is_function = own_function (declared_type j d) (type_together j name ds) alike whole in
       let (of, is, own_is) = unit_of (item_of d) own at in
-      let here : IsFunction (type_of of.types own.ty.0) = function_is (type_of of.types own.ty.0) (sym (own_type (item_of d) own of at is own_is) ∙ function) in
+      let here : IsFunction (type_of of.types own.ty.0) = function_is (type_of of.types own.ty.0) (sym (own_type (item_of d) own of at is own_is) ∙ is_function) in
       let storage : own.storage ≡ FunctionBody = body_of_function of d.number own own.body bodied here ((linkable.valid d.unit of is).trees.bodied d.number own own_is) in
-      (entity_of h.entity_numbers (item_of d), e, e_is, linked.moved.storage ∙ (ap (λ (x : Entity). x.storage) there ∙ storage))
+      record {
+        number = entity_of h.entity_numbers (item_of d);
+        entity = e;
+        entity_is = e_is;
+        external = moved_external units h.entity_numbers linked.declared.unit linked.entity e linked.moved (subst IsExternal (sym there) declaration.external);
+        named = linked_name j ds h.entity_numbers own.name e linked ∙ its;
+        storage = linked.moved.storage ∙ (ap (λ (x : Entity). x.storage) there ∙ storage);
+        type = linked.type ∙ type;
+      }
+
+  -- an entry in the program
+  entry_named : (name : List ℕ) → HasEntry (joined units h.numbers p.types) h.declarations name → (t : Ctype) × IsEntryType t × FunctionNamed p name t
+  entry_named name m =
+      let j = joined units h.numbers p.types in
+      let t = type_made j h.declarations name m.declared in
+      (t, m.type, function_named name m.declared m.made m.body (entry_function t m.type))
+
+  -- what the program begins at: `main`, or its first entry
+  start_from : (started : List (List ℕ)) → IsStarted (joined units h.numbers p.types) h.declarations started → (e : ℕ) × (x : Entity) × (slice_get p.entities.items e ≡ Some x) × (x.storage ≡ FunctionBody)
+  start_from [] m =
+      let j = joined units h.numbers p.types in
+      let f = function_named main_name m.declared m.made m.body (main_function (type_made j h.declarations main_name m.declared) m.type) in
+      (f.number, f.entity, f.entity_is, f.storage)
+  start_from (name ∷ rest) all =
+      let (t, is, f) = entry_named name (All-head (HasEntry (joined units h.numbers p.types) h.declarations) name rest all) in
+      (f.number, f.entity, f.entity_is, f.storage)
+
+  pub start_body : (e : ℕ) × (x : Entity) × (slice_get p.entities.items e ≡ Some x) × (x.storage ≡ FunctionBody)
+  start_body = start_from names h.faultless.start
 
   pub located : 0 < length (locations_in p)
-  located = let m = main_body in body_located p m.0 m.1 m.2 m.3
+  located = let m = start_body in body_located p m.0 m.1 m.2 m.3
+
+  -- the entity of an entry's name
+  entry_at : (name : List ℕ) (e : ℕ) → HasEntry (joined units h.numbers p.types) h.declarations name → IsOfName p name e → IsEntryAt (trees_in p) e
+  entry_at name e m own =
+      let (t, is, f) = entry_named name m in
+      let same : f.number ≡ e = (named_once units p h).once f.number e f.entity own.entity f.entity_is own.entity_is f.external own.external (f.named ∙ sym own.named) in (
+        f.entity,
+        subst (λ (k : ℕ). slice_get p.entities.items k ≡ Some f.entity) same f.entity_is,
+        record { linkage = f.external.linkage; storage = f.storage; type = subst IsEntryType (sym f.type) is },
+      )
+
+  entries_at : (named : List (List ℕ)) (entries : List ℕ) → All (HasEntry (joined units h.numbers p.types) h.declarations) named → AllZip (IsOfName p) named entries → All (λ e. IsEntryAt (trees_in p) e) entries
+  entries_at [] [] all zip = λ k d lt. absurd (omega (arith, lt))
+  entries_at [] (e ∷ es) all zip = absurd zip
+  entries_at (name ∷ named) [] all zip = absurd zip
+  entries_at (name ∷ named) (e ∷ es) all zip =
+      let P = HasEntry (joined units h.numbers p.types) h.declarations in
+      All-cons (λ (k : ℕ). IsEntryAt (trees_in p) k) e es (entry_at name e (All-head P name named all) zip.0) (entries_at named es (All-tail P name named all) zip.1)
+
+  started_entries : (named : List (List ℕ)) → IsStarted (joined units h.numbers p.types) h.declarations named → AllZip (IsOfName p) named p.entries.items → All (λ e. IsEntryAt (trees_in p) e) p.entries.items
+  started_entries [] m zip = subst (λ (l : List ℕ). All (λ e. IsEntryAt (trees_in p) e) l) (sym ((zip_none (IsOfName p) [] p.entries.items zip).1 refl)) (λ k d lt. absurd (omega (arith, lt)))
+  started_entries (name ∷ named) all zip = entries_at (name ∷ named) p.entries.items all zip
+
+  pub linked_entries : AreEntries names p
+  linked_entries = record {
+    each = started_entries names h.faultless.start h.entries;
+    none = zip_none (IsOfName p) names p.entries.items h.entries;
+  }

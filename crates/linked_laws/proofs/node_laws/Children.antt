@@ -9,7 +9,7 @@ use Rattle.core_tree.specs.declared.node.NodeKind.TheVariants.{Named, FunctionNa
 use Rattle.core_tree.specs.Typed.{sort_of, sort_in, sort_at, type_in, type_at, trees_in, trees_of}
 use Rattle.link_model.specs.Units.{types_if}
 use Rattle.link_model.specs.Merged.{moved}
-use Rattle.unit_link.specs.Linked.{Linked}
+use Rattle.unit_link.specs.Linked.{LinkedAt}
 use Rattle.unit_link.specs.Places.{node_place, kind_renamed}
 
 pub sort_renamed : (f : ℕ → ℕ) (kind : NodeKind) → sort_of (kind_renamed f kind) ≡ sort_of kind
@@ -26,7 +26,7 @@ present [] k lt = absurd (omega arith)
 present (x ∷ xs) zero lt = (x, refl)
 present (x ∷ xs) (suc k) lt = present xs k (omega arith)
 
-module _ (units : List Unit) (p : Program) (h : Linked units p) (u : ℕ) (of : Unit) (is : slice_get units u ≡ Some of) (c : ℕ) (lt : c < length of.nodes.items) where
+module _ {names : List (List ℕ)} (units : List Unit) (p : Program) (h : LinkedAt names units p) (u : ℕ) (of : Unit) (is : slice_get units u ≡ Some of) (c : ℕ) (lt : c < length of.nodes.items) where
   -- it has its sort
   pub child_sort : sort_at (trees_in p) (node_place units u c) ≡ sort_at (trees_of of) c
   child_sort =

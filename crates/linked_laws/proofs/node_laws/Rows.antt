@@ -16,13 +16,13 @@ use Rattle.type_rules.specs.Conversions.{IsFirstOf}
 use Rattle.link_model.specs.Units.{types_if}
 use Rattle.link_model.specs.Renamed.{renamed}
 use Rattle.link_model.specs.Merged.{moved}
-use Rattle.unit_link.specs.Linked.{Linked}
+use Rattle.unit_link.specs.Linked.{LinkedAt}
 use Rattle.unit_link.specs.Needs.{AreLinkable}
 use Rattle.unit_link.specs.Places.{node_place, kind_renamed}
 use Rattle.linked_laws.proofs.Origins.{node_from}
 use Rattle.linked_laws.specs.merged_laws.Merged.{AreTables}
 use Rattle.linked_laws.proofs.merged_laws.Members.{member_moved}
-use Rattle.linked_laws.specs.node_laws.Rows.{Takes, LinkedRows}
+use Rattle.linked_laws.specs.node_laws.Rows.{Takes, HasRows}
 use Rattle.linked_laws.proofs.node_laws.Children.{child_sort, child_type}
 
 some_one : {X : Type 0} → {x y : X} → ◌≡◌ {A = Option X} (Some x) (Some y) → x ≡ y
@@ -44,7 +44,7 @@ takes_renamed p f (VarArgs e) t children h = tt
 takes_renamed p f (Initialise e paths) t children h = tt
 takes_renamed p f kind t children h = h
 
-module _ (units : List Unit) (p : Program) (linkable : AreLinkable units) (tables : AreTables units) (h : Linked units p) (u : ℕ) (of : Unit) (is : slice_get units u ≡ Some of) where
+module _ {names : List (List ℕ)} (units : List Unit) (p : Program) (linkable : AreLinkable units) (tables : AreTables units) (h : LinkedAt names units p) (u : ℕ) (of : Unit) (is : slice_get units u ≡ Some of) where
   -- a type of the unit, with the table's tags
   abbrev here : Ctype → Ctype
   here t = moved h.numbers u t
@@ -89,7 +89,7 @@ all_at P xs k c h at =
     let same : slice_index_or xs k c ≡ c = some_one (sym (slice_get-get_or xs k c lt) ∙ at) in
     subst P same (h k c lt)
 
-pub linked_rows : LinkedRows
+pub linked_rows : {names : List (List ℕ)} (units : List Unit) (p : Program) → AreLinkable units → AreTables units → LinkedAt names units p → HasRows p
 linked_rows units p linkable tables h = record {
   each = λ n node at.
       let f = node_from units p h n node at in

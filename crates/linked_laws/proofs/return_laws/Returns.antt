@@ -20,12 +20,12 @@ use Rattle.core_tree.specs.Rows.{RowOf}
 use Rattle.core_tree.specs.Valid.{UnderBody, FitsBody}
 use Rattle.link_model.specs.Renamed.{renamed}
 use Rattle.link_model.specs.Merged.{moved}
-use Rattle.unit_link.specs.Linked.{Linked}
+use Rattle.unit_link.specs.Linked.{LinkedAt}
 use Rattle.unit_link.specs.Needs.{AreLinkable}
 use Rattle.unit_link.specs.Places.{node_place, kind_renamed}
 use Rattle.linked_laws.proofs.node_laws.Children.{child_sort, child_type}
 use Rattle.linked_laws.proofs.alike_laws.Origins.{TypedFrom, typed_from}
-use Rattle.linked_laws.specs.return_laws.Returns.{LinkedReturns}
+use Rattle.linked_laws.specs.return_laws.Returns.{HasReturns}
 
 some_one : {X : Type 0} → {x y : X} → ◌≡◌ {A = Option X} (Some x) (Some y) → x ≡ y
 some_one h = cc
@@ -68,7 +68,7 @@ result_renamed : (f : ℕ → ℕ) (t : Ctype) → renamed f (result_of t) ≡ r
 result_renamed f (FunctionFrom r ps form) = refl
 result_renamed f t = refl
 
-module _ (units : List Unit) (p : Program) (linkable : AreLinkable units) (h : Linked units p) where
+module _ {names : List (List ℕ)} (units : List Unit) (p : Program) (linkable : AreLinkable units) (h : LinkedAt names units p) where
   module _ (u : ℕ) (of : Unit) (is : slice_get units u ≡ Some of) (b : ℕ) (lt : b < length of.nodes.items) where
     -- what stands under a node of a unit is a node of that unit, under it
     record IsUnder (m : ℕ) : Type 0 where
@@ -122,7 +122,7 @@ module _ (units : List Unit) (p : Program) (linkable : AreLinkable units) (h : L
     by_body None body under = absurd under
     by_body (Some b) body under = from_body b body under
 
-pub linked_returns : LinkedReturns
+pub linked_returns : {names : List (List ℕ)} (units : List Unit) (p : Program) → AreLinkable units → LinkedAt names units p → HasReturns p
 linked_returns units p linkable h = record {
   each = λ n node v f function at kind children there around.
       let from = typed_from units p linkable h f function there in

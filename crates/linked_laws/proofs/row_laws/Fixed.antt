@@ -16,7 +16,7 @@ use Rattle.core_tree.specs.Rows.{IsFirst, PointsToComplete, InitialisesEntity, I
 use Rattle.core_tree.specs.Valid.{Valid, IsLocal, KindIs, IsStaticIn, IsStaticEntity, IsNumber, MakesNumber, FixedNumber, plain, made, FixedPlace, text, function, object, literal, member, target, FixedPointer, null, address, decay, upcast, converted, moved as moved_by, IsFixed, LivesForTheRun, HoldsFixed, FixedStatics}
 use Rattle.link_model.specs.Units.{types_if}
 use Rattle.link_model.specs.Merged.{moved}
-use Rattle.unit_link.specs.Linked.{Linked}
+use Rattle.unit_link.specs.Linked.{LinkedAt}
 use Rattle.unit_link.specs.Needs.{AreLinkable}
 use Rattle.unit_link.specs.Places.{node_place, kind_renamed}
 use Rattle.linked_laws.proofs.node_laws.Children.{child_type}
@@ -94,7 +94,7 @@ module _ (of : Unit) (valid : Valid (trees_of of)) where
   fixed_closed c (inl f) = number_type c f
   fixed_closed c (inr f) = pointer_type c f
 
-module _ (units : List Unit) (p : Program) (linkable : AreLinkable units) (h : Linked units p) where
+module _ {names : List (List ℕ)} (units : List Unit) (p : Program) (linkable : AreLinkable units) (h : LinkedAt names units p) where
   module _ (u : ℕ) (of : Unit) (is : slice_get units u ≡ Some of) where
     abbrev place : ℕ → ℕ
     place c = node_place units u c

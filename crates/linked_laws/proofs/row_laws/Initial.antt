@@ -20,7 +20,7 @@ use Rattle.core_tree.specs.Rows.{Initialises, InitialisesEntity, InitialisesIn, 
 use Rattle.core_tree.specs.Valid.{IsLocal, IsFixed, LivesForTheRun, HoldsFixed}
 use Rattle.link_model.specs.Renamed.{renamed}
 use Rattle.link_model.specs.Merged.{moved}
-use Rattle.unit_link.specs.Linked.{Linked}
+use Rattle.unit_link.specs.Linked.{LinkedAt}
 use Rattle.unit_link.specs.Needs.{AreLinkable}
 use Rattle.unit_link.specs.Places.{node_place}
 use Rattle.linked_laws.specs.merged_laws.Merged.{AreTables}
@@ -69,7 +69,7 @@ sorted_within of c e = by (slice_get of.nodes.items c) refl e
     by None at sort = absurd (let bad : ⊥ = cc in bad)
     by (Some x) at sort = slice_get_within of.nodes.items c x at
 
-module _ (units : List Unit) (p : Program) (linkable : AreLinkable units) (tables : AreTables units) (filled : AreFilled units) (h : Linked units p) (u : ℕ) (of : Unit) (is : slice_get units u ≡ Some of) where
+module _ {names : List (List ℕ)} (units : List Unit) (p : Program) (linkable : AreLinkable units) (tables : AreTables units) (filled : AreFilled units) (h : LinkedAt names units p) (u : ℕ) (of : Unit) (is : slice_get units u ≡ Some of) where
   abbrev place : ℕ → ℕ
   place c = node_place units u c
 

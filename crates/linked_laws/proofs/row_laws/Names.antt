@@ -27,7 +27,7 @@ use Rattle.link_names.specs.declared.declared.Declared.{Declared}
 use Rattle.link_names.specs.Externals.{Joined, IsExternal, IsDeclaration, declared_as, item_of, declared_type, is_named, type_in, has_body, is_defined}
 use Rattle.link_names.specs.Together.{type_together, maker_of, linked_type}
 use Rattle.linked_laws.proofs.link_laws.Wholeness.{maker_found}
-use Rattle.unit_link.specs.Linked.{Linked, joined}
+use Rattle.unit_link.specs.Linked.{LinkedAt, joined}
 use Rattle.unit_link.specs.Needs.{AreLinkable}
 use Rattle.linked_laws.proofs.alike_laws.Origins.{own_type}
 use Rattle.linked_laws.proofs.embedded_laws.Entities.{IsNameOf, at_item, stands_at}
@@ -58,7 +58,7 @@ of_declared_agrees f d t other (inl same) h = subst (λ (x : Ctype). Agree (rena
 of_declared_agrees f d t other (inr (of, n, whole, open_one)) h =
     subst (λ (x : Ctype). Agree (renamed f x) other) (sym open_one) (without_length (renamed f of) other n (subst (λ (x : Ctype). Agree (renamed f x) other) whole h))
 
-module _ (units : List Unit) (p : Program) (linkable : AreLinkable units) (h : Linked units p) where
+module _ {names : List (List ℕ)} (units : List Unit) (p : Program) (linkable : AreLinkable units) (h : LinkedAt names units p) where
   abbrev j : Joined
   j = joined units h.numbers p.types
 

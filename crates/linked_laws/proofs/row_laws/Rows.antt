@@ -25,7 +25,7 @@ use Rattle.core_tree.specs.Rows.{IsMember, width_at, place_bits, entity_type, Is
 use Rattle.core_tree.specs.Linkages.{HasNoLinkage, MakesUnlinked, UsesDeclared}
 use Rattle.link_model.specs.Renamed.{all_renamed}
 use Rattle.link_model.specs.Merged.{moved}
-use Rattle.unit_link.specs.Linked.{Linked}
+use Rattle.unit_link.specs.Linked.{LinkedAt}
 use Rattle.unit_link.specs.Needs.{AreLinkable}
 use Rattle.unit_link.specs.Places.{node_place, kind_renamed}
 use Rattle.linked_laws.specs.merged_laws.Merged.{AreTables}
@@ -61,7 +61,7 @@ oneof_to : (f : ℕ → ℕ) (es : List ℕ) (kind : NodeKind) → InitialisesOn
 oneof_to f es (Initialise o paths) h = has_mapped f es o h
 oneof_to f es kind h = absurd h
 
-module _ (units : List Unit) (p : Program) (linkable : AreLinkable units) (tables : AreTables units) (made : IsMade p.types) (h : Linked units p) (u : ℕ) (of : Unit) (is : slice_get units u ≡ Some of) where
+module _ {names : List (List ℕ)} (units : List Unit) (p : Program) (linkable : AreLinkable units) (tables : AreTables units) (made : IsMade p.types) (h : LinkedAt names units p) (u : ℕ) (of : Unit) (is : slice_get units u ≡ Some of) where
   abbrev here : Ctype → Ctype
   here t = moved h.numbers u t
 

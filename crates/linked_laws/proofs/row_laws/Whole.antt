@@ -17,7 +17,7 @@ use Rattle.link_model.specs.declared.item.Item.{Item}
 use Rattle.link_model.specs.Units.{item, types_if}
 use Rattle.link_model.specs.Partition.{HasTags}
 use Rattle.link_model.specs.Merged.{moved}
-use Rattle.unit_link.specs.Linked.{Linked}
+use Rattle.unit_link.specs.Linked.{LinkedAt}
 use Rattle.unit_link.specs.Needs.{AreLinkable}
 use Rattle.unit_link.specs.Places.{kind_renamed}
 use Rattle.linked_laws.specs.merged_laws.Merged.{AreTables}
@@ -25,14 +25,14 @@ use Rattle.link_model.specs.filled_units.Filled.{AreFilled}
 use Rattle.linked_laws.specs.sized_laws.Sizes.{AreKeyed}
 use Rattle.linked_laws.proofs.sized_laws.Counting.{same_key}
 use Rattle.linked_laws.proofs.embedded_laws.Nodes.{each_node}
-use Rattle.linked_laws.specs.row_laws.Rows.{LinkedInRows}
+use Rattle.linked_laws.specs.row_laws.Rows.{AreRowsRight}
 use Rattle.linked_laws.proofs.row_laws.Apart.{type_tags, renamed_once}
 use Rattle.linked_laws.proofs.row_laws.Rows.{HasInitial, row_to}
 use Rattle.linked_laws.proofs.row_laws.Initial.{initial_to}
 use Rattle.linked_laws.proofs.row_laws.Names.{variadic_made}
 use Rattle.linked_laws.proofs.row_laws.Fixed.{fixed_statics}
 
-module _ (units : List Unit) (p : Program) (linkable : AreLinkable units) (tables : AreTables units) (filled : AreFilled units) (made : IsMade p.types) (h : Linked units p) where
+module _ {names : List (List ℕ)} (units : List Unit) (p : Program) (linkable : AreLinkable units) (tables : AreTables units) (filled : AreFilled units) (made : IsMade p.types) (h : LinkedAt names units p) where
   keyed : AreKeyed units
   keyed = record { each = λ u x is. (linkable.valid u x is).keys }
 
@@ -80,5 +80,5 @@ module _ (units : List Unit) (p : Program) (linkable : AreLinkable units) (table
       (subst (λ (s : Ctype). RowOf (trees_in p) (kind_renamed (h.entity_numbers u) x.kind) s m.children) (sym type)
       (subst (λ (l : List ℕ). RowOf (trees_in p) (kind_renamed (h.entity_numbers u) x.kind) (moved h.numbers u t) l) (sym moves.children) row)))
 
-pub linked_in_rows : LinkedInRows
+pub linked_in_rows : {names : List (List ℕ)} (units : List Unit) (p : Program) → AreLinkable units → AreTables units → AreFilled units → LinkedAt names units p → IsMade p.types → AreRowsRight p
 linked_in_rows units p linkable tables filled h made = record { rows = rows units p linkable tables filled made h; fixed = fixed_statics units p linkable h filled }

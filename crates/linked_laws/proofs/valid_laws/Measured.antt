@@ -28,7 +28,7 @@ use Rattle.link_model.specs.Merged.{moved}
 use Rattle.link_names.specs.declared.declared.Declared.{Declared}
 use Rattle.link_names.specs.Externals.{Joined, item_of, type_in, declared_type, is_function_type, is_declared_only, is_placed, has_body, is_defined}
 use Rattle.link_names.specs.Together.{type_together, kept_type, linked_type}
-use Rattle.unit_link.specs.Linked.{Linked, joined}
+use Rattle.unit_link.specs.Linked.{LinkedAt, joined}
 use Rattle.unit_link.specs.Needs.{AreLinkable}
 use Rattle.linked_laws.specs.Ranges.{HasTypes}
 use Rattle.linked_laws.specs.merged_laws.Merged.{AreTables, AreSizes}
@@ -149,7 +149,7 @@ undefined_function t x static h = by (is_some x.body) h
     by true e = absurd (false≢true (sym e))
     by false e = function_else (is_function_type t) (subst (λ (s : Storage). (not (is_function_type t) && not (is_declared_only s)) ≡ false) static e)
 
-module _ (units : List Unit) (p : Program) (linkable : AreLinkable units) (tables : AreTables units) (h : Linked units p) (types : HasTypes p) (made : IsMade p.types) (named : AreNamed p.types) where
+module _ {names : List (List ℕ)} (units : List Unit) (p : Program) (linkable : AreLinkable units) (tables : AreTables units) (h : LinkedAt names units p) (types : HasTypes p) (made : IsMade p.types) (named : AreNamed p.types) where
   abbrev j : Joined
   j = joined units h.numbers p.types
 

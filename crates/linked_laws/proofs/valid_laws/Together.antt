@@ -14,7 +14,7 @@ use Rattle.link_names.specs.declared.declared.Declared.{Declared}
 use Rattle.link_names.specs.Externals.{Joined, IsExternal, item_of, declared_type, is_named}
 use Rattle.link_names.specs.Together.{composite, together, of_name, type_together}
 use Rattle.linked_laws.proofs.link_laws.Wholeness.{maker_found, named_so}
-use Rattle.unit_link.specs.Linked.{Linked, joined}
+use Rattle.unit_link.specs.Linked.{LinkedAt, joined}
 use Rattle.unit_link.specs.Needs.{AreLinkable}
 use Rattle.linked_laws.proofs.alike_laws.Origins.{own_type}
 use Rattle.linked_laws.proofs.embedded_laws.Lists.{some_one, none_some}
@@ -63,7 +63,7 @@ map_some : (f : Declared → Ctype) (xs : List Declared) (i : ℕ) (x : Declared
 map_some f [] i x at e = none_some at
 map_some f (y ∷ ys) i x at e = let bad : f y ∷ map f ys ≡ [] = e in cc
 
-module _ (units : List Unit) (p : Program) (linkable : AreLinkable units) (h : Linked units p) where
+module _ {names : List (List ℕ)} (units : List Unit) (p : Program) (linkable : AreLinkable units) (h : LinkedAt names units p) where
   abbrev j : Joined
   j = joined units h.numbers p.types
 

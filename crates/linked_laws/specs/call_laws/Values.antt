@@ -5,7 +5,7 @@ use Rattle.core_tree.specs.declared.node.Program.{Program}
 use Rattle.core_tree.specs.declared.node.Node.{Node}
 use Rattle.core_tree.specs.declared.node.NodeKind.TheVariants.{CallNode}
 use Rattle.core_tree.specs.Typed.{ValueNode, trees_in, sort_at}
-use Rattle.unit_link.specs.Linked.{Linked}
+use Rattle.unit_link.specs.Linked.{LinkedAt}
 use Rattle.unit_link.specs.Needs.{AreLinkable}
 
 -- a call's callee and its arguments are values
@@ -14,4 +14,8 @@ pub record AreCallsOfValues (p : Program) : Type 0 where
       → (k c : ℕ) → slice_get node.children k ≡ Some c → sort_at (trees_in p) c ≡ ValueNode
 
 abbrev pub LinkedCalls : Type 0
-LinkedCalls = (units : List Unit) (p : Program) → AreLinkable units → Linked units p → AreCallsOfValues p
+LinkedCalls =
+    (names : List (List ℕ)) (units : List Unit) (p : Program)
+    → AreLinkable units
+    → LinkedAt names units p
+    → AreCallsOfValues p

@@ -1,12 +1,12 @@
 -- What the nodes and entities of a linked program are to each other.
-use Rattle.std.specs.Prelude.{List}
+use Rattle.std.specs.Prelude.{ℕ, List}
 use Rattle.core_tree.specs.declared.node.Unit.{Unit}
 use Rattle.core_tree.specs.declared.node.Program.{Program}
 use Rattle.core_tree.specs.Typed.{CoreTrees, trees_in}
 use Rattle.core_tree.specs.Range.{ChildOnce}
 use Rattle.core_tree.specs.Valid.{Owned, Bodied, InOwner, Literals, AllListed, ListsRight, Standing, InFunctions}
 use Rattle.core_tree.specs.Valid.{DistinctCases, UsesRight}
-use Rattle.unit_link.specs.Linked.{Linked}
+use Rattle.unit_link.specs.Linked.{LinkedAt}
 use Rattle.unit_link.specs.Needs.{AreLinkable}
 
 -- all of `Valid` but for numbers in range, rows, initialisers of static objects and sizes
@@ -24,4 +24,8 @@ pub record AreTreesRight (u : CoreTrees) : Type 0 where
   pub uses : UsesRight u
 
 abbrev pub LinkedTrees : Type 0
-LinkedTrees = (units : List Unit) (p : Program) → AreLinkable units → Linked units p → AreTreesRight (trees_in p)
+LinkedTrees =
+    (names : List (List ℕ)) (units : List Unit) (p : Program)
+    → AreLinkable units
+    → LinkedAt names units p
+    → AreTreesRight (trees_in p)

@@ -10,7 +10,7 @@ use Rattle.core_tree.specs.declared.node.Node.{Node}
 use Rattle.core_tree.specs.declared.node.Entity.{Entity}
 use Rattle.core_tree.specs.declared.node.NodeKind.TheVariants.{Initialise}
 use Rattle.core_tree.specs.Typed.{CoreTrees, ValueNode, sort_at, type_at, trees_in}
-use Rattle.unit_link.specs.Linked.{Linked}
+use Rattle.unit_link.specs.Linked.{LinkedAt}
 use Rattle.unit_link.specs.Needs.{AreLinkable}
 use Rattle.linked_laws.specs.alike_laws.Alike.{IsClosed}
 use Rattle.linked_laws.specs.merged_laws.Merged.{AreTables}
@@ -33,4 +33,8 @@ pub record HasInitials (p : Program) : Type 0 where
 
 abbrev pub LinkedInitials : Type 0
 LinkedInitials =
-    (units : List Unit) (p : Program) → AreLinkable units → AreTables units → Linked units p → HasInitials p
+    (names : List (List ℕ)) (units : List Unit) (p : Program)
+    → AreLinkable units
+    → AreTables units
+    → LinkedAt names units p
+    → HasInitials p

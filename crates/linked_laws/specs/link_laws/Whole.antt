@@ -6,7 +6,7 @@ use Rattle.core_tree.specs.declared.node.Program.{Program}
 use Rattle.core_tree.specs.declared.node.Entity.{Entity}
 use Rattle.link_names.specs.Externals.{IsExternal}
 use Rattle.link_names.specs.Faults.{IsMainType, main_name}
-use Rattle.unit_link.specs.Linked.{Linked}
+use Rattle.unit_link.specs.Linked.{Linked, LinkedAt}
 
 -- no two external entities have one name
 pub record NamedOnce (p : Program) : Type 0 where
@@ -29,7 +29,7 @@ pub record DefinesMain (p : Program) : Type 0 where
   pub type : IsMainType (type_of p.types entity.ty.0)
 
 abbrev pub LinkedOnce : Type 0
-LinkedOnce = (units : List Unit) (p : Program) → Linked units p → NamedOnce p
+LinkedOnce = (names : List (List ℕ)) (units : List Unit) (p : Program) → LinkedAt names units p → NamedOnce p
 
 abbrev pub LinkedMain : Type 0
 LinkedMain = (units : List Unit) (p : Program) → Linked units p → DefinesMain p

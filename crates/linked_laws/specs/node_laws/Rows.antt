@@ -10,7 +10,7 @@ use Rattle.core_tree.specs.declared.node.NodeKind.TheVariants.{MemberOfValue, Ne
 use Rattle.core_tree.specs.Typed.{CoreTrees, ValueNode, sort_at, type_at, IsValue, trees_in}
 use Rattle.core_tree.specs.Range.{EachNode}
 use Rattle.core_tree.specs.Rows.{IsMember, IsFirst, IsArray, IsListPlace}
-use Rattle.unit_link.specs.Linked.{Linked}
+use Rattle.unit_link.specs.Linked.{LinkedAt}
 use Rattle.unit_link.specs.Needs.{AreLinkable}
 use Rattle.linked_laws.specs.merged_laws.Merged.{AreTables}
 
@@ -32,4 +32,9 @@ pub record HasRows (p : Program) : Type 0 where
       (λ n node. Takes (trees_in p) node.kind (type_of p.types node.ty.0) node.children)
 
 abbrev pub LinkedRows : Type 0
-LinkedRows = (units : List Unit) (p : Program) → AreLinkable units → AreTables units → Linked units p → HasRows p
+LinkedRows =
+    (names : List (List ℕ)) (units : List Unit) (p : Program)
+    → AreLinkable units
+    → AreTables units
+    → LinkedAt names units p
+    → HasRows p

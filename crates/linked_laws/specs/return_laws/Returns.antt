@@ -9,7 +9,7 @@ use Rattle.core_tree.specs.declared.node.Entity.{Entity}
 use Rattle.core_tree.specs.declared.node.NodeKind.TheVariants.{Return}
 use Rattle.core_tree.specs.Typed.{IsValue, trees_in}
 use Rattle.core_tree.specs.Valid.{IsAround}
-use Rattle.unit_link.specs.Linked.{Linked}
+use Rattle.unit_link.specs.Linked.{LinkedAt}
 use Rattle.unit_link.specs.Needs.{AreLinkable}
 
 -- what a return in a function's body gives is a value of the function's result type
@@ -23,4 +23,8 @@ pub record HasReturns (p : Program) : Type 0 where
       → IsValue (trees_in p) v (result_of (type_of p.types function.ty.0))
 
 abbrev pub LinkedReturns : Type 0
-LinkedReturns = (units : List Unit) (p : Program) → AreLinkable units → Linked units p → HasReturns p
+LinkedReturns =
+    (names : List (List ℕ)) (units : List Unit) (p : Program)
+    → AreLinkable units
+    → LinkedAt names units p
+    → HasReturns p

@@ -8,7 +8,7 @@ use Rattle.std.specs.Str.{bytes_eq}
 use Rattle.std.specs.Cmp.Lexicographic.{bytes_decides}
 use Rattle.std.proofs.lemmas.Bool.{cases_Bool, false≢true, eqb-true}
 use Rattle.c_types.specs.declared.key.ObjectKey.{ObjectKey}
-use Rattle.c_types.specs.declared.key.ObjectKey.TheVariants.{Entity as EntityKey, Text as TextKey, Call as CallKey, Library as LibraryKey, Star as StarKey, Function as FunctionKey, Varargs as VarargsKey}
+use Rattle.c_types.specs.declared.key.ObjectKey.TheVariants.{Entity as EntityKey, Text as TextKey, Call as CallKey, Library as LibraryKey, Star as StarKey, Function as FunctionKey, Varargs as VarargsKey, Outside as OutsideKey}
 use Rattle.core_tree.specs.declared.node.Program.{Program}
 use Rattle.core_tree.specs.declared.node.Node.{Node}
 use Rattle.core_tree.specs.declared.node.Entity.{Entity}
@@ -21,7 +21,7 @@ use Rattle.obj_made.specs.Uses.{is_number, number_of_name, number_in, entity_num
 use Rattle.obj_made.specs.declared.object.Content.{Content}
 use Rattle.obj_made.specs.declared.object.Object.{Object}
 use Rattle.obj_made.specs.Made.{allocated_content}
-use Rattle.obj_space.specs.Objects.{named_object, library_name, function_if, function_object, functions_below, LibraryRow, library_rows, is_needed, library_object, library_objects_from, library_objects, star_if, star_object, star_objects, takes_arguments, library_part}
+use Rattle.obj_space.specs.Objects.{named_object, library_name, function_if, function_object, functions_below, LibraryRow, library_rows, is_needed, library_object, library_objects_from, library_objects, star_if, star_object, star_objects, outside_objects, takes_arguments, library_part}
 use Rattle.location_laws.specs.name_shapes.Bytes.{is_base_byte, is_letter, IsMadeOf}
 use Rattle.location_laws.specs.name_shapes.Shapes.{Shape, AnyCall, text_of, IsShape}
 use Rattle.location_laws.proofs.name_shapes.Cutting.{both, weaker, letter_base}
@@ -63,6 +63,7 @@ rank p (VarargsKey e) = length p.entities.items + length p.nodes.items + e
 rank p (FunctionKey k) = library_rank p + k
 rank p (LibraryKey k) = library_rank p + (100 + k)
 rank p (StarKey k) = library_rank p + (200 + k)
+rank p OutsideKey = library_rank p + 222
 
 abbrev pub Ascend : Program → Object → Object → Type 0
 Ascend p a b = rank p a.key < rank p b.key
@@ -145,11 +146,11 @@ plain_is (c ∷ rest) h =
     let here = (both (is_letter c) (list_all is_letter rest) h).0 in
     let more = (both (is_base_byte c) (not (nat_eq c 35) && not (nat_eq c 60)) here).1 in
     let last = (both (not (nat_eq c 35)) (not (nat_eq c 60)) more).1 in
-    by (nat_eq c 60) last
+    by (nat_eq c 60) (cond (bytes_eq rest (codes "outside>")) 9 3) last
   where
-    by : (b : Bool) → not b ≡ true → ◌≡◌ {A = ℕ} (cond b 3 0) 0
-    by true e = absurd (false≢true e)
-    by false e = refl
+    by : (b : Bool) (class : ℕ) → not b ≡ true → ◌≡◌ {A = ℕ} (cond b class 0) 0
+    by true class e = absurd (false≢true e)
+    by false class e = refl
 
 pub plain_shape : (name : List ℕ) → IsMadeOf is_letter name → IsShape (plain name)
 plain_shape name h = record { unit = tt; base = weaker is_letter is_base_byte name letter_base h; tail = tt }
@@ -325,11 +326,26 @@ module _ (p : Program) (h : HasNames p) where
       (star_ranked 2 (start + 202) (start + 203) realloc_name (omega arith) (omega arith))
       (star_ranked 21 (start + 203) (start + 222) strdup_name (omega arith) (omega arith))))
 
-  pub library_right : AreRanked start (start + 222) (library_part p)
+  -- ---- what lies outside
+  outside_right : IsObject p (named_object OutsideKey (codes "<outside>") Content.Blob)
+  outside_right = record {
+    shape = plain (codes "<outside>");
+    right = record { unit = tt; base = refl; tail = tt };
+    text = λ s. refl;
+    source = record { class = 9; class_is = refl; body = record { key_is = refl } };
+  }
+
+  outside_ranked : (entries : List ℕ) → AreRanked (start + 222) (start + 223) (outside_objects entries)
+  outside_ranked [] = none_ranked (start + 222) (start + 223)
+  outside_ranked (e ∷ rest) = one_ranked (start + 222) (start + 223) (named_object OutsideKey (codes "<outside>") Content.Blob) outside_right (omega arith) (omega arith)
+
+  pub library_right : AreRanked start (start + 223) (library_part p)
   library_right =
       let arguments = takes_arguments p in
       let named : ℕ → Bool = is_named p.entities.items p.nodes.items in
-      both_ranked start (start + 100) (start + 222) (functions_below p 55) (library_objects named arguments ++ star_objects p) (omega arith) (omega arith)
+      let outside = outside_objects p.entries.items in
+      both_ranked start (start + 100) (start + 223) (functions_below p 55) (library_objects named arguments ++ (star_objects p ++ outside)) (omega arith) (omega arith)
       (wider start (start + 55) start (start + 100) (functions_below p 55) (omega arith) (omega arith) (functions_ranked 55))
-      (both_ranked (start + 100) (start + 200) (start + 222) (library_objects named arguments) (star_objects p) (omega arith) (omega arith)
-      (objects_ranked named arguments) stars_ranked)
+      (both_ranked (start + 100) (start + 200) (start + 223) (library_objects named arguments) (star_objects p ++ outside) (omega arith) (omega arith)
+      (objects_ranked named arguments)
+      (both_ranked (start + 200) (start + 222) (start + 223) (star_objects p) outside (omega arith) (omega arith) stars_ranked (outside_ranked p.entries.items)))

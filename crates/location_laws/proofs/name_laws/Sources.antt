@@ -11,7 +11,7 @@ use Rattle.std.proofs.lemmas.List.Sums.{sum_by-cons}
 use Rattle.std.proofs.lemmas.Option.{slice_get-get_or}
 use Rattle.pta_base.specs.declared.place.Place.{Place}
 use Rattle.c_types.specs.declared.key.ObjectKey.{ObjectKey}
-use Rattle.c_types.specs.declared.key.ObjectKey.TheVariants.{Entity as EntityKey, Text as TextKey, Call as CallKey, Library as LibraryKey, Star as StarKey, Function as FunctionKey, Varargs as VarargsKey}
+use Rattle.c_types.specs.declared.key.ObjectKey.TheVariants.{Entity as EntityKey, Text as TextKey, Call as CallKey, Library as LibraryKey, Star as StarKey, Function as FunctionKey, Varargs as VarargsKey, Outside as OutsideKey}
 use Rattle.core_tree.specs.declared.node.Program.{Program}
 use Rattle.core_tree.specs.declared.node.Node.{Node}
 use Rattle.core_tree.specs.declared.node.NodeKind.TheVariants.{CallNode}
@@ -143,10 +143,14 @@ pub record IsFurtherObject (p : Program) (key : ObjectKey) (shape : Shape) : Typ
   pub linked : entity.linkage ≢ Local
   pub shape_is : shape ≡ shape_of (unit_before p entity) entity.name Further
 
+-- what lies outside
+pub record IsOutsideObject (key : ObjectKey) : Type 0 where
+  pub key_is : key ≡ OutsideKey
+
 -- ---- classes of names
 abbrev pub plain_class : List ℕ → ℕ
 plain_class [] = 0
-plain_class (c ∷ rest) = cond (nat_eq c 60) 3 0
+plain_class (c ∷ rest) = cond (nat_eq c 60) (cond (bytes_eq rest (codes "outside>")) 9 3) 0
 
 abbrev pub placed_class : List ℕ → ℕ
 placed_class kind = cond (bytes_eq kind (codes "lit")) 4 (cond (bytes_eq kind (codes "str")) 5 6)
@@ -173,6 +177,7 @@ Body p numbers key shape (suc (suc (suc (suc (suc zero))))) = IsTextObject p key
 Body p numbers key shape (suc (suc (suc (suc (suc (suc zero)))))) = IsCallObject p key shape
 Body p numbers key shape (suc (suc (suc (suc (suc (suc (suc zero))))))) = IsStarObject key shape
 Body p numbers key shape (suc (suc (suc (suc (suc (suc (suc (suc zero)))))))) = IsFurtherObject p key shape
+Body p numbers key shape (suc (suc (suc (suc (suc (suc (suc (suc (suc zero))))))))) = IsOutsideObject key
 Body p numbers key shape n = ⊥
 
 pub record IsSource (p : Program) (numbers : List ℕ → ℕ) (key : ObjectKey) (shape : Shape) : Type 0 where
@@ -384,7 +389,8 @@ module _ (p : Program) (h : HasNames p) where
   same_body numbers key other s t (suc (suc (suc (suc (suc (suc zero)))))) e a b = calls key other s t e a b
   same_body numbers key other s t (suc (suc (suc (suc (suc (suc (suc zero))))))) e a b = stars key other s t e a b
   same_body numbers key other s t (suc (suc (suc (suc (suc (suc (suc (suc zero)))))))) e a b = furthers key other s t e a b
-  same_body numbers key other s t (suc (suc (suc (suc (suc (suc (suc (suc (suc n))))))))) e a b = absurd a
+  same_body numbers key other s t (suc (suc (suc (suc (suc (suc (suc (suc (suc zero))))))))) e a b = a.key_is ∙ sym b.key_is
+  same_body numbers key other s t (suc (suc (suc (suc (suc (suc (suc (suc (suc (suc n)))))))))) e a b = absurd a
 
   -- objects of one name are one object
   pub same_key : (numbers : List ℕ → ℕ) (key other : ObjectKey) (s t : Shape) → IsSource p numbers key s → IsSource p numbers other t → s ≡ t → key ≡ other

@@ -21,7 +21,7 @@ use Rattle.link_names.specs.Together.{of_name, is_own, first_body, first_defined
 use Rattle.link_names.specs.Faults.{IsGiven}
 use Rattle.link_names.proofs.Ordering.{external_is, is_external_of}
 use Rattle.linked_laws.proofs.link_laws.Wholeness.{linked_name}
-use Rattle.unit_link.specs.Linked.{IsMovedEntity, IsLinkedName, NameUsed, Linked, joined}
+use Rattle.unit_link.specs.Linked.{IsMovedEntity, IsLinkedName, NameUsed, LinkedAt, joined}
 use Rattle.unit_link.specs.Needs.{AreLinkable}
 use Rattle.location_laws.specs.named_laws.Units.{AreNamedUnits}
 use Rattle.location_laws.specs.named_laws.Whole.{IsDefined, IsLibraryName}
@@ -75,7 +75,7 @@ any_found : {X : Type 0} (q : X → Bool) (xs : List X) → list_any q xs ≡ tr
 any_found q [] h n = false≢true h
 any_found q (y ∷ xs) h n = found_by y (find q xs) (q y) (list_any q xs) h n (any_found q xs)
 
-module _ (units : List Unit) (p : Program) (h : Linked units p) where
+module _ {entered : List (List ℕ)} (units : List Unit) (p : Program) (h : LinkedAt entered units p) where
   abbrev j : Joined
   j = joined units h.numbers p.types
 

@@ -10,7 +10,7 @@ use Rattle.core_tree.specs.declared.node.Program.{Program}
 use Rattle.link_model.specs.declared.item.Item.{Item}
 use Rattle.link_model.specs.Units.{types_if, list_at}
 use Rattle.link_model.specs.Merged.{Numbering, AreMoved}
-use Rattle.unit_link.specs.Linked.{Linked}
+use Rattle.unit_link.specs.Linked.{LinkedAt}
 use Rattle.location_laws.specs.name_shapes.Bytes.{is_letter}
 use Rattle.location_laws.specs.name_laws.Named.{AreMembers}
 use Rattle.location_laws.specs.named_laws.Units.{AreNamedUnits}
@@ -62,7 +62,7 @@ stable members h = record {
   ];
 }
 
-module _ (units : List Unit) (p : Program) (each : AreNamedUnits units) (h : Linked units p) (made : IsMade p.types) (named : AreNamed p.types) where
+module _ {entered : List (List ℕ)} (units : List Unit) (p : Program) (each : AreNamedUnits units) (h : LinkedAt entered units p) (made : IsMade p.types) (named : AreNamed p.types) where
   tag_below : (tag : ℕ) (members : List MemberTerm) → members_in p.types tag ≡ Some members → tag < p.types.tags
   tag_below tag members is = by (made.stands tag members is)
     where

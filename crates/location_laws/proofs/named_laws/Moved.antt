@@ -26,7 +26,7 @@ use Rattle.link_names.specs.Externals.{IsExternal, is_external, entities_if, ent
 use Rattle.link_names.proofs.Ordering.{external_is, is_external_of}
 use Rattle.linked_laws.proofs.link_laws.Wholeness.{maker_found, named_once}
 use Rattle.unit_link.specs.Places.{node_place, kind_renamed}
-use Rattle.unit_link.specs.Linked.{entity_of, IsMovedEntity, IsLinkedName, Linked, joined}
+use Rattle.unit_link.specs.Linked.{entity_of, IsMovedEntity, IsLinkedName, LinkedAt, joined}
 use Rattle.unit_link.specs.Needs.{AreLinkable}
 use Rattle.linked_laws.proofs.Origins.{NodeFrom, node_from, entity_from}
 use Rattle.obj_made.specs.Uses.{is_number, literal_entity, is_literal}
@@ -109,7 +109,7 @@ number_is : (k : ℕ) (o : Option ℕ) → is_number k o ≡ true → o ≡ Some
 number_is k None h = absurd (false≢true h)
 number_is k (Some n) h = ap Some (eqb-true n k h)
 
-module _ (units : List Unit) (p : Program) (links : AreLinkable units) (each : AreNamedUnits units) (h : Linked units p) where
+module _ {entered : List (List ℕ)} (units : List Unit) (p : Program) (links : AreLinkable units) (each : AreNamedUnits units) (h : LinkedAt entered units p) where
   -- ---- units
   units_long : length p.names.items ≡ length units
   units_long = ap length h.names ∙ map_length (λ (x : Unit). x.name) units

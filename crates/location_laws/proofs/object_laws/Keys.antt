@@ -22,7 +22,7 @@ use Rattle.obj_made.specs.declared.object.Object.{Object}
 use Rattle.obj_made.specs.Uses.{entity_number, is_allocator, is_named, is_starred}
 use Rattle.obj_made.specs.Made.{Spot, by_place, Made, in_order, object_unless_declared, entity_object, made_at, entity_made, entities_made, spot_at, called_object, object_of_call, called_entity, object_of_kind, node_object, node_made, nodes_made, has_varargs, last_place, varargs_object, varargs_spot, varargs_made, made_of_names, made_in_order, objects_in}
 use Rattle.obj_made.proofs.Ordered.{in_order-append}
-use Rattle.obj_space.specs.Objects.{function_if, function_object, functions_below, LibraryRow, library_rows, is_needed, library_object, library_objects_from, library_objects, star_if, star_object, star_objects, takes_arguments, library_part, objects_of}
+use Rattle.obj_space.specs.Objects.{function_if, function_object, functions_below, LibraryRow, library_rows, is_needed, library_object, library_objects_from, library_objects, star_if, star_object, star_objects, outside_objects, takes_arguments, library_part, objects_of}
 use Rattle.location_laws.specs.name_laws.Named.{IsEntity, IsNode}
 use Rattle.location_laws.proofs.name_laws.Lists.{Every, Pairs, every_weaker, every_append, every_map, pairs_weaker, pairs_append, pairs_map, pairs_at}
 use Rattle.location_laws.proofs.name_laws.Library.{library_rank, rank, Ascend, From, Below, across}
@@ -243,14 +243,20 @@ module _ (p : Program) where
       (star_ranked 2 (start + 202) (start + 203) (omega arith) (omega arith))
       (star_ranked 21 (start + 203) (start + 222) (omega arith) (omega arith))))
 
-  library_ranked : AreRanked start (start + 222) (library_part p)
+  outside_ranked : (entries : List ℕ) → AreRanked (start + 222) (start + 223) (outside_objects entries)
+  outside_ranked [] = none_ranked (start + 222) (start + 223)
+  outside_ranked (e ∷ rest) = one_ranked (start + 222) (start + 223) _ (omega arith) (omega arith)
+
+  library_ranked : AreRanked start (start + 223) (library_part p)
   library_ranked =
       let arguments = takes_arguments p in
       let named : ℕ → Bool = is_named p.entities.items p.nodes.items in
-      both_ranked start (start + 100) (start + 222) (functions_below p 55) (library_objects named arguments ++ star_objects p) (omega arith) (omega arith)
+      let outside = outside_objects p.entries.items in
+      both_ranked start (start + 100) (start + 223) (functions_below p 55) (library_objects named arguments ++ (star_objects p ++ outside)) (omega arith) (omega arith)
       (wider start (start + 55) start (start + 100) (functions_below p 55) (omega arith) (omega arith) (functions_ranked 55))
-      (both_ranked (start + 100) (start + 200) (start + 222) (library_objects named arguments) (star_objects p) (omega arith) (omega arith)
-      (objects_ranked named arguments) stars_ranked)
+      (both_ranked (start + 100) (start + 200) (start + 223) (library_objects named arguments) (star_objects p ++ outside) (omega arith) (omega arith)
+      (objects_ranked named arguments)
+      (both_ranked (start + 200) (start + 222) (start + 223) (star_objects p) outside (omega arith) (omega arith) stars_ranked (outside_ranked p.entries.items)))
 
   -- ---- all objects
   abbrev KeysDiffer : Object → Object → Type 0

@@ -13,7 +13,7 @@ use Rattle.core_tree.specs.declared.node.Linkage.TheVariants.{Internal, Local}
 use Rattle.core_tree.specs.declared.node.Storage.TheVariants.{FunctionBody}
 use Rattle.obj_made.specs.Uses.{is_literal}
 use Rattle.obj_space.specs.Space.{DistinctNames, locations_in}
-use Rattle.unit_link.specs.Linked.{Linked}
+use Rattle.unit_link.specs.Linked.{LinkedAt}
 use Rattle.unit_link.specs.Needs.{AreLinkable}
 use Rattle.location_laws.specs.name_shapes.Bytes.{is_unit_byte, is_letter, IsMadeOf, IsWord}
 use Rattle.location_laws.specs.name_laws.Named.{AreMembers, IsText, HasNames}
@@ -101,10 +101,10 @@ AreNamedUnits units = (u : ℕ) (x : Unit) → slice_get units u ≡ Some x → 
 -- the parts of a program of such units are told apart
 abbrev pub LinkedNames : Type 0
 LinkedNames =
-    (units : List Unit) (p : Program)
+    (entered : List (List ℕ)) (units : List Unit) (p : Program)
     → AreLinkable units
     → AreNamedUnits units
-    → Linked units p
+    → LinkedAt entered units p
     → IsMade p.types
     → AreNamed p.types
     → HasNames p
@@ -112,10 +112,10 @@ LinkedNames =
 -- its locations have distinct names
 abbrev pub LinkedDistinct : Type 0
 LinkedDistinct =
-    (units : List Unit) (p : Program)
+    (entered : List (List ℕ)) (units : List Unit) (p : Program)
     → AreLinkable units
     → AreNamedUnits units
-    → Linked units p
+    → LinkedAt entered units p
     → IsMade p.types
     → AreNamed p.types
     → DistinctNames (locations_in p)

@@ -1,5 +1,5 @@
 -- Whole programs: what the stages behind linking may ask.
-use Rattle.std.specs.Prelude.{ℕ, ◌≡◌, ◌≢◌, ◌⊎◌, true, is_some, List, Some, slice_get}
+use Rattle.std.specs.Prelude.{ℕ, ◌≡◌, ◌≢◌, ◌⊎◌, true, is_some, List, [], Some, slice_get}
 use Rattle.pta_base.specs.declared.place.Place.{Place}
 use Rattle.c_types.specs.Made.{IsMade, AreNamed}
 use Rattle.core_tree.specs.declared.node.Unit.{Unit}
@@ -10,7 +10,7 @@ use Rattle.core_tree.specs.declared.node.Storage.TheVariants.{Declared}
 use Rattle.lib_summaries.specs.Table.{Numbered, summary_of}
 use Rattle.linked_laws.specs.link_laws.Whole.{NamedOnce, DefinesMain}
 use Rattle.obj_space.specs.Space.{DistinctNames, locations_in}
-use Rattle.unit_link.specs.Linked.{Linked}
+use Rattle.unit_link.specs.Linked.{LinkedAt}
 use Rattle.unit_link.specs.Needs.{AreLinkable}
 use Rattle.location_laws.specs.named_laws.Units.{AreNamedUnits}
 
@@ -24,8 +24,12 @@ pub record IsLibraryName (x : Entity) : Type 0 where
   pub row : Numbered
   pub in_library : summary_of x.name ≡ Some row
 
+-- where a program has no entries, `main` is defined as a function of one of its types
+abbrev pub Starts : Program → Type 0
+Starts p = p.entries.items ≡ [] → DefinesMain p
+
 -- No two external entities have one name, and no two locations; each entity that is used is defined or a name of
--- the library's; and `main` is defined as a function of one of its types.
+-- the library's; and the program has entries, or a `main` at which it starts.
 pub record IsWhole (p : Program) : Type 0 where
   pub once : NamedOnce p
   pub names : DistinctNames (locations_in p)
@@ -33,15 +37,15 @@ pub record IsWhole (p : Program) : Type 0 where
       → slice_get p.entities.items e ≡ Some x
       → x.used ≡ Some place
       → IsDefined x ⊎ IsLibraryName x
-  pub main : DefinesMain p
+  pub start : Starts p
 
 -- a program that is linked from units whose parts are told apart is whole
 abbrev pub LinkedWhole : Type 0
 LinkedWhole =
-    (units : List Unit) (p : Program)
+    (entered : List (List ℕ)) (units : List Unit) (p : Program)
     → AreLinkable units
     → AreNamedUnits units
-    → Linked units p
+    → LinkedAt entered units p
     → IsMade p.types
     → AreNamed p.types
     → IsWhole p

@@ -13,7 +13,7 @@ pub fn linked_distinct()
 {}
 
 /// Such a program is whole: no two external entities and no two locations have one name, each used entity is defined or a
-/// name of the library's, and `main` is defined (C11 6.9p5, 5.1.2.2.1).
+/// name of the library's, and where it has no entries, `main` is defined (C11 6.9p5, 5.1.2.2.1).
 pub fn linked_whole()
     ensures { LinkedWhole }
 {}

@@ -11,28 +11,32 @@ use Rattle.link_model.specs.Units.{item}
 use Rattle.link_model.specs.Merged.{Numbering, IsMerged}
 use Rattle.link_names.specs.declared.declared.Declared.{Declared}
 use Rattle.link_names.specs.declared.fault.LinkFault.{LinkFault}
-use Rattle.link_names.specs.declared.fault.LinkFault.TheVariants.{Conflict, Twice, Undefined, NoMain, OutOfMemory}
+use Rattle.link_names.specs.declared.fault.LinkFault.TheVariants.{Conflict, Twice, Undefined, NoMain, NoEntry, OutOfMemory}
 use Rattle.link_names.specs.Externals.{Joined, AreDeclarations}
-use Rattle.link_names.specs.Faults.{AreClean, IsFirstFault, IsMissing, IsUndefined, IsFirstUse, AreDefined, HasMain, IsFault, AreFaultless}
-use Rattle.unit_link.specs.Linked.{joined}
-use Rattle.outcome_laws.specs.fault_laws.Twins.{AreAllTwins, NamedByPlace, AreOneUse, OneLinkFault, NoLinkFault}
-use Rattle.outcome_laws.proofs.fault_laws.Pairing.{SameDeclared, Pairs, as_many, flipped, turned, missing_same, main_same}
+use Rattle.link_names.specs.Faults.{AreClean, IsFirstFault, IsMissing, IsUndefined, IsFirstUse, AreDefined, IsFault, AreFaultless}
+use Rattle.link_names.specs.Said.{IsWant}
+use Rattle.unit_link.specs.Linked.{LinkedAt, LinksBadlyAt, joined}
+use Rattle.core_tree.specs.declared.node.Program.{Program}
+use Rattle.outcome_laws.specs.fault_laws.Twins.{AreAllTwins, NamedByPlace, AreOneUse, OneLinkFault}
+use Rattle.outcome_laws.proofs.fault_laws.Pairing.{SameDeclared, Pairs, as_many, flipped, turned, missing_same, entry_same, started_same}
+use Rattle.outcome_laws.proofs.fault_laws.Starts.{one_want, no_want}
 use Rattle.outcome_laws.proofs.fault_laws.Firsts.{not_clean, one_first}
 use Rattle.outcome_laws.proofs.fault_laws.Twinned.{Like, like, turned_all, external_here, external_there}
 use Rattle.outcome_laws.proofs.fault_laws.Declared.{to, back, defined_same, all_same}
 
--- what a fault of linking says: of the declarations, of the uses, or of `main`
-data FaultView (j : Joined) (ds : List Declared) (fault : LinkFault) : Type 0 where
-  Declaring : IsFirstFault j ds fault → FaultView j ds fault
-  Using : (place : Place) (name : List ℕ) → fault ≡ Undefined place name → AreClean j ds (length ds) → IsFirstUse j ds place name → FaultView j ds fault
-  Wanting : fault ≡ NoMain → AreClean j ds (length ds) → AreDefined j ds → (HasMain j ds → ⊥) → FaultView j ds fault
+-- what a fault of linking says: of the declarations, of the uses, or of the start
+data FaultView (j : Joined) (ds : List Declared) (entered : List (List ℕ)) (fault : LinkFault) : Type 0 where
+  Declaring : IsFirstFault j ds fault → FaultView j ds entered fault
+  Using : (place : Place) (name : List ℕ) → fault ≡ Undefined place name → AreClean j ds (length ds) → IsFirstUse j ds place name → FaultView j ds entered fault
+  Wanting : AreClean j ds (length ds) → AreDefined j ds → IsWant j ds entered fault → FaultView j ds entered fault
 
-viewed : (j : Joined) (ds : List Declared) (fault : LinkFault) → IsFault j ds (length ds) fault → FaultView j ds fault
-viewed j ds (Conflict name unit) h = Declaring h
-viewed j ds (Twice name unit) h = Declaring h
-viewed j ds (Undefined place name) h = Using place name refl h.0 h.1
-viewed j ds NoMain h = Wanting refl h.0 h.1 h.2
-viewed j ds OutOfMemory h = absurd h
+viewed : (j : Joined) (ds : List Declared) (entered : List (List ℕ)) (fault : LinkFault) → IsFault j ds entered (length ds) fault → FaultView j ds entered fault
+viewed j ds entered (Conflict name unit) h = Declaring h
+viewed j ds entered (Twice name unit) h = Declaring h
+viewed j ds entered (Undefined place name) h = Using place name refl h.0 h.1
+viewed j ds entered NoMain h = Wanting h.0 h.1 (h.2, h.3)
+viewed j ds entered (NoEntry name) h = Wanting h.0 h.1 h.2
+viewed j ds entered OutOfMemory h = absurd h
 
 same_place : (p q : Place) → PlaceAtMost p q → PlaceAtMost q p → p ≡ q
 same_place p q (inl a) (inl b) = absurd (omega (arith, a, b))
@@ -130,45 +134,51 @@ module _ (us vs : List Unit) (n m : Numbering) (table other : Table) (all : AreA
       let l : Like vs us g.item g.entity = like vs us (turned_all us vs all) g.item g.entity g.undefined.entity_is in
       sym f.named ∙ (named.one f.item (item g.item.unit l.number) f.entity l.entity place f.undefined.entity_is l.there f.undefined.used (sym l.used ∙ g.undefined.used) ∙ (sym l.name ∙ g.named))
 
-  both : (fault more : LinkFault) → FaultView J ds fault → FaultView K es more → (fault ≡ more) ⊎ ((place : Place) × (name : List ℕ) × (again : List ℕ) × (fault ≡ Undefined place name) × (more ≡ Undefined place again) × IsFirstUse J ds place name × IsFirstUse K es place again)
-  both fault more (Declaring f) (Declaring g) = inl (one_first J K F G ds es same_here fault more f g)
-  both fault more (Declaring f) (Using place name e clean use_is) = absurd (declaring fault f clean)
-  both fault more (Declaring f) (Wanting e clean defined none) = absurd (declaring fault f clean)
-  both fault more (Using place name e clean use_is) (Declaring g) = absurd (declaring_there more g clean)
-  both fault more (Wanting e clean defined none) (Declaring g) = absurd (declaring_there more g clean)
-  both fault more (Using place name e clean f) (Using q again i cleaner g) =
+  both : (entered : List (List ℕ)) (fault more : LinkFault) → FaultView J ds entered fault → FaultView K es entered more → (fault ≡ more) ⊎ ((place : Place) × (name : List ℕ) × (again : List ℕ) × (fault ≡ Undefined place name) × (more ≡ Undefined place again) × IsFirstUse J ds place name × IsFirstUse K es place again)
+  both entered fault more (Declaring f) (Declaring g) = inl (one_first J K F G ds es same_here fault more f g)
+  both entered fault more (Declaring f) (Using place name e clean use_is) = absurd (declaring fault f clean)
+  both entered fault more (Declaring f) (Wanting clean defined want) = absurd (declaring fault f clean)
+  both entered fault more (Using place name e clean use_is) (Declaring g) = absurd (declaring_there more g clean)
+  both entered fault more (Wanting clean defined want) (Declaring g) = absurd (declaring_there more g clean)
+  both entered fault more (Using place name e clean f) (Using q again i cleaner g) =
       let same : place ≡ q = one_place place name q again f g in
       inr (place, name, again, e, i ∙ ap (λ (p : Place). Undefined p again) (sym same), f, subst (λ (p : Place). IsFirstUse K es p again) (sym same) g)
-  both fault more (Using place name e clean f) (Wanting i cleaner defined none) = absurd (using place name f defined)
-  both fault more (Wanting e clean defined none) (Using place name i cleaner f) = absurd (using_there place name f defined)
-  both fault more (Wanting e clean defined none) (Wanting i cleaner defined_there none_there) = inl (e ∙ sym i)
+  both entered fault more (Using place name e clean f) (Wanting cleaner defined want) = absurd (using place name f defined)
+  both entered fault more (Wanting clean defined want) (Using place name i cleaner f) = absurd (using_there place name f defined)
+  both entered fault more (Wanting clean defined want) (Wanting cleaner defined_there want_there) =
+      inl (one_want J K ds es entered (λ name. entry_same J K F G name ds es same_here) (λ name. entry_same K J G F name es ds same_back) fault more want want_there)
 
-  pub one_or_use : (fault more : LinkFault) → IsFault J ds (length ds) fault → IsFault K es (length es) more → (fault ≡ more) ⊎ AreOneUse fault more
-  one_or_use fault more f g = elim (both fault more (viewed J ds fault f) (viewed K es more g)) [
+  pub one_or_use : (entered : List (List ℕ)) (fault more : LinkFault) → IsFault J ds entered (length ds) fault → IsFault K es entered (length es) more → (fault ≡ more) ⊎ AreOneUse fault more
+  one_or_use entered fault more f g = elim (both entered fault more (viewed J ds entered fault f) (viewed K es entered more g)) [
     | inl same ↦ inl same
     | inr (place, name, again, e, i, f, g) ↦ inr (record { place = place; name = name; other_name = again; first = e; second = i })
   ]
 
-  pub one_fault : NamedByPlace us → (fault more : LinkFault) → IsFault J ds (length ds) fault → IsFault K es (length es) more → fault ≡ more
-  one_fault named fault more f g = elim (both fault more (viewed J ds fault f) (viewed K es more g)) [
+  pub one_fault : NamedByPlace us → (entered : List (List ℕ)) (fault more : LinkFault) → IsFault J ds entered (length ds) fault → IsFault K es entered (length es) more → fault ≡ more
+  one_fault named entered fault more f g = elim (both entered fault more (viewed J ds entered fault f) (viewed K es entered more g)) [
     | inl same ↦ same
     | inr (place, name, again, e, i, f, g) ↦ e ∙ (ap (Undefined place) (one_name named place name again f g) ∙ sym i)
   ]
 
-  none_there : (more : LinkFault) → AreFaultless J ds (length ds) → FaultView K es more → ⊥
-  none_there more h (Declaring g) = declaring_there more g h.clean
-  none_there more h (Using place name e clean f) = using_there place name f h.defined
-  none_there more h (Wanting e clean defined none) = none (main_same J K F G ds es same_here h.main)
+  none_there : (entered : List (List ℕ)) (more : LinkFault) → AreFaultless J ds entered (length ds) → FaultView K es entered more → ⊥
+  none_there entered more h (Declaring g) = declaring_there more g h.clean
+  none_there entered more h (Using place name e clean f) = using_there place name f h.defined
+  none_there entered more h (Wanting clean defined want) = no_want K es entered more (started_same J K F G entered ds es same_here h.start) want
 
-  pub no_fault : (more : LinkFault) → AreFaultless J ds (length ds) → IsFault K es (length es) more → ⊥
-  no_fault more h g = none_there more h (viewed K es more g)
+  pub no_fault : (entered : List (List ℕ)) (more : LinkFault) → AreFaultless J ds entered (length ds) → IsFault K es entered (length es) more → ⊥
+  no_fault entered more h g = none_there entered more h (viewed K es entered more g)
+
+link_fault_one : {entered : List (List ℕ)} (us vs : List Unit) (fault more : LinkFault) → AreAllTwins us vs → LinksBadlyAt entered us fault → LinksBadlyAt entered vs more → (fault ≡ more) ⊎ AreOneUse fault more
+link_fault_one {entered} us vs fault more all f g =
+    one_or_use us vs f.numbers g.numbers f.table g.table all f.merged g.merged f.declarations g.declarations f.declared g.declared entered fault more f.fault_is g.fault_is
+
+link_fault_named : {entered : List (List ℕ)} (us vs : List Unit) (fault more : LinkFault) → AreAllTwins us vs → NamedByPlace us → LinksBadlyAt entered us fault → LinksBadlyAt entered vs more → fault ≡ more
+link_fault_named {entered} us vs fault more all named f g =
+    one_fault us vs f.numbers g.numbers f.table g.table all f.merged g.merged f.declarations g.declarations f.declared g.declared named entered fault more f.fault_is g.fault_is
 
 pub one_link_fault : OneLinkFault
-one_link_fault = record {
-  one = λ us vs fault more all f g. one_or_use us vs f.numbers g.numbers f.table g.table all f.merged g.merged f.declarations g.declarations f.declared g.declared fault more f.fault_is g.fault_is;
-  named = λ us vs fault more all named f g. one_fault us vs f.numbers g.numbers f.table g.table all f.merged g.merged f.declarations g.declarations f.declared g.declared named fault more f.fault_is g.fault_is;
-}
+one_link_fault = record { one = link_fault_one; named = link_fault_named }
 
-pub no_link_fault : NoLinkFault
-no_link_fault us vs p fault all linked g =
-    no_fault us vs linked.numbers g.numbers p.types g.table all linked.types g.merged linked.declarations g.declarations linked.declared g.declared fault linked.faultless g.fault_is
+pub no_link_fault : {entered : List (List ℕ)} (us vs : List Unit) (p : Program) (fault : LinkFault) → AreAllTwins us vs → LinkedAt entered us p → LinksBadlyAt entered vs fault → ⊥
+no_link_fault {entered} us vs p fault all linked g =
+    no_fault us vs linked.numbers g.numbers p.types g.table all linked.types g.merged linked.declarations g.declarations linked.declared g.declared entered fault linked.faultless g.fault_is

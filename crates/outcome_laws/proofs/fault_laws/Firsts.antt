@@ -4,7 +4,7 @@ use Rattle.std.specs.List.{slice_get}
 use Rattle.std.proofs.lemmas.Bool.{cases_lt}
 use Rattle.link_names.specs.declared.declared.Declared.{Declared}
 use Rattle.link_names.specs.declared.fault.LinkFault.{LinkFault}
-use Rattle.link_names.specs.declared.fault.LinkFault.TheVariants.{Conflict, Twice, Undefined, NoMain, OutOfMemory}
+use Rattle.link_names.specs.declared.fault.LinkFault.TheVariants.{Conflict, Twice, Undefined, NoMain, NoEntry, OutOfMemory}
 use Rattle.link_names.specs.Externals.{Joined}
 use Rattle.link_names.specs.Faults.{Conflicts, IsClean, AreClean, FaultOf, IsFirstFault}
 use Rattle.outcome_laws.proofs.fault_laws.Pairing.{SameDeclared, Pairs, PairAt, pair_at, taken, flipped, turned, conflicts_same, second_same}
@@ -18,6 +18,7 @@ faulty j ds earlier d (Conflict name unit) h clean = clean.agrees name h.0 h.2
 faulty j ds earlier d (Twice name unit) h clean = clean.once name h.0 h.3
 faulty j ds earlier d (Undefined place name) h clean = absurd h
 faulty j ds earlier d NoMain h clean = absurd h
+faulty j ds earlier d (NoEntry name) h clean = absurd h
 faulty j ds earlier d OutOfMemory h clean = absurd h
 
 -- it has one fault
@@ -32,12 +33,15 @@ one_fault_of j ds earlier d (Twice name unit) (Twice again more) h k =
     ap (λ (n : List ℕ). Twice n unit) (some_one (sym h.0 ∙ k.0)) ∙ ap (λ (u : ℕ). Twice again u) (h.1 ∙ sym k.1)
 one_fault_of j ds earlier d (Conflict name unit) (Undefined place again) h k = absurd k
 one_fault_of j ds earlier d (Conflict name unit) NoMain h k = absurd k
+one_fault_of j ds earlier d (Conflict name unit) (NoEntry again) h k = absurd k
 one_fault_of j ds earlier d (Conflict name unit) OutOfMemory h k = absurd k
 one_fault_of j ds earlier d (Twice name unit) (Undefined place again) h k = absurd k
 one_fault_of j ds earlier d (Twice name unit) NoMain h k = absurd k
+one_fault_of j ds earlier d (Twice name unit) (NoEntry again) h k = absurd k
 one_fault_of j ds earlier d (Twice name unit) OutOfMemory h k = absurd k
 one_fault_of j ds earlier d (Undefined place name) other h k = absurd h
 one_fault_of j ds earlier d NoMain other h k = absurd h
+one_fault_of j ds earlier d (NoEntry name) other h k = absurd h
 one_fault_of j ds earlier d OutOfMemory other h k = absurd h
 
 module _ (j k : Joined) (to back : ℕ → ℕ) (ds es : List Declared) (all : Pairs (SameDeclared j k to back) ds es) where
@@ -61,6 +65,7 @@ module _ (j k : Joined) (to back : ℕ → ℕ) (ds es : List Declared) (all : P
       (sym p.name ∙ h.0, h.1 ∙ p.unit, (λ c. h.2 (conflict_back i d e name p c)), second_same j k to back name (take i ds) (take i es) d e (taken Same i ds es all) p h.3)
   fault_same i d e (Undefined place name) p h = absurd h
   fault_same i d e NoMain p h = absurd h
+  fault_same i d e (NoEntry name) p h = absurd h
   fault_same i d e OutOfMemory p h = absurd h
 
   -- where the first so many are clean, the first fault of the others comes later

@@ -1,9 +1,9 @@
 -- What other numbers for tags leave as it is.
-use Rattle.std.proofs.Common.{◌≡◌, ◌∙◌, ◌<◌, ℕ, Bool, true, false, List, [], ◌∷◌, Some, None, refl, ap, inl, inr}
+use Rattle.std.proofs.Common.{◌≡◌, ◌∙◌, ◌<◌, ◌⊎◌, ℕ, Bool, true, false, List, [], ◌∷◌, Some, None, refl, ap, inl, inr}
 use Rattle.c_types.specs.declared.term.Form.{Form}
 use Rattle.c_types.specs.declared.term.Form.TheVariants.{Fixed, Variadic, Unspecified}
 use Rattle.c_types.specs.Trees.{Ctype, Ctypes, NoTypes, MoreTypes, VoidType, BoolType, IntegerType, FloatingType, VaListType, PointerTo, ArrayOf, FunctionFrom, StructureOf, UnionOf}
-use Rattle.type_rules.specs.Kinds.{IsInteger, IsFunction}
+use Rattle.type_rules.specs.Kinds.{IsInteger, IsScalar, IsFunction, AreScalars, IsEntryType}
 use Rattle.type_rules.specs.Sizes.{with_one}
 use Rattle.type_rules.specs.Conversions.{Agree}
 use Rattle.link_model.specs.Renamed.{renamed, all_renamed}
@@ -330,3 +330,21 @@ module _ (g : ℕ → ℕ) where
   main_kept (ArrayOf of length) h = h
   main_kept (StructureOf tag) h = h
   main_kept (UnionOf tag) h = h
+
+  scalar_kept : (t : Ctype) → IsScalar t → IsScalar (renamed g t)
+  scalar_kept BoolType h = inl tt
+  scalar_kept (IntegerType size rank signed) h = inl tt
+  scalar_kept (PointerTo to) h = inr tt
+  scalar_kept t h = h
+
+  scalars_kept : (ts : Ctypes) → AreScalars ts → AreScalars (all_renamed g ts)
+  scalars_kept NoTypes h = tt
+  scalars_kept (MoreTypes first rest) h = (scalar_kept first h.0, scalars_kept rest h.1)
+
+  given_kept : (t : Ctype) → (t ≡ VoidType) ⊎ IsScalar t → (renamed g t ≡ VoidType) ⊎ IsScalar (renamed g t)
+  given_kept t (inl void) = inl (ap R void)
+  given_kept t (inr scalar) = inr (scalar_kept t scalar)
+
+  pub entry_kept : (t : Ctype) → IsEntryType t → IsEntryType (renamed g t)
+  entry_kept (FunctionFrom result parameters form) h = (h.0, given_kept result h.1, scalars_kept parameters h.2)
+  entry_kept t h = h

@@ -1,11 +1,12 @@
 -- Lists of declarations that say the same, one by one.
-use Rattle.std.proofs.Common.{◌≡◌, ◌∙◌, ℕ, zero, suc, Bool, true, false, ◌||◌, cond, List, [], ◌∷◌, Option, Some, None, map, take, length, refl, sym, ap, subst, inl, inr}
+use Rattle.std.proofs.Common.{◌≡◌, ◌∙◌, ℕ, zero, suc, Bool, true, false, ◌||◌, cond, List, [], ◌∷◌, Option, Some, None, map, take, length, get_or, refl, sym, ap, subst, inl, inr}
 use Rattle.std.specs.Prelude.{⊤, fold, find, filter}
 use Rattle.std.specs.List.{list_any, slice_get}
 use Rattle.std.specs.Option.{option_map_or, option_or}
 use Rattle.std.specs.Str.{bytes_eq}
 use Rattle.c_types.specs.Trees.{Ctype}
 use Rattle.type_rules.specs.Conversions.{Agree}
+use Rattle.type_rules.specs.Kinds.{IsEntryType}
 use Rattle.core_tree.specs.declared.node.Entity.{Entity}
 use Rattle.core_tree.specs.declared.node.Unit.{Unit}
 use Rattle.link_model.specs.declared.item.Item.{Item}
@@ -14,8 +15,8 @@ use Rattle.link_names.specs.declared.declared.Declared.{Declared}
 use Rattle.link_names.specs.Shape.{HasShape}
 use Rattle.link_names.specs.Externals.{Joined, entity_at, item_of, name_at, has_body, is_defined, is_named, declared_type}
 use Rattle.link_names.specs.Together.{composite, together, of_name, type_together, is_own, is_made, is_listed, has_list, first_body, first_defined, maker_of, type_made, linked_type}
-use Rattle.link_names.specs.Faults.{LacksShape, Disagrees, Conflicts, IsSecond, IsMissing, HasMain, IsMainType, main_name}
-use Rattle.outcome_laws.proofs.fault_laws.Images.{composite_kept, listed_kept, linked_kept, agree_kept, shape_kept, main_kept}
+use Rattle.link_names.specs.Faults.{LacksShape, Disagrees, Conflicts, IsSecond, IsMissing, HasMain, IsMainType, main_name, HasEntry, IsStarted}
+use Rattle.outcome_laws.proofs.fault_laws.Images.{composite_kept, listed_kept, linked_kept, agree_kept, shape_kept, main_kept, entry_kept}
 
 -- entities that are the same, but for numbers and types
 pub record SameWords (x y : Entity) : Type 0 where
@@ -253,6 +254,20 @@ module _ (j k : Joined) (to back : ℕ → ℕ) where
         body = sym p.body ∙ h.body;
         type = subst IsMainType (sym (made_type main_name ds es h.declared e all p)) (main_kept to (type_made j ds main_name h.declared) h.type);
       }
+
+  pub entry_same : (name : List ℕ) (ds es : List Declared) → Pairs Same ds es → HasEntry j ds name → HasEntry k es name
+  entry_same name ds es all h =
+      let (e, made, p) = some_pair Same (maker_of j ds name) (maker_of k es name) h.declared (maker_pair name ds es all) h.made in
+      record {
+        declared = e;
+        made = made;
+        body = sym p.body ∙ h.body;
+        type = subst IsEntryType (sym (made_type name ds es h.declared e all p)) (entry_kept to (type_made j ds name h.declared) h.type);
+      }
+
+  pub started_same : (entered : List (List ℕ)) (ds es : List Declared) → Pairs Same ds es → IsStarted j ds entered → IsStarted k es entered
+  started_same [] ds es all h = main_same ds es all h
+  started_same (name ∷ rest) ds es all h = λ i d lt. entry_same (get_or (name ∷ rest) i d) ds es all (h i d lt)
 
 pub conflicts_same : (j k : Joined) (to back : ℕ → ℕ) (name : List ℕ) (ds es earlier before : List Declared) (d e : Declared)
     → Pairs (SameDeclared j k to back) ds es → Pairs (SameDeclared j k to back) earlier before → SameDeclared j k to back d e

@@ -1,6 +1,9 @@
 -- Units that are right for the same texts are twins.
 use Rattle.std.proofs.Common.{◌≡◌, ◌∙◌, ◌<◌, ◌+◌, ℕ, zero, suc, List, [], ◌∷◌, Option, Some, None, length, slice_get, refl, sym, ap, subst}
 use Rattle.core_tree.specs.declared.node.Unit.{Unit}
+use Rattle.core_tree.specs.declared.node.Program.{Program}
+use Rattle.link_names.specs.declared.fault.LinkFault.{LinkFault}
+use Rattle.unit_link.specs.Linked.{LinkedAt, LinksBadlyAt}
 use Rattle.c_senses.specs.Tree.{Source}
 use Rattle.c_senses.specs.Names.{source_of, numbered}
 use Rattle.count_laws.proofs.single_nodes.Places.{IsPlaced, is_placed}
@@ -64,8 +67,11 @@ right_from number (u ∷ us) (v ∷ vs) h =
     let x = h.0 in
     (record { tokens = x.tokens; tree = x.tree; tag_number = x.tag_number; name = x.name; cut = x.cut; read = x.read; right = x.right }, right_from (number + 1) us vs h.1)
 
+text_fault_one : {entered : List (List ℕ)} (us vs : List Unit) (fault other : LinkFault) → AreOfOneTexts 0 us vs → LinksBadlyAt entered us fault → LinksBadlyAt entered vs other → fault ≡ other
+text_fault_one us vs fault other h f g = one_link_fault.named us vs fault other (all_twins us vs h) (named_by_place us (right_from 0 us vs h)) f g
+
+text_fault_none : {entered : List (List ℕ)} (us vs : List Unit) (p : Program) (fault : LinkFault) → AreOfOneTexts 0 us vs → LinkedAt entered us p → LinksBadlyAt entered vs fault → ⊥
+text_fault_none us vs p fault h linked g = no_link_fault us vs p fault (all_twins us vs h) linked g
+
 pub one_text_fault : OneTextFault
-one_text_fault = record {
-  one = λ us vs fault other h f g. one_link_fault.named us vs fault other (all_twins us vs h) (named_by_place us (right_from 0 us vs h)) f g;
-  none = λ us vs p fault h linked g. no_link_fault us vs p fault (all_twins us vs h) linked g;
-}
+one_text_fault = record { one = text_fault_one; none = text_fault_none }

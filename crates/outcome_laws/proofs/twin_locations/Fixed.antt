@@ -1,14 +1,14 @@
 -- The library's objects, which have no numbers of the program.
 use Rattle.std.proofs.Common.{◌≡◌, ◌+◌, ◌-◌, ℕ, zero, suc, Bool, true, false, List, [], ◌∷◌, ◌++◌, map, refl, sym, ap, subst, inl, inr}
-use Rattle.std.specs.Prelude.{⊤, if◌then◌else◌, nat_eq, nat_lt}
-use Rattle.c_types.specs.declared.key.ObjectKey.TheVariants.{Library as LibraryKey, Star as StarKey, Function as FunctionKey}
+use Rattle.std.specs.Prelude.{⊤, codes, if◌then◌else◌, nat_eq, nat_lt}
+use Rattle.c_types.specs.declared.key.ObjectKey.TheVariants.{Library as LibraryKey, Star as StarKey, Function as FunctionKey, Outside as OutsideKey}
 use Rattle.c_types.specs.Table.{Table}
 use Rattle.core_tree.specs.declared.node.Program.{Program}
 use Rattle.obj_made.specs.declared.object.Content.{Content}
 use Rattle.obj_made.specs.declared.object.Content.TheVariants.{Function, Blob, Scalar, Scalars, Typed, Elements}
 use Rattle.obj_made.specs.declared.object.Object.{Object}
 use Rattle.obj_made.specs.Uses.{is_named, is_starred}
-use Rattle.obj_space.specs.Objects.{named_object, library_name, function_if, function_object, functions_below, LibraryRow, library_rows, is_needed, library_object, library_objects_from, library_objects, star_if, star_object, star_objects, takes_arguments, library_part}
+use Rattle.obj_space.specs.Objects.{named_object, library_name, function_if, function_object, functions_below, LibraryRow, library_rows, is_needed, library_object, library_objects_from, library_objects, star_if, star_object, star_objects, takes_arguments, outside_objects, library_part}
 use Rattle.outcome_laws.specs.twin_programs.One.{Numbers}
 use Rattle.outcome_laws.specs.twin_locations.Same.{number_moved}
 use Rattle.outcome_laws.proofs.twin_locations.Members.{Member}
@@ -28,6 +28,7 @@ pub data IsLibraryObject : Object → Type 0 where
   function : (k : ℕ) → IsLibraryObject (named_object (FunctionKey k) (library_name k) Function)
   fixed : (k : ℕ) (name : List ℕ) (content : Content) → IsFixed content → IsLibraryObject (named_object (LibraryKey k) name content)
   star : (k : ℕ) (name : List ℕ) (content : Content) → IsFixed content → IsLibraryObject (named_object (StarKey k) name content)
+  outside : IsLibraryObject (named_object OutsideKey (codes "<outside>") Blob)
 
 abbrev AllLibrary : List Object → Type 0
 AllLibrary [] = ⊤
@@ -76,16 +77,23 @@ star_right true k = (star k _ _ (by (nat_eq k 21)), tt)
     by false = tt
 star_right false k = tt
 
+outside_right : (entries : List ℕ) → AllLibrary (outside_objects entries)
+outside_right [] = tt
+outside_right (e ∷ rest) = (outside, tt)
+
 all_library : (p : Program) → AllLibrary (library_part p)
 unfolding library_objects
 all_library p =
     let named = is_named p.entities.items p.nodes.items in
     let starred = is_starred p.entities.items p.nodes.items in
-    all_append (functions_below p 55) (library_objects named (takes_arguments p) ++ star_objects p) (functions_right p 55)
-    (all_append (library_objects named (takes_arguments p)) (star_objects p) (library_right named (takes_arguments p) 0 library_rows rows_fixed)
+    let last = outside_objects p.entries.items in
+    all_append (functions_below p 55) (library_objects named (takes_arguments p) ++ (star_objects p ++ last)) (functions_right p 55)
+    (all_append (library_objects named (takes_arguments p)) (star_objects p ++ last) (library_right named (takes_arguments p) 0 library_rows rows_fixed)
+    (all_append (star_objects p) last
     (all_append (star_object p 0) (star_object p 1 ++ (star_object p 2 ++ star_object p 21)) (star_right (starred 0) 0)
     (all_append (star_object p 1) (star_object p 2 ++ star_object p 21) (star_right (starred 1) 1)
-    (all_append (star_object p 2) (star_object p 21) (star_right (starred 2) 2) (star_right (starred 21) 21)))))
+    (all_append (star_object p 2) (star_object p 21) (star_right (starred 2) 2) (star_right (starred 21) 21))))
+    (outside_right p.entries.items)))
 
 pub library_view : (p : Program) (o : Object) → Member (library_part p) o → IsLibraryObject o
 library_view p o m = all_member (library_part p) o (all_library p) m
@@ -106,3 +114,4 @@ pub library_twin : (p q : Program) (to : Numbers) (o : Object) → IsLibraryObje
 library_twin p q to o (function k) = record { key = refl; name = refl; nodes = refl }
 library_twin p q to o (fixed k name content h) = record { key = refl; name = refl; nodes = fixed_cells p.types q.types to.tag content h }
 library_twin p q to o (star k name content h) = record { key = refl; name = refl; nodes = fixed_cells p.types q.types to.tag content h }
+library_twin p q to o outside = record { key = refl; name = refl; nodes = refl }

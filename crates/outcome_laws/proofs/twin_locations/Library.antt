@@ -3,9 +3,9 @@ use Rattle.std.proofs.Common.{◌≡◌, ◌∙◌, ℕ, zero, suc, Bool, List, 
 use Rattle.core_tree.specs.declared.node.Program.{Program}
 use Rattle.obj_made.specs.declared.object.Object.{Object}
 use Rattle.obj_made.specs.Uses.{is_named, is_starred}
-use Rattle.obj_space.specs.Objects.{function_if, function_object, functions_below, library_objects, star_if, star_object, star_objects, takes_arguments, library_part}
+use Rattle.obj_space.specs.Objects.{function_if, function_object, functions_below, library_objects, star_if, star_object, star_objects, takes_arguments, outside_objects, library_part}
 use Rattle.outcome_laws.specs.twin_programs.One.{Numbers, LeadsTo}
-use Rattle.outcome_laws.proofs.twin_locations.Uses.{named_same, arguments_same, starred_same}
+use Rattle.outcome_laws.proofs.twin_locations.Uses.{named_same, arguments_same, outside_same, starred_same}
 
 module _ (p q : Program) (to back : Numbers) (l : LeadsTo p q to back) (r : LeadsTo q p back to) where
   functions_same : (n : ℕ) → functions_below q n ≡ functions_below p n
@@ -26,7 +26,9 @@ module _ (p q : Program) (to back : Numbers) (l : LeadsTo p q to back) (r : Lead
       ∙ (ap (λ (b : Bool). star_object p 0 ++ (star_if b 1 ++ (star_object q 2 ++ star_object q 21))) (starred_same p q to back l r 1)
       ∙ (ap (λ (b : Bool). star_object p 0 ++ (star_object p 1 ++ (star_if b 2 ++ star_object q 21))) (starred_same p q to back l r 2)
       ∙ ap (λ (b : Bool). star_object p 0 ++ (star_object p 1 ++ (star_object p 2 ++ star_if b 21))) (starred_same p q to back l r 21))) in
-      ap (λ (os : List Object). os ++ (library_objects (is_named q.entities.items q.nodes.items) (takes_arguments q) ++ star_objects q)) (functions_same 55)
-      ∙ (ap (λ (f : ℕ → Bool). functions_below p 55 ++ (library_objects f (takes_arguments q) ++ star_objects q)) names_same
-      ∙ (ap (λ (b : Bool). functions_below p 55 ++ (library_objects named b ++ star_objects q)) (arguments_same p q to back l r)
-      ∙ ap (λ (os : List Object). functions_below p 55 ++ (library_objects named (takes_arguments p) ++ os)) first))
+      let outside = outside_objects q.entries.items in
+      ap (λ (os : List Object). os ++ (library_objects (is_named q.entities.items q.nodes.items) (takes_arguments q) ++ (star_objects q ++ outside))) (functions_same 55)
+      ∙ (ap (λ (f : ℕ → Bool). functions_below p 55 ++ (library_objects f (takes_arguments q) ++ (star_objects q ++ outside))) names_same
+      ∙ (ap (λ (b : Bool). functions_below p 55 ++ (library_objects named b ++ (star_objects q ++ outside))) (arguments_same p q to back l r)
+      ∙ (ap (λ (os : List Object). functions_below p 55 ++ (library_objects named (takes_arguments p) ++ (os ++ outside))) first
+      ∙ ap (λ (os : List Object). functions_below p 55 ++ (library_objects named (takes_arguments p) ++ (star_objects p ++ os))) (outside_same p q to back l r))))

@@ -1,5 +1,5 @@
 -- What programs that are one name of the library.
-use Rattle.std.proofs.Common.{arith, ◌≡◌, ◌∙◌, ◌+◌, ℕ, zero, suc, Bool, true, false, ◌||◌, List, [], ◌∷◌, Option, Some, None, refl, sym, ap, inl, inr}
+use Rattle.std.proofs.Common.{arith, ◌≡◌, ◌∙◌, ◌+◌, ℕ, zero, suc, Bool, true, false, ◌||◌, List, [], ◌∷◌, map, Option, Some, None, refl, sym, ap, inl, inr}
 use Rattle.std.specs.Prelude.{if◌then◌else◌, codes}
 use Rattle.std.specs.List.{slice_get}
 use Rattle.std.specs.Option.{option_map, option_and_then}
@@ -20,7 +20,7 @@ use Rattle.core_tree.specs.declared.node.Program.{Program}
 use Rattle.link_model.specs.Renamed.{renamed}
 use Rattle.unit_link.specs.Places.{kind_renamed}
 use Rattle.obj_made.specs.Uses.{is_number, number_in, entity_number, library_number, named_entity, function_entity, named_number, is_named, function_node, decayed_in, callee_at, callee_in, direct_callee, is_called, star_number, is_starred_from, is_starred}
-use Rattle.obj_space.specs.Objects.{has_parameters, main_in, takes_arguments}
+use Rattle.obj_space.specs.Objects.{has_parameters, main_in, main_takes, takes_for, takes_arguments, outside_objects}
 use Rattle.outcome_laws.specs.twin_programs.One.{Numbers, SameEntity, SameNode, LeadsTo}
 use Rattle.outcome_laws.proofs.twin_locations.Options.{some_one, none_some, and_then_some, and_then_is, same_test, any_at, any_one, number_is, is_the_number, mapped_at}
 
@@ -186,8 +186,8 @@ module _ (p q : Program) (to back : Numbers) (l : LeadsTo p q to back) where
       any_at (λ (call : Node). is_number (to.node n) (direct_callee q.nodes.items call)) q.nodes.items (to.node i) y there
       (is_the_number (to.node n) (direct_callee q.nodes.items y) (direct_is q.nodes.items y (to.node n) (direct_there x y n same d)))
 
-  arguments_there : takes_arguments p ≡ true → takes_arguments q ≡ true
-  arguments_there h =
+  main_there : main_takes p ≡ true → main_takes q ≡ true
+  main_there h =
       let (i, x, at, is) = any_one (λ (entity : Entity). main_in p.types entity.linkage entity.storage entity.name (type_of p.types entity.ty.0)) p.entities.items h in
       let (y, there, same) = l.entities i x at in
       let (linkage, storage, rest) = main_view p.types x.linkage x.storage x.name (type_of p.types x.ty.0) is in
@@ -224,7 +224,18 @@ module _ (p q : Program) (to back : Numbers) (l : LeadsTo p q to back) (r : Lead
   named_same k = same_test (is_named p.entities.items p.nodes.items k) (is_named q.entities.items q.nodes.items k) (named_there p q to back l k) (named_there q p back to r k)
 
   pub arguments_same : takes_arguments q ≡ takes_arguments p
-  arguments_same = same_test (takes_arguments p) (takes_arguments q) (arguments_there p q to back l) (arguments_there q p back to r)
+  arguments_same = ap (λ (es : List ℕ). takes_for q es) l.entries ∙ by p.entries.items
+    where
+      by : (es : List ℕ) → takes_for q (map to.entity es) ≡ takes_for p es
+      by [] = same_test (main_takes p) (main_takes q) (main_there p q to back l) (main_there q p back to r)
+      by (e ∷ rest) = refl
+
+  pub outside_same : outside_objects q.entries.items ≡ outside_objects p.entries.items
+  outside_same = ap (λ (es : List ℕ). outside_objects es) l.entries ∙ by p.entries.items
+    where
+      by : (es : List ℕ) → outside_objects (map to.entity es) ≡ outside_objects es
+      by [] = refl
+      by (e ∷ rest) = refl
 
   pub starred_same : (k : ℕ) → is_starred q.entities.items q.nodes.items k ≡ is_starred p.entities.items p.nodes.items k
   starred_same k =

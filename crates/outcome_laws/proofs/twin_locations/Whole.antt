@@ -30,7 +30,7 @@ use Rattle.outcome_laws.proofs.twin_locations.Cells.{Cell, cells, cell_moved, ce
 use Rattle.outcome_laws.proofs.twin_locations.Made.{IsMadeOf, by_entity, by_node, by_further, made_of, of_made}
 use Rattle.outcome_laws.proofs.twin_locations.Library.{library_same}
 use Rattle.outcome_laws.proofs.twin_locations.Objects.{SameObject, IsKnownTable, made_twin, allocates_view, unless_there}
-use Rattle.outcome_laws.proofs.twin_locations.Fixed.{IsLibraryObject, function, fixed, star, library_view, library_twin}
+use Rattle.outcome_laws.proofs.twin_locations.Fixed.{IsLibraryObject, function, fixed, star, outside, library_view, library_twin}
 
 pub known_table : (table : Table) → IsMade table → AreNamed table → IsKnownTable table
 known_table table made named = record { made = made; tags = λ id. type_tags table id named; grows = λ id t at. type_is table id t named at }
@@ -130,6 +130,7 @@ module _ (p : Program) where
       none c (function k) same = absurd (cc)
       none c (fixed k name content h) same = absurd (cc)
       none c (star k name content h) same = absurd (cc)
+      none c outside same = absurd (cc)
 
       by : IsMadeOf p o → o ≡ d
       by (by_entity f y y_at y_is) =
@@ -150,6 +151,7 @@ module _ (p : Program) where
       one c (function n) same = ap (λ (m : ℕ). named_object (FunctionKey m) (library_name m) Function) (function_keys n k same)
       one c (fixed n name content h) same = absurd (cc)
       one c (star n name content h) same = absurd (cc)
+      one c outside same = absurd (cc)
 
       by : IsMadeOf p o → o ≡ named_object (FunctionKey k) (library_name k) Function
       by (by_entity f y y_at y_is) = (let same = entity_key f y o y_is in absurd (cc))

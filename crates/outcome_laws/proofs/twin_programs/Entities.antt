@@ -24,7 +24,7 @@ use Rattle.link_names.proofs.FirstLemmas.{is_named_own}
 use Rattle.link_names.proofs.Gathering.{one_text}
 use Rattle.linked_laws.proofs.link_laws.Wholeness.{maker_found}
 use Rattle.linked_laws.proofs.Origins.{number_within}
-use Rattle.unit_link.specs.Linked.{Entities, entity_of, IsMovedEntity, ShareName, OneEntity, IsLinkedName, IsLinkedOther, joined, Linked}
+use Rattle.unit_link.specs.Linked.{Entities, entity_of, IsMovedEntity, ShareName, OneEntity, IsLinkedName, IsLinkedOther, joined, LinkedAt}
 use Rattle.outcome_laws.specs.fault_laws.Twins.{AreAllTwins}
 use Rattle.outcome_laws.proofs.twin_programs.Lists.{some_one, some_at}
 use Rattle.outcome_laws.proofs.fault_laws.Pairing.{SameWords, SameDeclared, Pairs, some_pair, maker_pair, made_type}
@@ -108,7 +108,7 @@ module _ (us vs : List Unit) (P Q : ℕ → ℕ → ℕ → Type 0) (match : Mat
       let (v, v_at, leads) = match.units k own.unit own.at in
       (same, leads.entity_once i g j one (subst (λ (n : ℕ). P k g n) (sym number) (subst (λ (n : ℕ). P n g c) (sym same) two)))
 
-  module _ (p q : Program) (h : Linked us p) (k : Linked vs q) where
+  module _ {entered : List (List ℕ)} (p q : Program) (h : LinkedAt entered us p) (k : LinkedAt entered vs q) where
     abbrev Pair : ℕ → ℕ → Type 0
     Pair e f = EntityPair us vs P h.entity_numbers k.entity_numbers e f
 
@@ -219,7 +219,7 @@ module _ (us vs : List Unit) (P Q : ℕ → ℕ → ℕ → Type 0) (match : Mat
               subst (λ (z : Entity). SameTyped p.types q.types tag x z) two (subst (λ (z : Entity). SameTyped p.types q.types tag z b) one same)
 
 -- an external name stands once
-module _ (units : List Unit) (p : Program) (h : Linked units p) where
+module _ {entered : List (List ℕ)} (units : List Unit) (p : Program) (h : LinkedAt entered units p) where
   declares : (own z : Entity) → IsLinkedName (joined units h.numbers p.types) h.declarations h.entity_numbers own.name z → z.name ≡ own.name
   declares own z linked =
       let found = maker_found (joined units h.numbers p.types) h.declarations own.name linked.declared linked.maker in

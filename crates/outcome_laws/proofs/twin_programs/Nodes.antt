@@ -19,7 +19,7 @@ use Rattle.link_merge.proofs.Own.{type_tags}
 use Rattle.link_names.specs.Externals.{entities_if}
 use Rattle.linked_laws.proofs.Origins.{node_from}
 use Rattle.unit_link.specs.Places.{node_place, kind_renamed}
-use Rattle.unit_link.specs.Linked.{Linked}
+use Rattle.unit_link.specs.Linked.{LinkedAt}
 use Rattle.outcome_laws.specs.fault_laws.Twins.{AreAllTwins}
 use Rattle.outcome_laws.specs.twin_programs.One.{Numbers, SameNode}
 use Rattle.outcome_laws.proofs.twin_programs.Lists.{some_one, none_some, some_at, paired_maps}
@@ -58,7 +58,7 @@ unmapped f (x ∷ xs) zero c at = (x, refl, some_one at)
 unmapped f (x ∷ xs) (suc k) c at = unmapped f xs k c at
 
 -- a node is a child once at most in a program, since it is in its unit
-module _ (units : List Unit) (p : Program) (h : Linked units p) (valid : (u : ℕ) (x : Unit) → slice_get units u ≡ Some x → ValidUnit x) where
+module _ {entered : List (List ℕ)} (units : List Unit) (p : Program) (h : LinkedAt entered units p) (valid : (u : ℕ) (x : Unit) → slice_get units u ≡ Some x → ValidUnit x) where
   -- a child of the program's node is one of the unit's
   record ChildFrom (a k c : ℕ) : Type 0 where
     unit : ℕ
@@ -145,7 +145,7 @@ turned_node us vs Q n m h = record {
   other_number = h.number;
 }
 
-module _ (us vs : List Unit) (P Q : ℕ → ℕ → ℕ → Type 0) (match : Matching us vs P Q) (p q : Program) (h : Linked us p) (k : Linked vs q) where
+module _ {entered : List (List ℕ)} (us vs : List Unit) (P Q : ℕ → ℕ → ℕ → Type 0) (match : Matching us vs P Q) (p q : Program) (h : LinkedAt entered us p) (k : LinkedAt entered vs q) where
   pub node_pair : (n : ℕ) (x : Node) → slice_get p.nodes.items n ≡ Some x → (m : ℕ) × NodePair us vs Q n m
   node_pair n x at =
       let f = node_from us p h n x at in

@@ -17,7 +17,7 @@ use Rattle.link_names.specs.Together.{maker_of}
 use Rattle.link_names.proofs.Ordering.{external_is, is_external_of}
 use Rattle.linked_laws.proofs.link_laws.Wholeness.{maker_found}
 use Rattle.unit_link.specs.Places.{node_place}
-use Rattle.unit_link.specs.Linked.{IsMovedEntity, UsesName, NameUsed, IsLinkedName, joined, Linked}
+use Rattle.unit_link.specs.Linked.{IsMovedEntity, UsesName, NameUsed, IsLinkedName, joined, LinkedAt}
 use Rattle.outcome_laws.specs.fault_laws.Twins.{PlacesDiffer, AreAllTwins}
 use Rattle.outcome_laws.proofs.fault_laws.Pairing.{SameWords, SameDeclared, Pairs, some_pair, maker_pair}
 use Rattle.outcome_laws.proofs.fault_laws.Twinned.{HasUnit, has_unit}
@@ -63,7 +63,7 @@ used_same us vs P Q match match_back name (Some p) None h k = absurd (k p (uses_
 used_same us vs P Q match match_back name (Some p) (Some q) h k =
     ap Some (same_place q p (k.first p (uses_there us vs P Q match name p h.used)) (h.first q (uses_there vs us (λ c f e. P c e f) (λ c j i. Q c i j) match_back name q k.used)))
 
-module _ (us vs : List Unit) (P Q : ℕ → ℕ → ℕ → Type 0) (match : Matching us vs P Q) (p q : Program) (h : Linked us p) (k : Linked vs q)
+module _ {entered : List (List ℕ)} (us vs : List Unit) (P Q : ℕ → ℕ → ℕ → Type 0) (match : Matching us vs P Q) (p q : Program) (h : LinkedAt entered us p) (k : LinkedAt entered vs q)
     (match_back : Matching vs us (λ c f e. P c e f) (λ c j i. Q c i j)) (all : AreAllTwins us vs) (into : Numbers)
     (tag_is : into.tag ≡ to us vs h.numbers k.numbers p.types q.types all h.types k.types)
     (entity_is : (e f : ℕ) → EntityPair us vs P h.entity_numbers k.entity_numbers e f → into.entity e ≡ f) (node_is : (n m : ℕ) → NodePair us vs Q n m → into.node n ≡ m) where

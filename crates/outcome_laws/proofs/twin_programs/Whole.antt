@@ -1,14 +1,16 @@
 -- Programs that are linked from units which are alike are one, but for numbers.
 use Rattle.std.proofs.Common.{arith, ◌≡◌, ◌∙◌, ℕ, suc, List, [], ◌∷◌, map, length, Option, Some, None, refl, sym, ap, subst}
-use Rattle.std.specs.List.{slice_get}
+use Rattle.std.specs.List.{slice_get, AllZip}
 use Rattle.core_tree.specs.declared.node.Node.{Node}
 use Rattle.core_tree.specs.declared.node.Entity.{Entity}
 use Rattle.core_tree.specs.declared.node.Unit.{Unit}
 use Rattle.core_tree.specs.declared.node.Program.{Program}
-use Rattle.core_tree.specs.Valid.{ValidUnit}
-use Rattle.unit_link.specs.Linked.{Linked}
+use Rattle.core_tree.specs.declared.node.Storage.{Storage}
+use Rattle.core_tree.specs.Valid.{IsLocal, ValidUnit}
+use Rattle.link_names.specs.Externals.{IsExternal}
+use Rattle.unit_link.specs.Linked.{IsOfName, LinkedAt}
 use Rattle.outcome_laws.specs.fault_laws.Twins.{AreAllTwins}
-use Rattle.outcome_laws.specs.twin_programs.One.{Numbers, SameEntity, SameNode, LeadsTo, TwinPrograms}
+use Rattle.outcome_laws.specs.twin_programs.One.{AreAllRooted, Numbers, SameEntity, SameNode, LeadsTo, AreOne}
 use Rattle.outcome_laws.proofs.twin_programs.Lists.{some_one, none_some, some_at}
 use Rattle.outcome_laws.proofs.twin_programs.Matching.{Matching, entity_pairs, node_pairs, matching, matching_back}
 use Rattle.outcome_laws.proofs.fault_laws.Twinned.{at_unit, turned_all}
@@ -46,7 +48,7 @@ module _ {X : Type 0} (xs : List X) (R : ℕ → ℕ → Type 0) (pair : (n : �
     unfolding number
     number_is n m x at r = chosen_is n m x (slice_get xs n) refl at r
 
-module _ (us vs : List Unit) (P Q : ℕ → ℕ → ℕ → Type 0) (match : Matching us vs P Q) (match_back : Matching vs us (λ c f e. P c e f) (λ c j i. Q c i j)) (p q : Program) (h : Linked us p) (k : Linked vs q)
+module _ {entered : List (List ℕ)} (us vs : List Unit) (P Q : ℕ → ℕ → ℕ → Type 0) (match : Matching us vs P Q) (match_back : Matching vs us (λ c f e. P c e f) (λ c j i. Q c i j)) (p q : Program) (h : LinkedAt entered us p) (k : LinkedAt entered vs q)
     (all : AreAllTwins us vs) (other_all : AreAllTwins vs us) where
   abbrev entity_to : ℕ → ℕ
   entity_to = number p.entities.items (EntityPair us vs P h.entity_numbers k.entity_numbers) (entity_pair us vs P Q match p q h k)
@@ -104,6 +106,24 @@ module _ (us vs : List Unit) (P Q : ℕ → ℕ → ℕ → Type 0) (match : Mat
       let (y, there) = node_stands us vs P Q match p q h k n m r in
       (y, ap (slice_get q.nodes.items) (node_is n m r) ∙ there, node_same us vs P Q match p q h k match_back all into refl entity_is node_is n m x y r at there)
 
+  external_there : (x y : Entity) → SameEntity p.types q.types into x y → IsExternal x → IsExternal y
+  external_there x y same ex = record { linkage = same.linkage ∙ ex.linkage; lasting = λ l. ex.lasting (subst (λ (s : Storage). IsLocal s) same.storage l) }
+
+  -- the entry of a name leads to the one of that name
+  entry_there : (name : List ℕ) (e f : ℕ) → IsOfName p name e → IsOfName q name f → f ≡ entity_to e
+  entry_there name e f a b =
+      let (y, there, same) = entities_there e a.entity a.entity_is in
+      external_once vs q k f (entity_to e) b.entity y b.entity_is there b.external (external_there a.entity y same a.external) (b.named ∙ (sym a.named ∙ sym same.name))
+
+  entries_there : (names : List (List ℕ)) (ds es : List ℕ) → AllZip (IsOfName p) names ds → AllZip (IsOfName q) names es → es ≡ map entity_to ds
+  entries_there [] [] [] a b = refl
+  entries_there [] [] (e ∷ es) a b = absurd b
+  entries_there [] (d ∷ ds) es a b = absurd a
+  entries_there (name ∷ names) [] es a b = absurd a
+  entries_there (name ∷ names) (d ∷ ds) [] a b = absurd b
+  entries_there (name ∷ names) (d ∷ ds) (e ∷ es) a b =
+      ap (λ (n : ℕ). n ∷ es) (entry_there name d e a.0 b.0) ∙ ap (λ (ns : List ℕ). entity_to d ∷ ns) (entries_there names ds es a.1 b.1)
+
   leads_to : LeadsTo p q into back
   leads_to = record {
     names = k.names ∙ (unit_names vs us (sym all.many) (λ c v u there at. let t = all.each c u v at there in sym t.alike.named) ∙ sym h.names);
@@ -124,9 +144,10 @@ module _ (us vs : List Unit) (P Q : ℕ → ℕ → ℕ → Type 0) (match : Mat
         (λ c u at.
         let r = at_unit us vs all c u at in
         subst ValidUnit (some_one (sym r.first ∙ at)) r.twins.valid);
+    entries = entries_there entered p.entries.items q.entries.items h.entries k.entries;
   }
 
-pub twin_programs : TwinPrograms
+pub twin_programs : {entered : List (List ℕ)} (us vs : List Unit) (p q : Program) → AreAllTwins us vs → AreAllRooted us → AreAllRooted vs → LinkedAt entered us p → LinkedAt entered vs q → AreOne p q
 twin_programs us vs p q all rooted other_rooted h k =
     let P = entity_pairs us vs all rooted other_rooted in
     let Q = node_pairs us vs all rooted other_rooted in

@@ -13,7 +13,7 @@ use Rattle.std.proofs.lemmas.Bool.{cases_Bool, eqb-true, eq-eqb, false≢true}
 use Rattle.std.proofs.lemmas.Option.{slice_get_within}
 use Rattle.c_types.specs.declared.key.ObjectKey.{ObjectKey}
 use Rattle.c_types.specs.declared.key.ObjectKey.TheVariants.{Entity as EntityKey, Text as TextKey, Call as CallKey, Library as LibraryKey, Star as StarKey, Function as FunctionKey}
-use Rattle.c_types.specs.declared.key.ObjectKey.TheVariants.{Varargs as VarargsKey}
+use Rattle.c_types.specs.declared.key.ObjectKey.TheVariants.{Varargs as VarargsKey, Outside as OutsideKey}
 use Rattle.c_types.specs.Trees.{Ctype}
 use Rattle.c_types.specs.Table.{Table, type_of}
 use Rattle.core_tree.specs.declared.node.Node.{Node}
@@ -65,6 +65,7 @@ kinds_one (LibraryKey e) (LibraryKey f) k n = ap LibraryKey n
 kinds_one (StarKey e) (StarKey f) k n = ap StarKey n
 kinds_one (VarargsKey e) (VarargsKey f) k n = ap VarargsKey n
 kinds_one (FunctionKey e) (FunctionKey f) k n = ap FunctionKey n
+kinds_one OutsideKey OutsideKey k n = refl
 kinds_one a b k n = absurd (omega (arith, k))
 
 both_true : (a b : Bool) → (a && b) ≡ true → (a ≡ true) × (b ≡ true)

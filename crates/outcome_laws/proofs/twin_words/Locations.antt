@@ -26,14 +26,14 @@ use Rattle.obj_made.specs.Uses.{is_named, is_starred}
 use Rattle.obj_made.specs.Made.{Spot, spot_at, by_place, Made, in_order, entity_content, object_unless_declared, entity_object, made_at, entity_made, entities_made, node_object, node_made, nodes_made, last_place, has_varargs, varargs_object, varargs_spot, varargs_made, made_of_names, made_in_order, objects_in}
 use Rattle.obj_made.proofs.Ordered.{in_order-append}
 use Rattle.obj_space.specs.Parts.{parts_of}
-use Rattle.obj_space.specs.Objects.{named_object, function_if, function_object, functions_below, LibraryRow, library_rows, is_needed, library_object, library_objects_from, library_objects, star_if, star_object, star_objects, takes_arguments, library_part, objects_of}
+use Rattle.obj_space.specs.Objects.{named_object, function_if, function_object, functions_below, LibraryRow, library_rows, is_needed, library_object, library_objects_from, library_objects, star_if, star_object, star_objects, takes_arguments, outside_objects, library_part, objects_of}
 use Rattle.obj_space.specs.Space.{located, locations_by, locations_of, locations_in, IsKnown}
 use Rattle.outcome_laws.specs.twin_programs.One.{Numbers, LeadsTo}
 use Rattle.outcome_laws.specs.twin_words.Words.{IsSound}
 use Rattle.outcome_laws.proofs.twin_words.Sums.{some_one, none_some, sum-cons, sum_same}
 use Rattle.outcome_laws.proofs.twin_words.Calls.{content_size, object_size, node_size_same}
 use Rattle.outcome_laws.proofs.twin_words.Tables.{parts_there}
-use Rattle.outcome_laws.proofs.twin_words.Uses.{named_same, arguments_same, starred_same}
+use Rattle.outcome_laws.proofs.twin_words.Uses.{named_same, arguments_same, outside_same, starred_same}
 use Rattle.outcome_laws.proofs.twin_locations.Further.{has_same}
 
 -- how many locations objects have
@@ -304,16 +304,23 @@ star_known true k = (by (nat_eq k 21), tt)
     by false = tt
 star_known false k = tt
 
+outside_known : (entries : List ℕ) → AllKnown (outside_objects entries)
+outside_known [] = tt
+outside_known (e ∷ rest) = (tt, tt)
+
 pub library_part_known : (p : Program) → AllKnown (library_part p)
 unfolding library_objects
 library_part_known p =
     let named = is_named p.entities.items p.nodes.items in
     let starred = is_starred p.entities.items p.nodes.items in
-    known_append (functions_below p 55) (library_objects named (takes_arguments p) ++ star_objects p) (functions_known p 55)
-    (known_append (library_objects named (takes_arguments p)) (star_objects p) (library_known named (takes_arguments p) 0 library_rows rows_known)
+    let last = outside_objects p.entries.items in
+    known_append (functions_below p 55) (library_objects named (takes_arguments p) ++ (star_objects p ++ last)) (functions_known p 55)
+    (known_append (library_objects named (takes_arguments p)) (star_objects p ++ last) (library_known named (takes_arguments p) 0 library_rows rows_known)
+    (known_append (star_objects p) last
     (known_append (star_object p 0) (star_object p 1 ++ (star_object p 2 ++ star_object p 21)) (star_known (starred 0) 0)
     (known_append (star_object p 1) (star_object p 2 ++ star_object p 21) (star_known (starred 1) 1)
-    (known_append (star_object p 2) (star_object p 21) (star_known (starred 2) 2) (star_known (starred 21) 21)))))
+    (known_append (star_object p 2) (star_object p 21) (star_known (starred 2) 2) (star_known (starred 21) 21))))
+    (outside_known p.entries.items)))
 
 module _ (p q : Program) (to back : Numbers) (l : LeadsTo p q to back) (r : LeadsTo q p back to) where
   functions_same : (n : ℕ) → functions_below q n ≡ functions_below p n
@@ -334,10 +341,12 @@ module _ (p q : Program) (to back : Numbers) (l : LeadsTo p q to back) (r : Lead
       ∙ (ap (λ (b : Bool). star_object p 0 ++ (star_if b 1 ++ (star_object q 2 ++ star_object q 21))) (starred_same p q to back l r 1)
       ∙ (ap (λ (b : Bool). star_object p 0 ++ (star_object p 1 ++ (star_if b 2 ++ star_object q 21))) (starred_same p q to back l r 2)
       ∙ ap (λ (b : Bool). star_object p 0 ++ (star_object p 1 ++ (star_object p 2 ++ star_if b 21))) (starred_same p q to back l r 21))) in
-      ap (λ (os : List Object). os ++ (library_objects (is_named q.entities.items q.nodes.items) (takes_arguments q) ++ star_objects q)) (functions_same 55)
-      ∙ (ap (λ (f : ℕ → Bool). functions_below p 55 ++ (library_objects f (takes_arguments q) ++ star_objects q)) names_same
-      ∙ (ap (λ (b : Bool). functions_below p 55 ++ (library_objects named b ++ star_objects q)) (arguments_same p q to back l r)
-      ∙ ap (λ (os : List Object). functions_below p 55 ++ (library_objects named (takes_arguments p) ++ os)) first))
+      let outside = outside_objects q.entries.items in
+      ap (λ (os : List Object). os ++ (library_objects (is_named q.entities.items q.nodes.items) (takes_arguments q) ++ (star_objects q ++ outside))) (functions_same 55)
+      ∙ (ap (λ (f : ℕ → Bool). functions_below p 55 ++ (library_objects f (takes_arguments q) ++ (star_objects q ++ outside))) names_same
+      ∙ (ap (λ (b : Bool). functions_below p 55 ++ (library_objects named b ++ (star_objects q ++ outside))) (arguments_same p q to back l r)
+      ∙ (ap (λ (os : List Object). functions_below p 55 ++ (library_objects named (takes_arguments p) ++ (os ++ outside))) first
+      ∙ ap (λ (os : List Object). functions_below p 55 ++ (library_objects named (takes_arguments p) ++ (star_objects p ++ os))) (outside_same p q to back l r))))
 
 -- ---- all objects
 at_sizes : (table : Table) (xs : List Entity) (i a : ℕ) → slice_get (entity_sizes table xs) i ≡ Some a → (x : Entity) × (slice_get xs i ≡ Some x) × (entity_size table x.storage x.ty ≡ a)

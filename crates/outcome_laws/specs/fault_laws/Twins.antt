@@ -14,7 +14,7 @@ use Rattle.link_model.specs.Units.{is_union_of}
 use Rattle.link_names.specs.Externals.{IsExternal, entity_at as entity_in}
 use Rattle.link_names.specs.declared.fault.LinkFault.{LinkFault}
 use Rattle.link_names.specs.declared.fault.LinkFault.TheVariants.{Undefined}
-use Rattle.unit_link.specs.Linked.{Linked, LinksBadly}
+use Rattle.unit_link.specs.Linked.{LinkedAt, LinksBadlyAt}
 use Rattle.reading_laws.specs.right_laws.Alike.{AreAlike}
 
 -- whether a tag stands in a union of a table
@@ -54,18 +54,18 @@ pub record AreOneUse (fault other : LinkFault) : Type 0 where
   pub first : fault ≡ Undefined place name
   pub second : other ≡ Undefined place other_name
 
--- Units that are twins have one fault of linking.
+-- Units that are twins have one fault of linking, where the same entries are named.
 pub record OneLinkFault : Type 0 where
-  pub one : (us vs : List Unit) (fault other : LinkFault) → AreAllTwins us vs → LinksBadly us fault
-      → LinksBadly vs other → (fault ≡ other) ⊎ AreOneUse fault other
-  pub named : (us vs : List Unit) (fault other : LinkFault) → AreAllTwins us vs → NamedByPlace us
-      → LinksBadly us fault → LinksBadly vs other → fault ≡ other
+  pub one : {entered : List (List ℕ)} (us vs : List Unit) (fault other : LinkFault) → AreAllTwins us vs
+      → LinksBadlyAt entered us fault → LinksBadlyAt entered vs other → (fault ≡ other) ⊎ AreOneUse fault other
+  pub named : {entered : List (List ℕ)} (us vs : List Unit) (fault other : LinkFault) → AreAllTwins us vs
+      → NamedByPlace us → LinksBadlyAt entered us fault → LinksBadlyAt entered vs other → fault ≡ other
 
 -- Where a program is linked from some units, their twins have no fault of linking.
 abbrev pub NoLinkFault : Type 0
 NoLinkFault =
-    (us vs : List Unit) (p : Program) (fault : LinkFault)
+    (entered : List (List ℕ)) (us vs : List Unit) (p : Program) (fault : LinkFault)
     → AreAllTwins us vs
-    → Linked us p
-    → LinksBadly vs fault
+    → LinkedAt entered us p
+    → LinksBadlyAt entered vs fault
     → ⊥

@@ -10,7 +10,7 @@ use Rattle.core_tree.specs.declared.node.Program.{Program}
 use Rattle.c_senses.specs.Names.{source_of, numbered}
 use Rattle.c_senses.specs.Right.{Right}
 use Rattle.link_names.specs.declared.fault.LinkFault.{LinkFault}
-use Rattle.unit_link.specs.Linked.{Linked, LinksBadly}
+use Rattle.unit_link.specs.Linked.{LinkedAt, LinksBadlyAt}
 use Rattle.struct_rows.specs.Built.{HasTagTypes}
 use Rattle.outcome_laws.specs.fault_laws.Twins.{AreTwins, AreAllTwins}
 
@@ -44,15 +44,15 @@ pub record RightTwins : Type 0 where
   pub one : (number : ℕ) (u v : Unit) → AreOfOneText number u v → AreTwins u v
   pub all : (us vs : List Unit) → AreOfOneTexts 0 us vs → AreAllTwins us vs
 
--- They have one fault of linking, or none.
+-- They have one fault of linking, or none, where the same entries are named.
 pub record OneTextFault : Type 0 where
-  pub one : (us vs : List Unit) (fault other : LinkFault)
+  pub one : {entered : List (List ℕ)} (us vs : List Unit) (fault other : LinkFault)
       → AreOfOneTexts 0 us vs
-      → LinksBadly us fault
-      → LinksBadly vs other
+      → LinksBadlyAt entered us fault
+      → LinksBadlyAt entered vs other
       → fault ≡ other
-  pub none : (us vs : List Unit) (p : Program) (fault : LinkFault)
+  pub none : {entered : List (List ℕ)} (us vs : List Unit) (p : Program) (fault : LinkFault)
       → AreOfOneTexts 0 us vs
-      → Linked us p
-      → LinksBadly vs fault
+      → LinkedAt entered us p
+      → LinksBadlyAt entered vs fault
       → ⊥

@@ -13,7 +13,7 @@ use Rattle.c_senses.specs.Right.{IsBody, InitialisesOnce}
 use Rattle.link_model.specs.Renamed.{renamed}
 use Rattle.link_names.specs.Externals.{IsExternal}
 use Rattle.unit_link.specs.Places.{kind_renamed}
-use Rattle.unit_link.specs.Linked.{Linked}
+use Rattle.unit_link.specs.Linked.{LinkedAt}
 use Rattle.outcome_laws.specs.fault_laws.Twins.{AreAllTwins}
 
 -- each node of a unit is a body or a child, and each Initialise is its entity's body
@@ -78,6 +78,8 @@ pub record LeadsTo (p q : Program) (to back : Numbers) : Type 0 where
       → IsExternal y
       → x.name ≡ y.name → d ≡ e
   pub child_once : ChildOnce (trees_in p)
+  -- it is entered at the same functions, in the same order
+  pub entries : q.entries.items ≡ map to.entity p.entries.items
 
 -- the same entities, nodes and tags, as many of them, under other numbers
 pub record AreOne (p q : Program) : Type 0 where
@@ -86,14 +88,14 @@ pub record AreOne (p q : Program) : Type 0 where
   pub forth : LeadsTo p q to back
   pub returned : LeadsTo q p back to
 
--- Programs that are linked from units which are alike one by one are one, where each node of the units is a body or
--- stands under one.
+-- Programs that are linked from units which are alike one by one, with the same entries, are one, where each node of
+-- the units is a body or stands under one.
 abbrev pub TwinPrograms : Type 0
 TwinPrograms =
-    (us vs : List Unit) (p q : Program)
+    (entered : List (List ℕ)) (us vs : List Unit) (p q : Program)
     → AreAllTwins us vs
     → AreAllRooted us
     → AreAllRooted vs
-    → Linked us p
-    → Linked vs q
+    → LinkedAt entered us p
+    → LinkedAt entered vs q
     → AreOne p q

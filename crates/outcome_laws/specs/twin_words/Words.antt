@@ -1,11 +1,11 @@
 -- Programs that are one, but for numbers, have as many locations, as many rows and as many words of rows.
-use Rattle.std.specs.Prelude.{◌≡◌, List, length}
+use Rattle.std.specs.Prelude.{◌≡◌, ℕ, List, length}
 use Rattle.c_types.specs.Made.{IsMade, AreNamed}
 use Rattle.core_tree.specs.declared.node.Unit.{Unit}
 use Rattle.core_tree.specs.declared.node.Program.{Program}
 use Rattle.core_tree.specs.Typed.{trees_in}
 use Rattle.core_tree.specs.Range.{InRange}
-use Rattle.unit_link.specs.Linked.{Linked}
+use Rattle.unit_link.specs.Linked.{LinkedAt}
 use Rattle.obj_space.specs.Space.{locations_in}
 use Rattle.obj_space.specs.View.{view_of}
 use Rattle.row_numbers.specs.Setting.{row_total}
@@ -34,12 +34,12 @@ AsManyRows =
 -- so two programs that are linked from units which are alike have as many words of rows
 abbrev pub OneWordTotal : Type 0
 OneWordTotal =
-    (us vs : List Unit) (p q : Program)
+    (entered : List (List ℕ)) (us vs : List Unit) (p q : Program)
     → AreAllTwins us vs
     → AreAllRooted us
     → AreAllRooted vs
-    → Linked us p
-    → Linked vs q
+    → LinkedAt entered us p
+    → LinkedAt entered vs q
     → IsSound p
     → IsSound q
     → word_total p (view_of (locations_in p)) ≡ word_total q (view_of (locations_in q))

@@ -8,9 +8,9 @@ pub fn right_twins()
     ensures { RightTwins }
 {}
 
-/// Two lists of units that are right for the same texts, with the types of their tags, have one fault of linking: the same conflict, the
-/// same second definition, the same use of an undefined name, or the want of `main`. And where one of them links to a program, the other
-/// has no fault.
+/// Two lists of units that are right for the same texts, with the types of their tags, have one fault of linking where the same entries are
+/// named: the same conflict, the same second definition, the same use of an undefined name, or the want of `main` or of the same entry. And
+/// where one of them links to a program, the other has no fault.
 pub fn one_text_fault()
     ensures { OneTextFault }
 {}

@@ -11,8 +11,8 @@ pub fn as_many_rows()
     ensures { AsManyRows }
 {}
 
-/// Two programs that are linked from units which are alike one by one, whose nodes are all bodies or stand under one, on tables that the
-/// tables' own functions made, have as many words of rows.
+/// Two programs that are linked from units which are alike one by one, with entries of the same names, whose nodes are all bodies or stand
+/// under one, on tables that the tables' own functions made, have as many words of rows.
 pub fn one_word_total()
     ensures { OneWordTotal }
 {}

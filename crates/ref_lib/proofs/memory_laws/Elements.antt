@@ -19,7 +19,7 @@ use Rattle.ref_cells.specs.declared.cells.Cell.TheVariants.{Null, Pointer}
 use Rattle.ref_cells.specs.declared.instance.Instance.{Instance}
 use Rattle.ref_cells.specs.declared.wholes.Whole.{Whole}
 use Rattle.ref_cells.specs.declared.wholes.Whole.TheVariants.{One, Many}
-use Rattle.ref_cells.specs.Wholes.{is_allocated, elements_in, shape_of, IsOver}
+use Rattle.ref_cells.specs.Wholes.{is_allocated, elements_of, shape_of, IsOver}
 use Rattle.ref_cells.specs.Places.{IsKnown, AreKnown, is_out}
 use Rattle.ref_elements.specs.declared.runs.Run.{Run}
 use Rattle.ref_elements.specs.Runs.{whole_id, member_id, term_part, part_id, count_in, indexed, behind_step, last_index, run_from, with_run, found_as, live_at, found_at}
@@ -93,7 +93,7 @@ module _ (table : Table) (named : AreNamed table) (made : IsMade table) where
   found_as_known i inst path past None h = tt
   found_as_known i inst path past (Some id) h =
       with_known i (run_from table (Some (whole_id table inst id)) path past)
-      (run_known (Some (whole_id table inst id)) path past (whole_known (is_allocated inst.key) id (elements_in inst.bytes (size_below (extent_in table (type_of table id.0)))) h))
+      (run_known (Some (whole_id table inst id)) path past (whole_known (is_allocated inst.key) id (elements_of inst.key inst.bytes (size_below (extent_in table (type_of table id.0)))) h))
 
   live_known : (inst : Instance) (b : Bool) → IsKnown (length table.terms) inst.ty → IfOk (let r : Result Instance Reason = cond b (Ok inst) (Err DeadUse) in r) (λ found. IsKnown (length table.terms) found.ty)
   live_known inst true h = h

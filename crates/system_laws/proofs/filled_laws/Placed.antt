@@ -29,15 +29,14 @@ use Rattle.link_names.specs.Externals.{Joined, IsDeclaration, declared_as, entit
 use Rattle.link_names.specs.Together.{of_name, first_defined, maker_of}
 use Rattle.link_names.proofs.Ordering.{external_is, is_external_of}
 use Rattle.linked_laws.proofs.link_laws.Wholeness.{maker_found, named_so}
-use Rattle.unit_link.specs.Linked.{entity_of, IsLinkedName, Linked, joined}
+use Rattle.unit_link.specs.Linked.{entity_of, IsLinkedName, LinkedAt, joined}
 use Rattle.unit_link.specs.Needs.{AreLinkable}
 use Rattle.unit_link.specs.Places.{kind_renamed}
 use Rattle.linked_laws.proofs.Origins.{node_from}
 use Rattle.linked_laws.proofs.alike_laws.Entities.{external_keeps}
 use Rattle.linked_laws.proofs.alike_laws.Origins.{own_type}
-use Rattle.system_laws.specs.item_laws.Items.{HasPlace, IsPlacedIn, IsPlacedAt, KindPlaced}
+use Rattle.system_laws.specs.item_laws.Items.{HasPlace, IsPlacedIn, IsPlacedAt, KindPlaced, ArePlaced}
 use Rattle.link_model.specs.filled_units.Filled.{AreFilled}
-use Rattle.system_laws.specs.filled_laws.Filled.{LinkedPlaced}
 
 some_one : {X : Type 0} → {x y : X} → ◌≡◌ {A = Option X} (Some x) (Some y) → x ≡ y
 some_one h = cc
@@ -110,7 +109,7 @@ body_some : (o : Option ℕ) → is_some o ≡ true → (b : ℕ) × (o ≡ Some
 body_some None h = absurd (false≢true h)
 body_some (Some b) h = (b, refl)
 
-module _ (units : List Unit) (p : Program) (linkable : AreLinkable units) (filled : AreFilled units) (h : Linked units p) where
+module _ {names : List (List ℕ)} (units : List Unit) (p : Program) (linkable : AreLinkable units) (filled : AreFilled units) (h : LinkedAt names units p) where
   abbrev j : Joined
   j = joined units h.numbers p.types
 
@@ -187,7 +186,7 @@ module _ (units : List Unit) (p : Program) (linkable : AreLinkable units) (fille
   kind_placed u i of node is at (For es c a) kind = tt
   kind_placed u i of node is at other kind = tt
 
-pub linked_placed : LinkedPlaced
+pub linked_placed : {names : List (List ℕ)} (units : List Unit) (p : Program) → AreLinkable units → AreFilled units → LinkedAt names units p → ArePlaced p
 linked_placed units p linkable filled h n node at =
     let f = node_from units p h n node at in
     subst (λ (k : NodeKind). KindPlaced p k) (sym f.moved.kind) (kind_placed units p linkable filled h f.unit f.number f.of f.own f.of_is f.own_is f.own.kind refl)

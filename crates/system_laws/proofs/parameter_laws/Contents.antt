@@ -22,7 +22,7 @@ use Rattle.obj_made.specs.Uses.{is_allocator, is_named, is_starred, entity_numbe
 use Rattle.obj_made.specs.Made.{Spot, by_place, Made, in_order, entity_content, object_unless_declared, entity_object, made_at, entity_made, entities_made, called_object, called_entity, object_of_call, object_of_kind, node_object, node_made, nodes_made, spot_at, has_varargs, varargs_object, varargs_spot, varargs_made, made_of_names, made_in_order, objects_in}
 use Rattle.obj_made.proofs.Ordered.{in_order-append}
 use Rattle.obj_space.specs.declared.location.Location.{Location}
-use Rattle.obj_space.specs.Objects.{functions_below, LibraryRow, library_rows, is_needed, library_object, library_objects_from, library_objects, takes_arguments, star_if, star_objects, library_part, objects_of}
+use Rattle.obj_space.specs.Objects.{functions_below, LibraryRow, library_rows, is_needed, library_object, library_objects_from, library_objects, takes_arguments, star_if, star_objects, outside_objects, library_part, objects_of}
 use Rattle.obj_space.specs.Parts.{Part}
 use Rattle.obj_space.specs.Space.{located, locations_by, locations_of, locations_in}
 
@@ -152,6 +152,10 @@ module _ (p : Program) where
   star_fit : (b : Bool) (k : ℕ) → EachFits p (star_if b k)
   star_fit b k = one_if b _ (λ e key. cc)
 
+  outside_fit : (entries : List ℕ) → EachFits p (outside_objects entries)
+  outside_fit [] = tt
+  outside_fit (e ∷ rest) = ((λ e key. cc), tt)
+
   objects_fit : EachFits p (objects_of p)
   objects_fit =
       let starred = is_starred p.entities.items p.nodes.items in
@@ -159,8 +163,10 @@ module _ (p : Program) where
       (made_fit (made_in_order p) (further_fit (made_of_names p) 0 p.entities.items
       (nodes_fit (in_order [] (entities_made p 0 p.entities.items)) 0 p.nodes.items (entities_fit [] 0 p.entities.items (λ i x e. let none : 0 + i ≡ i = omega arith in ap (slice_get p.entities.items) none ∙ e) tt))))
       (both_fit (functions_below p 55) _ (functions_fit 55)
-      (both_fit (library_objects (is_named p.entities.items p.nodes.items) (takes_arguments p)) (star_objects p) (library_fit (is_named p.entities.items p.nodes.items) (takes_arguments p))
-      (both_fit (star_if (starred 0) 0) _ (star_fit (starred 0) 0) (both_fit (star_if (starred 1) 1) _ (star_fit (starred 1) 1) (both_fit (star_if (starred 2) 2) _ (star_fit (starred 2) 2) (star_fit (starred 21) 21))))))
+      (both_fit (library_objects (is_named p.entities.items p.nodes.items) (takes_arguments p)) _ (library_fit (is_named p.entities.items p.nodes.items) (takes_arguments p))
+      (both_fit (star_objects p) (outside_objects p.entries.items)
+      (both_fit (star_if (starred 0) 0) _ (star_fit (starred 0) 0) (both_fit (star_if (starred 1) 1) _ (star_fit (starred 1) 1) (both_fit (star_if (starred 2) 2) _ (star_fit (starred 2) 2) (star_fit (starred 21) 21))))
+      (outside_fit p.entries.items))))
 
   -- their locations
   parts_fit : (object : Object) (ps : List Part) → ObjectFits p object → LocationsFit p (map (located object.key object.content object.name) ps)

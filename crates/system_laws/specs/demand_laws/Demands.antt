@@ -5,10 +5,13 @@ use Rattle.c_types.specs.declared.term.PathStep.{PathStep}
 use Rattle.core_tree.specs.declared.node.Program.{Program}
 use Rattle.core_tree.specs.declared.node.Node.{Node}
 use Rattle.core_tree.specs.declared.node.NodeKind.TheVariants.{Initialise}
+use Rattle.core_tree.specs.Typed.{trees_in}
+use Rattle.core_tree.specs.Valid.{IsEntryAt}
 use Rattle.sol_model.specs.declared.system.System.{System}
 use Rattle.sol_model.specs.Systems.{IsConstraintValid}
 use Rattle.obj_space.specs.declared.location.Location.{Location}
 use Rattle.obj_space.specs.Space.{locations_in}
+use Rattle.obj_space.specs.Spots.{HasWholes}
 use Rattle.obj_space.specs.View.{SpaceView, view_of}
 use Rattle.normal_form.specs.Assignments.{initialise_row}
 use Rattle.normal_form.specs.SystemOf.{constraint_of, setting_of, SystemOf}
@@ -33,10 +36,12 @@ DemandsFit =
     → SystemOf p (view_of space) system
     → IsMade p.types
     → AreNamed p.types
+    → HasWholes p.types space
     → 0 < length space
     → TagsFit p.types
     → HasRows p
     → HasReturns p
     → AreCallsOfValues p
     → InitialsFit p (view_of space) system
+    → All (λ e. IsEntryAt (trees_in p) e) p.entries.items
     → AreTypedDemands system

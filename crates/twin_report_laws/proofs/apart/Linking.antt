@@ -14,11 +14,11 @@ use Rattle.link_names.specs.Externals.{is_external, entities_if, entity_at, item
 use Rattle.link_names.proofs.Ordering.{external_is, is_external_of}
 use Rattle.linked_laws.proofs.link_laws.Wholeness.{maker_found, named_so}
 use Rattle.unit_link.specs.Places.{node_place, kind_renamed}
-use Rattle.unit_link.specs.Linked.{entity_of, IsMovedEntity, Declares, Linked, joined}
+use Rattle.unit_link.specs.Linked.{entity_of, IsMovedEntity, Declares, LinkedAt, joined}
 use Rattle.unit_link.specs.Needs.{AreLinkable}
 use Rattle.linked_laws.proofs.Origins.{node_from}
-use Rattle.twin_report_laws.specs.orders.Order.{MayMake}
-use Rattle.twin_report_laws.specs.apart.Apart.{AreUnitsApart, LinkedApart}
+use Rattle.twin_report_laws.specs.orders.Order.{MayMake, MadeApart}
+use Rattle.twin_report_laws.specs.apart.Apart.{AreUnitsApart}
 
 one_of : {A : Type 0} {a b : A} → Some a ≡ Some b → a ≡ b
 one_of h = cc
@@ -36,7 +36,7 @@ may_back f (For es condition after) h = h
 may_back f (Initialise e paths) h = h
 may_back f kind h = h
 
-module _ (units : List Unit) (p : Program) (links : AreLinkable units) (each : AreUnitsApart units) (h : Linked units p) where
+module _ {entered : List (List ℕ)} (units : List Unit) (p : Program) (links : AreLinkable units) (each : AreUnitsApart units) (h : LinkedAt entered units p) where
   same_unit : (u v : ℕ) (x y : Unit) → slice_get units u ≡ Some x → slice_get units v ≡ Some y → u ≡ v → x ≡ y
   same_unit u v x y at there e = one_of (sym at ∙ (ap (slice_get units) e ∙ there))
 
@@ -113,7 +113,7 @@ module _ (units : List Unit) (p : Program) (links : AreLinkable units) (each : A
       (each a.at.unit a.of a.of_is).entities a.at.number b.at.number a.own b.own a.own_is own (ap (λ (q : Place). q.line) places) (ap (λ (q : Place). q.column) places) in
       sym a.number ∙ (ap (h.entity_numbers a.at.unit) numbers ∙ (ap (λ u. h.entity_numbers u b.at.number) (sym unit) ∙ b.number))
 
-pub linked_apart : LinkedApart
+pub linked_apart : {entered : List (List ℕ)} (units : List Unit) (p : Program) → AreLinkable units → AreUnitsApart units → LinkedAt entered units p → MadeApart p
 linked_apart units p links each h = record {
   entities = λ e f x y ex fy dx dy same. entities_apart units p links each h e f x y ex fy same;
   nodes = λ n m x y nx my a b same. nodes_apart units p links each h n m x y nx my a b same;

@@ -35,13 +35,13 @@ use Rattle.link_names.specs.Shape.{HasShape, is_function_shape}
 use Rattle.link_names.specs.Together.{composite, of_name, type_together, is_own, is_listed, has_list, linked_type, type_made, together, first_body, first_defined}
 use Rattle.link_names.specs.Faults.{IsGiven}
 use Rattle.unit_link.specs.Places.{node_place}
-use Rattle.unit_link.specs.Linked.{IsLinkedName, NameUsed, Linked, joined}
+use Rattle.unit_link.specs.Linked.{IsLinkedName, NameUsed, LinkedAt, joined}
 use Rattle.unit_link.specs.Needs.{AreLinkable}
 use Rattle.linked_laws.proofs.link_laws.Wholeness.{comes_from, named_once}
 use Rattle.obj_made.specs.Uses.{is_number, number_in, entity_number, library_number, named_entity, named_number, is_named, is_starred}
 use Rattle.obj_made.specs.declared.object.Object.{Object}
 use Rattle.obj_made.specs.Made.{objects_in, made_in_order}
-use Rattle.obj_space.specs.Objects.{named_object, takes_arguments, star_object, star_objects, objects_of, function_if, function_object, functions_below, LibraryRow, library_rows, is_needed, library_object, library_objects_from, library_objects, star_if, library_part}
+use Rattle.obj_space.specs.Objects.{named_object, takes_arguments, star_object, star_objects, outside_objects, objects_of, function_if, function_object, functions_below, LibraryRow, library_rows, is_needed, library_object, library_objects_from, library_objects, star_if, library_part}
 use Rattle.obj_space.specs.Space.{locations_of, locations_in}
 use Rattle.obj_space.specs.View.{first_from, view_of}
 use Rattle.row_numbers.specs.Objects.{is_open, is_library}
@@ -133,16 +133,25 @@ star_named : (p : Program) (b : Bool) (k : ℕ) → AllNamed p (star_if b k)
 star_named p true k = (tt, tt)
 star_named p false k = tt
 
+stars_named : (p : Program) → AllNamed p (star_objects p)
+stars_named p =
+    let starred = is_starred p.entities.items p.nodes.items in
+    named_append p (star_object p 0) (star_object p 1 ++ (star_object p 2 ++ star_object p 21)) (star_named p (starred 0) 0)
+    (named_append p (star_object p 1) (star_object p 2 ++ star_object p 21) (star_named p (starred 1) 1)
+    (named_append p (star_object p 2) (star_object p 21) (star_named p (starred 2) 2) (star_named p (starred 21) 21)))
+
+outside_named : (p : Program) (entries : List ℕ) → AllNamed p (outside_objects entries)
+outside_named p [] = tt
+outside_named p (e ∷ entries) = (tt, tt)
+
 library_named : (p : Program) → AllNamed p (library_part p)
 unfolding library_objects
 library_named p =
     let named = is_named p.entities.items p.nodes.items in
-    let starred = is_starred p.entities.items p.nodes.items in
-    named_append p (functions_below p 55) (library_objects named (takes_arguments p) ++ star_objects p) (functions_named p 55)
-    (named_append p (library_objects named (takes_arguments p)) (star_objects p) (rows_named p named (takes_arguments p) 0 library_rows)
-    (named_append p (star_object p 0) (star_object p 1 ++ (star_object p 2 ++ star_object p 21)) (star_named p (starred 0) 0)
-    (named_append p (star_object p 1) (star_object p 2 ++ star_object p 21) (star_named p (starred 1) 1)
-    (named_append p (star_object p 2) (star_object p 21) (star_named p (starred 2) 2) (star_named p (starred 21) 21)))))
+    let behind = star_objects p ++ outside_objects p.entries.items in
+    named_append p (functions_below p 55) (library_objects named (takes_arguments p) ++ behind) (functions_named p 55)
+    (named_append p (library_objects named (takes_arguments p)) behind (rows_named p named (takes_arguments p) 0 library_rows)
+    (named_append p (star_objects p) (outside_objects p.entries.items) (stars_named p) (outside_named p p.entries.items)))
 
 -- the object of a library's function that begins somewhere
 library_object_at : (p : Program) (k l : ℕ) → first_from 0 (locations_in p) (FunctionKey k) ≡ Some l → (o : Object) × Member (library_part p) o × (o.key ≡ FunctionKey k)
@@ -286,7 +295,7 @@ open_number k External DeclaredOnly name h = (refl, refl, by (summary_of name) h
     by (Some found) e = (found, refl, some_one e)
 open_number k linkage storage name h = absurd (none_some h)
 
-module _ (units : List Unit) (p : Program) (linkable : AreLinkable units) (h : Linked units p) (ready : IsReady p) (plain : HasPlain p) where
+module _ {entered : List (List ℕ)} (units : List Unit) (p : Program) (linkable : AreLinkable units) (h : LinkedAt entered units p) (ready : IsReady p) (plain : HasPlain p) where
   abbrev j : Joined
   j = joined units h.numbers p.types
 
@@ -487,5 +496,5 @@ module _ (units : List Unit) (p : Program) (linkable : AreLinkable units) (h : L
             subst (λ (w : ObjectKey). HasId p.types (called_type (key_type (trees_in p) w))) same (library_called k (omega (arith, less, number)) y u)
       ]
 
-pub has_called : (units : List Unit) (p : Program) → AreLinkable units → Linked units p → IsReady p → HasPlain p → length p.types.terms + 2 < 2 ^ 32 → HasCalled p
+pub has_called : {entered : List (List ℕ)} (units : List Unit) (p : Program) → AreLinkable units → LinkedAt entered units p → IsReady p → HasPlain p → length p.types.terms + 2 < 2 ^ 32 → HasCalled p
 has_called units p linkable h ready plain room = record { each = called_each units p linkable h ready plain; room = room }

@@ -1,11 +1,12 @@
 -- What is known of a program that is linked from units which are right for texts.
-use Rattle.std.proofs.Common.{arith, ◌≡◌, ◌∙◌, ◌+◌, ◌*◌, ◌/◌, ◌^◌, ◌<◌, ◌≤◌, ℕ, List, length, Option, Some, None, refl, sym, ap, subst, inl, inr}
-use Rattle.std.specs.List.{slice_get, All}
+use Rattle.std.proofs.Common.{arith, ◌≡◌, ◌∙◌, ◌+◌, ◌*◌, ◌/◌, ◌^◌, ◌<◌, ◌≤◌, ℕ, List, [], ◌∷◌, length, Option, Some, None, refl, sym, ap, subst, inl, inr}
+use Rattle.std.specs.List.{slice_get, All, AllZip}
 use Rattle.std.specs.Option.{option_map}
 use Rattle.std.specs.Prelude.{IfSome}
 use Rattle.std.proofs.lemmas.Bool.{cases_lt}
 use Rattle.std.proofs.lemmas.Nat.{mul-le}
-use Rattle.std.proofs.lemmas.List.Elements.{All-map}
+use Rattle.std.proofs.lemmas.List.Elements.{All-nil, All-cons, All-map}
+use Rattle.std.proofs.lemmas.Option.{slice_get_within}
 use Rattle.c_types.specs.Made.{IsMade, AreNamed}
 use Rattle.core_tree.specs.declared.node.Unit.{Unit}
 use Rattle.core_tree.specs.declared.node.Program.{Program}
@@ -18,7 +19,7 @@ use Rattle.core_tree.specs.Range.{InRange, named_by}
 use Rattle.link_model.specs.Units.{item}
 use Rattle.link_merge.specs.Tags.{AreMade}
 use Rattle.link_model.specs.filled_units.Filled.{AreFilled}
-use Rattle.unit_link.specs.Linked.{Linked}
+use Rattle.unit_link.specs.Linked.{IsOfName, LinkedAt}
 use Rattle.unit_link.specs.Needs.{AreLinkable}
 use Rattle.unit_link.specs.Places.{node_place, kind_renamed}
 use Rattle.linked_laws.proofs.Origins.{node_from, entity_from, number_within, entity_item}
@@ -49,7 +50,7 @@ some_mapped : (f : ℕ → ℕ) (P Q : ℕ → Type 0) (o : Option ℕ) → ((x 
 some_mapped f P Q None g h = h
 some_mapped f P Q (Some x) g h = g x h
 
-module _ (units : List Unit) (p : Program) (linkable : AreLinkable units) (h : Linked units p) where
+module _ {entered : List (List ℕ)} (units : List Unit) (p : Program) (linkable : AreLinkable units) (h : LinkedAt entered units p) where
   range_of : (u : ℕ) (of : Unit) → slice_get units u ≡ Some of → InRange (trees_of of)
   range_of u of is = (linkable.valid u of is).trees.in_range
 
@@ -78,6 +79,13 @@ module _ (units : List Unit) (p : Program) (linkable : AreLinkable units) (h : L
       (some_mapped (h.entity_numbers f.unit) (λ e. e < length f.of.entities.items) (λ e. e < length p.entities.items) f.own.owner (λ e lt. named_below f.unit e f.of f.of_is lt)
       ((range_of f.unit f.of f.of_is).owners f.number f.own f.own_is))
 
+  entries_within : (names : List (List ℕ)) (es : List ℕ) → AllZip (IsOfName p) names es → All (λ e. e < length p.entities.items) es
+  entries_within [] [] z = All-nil (λ e. e < length p.entities.items)
+  entries_within [] (e ∷ es) z = absurd z
+  entries_within (name ∷ names) [] z = absurd z
+  entries_within (name ∷ names) (e ∷ es) z =
+      All-cons (λ e. e < length p.entities.items) e es (slice_get_within p.entities.items e z.0.entity z.0.entity_is) (entries_within names es z.1)
+
   wholes_of : IsMade p.types → HasWholes p.types (locations_in p)
   unfolding locations_in
   wholes_of made = all_begin p.types made (objects_of p)
@@ -92,6 +100,7 @@ module _ (units : List Unit) (p : Program) (linkable : AreLinkable units) (h : L
         children = children_first;
         named = entities_named;
         owners = owners_within;
+        entries = entries_within entered p.entries.items h.entries;
         fit = right.tags;
         values = right.values;
         returns = right.returns;

@@ -1,5 +1,5 @@
 -- Programs that are linked from units which are alike print the same bytes.
-use Rattle.std.proofs.Common.{◌∙◌, ◌<◌, ◌^◌, ℕ, List, length, sym, ap, subst}
+use Rattle.std.proofs.Common.{◌≡◌, ◌∙◌, ◌<◌, ◌^◌, ℕ, Bool, List, length, sym, ap, subst}
 use Rattle.core_tree.specs.declared.node.Unit.{Unit}
 use Rattle.core_tree.specs.declared.node.Program.{Program}
 use Rattle.sol_model.specs.declared.system.System.{System}
@@ -21,7 +21,10 @@ use Rattle.twin_report_laws.proofs.apart.Linking.{linked_apart}
 use Rattle.twin_report_laws.specs.rows.Paired.{ArePaired}
 use Rattle.twin_report_laws.specs.rows.Ready.{IsReady, HasCalled}
 use Rattle.twin_report_laws.proofs.rows.Whole.{one_system}
-use Rattle.twin_report_laws.specs.linked.Linked.{IsOf, OneReport, OneText}
+use Rattle.location_laws.specs.named_laws.Units.{AreNamedUnits}
+use Rattle.unit_report.specs.Reported.{IsProgramReport}
+use Rattle.unit_report.specs.unit_answers.Answered.{IsProgramAnswers}
+use Rattle.twin_report_laws.specs.linked.Linked.{IsOf}
 use Rattle.twin_report_laws.proofs.linked.Names.{same_names, calls_apart, calls_told}
 use Rattle.twin_report_laws.proofs.linked.Ready.{ready_of, few_locations}
 use Rattle.twin_report_laws.proofs.linked.Called.{has_called}
@@ -30,25 +33,25 @@ use Rattle.twin_report_laws.proofs.linked.Called.{has_called}
 abbrev turned : (p q : Program) → AreOne p q → AreOne q p
 turned p q o = record { to = o.back; back = o.to; forth = o.returned; returned = o.forth }
 
-sound_of : (units : List Unit) (p : Program) → IsProgramOf units p → IsSound p
+sound_of : {entered : List (List ℕ)} (units : List Unit) (p : Program) → IsProgramOf entered units p → IsSound p
 sound_of units p own = record { made = own.made; named = own.named; range = own.range }
 
-apart_of : (units : List Unit) (p : Program) (space : List Location) (system : System) → IsOf units p space system → MadeApart p
+apart_of : {entered : List (List ℕ)} (units : List Unit) (p : Program) (space : List Location) (system : System) → IsOf entered units p space system → MadeApart p
 apart_of units p space system h = linked_apart units p h.known.linkable h.known.apart h.program.linked
 
-ready_so : (units : List Unit) (p : Program) (space : List Location) (system : System) → IsOf units p space system → IsReady p
+ready_so : {entered : List (List ℕ)} (units : List Unit) (p : Program) (space : List Location) (system : System) → IsOf entered units p space system → IsReady p
 ready_so units p space system h =
     let few : length (locations_in p) < 2 ^ 32 =
     subst (λ (n : ℕ). n < 2 ^ 32) (sym (ap (λ (locations : List Location). length locations) (sym h.system_of.space_is) ∙ h.system_of.count)) (few_locations system h.system_of.valid) in
     ready_of units p h.known.linkable h.program.linked h.known.tables h.known.filled h.program.made h.program.named few
 
-called_so : (units : List Unit) (p : Program) (space : List Location) (system : System) → IsOf units p space system → HasCalled p
+called_so : {entered : List (List ℕ)} (units : List Unit) (p : Program) (space : List Location) (system : System) → IsOf entered units p space system → HasCalled p
 called_so units p space system h = has_called units p h.known.linkable h.program.linked (ready_so units p space system h) h.plain h.program.room
 
 system_so : (p : Program) (space : List Location) (system : System) → IsSystemOf p space system → SystemOf p (view_of (locations_in p)) system
 system_so p space system of = subst (λ (locations : List Location). SystemOf p (view_of locations) system) of.space_is of.system_is
 
-module _ (us vs : List Unit) (p q : Program) (space more : List Location) (one other : System) (o : AreOne p q) (h : IsOf us p space one) (k : IsOf vs q more other) where
+module _ {entered : List (List ℕ)} (us vs : List Unit) (p q : Program) (space more : List Location) (one other : System) (o : AreOne p q) (h : IsOf entered us p space one) (k : IsOf entered vs q more other) where
   paired : ArePaired p q o.to o.back
   paired = record {
     lead = o.forth;
@@ -66,12 +69,14 @@ module _ (us vs : List Unit) (p q : Program) (space more : List Location) (one o
   prints : AreOnePrint p q one other
   prints = record { units = o.forth.names; spaces = same_names p q o.to o.back paired; systems = systems }
 
-pub one_report : OneReport
+pub one_report : {entered : List (List ℕ)} (json : Bool) (us vs : List Unit) (p q : Program) (space more : List Location) (one other : System) (text again : List ℕ) → AreOne p q → IsOf entered us p space one → IsOf entered vs q more other
+    → IsProgramReport json p space one text → IsProgramReport json q more other again → again ≡ text
 one_report json us vs p q space more one other text again o h k r t =
     one_print json p q space more one other text again h.system_of k.system_of (prints us vs p q space more one other o h k)
     (calls_apart p one (system_so p space one h.system_of) (apart_of us p space one h)) r t
 
-pub one_text : OneText
+pub one_text : {entered : List (List ℕ)} (us vs : List Unit) (p q : Program) (space more : List Location) (one other : System) (script text again : List ℕ) → AreOne p q → AreNamedUnits us → IsOf entered us p space one → IsOf entered vs q more other
+    → IsProgramAnswers p space one script text → IsProgramAnswers q more other script again → again ≡ text
 one_text us vs p q space more one other script text again o named h k r t =
     let names : HasNames p = linked_names us p h.known.linkable named h.program.linked h.program.made h.program.named in
     one_answer p q space more one other script text again h.system_of k.system_of (prints us vs p q space more one other o h k)

@@ -10,7 +10,7 @@ use Rattle.pta_base.specs.declared.effect.Effect.{Effect}
 use Rattle.pta_base.specs.declared.effect.Effect.TheVariants.{Nothing, GivesArgument, GivesNew, GivesObject, Copies, StoresInto, CallsBack}
 use Rattle.c_types.specs.declared.key.ObjectKey.{ObjectKey}
 use Rattle.c_types.specs.declared.key.ObjectKey.TheVariants.{Entity as EntityKey, Text as TextKey, Call as CallKey, Library, Star, Function}
-use Rattle.c_types.specs.declared.key.ObjectKey.TheVariants.{Varargs as VarargsKey}
+use Rattle.c_types.specs.declared.key.ObjectKey.TheVariants.{Varargs as VarargsKey, Outside}
 use Rattle.c_types.specs.Trees.{Ctype, Ctypes, MoreTypes, trees_at, PointerTo, FunctionFrom}
 use Rattle.core_tree.specs.declared.node.Node.{Node}
 use Rattle.core_tree.specs.declared.node.NodeKind.{NodeKind}
@@ -131,6 +131,7 @@ giver_same to n (CallKey e) = refl
 giver_same to n (Library k) = refl
 giver_same to n (Star k) = refl
 giver_same to n (VarargsKey k) = refl
+giver_same to n Outside = refl
 giver_same to n (Function k) = refl
 
 givers_from : (to : Numbers) (n : ℕ) (keys : List ObjectKey) → filter_map (λ (entry : ℕ × ObjectKey). giver_in entry.0 entry.1) (enumerate_from n (map (key_moved to) keys)) ≡ filter_map (λ (entry : ℕ × ObjectKey). giver_in entry.0 entry.1) (enumerate_from n keys)

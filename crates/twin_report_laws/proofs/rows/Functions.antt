@@ -8,7 +8,7 @@ use Rattle.std.proofs.lemmas.List.{length-map, map-append}
 use Rattle.std.proofs.lemmas.Option.{slice_get_within}
 use Rattle.c_types.specs.declared.key.ObjectKey.{ObjectKey}
 use Rattle.c_types.specs.declared.key.ObjectKey.TheVariants.{Entity as EntityKey, Text as TextKey, Call as CallKey, Library, Star, Function as FunctionKey}
-use Rattle.c_types.specs.declared.key.ObjectKey.TheVariants.{Varargs as VarargsKey}
+use Rattle.c_types.specs.declared.key.ObjectKey.TheVariants.{Varargs as VarargsKey, Outside}
 use Rattle.c_types.specs.declared.term.Form.TheVariants.{Fixed, Unspecified, Variadic}
 use Rattle.c_types.specs.Trees.{Ctype, FunctionFrom}
 use Rattle.c_types.specs.Table.{Table, type_of, extent_in, IsFirstOf}
@@ -143,10 +143,10 @@ module _ (p q : Program) (to back : Numbers) (h : ArePaired p q to back) (ready 
           by true stays = sym stays
           by false stays = sym (none_moved p q to back h)
 
-  entity_type_moved : (e : ℕ) (a : Entity) → slice_get p.entities.items e ≡ Some a → key_type (trees_in q) (EntityKey (to.entity e)) ≡ renamed to.tag (type_of p.types a.ty.0)
+  pub entity_type_moved : (e : ℕ) (a : Entity) → slice_get p.entities.items e ≡ Some a → key_type (trees_in q) (EntityKey (to.entity e)) ≡ renamed to.tag (type_of p.types a.ty.0)
   entity_type_moved e a at = (let (b, there, same) = h.lead.entities e a at in ap (λ (o : Option Entity). type_or_void q.types (option_map (λ (k : Entity). k.ty) o)) there ∙ same.type)
 
-  rows_same : (key : ObjectKey) → Member (all_parameters (trees_in p) s) key → parameter_rows (trees_in q) z (key_moved to key) ≡ map m (parameter_rows (trees_in p) s key)
+  pub rows_same : (key : ObjectKey) → Member (all_parameters (trees_in p) s) key → parameter_rows (trees_in q) z (key_moved to key) ≡ map m (parameter_rows (trees_in p) s key)
   rows_same key there =
       let (l, first, role) = parameter_in key there in
       let type : key_type (trees_in p) key ≡ type_of p.types role.entity.ty.0 =
@@ -258,6 +258,7 @@ library_moved to (Library k) = refl
 library_moved to (Star k) = refl
 library_moved to (VarargsKey k) = refl
 library_moved to (FunctionKey k) = refl
+library_moved to Outside = refl
 
 effects_moved : (to : Numbers) (key : ObjectKey) → effects_by (key_moved to key) ≡ effects_by key
 effects_moved to (EntityKey e) = refl
@@ -267,6 +268,7 @@ effects_moved to (Library k) = refl
 effects_moved to (Star k) = refl
 effects_moved to (VarargsKey k) = refl
 effects_moved to (FunctionKey k) = refl
+effects_moved to Outside = refl
 
 module _ (p q : Program) (to back : Numbers) (h : ArePaired p q to back) (ready : IsReady p) where
   abbrev u : CoreTrees

@@ -1,5 +1,5 @@
 -- The systems of two programs that are one, but for numbers.
-use Rattle.std.proofs.Common.{arith, ◌≡◌, ◌∙◌, ◌+◌, ◌<◌, ◌++◌, ℕ, true, List, [], ◌∷◌, length, Contains, Option, Some, None, refl, sym, ap, subst, inl, inr}
+use Rattle.std.proofs.Common.{arith, ◌≡◌, ◌∙◌, ◌+◌, ◌<◌, ◌++◌, ℕ, true, List, [], ◌∷◌, map, length, All, Contains, Option, Some, None, refl, sym, ap, subst, inl, inr}
 use Rattle.std.specs.Prelude.{◌&&◌, codes}
 use Rattle.std.specs.List.{slice_get, range_with_len}
 use Rattle.std.specs.Option.{option_map, option_map_or, option_and_then}
@@ -38,7 +38,7 @@ use Rattle.call_sites.specs.Signatures.{called_type}
 use Rattle.normal_form.specs.declared.normal.Assignment.{Assignment}
 use Rattle.normal_form.specs.declared.normal.Assignment.TheVariants.{Address, Copy, Load, Store, Field}
 use Rattle.normal_form.specs.Assignments.{node_assignments, assignments_at, assignments_by, assignments_of}
-use Rattle.normal_form.specs.SystemOf.{constraint_of, held_by, library_pair, library_constraints, second_of, start_constraints, Demands, by_node, by_call, by_library, by_start, setting_of, SystemOf}
+use Rattle.normal_form.specs.SystemOf.{constraint_of, held_by, library_pair, library_constraints, second_of, argument_constraints, start_constraints, Demands, by_node, by_call, by_library, by_start, setting_of, SystemOf}
 use Rattle.unit_link.specs.Places.{kind_renamed}
 use Rattle.outcome_laws.specs.twin_programs.One.{Numbers, SameNode, LeadsTo}
 use Rattle.outcome_laws.specs.twin_locations.Same.{key_moved, number_moved}
@@ -56,6 +56,7 @@ use Rattle.twin_report_laws.proofs.rows.Nodes.{some_at}
 use Rattle.twin_report_laws.proofs.rows.Statements.{node_moved}
 use Rattle.twin_report_laws.proofs.rows.Calls.{zip_at, at_zip, call_at, at_call, call_moved, AreSites, sites_same, signature_of}
 use Rattle.twin_report_laws.proofs.rows.Functions.{parameters_same, parameter_in, AreFunctionsOf, function_there, agree_there, filter_member}
+use Rattle.twin_report_laws.proofs.rows.Starts.{entries_moved}
 use Rattle.twin_report_laws.proofs.rows.Facts.{ApartTags, subs_there, fields_there, pairs_kept}
 
 contains_of : {X : Type 0} (xs : List X) (x : X) → Member xs x → Contains xs x
@@ -202,8 +203,8 @@ module _ (p q : Program) (to back : Numbers) (h : ArePaired p q to back) (ready 
       by [] e f = absurd (none_some f)
       by (main ∷ rest) e f = of_main main rest f
 
-  start_same : start_constraints (trees_in q) (over p q to back h) ≡ start_constraints (trees_in p) (here p q to back h)
-  start_same =
+  argument_same : argument_constraints (trees_in q) (over p q to back h) ≡ argument_constraints (trees_in p) (here p q to back h)
+  argument_same =
       ap (λ (o : Option ObjectKey). held_by (option_and_then (over p q to back h).first o) ((over p q to back h).first (Library 9))) second_same
       ∙ (ap (λ (o : Option ℕ). held_by o ((over p q to back h).first (Library 9))) (by (second_of (trees_in p) (here p q to back h) (keys_in Main p.entities.items)) (λ k e. second_round k e))
       ∙ ap (held_by (option_and_then (here p q to back h).first (second_of (trees_in p) (here p q to back h) (keys_in Main p.entities.items)))) (first_same p q to back h (Library 9) refl))
@@ -212,10 +213,22 @@ module _ (p q : Program) (to back : Numbers) (h : ArePaired p q to back) (ready 
       by None round = refl
       by (Some k) round = first_same p q to back h k (round k refl)
 
-  start_fixed : (c : Constraint) → Member (start_constraints (trees_in p) (here p q to back h)) c → constraint_moved (maps p q to back h) c ≡ c
-  start_fixed c m =
+  argument_fixed : (c : Constraint) → Member (argument_constraints (trees_in p) (here p q to back h)) c → constraint_moved (maps p q to back h) c ≡ c
+  argument_fixed c m =
       held_fixed p q to back h (option_and_then (here p q to back h).first (second_of (trees_in p) (here p q to back h) (keys_in Main p.entities.items))) ((here p q to back h).first (Library 9))
       (λ l e. let (k, k_is, first) = and_then_some (here p q to back h).first (second_of (trees_in p) (here p q to back h) (keys_in Main p.entities.items)) l e in below p q to back h k l first) (below p q to back h (Library 9)) c m
+
+  -- what is there at the start is there in the other program
+  start_there : (entries : List ℕ) → All (λ e. e < length p.entities.items) entries → (c : Constraint) → Contains (start_constraints (trees_in p) (here p q to back h) entries) c
+      → Contains (start_constraints (trees_in q) (over p q to back h) (map to.entity entries)) (constraint_moved (maps p q to back h) c)
+  start_there [] within c has =
+      let m = member_of (argument_constraints (trees_in p) (here p q to back h)) c has in
+      subst (λ (l : List Constraint). Contains l (constraint_moved (maps p q to back h) c)) (sym argument_same)
+      (subst (λ (k : Constraint). Contains (argument_constraints (trees_in p) (here p q to back h)) k) (sym (argument_fixed c m)) has)
+  start_there (e ∷ rest) within c has =
+      let list = start_constraints (trees_in p) (here p q to back h) (e ∷ rest) in
+      let moved = constraint_moved (maps p q to back h) in
+      subst (λ (l : List Constraint). Contains l (moved c)) (sym (entries_moved p q to back h ready (maps p q to back h) (λ r. refl) e rest within)) (contains_of (map moved list) (moved c) (map_member moved list c (member_of list c has)))
 
 -- ---- all that a system says
 module _ (p q : Program) (to back : Numbers) (h : ArePaired p q to back) (ready : IsReady p) (other_ready : IsReady q) (S T : System)
@@ -299,9 +312,7 @@ module _ (p q : Program) (to back : Numbers) (h : ArePaired p q to back) (ready 
       by_library (subst (λ l. Contains l (constraint_moved (maps p q to back h) c)) (sym (library_same p q to back h))
       (subst (λ (k : Constraint). Contains (library_constraints (here p q to back h)) k) (sym (library_fixed p q to back h c m)) has))
   demanded c (by_start has) =
-      let m = member_of (start_constraints (trees_in p) (here p q to back h)) c has in
-      by_start (subst (λ l. Contains l (constraint_moved (maps p q to back h) c)) (sym (start_same p q to back h ready))
-      (subst (λ (k : Constraint). Contains (start_constraints (trees_in p) (here p q to back h)) k) (sym (start_fixed p q to back h ready c m)) has))
+      by_start (subst (λ (es : List ℕ). Contains (start_constraints (trees_in q) (over p q to back h) es) (constraint_moved (maps p q to back h) c)) (sym h.lead.entries) (start_there p q to back h ready p.entries.items ready.entries c has))
 
 -- the call at a node, by that node
 site_is : (r : Program) (v : Setting) (n : ℕ) (y : Node) (site : CallSite) → IsSiteAt v n site → slice_get v.trees.nodes n ≡ Some y → IsCallSite v n y site

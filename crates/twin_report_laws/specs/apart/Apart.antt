@@ -10,7 +10,7 @@ use Rattle.core_tree.specs.declared.node.Node.{Node}
 use Rattle.core_tree.specs.declared.node.Entity.{Entity}
 use Rattle.c_senses.specs.Names.{source_of, numbered}
 use Rattle.c_senses.specs.Right.{Right}
-use Rattle.unit_link.specs.Linked.{Linked}
+use Rattle.unit_link.specs.Linked.{LinkedAt}
 use Rattle.unit_link.specs.Needs.{AreLinkable}
 use Rattle.twin_report_laws.specs.orders.Order.{MayMake, MadeApart}
 
@@ -39,8 +39,8 @@ AreUnitsApart units = (k : ℕ) (u : Unit) → slice_get units k ≡ Some u → 
 
 -- and in a program that is linked from such units
 abbrev pub LinkedApart : Type 0
-LinkedApart = (units : List Unit) (p : Program)
+LinkedApart = (entered : List (List ℕ)) (units : List Unit) (p : Program)
     → AreLinkable units
     → AreUnitsApart units
-    → Linked units p
+    → LinkedAt entered units p
     → MadeApart p

@@ -38,31 +38,33 @@ pub record HasPlain (p : Program) : Type 0 where
       → entity.storage ≡ FunctionBody
       → IsPlain (type_of p.types entity.ty.0)
 
--- a program of such units, with its locations and its system
-pub record IsOf (units : List Unit) (p : Program) (space : List Location) (system : System) : Type 0 where
+-- a program of such units with entries of those names, its locations and its system
+pub record IsOf (entered : List (List ℕ)) (units : List Unit) (p : Program) (space : List Location)
+    (system : System) : Type 0 where
   pub known : AreKnown units
-  pub program : IsProgramOf units p
+  pub program : IsProgramOf entered units p
   pub plain : HasPlain p
   pub system_of : IsSystemOf p space system
 
 -- programs of such units that are one, but for numbers, have one report, as lines and as JSON
 abbrev pub OneReport : Type 0
 OneReport =
-    (json : Bool) (us vs : List Unit) (p q : Program) (space more : List Location) (one other : System)
-    (text again : List ℕ)
+    (entered : List (List ℕ)) (json : Bool) (us vs : List Unit) (p q : Program) (space more : List Location)
+    (one other : System) (text again : List ℕ)
     → AreOne p q
-    → IsOf us p space one
-    → IsOf vs q more other
+    → IsOf entered us p space one
+    → IsOf entered vs q more other
     → IsProgramReport json p space one text
     → IsProgramReport json q more other again → again ≡ text
 
 -- and one text of answers to a script, where names keep the parts of the units apart
 abbrev pub OneText : Type 0
 OneText =
-    (us vs : List Unit) (p q : Program) (space more : List Location) (one other : System) (script text again : List ℕ)
+    (entered : List (List ℕ)) (us vs : List Unit) (p q : Program) (space more : List Location) (one other : System)
+    (script text again : List ℕ)
     → AreOne p q
     → AreNamedUnits us
-    → IsOf us p space one
-    → IsOf vs q more other
+    → IsOf entered us p space one
+    → IsOf entered vs q more other
     → IsProgramAnswers p space one script text
     → IsProgramAnswers q more other script again → again ≡ text

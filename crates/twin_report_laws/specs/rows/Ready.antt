@@ -34,6 +34,7 @@ pub record IsReady (p : Program) : Type 0 where
   pub owners : (e : ℕ) (entity : Entity)
       → slice_get p.entities.items e ≡ Some entity
       → IfSome entity.owner (λ f. f < length p.entities.items)
+  pub entries : All (λ e. e < length p.entities.items) p.entries.items
   pub fit : TagsFit p.types
   pub values : AreCallsOfValues p
   pub returns : HasReturns p

@@ -1,8 +1,8 @@
 //! That programs of the same texts print the same bytes.
 ghost use Rattle.twin_report_laws.specs.linked.Linked.{OneReport, OneText};
 
-/// Programs that are linked from units which are right for the same texts, so that they are one, but for numbers, have one report, as lines
-/// and as JSON: the same bytes.
+/// Programs that are linked from units which are right for the same texts, with the same entries, so that they are one, but for numbers, have
+/// one report, as lines and as JSON: the same bytes.
 pub fn one_report()
     ensures { OneReport }
 {}

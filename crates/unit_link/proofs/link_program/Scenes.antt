@@ -7,7 +7,7 @@ use Rattle.link_model.specs.declared.item.Item.{Item}
 use Rattle.link_model.specs.Units.{item, types_if}
 use Rattle.link_names.specs.declared.declared.Scene.{Scene}
 use Rattle.link_names.specs.declared.fault.LinkFault.{LinkFault}
-use Rattle.link_names.specs.declared.fault.LinkFault.TheVariants.{Conflict, Twice, Undefined, NoMain, OutOfMemory}
+use Rattle.link_names.specs.declared.fault.LinkFault.TheVariants.{Conflict, Twice, Undefined, NoMain, NoEntry, OutOfMemory}
 use Rattle.link_names.specs.Externals.{AreDeclarations, entities_if, entity_at}
 use Rattle.link_names.specs.Said.{IsFaultUnless}
 use Rattle.link_names.specs.Scene.{IsScene}
@@ -36,4 +36,5 @@ fault_then (Conflict name u) g h = g h
 fault_then (Twice name u) g h = g h
 fault_then (Undefined place name) g h = g h
 fault_then NoMain g h = g h
+fault_then (NoEntry name) g h = g h
 fault_then OutOfMemory g h = tt

@@ -12,8 +12,8 @@ use Rattle.link_names.specs.Names.{AreNames}
 abbrev pub joined_by : List Unit → Table → List ℕ → Joined
 joined_by units table starts = record { units = units; table = table; place = λ u i. slice_index starts u + i }
 
--- all declarations of external names, without fault, and what they say of each name
-pub record AreChecked (j : Joined) (ds : List Declared) (names : Names) : Type 0 where
+-- all declarations of external names, without fault where those entries are named, and what they say of each name
+pub record AreChecked (entered : List (List ℕ)) (j : Joined) (ds : List Declared) (names : Names) : Type 0 where
   pub declared : AreDeclarations j.units ds
-  pub faultless : AreFaultless j ds (length ds)
+  pub faultless : AreFaultless j ds entered (length ds)
   pub said : AreNames j ds names

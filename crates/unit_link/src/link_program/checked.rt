@@ -5,7 +5,7 @@ ghost use Rattle.core_tree.specs.declared.node.Unit.{Unit};
 ghost use Rattle.link_names.specs.Externals.{entities_if, AreDeclarations};
 ghost use Rattle.link_names.specs.Said.{IsFaultUnless};
 ghost use Rattle.link_names.specs.Scene.{IsScene};
-ghost use Rattle.unit_link.specs.Linked.{LinksBadly};
+ghost use Rattle.unit_link.specs.Linked.{LinksBadlyAt};
 ghost use Rattle.unit_link.specs.Needs.{AreLinkable};
 ghost use Rattle.unit_link.specs.link_program.Merging.{AreMerged};
 ghost use Rattle.unit_link.specs.link_program.Checked.{joined_by, AreChecked};
@@ -15,7 +15,7 @@ use c_types::table::TypeTable;
 use core_tree::Unit;
 use link_names::declared::declarations;
 use link_names::{Declared, LinkFault, Names, Scene, check_names};
-use pta_base::OutOfMemory;
+use pta_base::{OutOfMemory, Text};
 use std::alloc::Global;
 
 /// All declarations of external names in order, where the units and their entities can be counted.
@@ -34,18 +34,19 @@ fn declared_in(alloc: Global, units: &[Unit]) -> Result<Vec<Declared>, OutOfMemo
 /// The declarations of external names in order and what they say of each name, where the units have no fault of linking.
 /// Else the first fault: of the declarations in order of unit and place (a type that doesn't agree with the earlier
 /// declarations or lacks a library name's shape, before a second definition), then the first use of a name that nothing
-/// defines, then the want of `main`.
+/// defines, then the want of `main`, or where entries are named of the first name that isn't one.
 pub fn checked(
     alloc: Global,
     units: &[Unit],
     types: &TypeTable,
     type_starts: &[u32],
+    entries: &[Text],
 ) -> Result<(Vec<Declared>, Names), LinkFault>
     requires units { AreLinkable units.now }
     requires merged { AreMerged units.now type_starts.now types.now }
     ensures { MatchResult result
-        (λ r. AreChecked (joined_by units.now types.now type_starts.now) r.0.items r.1)
-        (λ fault. IsFaultUnless fault (LinksBadly units.now fault)) }
+        (λ r. AreChecked entries.now (joined_by units.now types.now type_starts.now) r.0.items r.1)
+        (λ fault. IsFaultUnless fault (LinksBadlyAt entries.now units.now fault)) }
 {
     let declared = declared_in(alloc, units)?;
     let _count = types.type_count();
@@ -55,7 +56,7 @@ pub fn checked(
         type_starts,
         declared: declared.as_slice(),
     };
-    match check_names(alloc, &scene) {
+    match check_names(alloc, &scene, entries) {
         Ok(names) => Ok((declared, names)),
         Err(fault) => Err(fault),
     }

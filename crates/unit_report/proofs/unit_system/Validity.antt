@@ -27,4 +27,4 @@ pub valid_of : (p : Program) (space : List Location) (system : System) → space
     → IsRight p → ArePlaced p → IsSized system → AreLocated system → IsValid system
 valid_of p space system is of made named wholes few right placed sized located =
     typed_decide p space is system of wholes right.body right.values sized located
-    (demands_fit p space system is of made named (some_located p space is right) right.tags right.rows right.returns right.values (items_fit p space system is of made wholes few right.initials placed))
+    (demands_fit p space system is of made named wholes (some_located p space is right) right.tags right.rows right.returns right.values (items_fit p space system is of made wholes few right.initials placed) right.entered)

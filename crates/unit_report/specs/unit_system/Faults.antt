@@ -2,7 +2,7 @@
 use Rattle.std.specs.Prelude.{◌≡◌, ◌<◌, ◌≤◌, ◌^◌, ℕ, ⊤, List, length}
 use Rattle.core_tree.specs.declared.node.Unit.{Unit}
 use Rattle.core_tree.specs.declared.node.Program.{Program}
-use Rattle.unit_link.specs.Linked.{LinksBadly}
+use Rattle.unit_link.specs.Linked.{LinksBadlyAt}
 use Rattle.obj_space.specs.Space.{locations_in}
 use Rattle.obj_space.specs.View.{view_of}
 use Rattle.constraints.specs.System.{word_total}
@@ -28,9 +28,10 @@ IsProgramFault p (Words words) = HasWords p words
 IsProgramFault p OutOfMemory = ⊤
 IsProgramFault p fault = ⊥
 
--- the first fault of linking units, or the limit that their program passes first
-abbrev pub IsFaultOf : List Unit → UnitFault → Type 0
-IsFaultOf units (Link fault) = LinksBadly units fault
-IsFaultOf units (Nodes nodes) = (p : Program) × IsProgramOf units p × HasNodes p nodes
-IsFaultOf units (Words words) = (p : Program) × IsProgramOf units p × HasWords p words
-IsFaultOf units OutOfMemory = ⊤
+-- the first fault of linking units, with entries of those names or a program that begins at main, or the limit that
+-- their program passes first
+abbrev pub IsFaultOf : List (List ℕ) → List Unit → UnitFault → Type 0
+IsFaultOf entered units (Link fault) = LinksBadlyAt entered units fault
+IsFaultOf entered units (Nodes nodes) = (p : Program) × IsProgramOf entered units p × HasNodes p nodes
+IsFaultOf entered units (Words words) = (p : Program) × IsProgramOf entered units p × HasWords p words
+IsFaultOf entered units OutOfMemory = ⊤

@@ -21,7 +21,7 @@ use constraints::{SystemFault, system};
 use core_tree::{Program, Unit};
 use normal_form::normalise;
 use obj_space::{Space, objects};
-use pta_base::OutOfMemory;
+use pta_base::{OutOfMemory, Text};
 use sol_model::System;
 use std::alloc::Global;
 
@@ -85,13 +85,18 @@ fn system_of(alloc: Global, program: &Program) -> Result<(Space, System), UnitFa
 
 /// The program that valid units of distinct names are, which initialise only objects that they define, its locations and its system over
 /// these, where it is within the limits; or the first fault of linking them, or the limit that their program passes first: 2^24 nodes,
-/// then 2^24 words of rows.
-pub fn linked_system(alloc: Global, units: Vec<Unit>) -> Result<UnitSystem, UnitFault>
+/// then 2^24 words of rows. It is entered at the functions of these names, or where there are none it begins at main.
+pub fn linked_system(
+    alloc: Global,
+    units: Vec<Unit>,
+    entries: &[Text],
+) -> Result<UnitSystem, UnitFault>
     requires linkable { AreLinkable units.items }
     requires filled { AreFilled units.items }
-    ensures { MatchResult result (λ made. AreLinkedAs units.items made.program made.space made.system) (IsFaultOf units.items) }
+    ensures { MatchResult result (λ made. AreLinkedAs entries.now units.items made.program made.space made.system)
+        (IsFaultOf entries.now units.items) }
 {
-    let program = linked(alloc, units)?;
+    let program = linked(alloc, units, entries)?;
     let _types = program.types.type_count();
     match system_of(alloc, &program) {
         Ok((space, system)) => Ok(UnitSystem {

@@ -14,4 +14,5 @@ returns c =
     let six = added _ _ _ (flag (codes "desk")) c.in_ok-command-6.ensures five in
     let seven = added _ _ _ (flag (codes "effects")) c.in_ok-command-7.ensures six in
     let eight = added _ _ _ (flag (codes "stops")) c.in_ok-command-8.ensures seven in
-    IfOk-weaker c.with_words.result _ _ (λ m h. added _ _ _ (positional_words (codes "unit")) h eight) c.with_words.ensures
+    let nine = added _ _ _ (value_option (codes "entry")) c.in_ok-command-9.ensures eight in
+    IfOk-weaker c.with_words.result _ _ (λ m h. added _ _ _ (positional_words (codes "unit")) h nine) c.with_words.ensures

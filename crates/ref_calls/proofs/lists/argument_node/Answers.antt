@@ -1,5 +1,5 @@
 use Rattle.std.proofs.Common.{arith, ◌≡◌, ◌∙◌, ◌<◌, ℕ, zero, suc, ◌+◌, List, [], ◌∷◌, Option, None, Some, IfSome, All, length, map, reverse, drop, slice_get, refl, sym, ap, subst}
-use Rattle.std.proofs.lemmas.List.{reverse-reverse, length-map}
+use Rattle.std.proofs.lemmas.List.{length-map}
 use Rattle.std.proofs.lemmas.List.Elements.{All-head, All-tail}
 use Rattle.std.proofs.lemmas.Option.{slice_get-get_or, slice_get_within}
 use Rattle.c_types.specs.declared.key.ObjectKey.TheVariants.{Entity as EntityKey}
@@ -24,13 +24,12 @@ there (x ∷ xs) (suc e) lt = there xs e (omega (arith, lt))
 -- the k-th child behind as many as a function has parameters
 module _ (w : Running) (lists : List (List ℕ)) (are : AreParameters w.trees (view_of w.space) lists) (e : ℕ) (list : List ℕ) (at : slice_get lists e ≡ Some list) where
   by_entity : (frames items : List Frame) (i k : ℕ) → reverse items ≡ frames
-      → call_child w.trees.nodes (call_over i items) (length list + 1) k ≡ node_of w frames i k e (slice_get w.trees.entities e)
+      → call_child w.trees.nodes (call_over i (reverse items)) (length list + 1) k ≡ node_of w frames i k e (slice_get w.trees.entities e)
   by_entity frames items i k view =
       let found : (x : Entity) × (slice_get w.trees.entities e ≡ Some x) = there w.trees.entities e (omega (arith, slice_get_within lists e list at, are.many)) in
       let count : length list ≡ length (parameters_of w.trees (view_of w.space) e) = sym (length-map list EntityKey) ∙ ap length (are.each e list at) in
-      ap (λ (n : ℕ). call_child w.trees.nodes (call_over i items) (n + 1) k) count
-      ∙ (ap (λ (fs : List Frame). call_child w.trees.nodes (call_over i fs) (length (parameters_of w.trees (view_of w.space) e) + 1) k)
-      (sym (reverse-reverse items) ∙ ap reverse view)
+      ap (λ (n : ℕ). call_child w.trees.nodes (call_over i (reverse items)) (n + 1) k) count
+      ∙ (ap (λ (fs : List Frame). call_child w.trees.nodes (call_over i fs) (length (parameters_of w.trees (view_of w.space) e) + 1) k) view
       ∙ ap (node_of w frames i k e) (sym found.1))
 
 child_known : (cs : List ℕ) (first k n m : ℕ) → All (λ (c : ℕ). c < n) cs → n < m → IfSome (slice_get (drop first cs) k) (λ v. v < m)
@@ -65,7 +64,7 @@ returns-in_ok-parameters-in-Varargs-clause-value c =
     let view : reverse items ≡ c.args.frames.now = ap reverse c.as_slice.ensures.value ∙ c.frames.view_is in
     c.call_child.ensures
     ∙ (ap (λ (o : Option ℕ). call_child nodes o (length c.as_slice-in-Varargs.result.now + 1) k) c.call_over-call.ensures
-    ∙ (ap (λ (xs : List ℕ). call_child nodes (call_over i items) (length xs + 1) k) c.as_slice-in-Varargs.ensures
+    ∙ (ap (λ (xs : List ℕ). call_child nodes (call_over i (reverse items)) (length xs + 1) k) c.as_slice-in-Varargs.ensures
     ∙ (by_entity w lists c.requires.running.parameters e list at c.args.frames.now items i k view
     ∙ ap (argument_node w c.args.frames.now i k) (sym c.in-Varargs.is))))
 

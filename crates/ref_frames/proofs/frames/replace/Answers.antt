@@ -1,7 +1,7 @@
 use Rattle.std.proofs.Common.{rules, arith, ◌≡◌, ℕ, ◌-◌, ◌<◌, List, length, reverse, slice_set, ap, ◌∙◌}
 use Rattle.std.proofs.lemmas.List.{length-reverse}
 use Rattle.ref_state.specs.declared.frames.Frame.{Frame}
-use Rattle.ref_frames.proofs.Reversed.{reverse_set}
+use Rattle.ref_state.proofs.Reversed.{reverse_set}
 use Rattle.ref_frames.proofs.frames.replace.Goals as goal
 
 pub returns-clause-new : goal.returns-clause-new

@@ -19,4 +19,4 @@ pub returns-in-Ok : goal.returns-in-Ok
 returns-in-Ok c =
     let st = c.args.state.now in
     ap (λ (o : Option ℤ). outside_step (seen c.args.running.now) st o c.args.word) (no_status st.status c.in_default.not-Some)
-    ∙ (ap (outcome 0) c.in-Ok.ensures.row ∙ ap (λ (m : Notes). Goes (record c.begin.new.state { notes = m })) (sym c.none.ensures))
+    ∙ (ap (outcome 0) c.in-Ok.ensures.row ∙ ap (λ (m : Notes). Goes (record c.starts.new.state { notes = m })) (sym c.of.ensures))

@@ -5,4 +5,4 @@ use Rattle.report_cli.proofs.Linked.{fault_of_texts}
 use Rattle.report_cli.proofs.solved.lower_texts.Goals as goal
 
 pub returns-clause-refused : goal.returns-clause-refused
-returns-clause-refused g c = IfErr-weaker c.lower_each.result _ _ (fault_of_texts (zip (names_of c.args.names.now) c.args.texts.now)) c.lower_each.ensures.refused
+returns-clause-refused g c entries = IfErr-weaker c.lower_each.result _ _ (fault_of_texts entries (zip (names_of c.args.names.now) c.args.texts.now)) c.lower_each.ensures.refused

@@ -10,7 +10,7 @@ use Rattle.text_units.specs.Answers.{names_of, Answer, refusal}
 use Rattle.report_cli.specs.Words.{texts_of, AreUnitNames}
 use Rattle.report_cli.specs.Told.{form_for, names_for, told_as, told_for}
 use Rattle.report_cli.specs.Outside.{IsWritten, Receives, source_fault}
-use Rattle.report_cli.proofs.Lifted.{IsStatus, names_asked, run_asked, with_told_for, told_denotes, told_prints, told_refuses}
+use Rattle.report_cli.proofs.Lifted.{IsStatus, entry_asked, names_asked, run_asked, with_told_for, told_denotes, told_prints, told_refuses}
 use Rattle.report_cli.proofs.Exclusion.{told_read}
 use Rattle.report_cli.proofs.OneOutcome.{told_right}
 use Rattle.report_cli.proofs.Together.{accepted_or_refused}
@@ -25,35 +25,40 @@ no_success status (inl three) e = omega arith
 no_success status (inr (inl four)) e = omega arith
 no_success status (inr (inr (inl five))) e = omega arith
 no_success status (inr (inr (inr (inl six)))) e = omega arith
-no_success status (inr (inr (inr (inr ten)))) e = omega arith
+no_success status (inr (inr (inr (inr (inl ten))))) e = omega arith
+no_success status (inr (inr (inr (inr (inr twelve))))) e = omega arith
 
 no_two : (status : ℕ) → IsStatus status → status ≡ 2 → ⊥
 no_two status (inl three) e = omega arith
 no_two status (inr (inl four)) e = omega arith
 no_two status (inr (inr (inl five))) e = omega arith
 no_two status (inr (inr (inr (inl six)))) e = omega arith
-no_two status (inr (inr (inr (inr ten)))) e = omega arith
+no_two status (inr (inr (inr (inr (inl ten))))) e = omega arith
+no_two status (inr (inr (inr (inr (inr twelve))))) e = omega arith
 
 no_seven : (status : ℕ) → IsStatus status → status ≡ 7 → ⊥
 no_seven status (inl three) e = omega arith
 no_seven status (inr (inl four)) e = omega arith
 no_seven status (inr (inr (inl five))) e = omega arith
 no_seven status (inr (inr (inr (inl six)))) e = omega arith
-no_seven status (inr (inr (inr (inr ten)))) e = omega arith
+no_seven status (inr (inr (inr (inr (inl ten))))) e = omega arith
+no_seven status (inr (inr (inr (inr (inr twelve))))) e = omega arith
 
 no_eight : (status : ℕ) → IsStatus status → status ≡ 8 → ⊥
 no_eight status (inl three) e = omega arith
 no_eight status (inr (inl four)) e = omega arith
 no_eight status (inr (inr (inl five))) e = omega arith
 no_eight status (inr (inr (inr (inl six)))) e = omega arith
-no_eight status (inr (inr (inr (inr ten)))) e = omega arith
+no_eight status (inr (inr (inr (inr (inl ten))))) e = omega arith
+no_eight status (inr (inr (inr (inr (inr twelve))))) e = omega arith
 
 no_nine : (status : ℕ) → IsStatus status → status ≡ 9 → ⊥
 no_nine status (inl three) e = omega arith
 no_nine status (inr (inl four)) e = omega arith
 no_nine status (inr (inr (inl five))) e = omega arith
 no_nine status (inr (inr (inr (inl six)))) e = omega arith
-no_nine status (inr (inr (inr (inr ten)))) e = omega arith
+no_nine status (inr (inr (inr (inr (inl ten))))) e = omega arith
+no_nine status (inr (inr (inr (inr (inr twelve))))) e = omega arith
 
 no_written : (status : ℕ) → IsStatus status → IsWritten status → ⊥
 no_written status refused (inl zero) = no_success status refused zero
@@ -61,7 +66,8 @@ no_written status (inl three) (inr e) = omega arith
 no_written status (inr (inl four)) (inr e) = omega arith
 no_written status (inr (inr (inl five))) (inr e) = omega arith
 no_written status (inr (inr (inr (inl six)))) (inr e) = omega arith
-no_written status (inr (inr (inr (inr ten)))) (inr e) = omega arith
+no_written status (inr (inr (inr (inr (inl ten))))) (inr e) = omega arith
+no_written status (inr (inr (inr (inr (inr twelve))))) (inr e) = omega arith
 
 pub returns-in-Err-Usage-clause-outcome : goal.returns-in-Err-Usage-clause-outcome
 returns-in-Err-Usage-clause-outcome g c not7 not8 not9 =
@@ -188,7 +194,17 @@ returns-clause-run g c eleven =
     let given = c.answer_units.ensures.stopped eleven in
     let S : Option ℕ → Type 0 = λ steps. IsSome steps in
     subst S c.in-Ok.ensures.ok.says.steps
-    (run_asked command.generated (form_for command) command.steps (length command.units.items) (zip (names_for command) c.as_slice.result.now) given.0 given.1 given.2 given.4)
+    (run_asked command.generated (names_of command.entries.items) (form_for command) command.steps (length command.units.items) (zip (names_for command) c.as_slice.result.now) given.0 given.1 given.2 given.4)
+
+-- a text that was written whole has another status
+not_twelve : (status : ℕ) → status ≡ 12 → IsWritten status → ⊥
+not_twelve status twelve (inl zero) = omega arith
+not_twelve status twelve (inr eleven) = omega arith
+
+pub returns-clause-entry : goal.returns-clause-entry
+returns-clause-entry g c twelve =
+    let given = c.answer_units.ensures.refused (not_twelve _ twelve) (λ eight. omega arith) (λ nine. omega arith) in
+    entry_asked (texts_of c.args.words.now) c.in-Ok.command c.as_slice.result.now c.answer_units.result given.0 c.in-Ok.ensures.ok.says given.1 twelve
 
 pub returns-clause-broken : goal.returns-clause-broken
 returns-clause-broken g c eight =

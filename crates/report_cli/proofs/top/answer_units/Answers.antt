@@ -16,7 +16,7 @@ use Rattle.report_cli.proofs.top.answer_units.Goals as goal
 
 -- what was made of what is told
 abbrev IsMade : Told → Printed → Type 0
-IsMade told made = (program : Program) × (system : System) × Denotes told.units program × IsPrinted told.form told.side program system made.text.items made.status × IsSolvedShared system made.solved
+IsMade told made = (program : Program) × (system : System) × Denotes told.entries told.units program × IsPrinted told.form told.side program system made.text.items made.status × IsSolvedShared system made.solved
 
 -- the status of a refusal is that of no other answer
 not_other : (status : ℕ) → IsStatus status → (status ≡ 0) ⊎ ((status ≡ 8) ⊎ ((status ≡ 9) ⊎ (status ≡ 11))) → ⊥
@@ -24,7 +24,8 @@ not_other status (inl three) other = elim other [ inl e ↦ omega arith | inr (i
 not_other status (inr (inl four)) other = elim other [ inl e ↦ omega arith | inr (inl e) ↦ omega arith | inr (inr (inl e)) ↦ omega arith | inr (inr (inr e)) ↦ omega arith ]
 not_other status (inr (inr (inl five))) other = elim other [ inl e ↦ omega arith | inr (inl e) ↦ omega arith | inr (inr (inl e)) ↦ omega arith | inr (inr (inr e)) ↦ omega arith ]
 not_other status (inr (inr (inr (inl six)))) other = elim other [ inl e ↦ omega arith | inr (inl e) ↦ omega arith | inr (inr (inl e)) ↦ omega arith | inr (inr (inr e)) ↦ omega arith ]
-not_other status (inr (inr (inr (inr ten)))) other = elim other [ inl e ↦ omega arith | inr (inl e) ↦ omega arith | inr (inr (inl e)) ↦ omega arith | inr (inr (inr e)) ↦ omega arith ]
+not_other status (inr (inr (inr (inr (inl ten))))) other = elim other [ inl e ↦ omega arith | inr (inl e) ↦ omega arith | inr (inr (inl e)) ↦ omega arith | inr (inr (inr e)) ↦ omega arith ]
+not_other status (inr (inr (inr (inr (inr twelve))))) other = elim other [ inl e ↦ omega arith | inr (inl e) ↦ omega arith | inr (inr (inl e)) ↦ omega arith | inr (inr (inr e)) ↦ omega arith ]
 
 pub returns-in-Err-Refused-clause-delivered : goal.returns-in-Err-Refused-clause-delivered
 returns-in-Err-Refused-clause-delivered g c is = absurd (not_other _ (refused_status (told_as c.args.command.now c.args.texts.now) _ _ _ c.in-Err-Refused.field-0-is c.in-Err-Refused.ensures.refused) (inl is))

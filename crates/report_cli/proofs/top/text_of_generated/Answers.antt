@@ -21,11 +21,11 @@ text_of_units-requires-clause-bytes g c κs within = gen_name
 
 pub returns-clause-printed : goal.returns-clause-printed
 returns-clause-printed g c =
-    let P : List ℕ → Type 0 = λ text. IfOk c.text_of_units.result (λ (made : Printed). (program : Program) × (system : System) × Denotes ((codes "gen", text) ∷ []) program
+    let P : List ℕ → Type 0 = λ text. IfOk c.text_of_units.result (λ (made : Printed). (program : Program) × (system : System) × Denotes [] ((codes "gen", text) ∷ []) program
     × IsPrinted (Summary c.args.number) no_side program system made.text.items made.status × IsSolvedShared system made.solved) in
     subst P (c.of.ensures ∙ c.in_ok-text.ensures) c.text_of_units.ensures.printed
 
 pub returns-clause-refused : goal.returns-clause-refused
 returns-clause-refused g c =
-    let P : List ℕ → Type 0 = λ text. IfErr c.text_of_units.result (IsFaultOfTold (told_with ((codes "gen", text) ∷ []) no_side (Summary c.args.number))) in
+    let P : List ℕ → Type 0 = λ text. IfErr c.text_of_units.result (IsFaultOfTold (told_with [] ((codes "gen", text) ∷ []) no_side (Summary c.args.number))) in
     subst P (c.of.ensures ∙ c.in_ok-text.ensures) c.text_of_units.ensures.refused

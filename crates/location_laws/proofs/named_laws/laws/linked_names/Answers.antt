@@ -2,4 +2,4 @@ use Rattle.location_laws.proofs.named_laws.Whole.{linked_names}
 use Rattle.location_laws.proofs.named_laws.laws.linked_names.Goals as goal
 
 pub returns : goal.returns
-returns c = linked_names
+returns c = λ entered. linked_names {entered = entered}

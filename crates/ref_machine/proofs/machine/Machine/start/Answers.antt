@@ -20,7 +20,7 @@ returns-clause-machine c = record {
 
 pub returns-clause-state : goal.returns-clause-state
 returns-clause-state c =
-    starts c.args.program.now c.in_ok-memory.memory c.new.result c.new-2.result c.none.result
+    starts c.args.program.now c.in_ok-memory.memory c.new.result c.new-2.result c.none.result c.new-3.result
     (memory_starts c.args.program.now c.in_ok-prepared.prepared c.in_ok-prepared.ensures (seen c.running-running.result) c.in_ok-memory.memory
     c.running-running.ensures.seen c.in_ok-memory.ensures.memory)
-    c.new.ensures c.new-2.ensures c.none.ensures
+    c.new.ensures c.new-2.ensures c.none.ensures c.new-3.ensures

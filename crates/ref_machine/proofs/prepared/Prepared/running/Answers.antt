@@ -9,7 +9,8 @@ returns-clause-running c =
 
 pub returns-clause-seen : goal.returns-clause-seen
 returns-clause-seen c =
-    running_seen c.args.program.now c.args.self.now c.requires (core_of c.trees_over.result) c.args.self.now.space c.trees_over.ensures refl
+    running_seen c.args.program.now c.args.self.now c.requires (core_of c.trees_over.result) c.args.self.now.space c.as_slice-2.result.now c.trees_over.ensures refl
+    c.as_slice-2.ensures.value
 
 pub returns-clause-grounded : goal.returns-clause-grounded
 returns-clause-grounded c = grounded c.args.program.now c.args.self.now c.requires c.type_count.ensures.made c.type_count.ensures.named

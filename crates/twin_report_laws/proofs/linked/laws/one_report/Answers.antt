@@ -2,4 +2,4 @@ use Rattle.twin_report_laws.proofs.linked.Whole.{one_report}
 use Rattle.twin_report_laws.proofs.linked.laws.one_report.Goals as goal
 
 pub returns : goal.returns
-returns c = one_report
+returns c = λ entered. one_report {entered = entered}

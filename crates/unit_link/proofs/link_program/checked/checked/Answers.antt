@@ -29,4 +29,4 @@ pub returns-in-Ok : goal.returns-in-Ok
 returns-in-Ok c =
     let j = joined_by c.args.units.now c.args.types.now c.args.type_starts.now in
     let declared = subst (AreDeclarations c.args.units.now) (sym c.as_slice.ensures.value) c.in_ok-declared.ensures.declared in
-    subst (λ (ds : List Declared). AreChecked j ds c.in-Ok.names) c.as_slice.ensures.value (record { declared = declared; faultless = c.in-Ok.ensures.0; said = c.in-Ok.ensures.1 })
+    subst (λ (ds : List Declared). AreChecked c.args.entries.now j ds c.in-Ok.names) c.as_slice.ensures.value (record { declared = declared; faultless = c.in-Ok.ensures.0; said = c.in-Ok.ensures.1 })

@@ -22,4 +22,4 @@ returns-in-Ok c =
 pub returns-in-Err : goal.returns-in-Err
 returns-in-Err c =
     let told = c.type_count-types.ensures in
-    program_refused c.args.units.items c.in_ok-program.program c.in-Err.fault (record { linked = c.in_ok-program.ensures.linked; made = told.made; named = told.named; room = c.in_ok-program.ensures.room; range = c.in_ok-program.ensures.range }) c.in-Err.ensures
+    program_refused c.args.entries.now c.args.units.items c.in_ok-program.program c.in-Err.fault (record { linked = c.in_ok-program.ensures.linked; made = told.made; named = told.named; room = c.in_ok-program.ensures.room; range = c.in_ok-program.ensures.range }) c.in-Err.ensures
