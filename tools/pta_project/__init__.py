@@ -10,12 +10,12 @@ conversions   what casts convert, asked of the compiler
 facts         what a unit tells before any rewrite, and what the units of a program wish for together
 catalogue     the names that the library's files define
 syntax        rewrites that the tokens alone call for
-variadic      functions with further arguments
 converting    rewrites of conversions
 wrappers      functions that become pointers to functions of another type
 allocators    functions that the user says to allocate
 agreeing      declarations of one name that don't agree
 refusals      rewrites for what pta refuses still, one function for each kind
+untold        pointers to functions whose parameters aren't told
 fitting       a unit becomes one that passes
 library       bodies for functions that no unit defines
 running       pta

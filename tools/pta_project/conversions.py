@@ -56,18 +56,16 @@ class Asked(NamedTuple):
 
     `conversions` between pointers; `compared`: origins of comparisons of pointers of two types; `undeclared`:
     functions without a declaration; `characters`: origins of what turns from `void *` to a pointer to numbers;
-    `further`: for the origin of each argument behind the parameters of a variadic function its kind; the number of
-    `faults`.
+    `faults`: the number of errors.
     """
     conversions: tuple
     compared: tuple
     undeclared: tuple
     characters: frozenset
-    further: dict
     faults: int
 
 
-def ask(compiler, text, typedefs, pointers, variadic):
+def ask(compiler, text, typedefs, pointers):
     """Ask the compiler of all conversions of a unit's first text."""
     casts = list(pointer_casts(text, typedefs, pointers))
     edits, numbers = [], {}
@@ -77,23 +75,10 @@ def ask(compiler, text, typedefs, pointers, variadic):
                   inserted(span[-1] + 1, "))")]
         numbers[number] = (index, span[-1])
     edits += [Edit(index, index + size) for index, size in void_casts(text)]
-    further = list(further_arguments(text, variadic))
-    for number, span in enumerate(further, len(casts)):
-        edits += [inserted(span[0], f"pta_from_{number}("), inserted(span[-1] + 1, ")")]
-    names = "".join(f"void*pta_{way}_{number}(struct pta_probe*);"
-                    for number in range(len(casts) + len(further)) for way in ("from", "to"))
+    names = "".join(f"void*pta_{way}_{number}(struct pta_probe*);" for number in range(len(casts)) for way in ("from", "to"))
     probe = text.edited(edits)
-    reader = _Reader(text, probe, numbers, {len(casts) + n: text.origin(span[0]) for n, span in enumerate(further)})
+    reader = _Reader(text, probe, numbers)
     return reader.read(_compiled(compiler, "struct pta_probe;" + names, probe))
-
-
-def further_arguments(text, names):
-    """The arguments behind the parameters in calls of variadic functions of the program."""
-    for index, token in enumerate(text.tokens):
-        if token in names and text.at(index + 1) in ("(", ")"):
-            start = call_of(text, index)
-            if start:
-                yield from text.arguments(start)[names[token]:]
 
 
 def call_of(text, index):
@@ -155,8 +140,8 @@ def _compiled(compiler, first, probe):
 class _Reader:
     """Reads the compiler's diagnostics of a probe."""
 
-    def __init__(self, text, probe, casts, further):
-        self._text, self._probe, self._casts, self._further = text, probe, casts, further
+    def __init__(self, text, probe, casts):
+        self._text, self._probe, self._casts = text, probe, casts
         self._kinds, self._conversions, self._compared = {}, [], []
         self._undeclared, self._characters, self._faults = set(), set(), 0
 
@@ -167,9 +152,8 @@ class _Reader:
         for number, (index, last) in self._casts.items():
             if ("to", number) in self._kinds:
                 self._note_cast(number, self._text.origin(index), self._text.origin(last))
-        further = {origin: self._kinds.get(("from", number)) for number, origin in self._further.items()}
         return Asked(tuple(self._conversions), tuple(self._compared), tuple(sorted(self._undeclared)),
-                     frozenset(self._characters), further, self._faults)
+                     frozenset(self._characters), self._faults)
 
     def _note(self, one, message, shift):
         argument = _ARGUMENT.search(" ".join(child["message"] for child in one.get("children", ())))

@@ -9,7 +9,7 @@ from .refusals import Case, candidates
 from .rewriting import EXACT, HOLE, MERGED, Rewrite, inserted
 from .syntax import builtin_rewrites, definition_rewrites, float_rewrites, syntax_rewrites
 from .tokens import Edit
-from .variadic import DECLARED, DEFINED, address_holes, call_rewrites, list_rewrites, untold_holes
+from .untold import untold_holes
 from .wrappers import PREFIX
 
 LIMIT = 400
@@ -59,11 +59,11 @@ class Fitter:
         stale = units if wishes != self.wishes else new
         self.wishes = wishes
         for unit in stale:
-            self._refit(unit, unit is units[0])
+            self._refit(unit)
 
-    def _refit(self, unit, is_first):
+    def _refit(self, unit):
         """Rewrite a unit from its first text on."""
-        fitted = prepared(unit, self._facts[unit.name], self.wishes, is_first, self._allocators)
+        fitted = prepared(unit, self._facts[unit.name], self.wishes, self._allocators)
         unit.text, self._done[unit.name] = fitted.text, list(fitted.done)
         for definition in self._added.get(unit.name, ()):
             self._append(unit, definition)
@@ -99,16 +99,11 @@ class Fitter:
         """Forget a unit that another one of its name takes the place of."""
         self._facts.pop(name, None)
 
-    def define(self, units, unit, definition, parameters=None):
-        """Add a definition to a unit; of a variadic function with the number of its parameters."""
+    def define(self, unit, definition):
+        """Add a definition to a unit."""
         self._added.setdefault(unit.name, []).append(definition)
         self._append(unit, definition)
         self._pta.write(unit.name, unit.text)
-        if parameters is not None:
-            name = definition.what.split()[0]
-            self.wishes = self.wishes.joined(Wishes(fixed=((name, parameters),)))
-            for one in units:
-                self._refit(one, one is units[0])
 
     def _append(self, unit, definition):
         count = len(unit.text.tokens)
@@ -145,7 +140,7 @@ class Fitter:
         return entries
 
 
-def prepared(unit, facts, wishes, is_first, allocators):
+def prepared(unit, facts, wishes, allocators):
     """A unit with all known rewrites done."""
     done = []
     text = _step(unit.first, definition_rewrites(unit.first), done)
@@ -156,13 +151,8 @@ def prepared(unit, facts, wishes, is_first, allocators):
     text = _step(text, _plain_rewrites(text, facts, wishes), done)
     done += [(EXACT, f"{name} declared as the compiler does", 0) for name in facts.asked.undeclared]
     text = _again(text, lambda text: builtin_rewrites(text, set(text.tokens)), done)
-    if wishes.fixed:
-        text = _again(text, lambda text: call_rewrites(text, facts, wishes), done)
-    done += [(rewrite.grade, rewrite.what, text.origin(rewrite.index)) for rewrite in
-             (*address_holes(text, wishes), *untold_holes(text))]
+    done += [(rewrite.grade, rewrite.what, text.origin(rewrite.index)) for rewrite in untold_holes(text)]
     first = "".join(f"int {name}(); " for name in facts.asked.undeclared)
-    if wishes.rest:
-        first += DECLARED + (DEFINED if is_first else "")
     return Fitted(text.edited([inserted(0, first)]) if first else text, tuple(done))
 
 
@@ -173,7 +163,6 @@ def _plain_rewrites(text, facts, wishes):
     if wishes.floats:
         yield from float_rewrites(text)
     yield from builtin_rewrites(text, declared)
-    yield from list_rewrites(text, facts, wishes)
     yield from Converter(text, facts, wishes).rewrites()
     for index, edits in union_edits(text, wishes.merged, facts.layout):
         yield Rewrite(MERGED, "structure as one piece", index, tuple(edits))

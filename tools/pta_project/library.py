@@ -73,12 +73,6 @@ def empty_definition(text, span, name, typedefs, is_plain):
     return Definition(source, EXACT if is_plain else HOLE, what, text.origin(span[0]))
 
 
-def variadic_parameters(text, span):
-    """The number of parameters of a declaration with `...`; None without."""
-    dots = next((index for index in span if text.tokens[index] == "..."), None)
-    return None if dots is None else len(text.arguments(text.opening(dots + 1))) - 1
-
-
 def _plain_words(text, span):
     """The tokens of a declaration without what only a declaration has."""
     words, index = [], span[0] if span else 0

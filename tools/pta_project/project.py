@@ -9,7 +9,7 @@ from .facts import examine
 from .fitting import Fitter, holes
 from .agreeing import agreeing, definition_of, differing_tags, hidden_structures, with_tag
 from .catalogue import catalogue
-from .library import Names, empty_definition, library_unit, variadic_parameters, wanted
+from .library import Names, empty_definition, library_unit, wanted
 from .report import Places, characters_that_hold
 from .rewriting import EXACT, HOLE
 from .running import Pta, read_refusal
@@ -211,7 +211,7 @@ class Program:
                 self._emptied.add(name)
                 made = empty_definition(unit.text, span, name, self.fitter.typedefs(unit),
                                         name in self._options.plain)
-                self.fitter.define(self.units, unit, made, variadic_parameters(unit.text, span))
+                self.fitter.define(unit, made)
                 return True
         return False
 

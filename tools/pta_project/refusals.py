@@ -1,5 +1,4 @@
 """Rewrites for what pta refuses still: one function for each kind, (Case) -> what may mend it, the best first."""
-import re
 from typing import NamedTuple
 
 from .conversions import NUMBER
@@ -207,17 +206,6 @@ def builtin(case):
     return [hole(f"{case.word} left out", case.index, replaced(call, new)) for new in ("0", "((void) 0)")]
 
 
-@kinds("variadic-definition")
-def variadic_definition(case):
-    """A definition with `...` that no unit declares so in the known way."""
-    text = case.text
-    for index in range(case.index, min(case.index + 200, len(text.tokens) - 1)):
-        if text.tokens[index] == "..." and text.tokens[index - 1] == ",":
-            return [hole(f"{case.word} has its parameters alone", case.index,
-                         replaced(range(index - 1, index + 1)))]
-    return []
-
-
 @kinds("array-of-value")
 def array_of_value(case):
     """A member of what a call gives: the call's structure is not kept anywhere."""
@@ -256,7 +244,17 @@ def misfit(case):
     else:
         found += [hole("conversion over void *", case.index, inserted(value[0], "(void *) ("),
                        inserted(value[-1] + 1, ")")) for value in converted(case.text, case.index)]
-    return [*_lengths(case), *_braces(case), *_void_arithmetic(case), *_over_union(case), *found, *_values_left_out(case)]
+    return [*_whole_out_of_list(case), *_lengths(case), *_braces(case), *_void_arithmetic(case), *_over_union(case), *found,
+            *_values_left_out(case)]
+
+
+def _whole_out_of_list(case):
+    """A va_arg of a structure, a union or a list: nothing comes out."""
+    text = case.text
+    if case.word == "__builtin_va_arg" and text.at(case.index + 1) == "(":
+        kind = text.arguments(case.index + 1)[-1]
+        call = range(case.index, text.closing(case.index + 1) + 1)
+        yield hole("va_arg of a structure", case.index, replaced(call, "(*(", kind, "*) (void *) 0)"))
 
 
 def _void_arithmetic(case):

@@ -438,8 +438,8 @@ FIRST = ("__builtin_bswap", "__builtin_expect", "__builtin_clz", "__builtin_ctz"
          "__builtin_isless", "__builtin_isgreater")
 NUMBERS = ("__builtin_constant_p", "__builtin_object_size", "__builtin_inf", "__builtin_nan", "__builtin_huge_val",
            "__builtin_types_compatible_p", "__builtin_offsetof", "__builtin_dynamic_object_size")
-QUIET = ("__builtin_unreachable", "__builtin_trap", "__builtin_prefetch", "__builtin_va_start", "__builtin_va_end",
-         "__builtin_c23_va_start")
+QUIET = ("__builtin_unreachable", "__builtin_trap", "__builtin_prefetch")
+TAKEN = frozenset(f"__builtin_va_{name}" for name in ("list", "start", "arg", "copy", "end"))
 DECLARATIONS = {
     "memcpy": "void *memcpy(void *, const void *, unsigned long);",
     "memmove": "void *memmove(void *, const void *, unsigned long);",
@@ -457,8 +457,8 @@ ALLOCA = ("__builtin_alloca", "__builtin_alloca_with_align")
 
 
 def builtin_rewrites(text, declared):
-    """Calls of builtins become plain expressions."""
-    names = {token for token in set(text.tokens) if token.startswith("__builtin_") and token != "__builtin_va_list"}
+    """Calls of builtins that pta doesn't take become plain expressions."""
+    names = {token for token in set(text.tokens) if token.startswith("__builtin_")} - TAKEN
     for index, token in enumerate(text.tokens):
         if token in names and text.at(index + 1) == "(":
             rewrite = builtin(text, index, declared)
@@ -485,8 +485,6 @@ def builtin(text, index, declared):
     if OVERFLOW.match(name) and len(arguments) == 3:
         first, second, result = arguments
         return exact(what, index, replaced(call, "(*(", result, ") = (", first, ") + (", second, "), 0)"))
-    if name == "__builtin_va_copy" and len(arguments) == 2:
-        return exact(what, index, replaced(call, "((void)0)"))
     if name in ALLOCA:
         return exact(what, index, one(index, "malloc"), *_declared_once(text, "malloc", declared,
                                                                        "void *malloc(unsigned long);"))
