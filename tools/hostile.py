@@ -3,15 +3,17 @@
 
 Runs the program PTA on N random and changed texts (100,000 where N is left out), each with a stack of 256 KiB, 1 GiB of address space,
 20 seconds of processor and 300 of the clock. Each run must end with a status of docs/MANUAL.md; with an empty standard output where that
-isn't 0 or 8; with one line of that status on standard error exactly where it isn't 0; and with a place inside its unit. Every sixteenth run
-that gives a report is run again with another number of workers, which must give the same bytes, and every sixteenth with --json, which must
-give the same report.
+isn't 0, 8 or 11; with one line of that status on standard error exactly where it isn't 0 or 11; and with a place inside its unit. Every
+sixteenth run that gives a report is run again with another number of workers, which must give the same bytes, and every sixteenth with
+--json, which must give the same report. Every sixteenth is run again with --run and some words, and every sixteenth with --entry and
+names out of its text; these too must end as the manual says.
 
 The case of a number depends on the seed alone: `--from I --runs 1` repeats case I. What fails is kept in FOLDER (`hostile-kept`), with
 its files, words and what was seen. The last lines count the runs by status and by kind of text; the status is 1 where a run failed."""
 import argparse
 import collections
 import os
+import re
 import shutil
 import sys
 import tempfile
@@ -55,6 +57,13 @@ def keep(folder, number, case, ended, found):
                    f"err {ended.err[:2000]!r}\nout {ended.out[:2000]!r}\n")
 
 
+def entries(case, number):
+    """Up to three names that stand before a parenthesis in the texts of a case, and `f` where there are none."""
+    found = sorted({name.decode() for text in case.files.values() for name in re.findall(rb"\b[A-Za-z_][A-Za-z0-9_]{0,60}(?=\()", text)})
+    chosen = {found[number * step % len(found)] for step in (1, 5, 11)[: 1 + number // 16 % 3]} if found else {"f"}
+    return ",".join(sorted(chosen))
+
+
 class Runs:
     """The runs of a command line, and their counts."""
 
@@ -66,6 +75,7 @@ class Runs:
         self.kinds = collections.Counter()
         self.again = 0
         self.json = 0
+        self.others = collections.Counter()
         self.failed = 0
         self.slowest = (0.0, 0)
 
@@ -78,6 +88,10 @@ class Runs:
             found += self.other_workers(case, ended)
         if number % 16 == 8 and ended.status == 0 and "--ask" not in case.words:
             found += self.as_json(case, ended)
+        if number % 16 == 4 and ended.status in (0, 3, 4, 5, 6) and case.words[-1] in case.files and "--ask" not in case.words:
+            found += self.with_option(case, ["--run", "2000"], {"words": b" ".join(b"%d" % (number * one % 997) for one in range(40))})
+        if number % 16 == 12 and ended.status in (0, 3, 4, 5, 6) and case.words[-1] in case.files:
+            found += self.with_option(case, ["--entry", entries(case, number)], {})
         self.statuses[ended.status] += 1
         self.kinds[case.kind, ended.status] += 1
         self.slowest = max(self.slowest, (ended.seconds, number))
@@ -94,6 +108,14 @@ class Runs:
         same = (second.status, second.out, second.err) == (ended.status, ended.out, ended.err)
         return [] if same else [f"another answer with the words {words}: status {second.status}"]
 
+    def with_option(self, case, words, files):
+        """Runs a case again with an option and files more, and counts how it ended."""
+        other = hostile_judge.Case([*words, *case.words], {**case.files, **files}, case.kind)
+        hostile_judge.lay(other, self.folder)
+        ended = hostile_judge.run([self.pta, *other.words], self.folder, Limits())
+        self.others[words[0], ended.status] += 1
+        return [f"with {' '.join(words)}: {fault}" for fault in hostile_judge.faults(other, ended)]
+
     def as_json(self, case, ended):
         """Runs a case again with --json: the same report in the other form."""
         self.json += 1
@@ -108,6 +130,9 @@ class Runs:
         for status, count in sorted(self.statuses.items()):
             kinds = ", ".join(f"{kind} {n}" for (kind, of), n in sorted(self.kinds.items()) if of == status)
             print(f"status {status}: {count} ({kinds})")
+        for option in ("--run", "--entry"):
+            counts = ", ".join(f"{status} {count}" for (of, status), count in sorted(self.others.items()) if of == option)
+            print(f"again with {option}, by status: {counts}")
         print(f"{self.failed} failed" + (f", kept in {self.kept}" if self.failed else ""), flush=True)
 
 

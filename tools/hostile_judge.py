@@ -34,11 +34,15 @@ LINES = {
     8: rb"sink fault",
     9: rb"out of memory",
     10: rb"question (?P<question>[1-9][0-9]*)",
+    12: rb"entry " + NAME,
 }
 LINES = {status: re.compile(line + rb"\n") for status, line in LINES.items()}
 
 REPORT = re.compile(rb"pta 1\n(?:set \S+:(?: \S+)*\n)*(?:call \S+:[0-9]+:[0-9]+:(?: \S+)*\n)*(?:edge \S+ \S+\n)*end\n")
 ANSWERS = re.compile(rb"ask 1\n(?:(?:yes|no)\n)*end\n")
+NOTES = rb"run 1\n(?:store \S+ \S+\n|target \S+:[0-9]+:[0-9]+ \S+\n)*"
+RUN = re.compile(NOTES + rb"(?:finished -?[0-9]+|went [0-9]+)\n")
+STOPPED = re.compile(NOTES + rb"stopped [A-Za-z]+ " + PLACE + rb"\n")
 
 
 @dataclass
@@ -185,8 +189,12 @@ def faults(case, ended):
     if ended.status < 0:
         return [f"signal {-ended.status}"]
     if ended.status == 0:
-        whole = REPORT.fullmatch(ended.out) or ANSWERS.fullmatch(ended.out)
+        whole = any(form.fullmatch(ended.out) for form in (REPORT, ANSWERS, RUN))
         return (["err isn't empty"] if ended.err else []) + ([] if whole else ["out is no whole report"])
+    if ended.status == 11:
+        match = STOPPED.fullmatch(ended.out)
+        outside = out_of_text(match, case.files) if match else "out is no run that stopped"
+        return (["err isn't empty"] if ended.err else []) + ([outside] if outside else [])
     if ended.status not in LINES:
         return [f"status {ended.status} isn't listed"]
     return refusal_faults(case, ended)

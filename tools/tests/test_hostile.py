@@ -53,7 +53,8 @@ class Judge(unittest.TestCase):
         case = Case(["a.i"], {"a.i": b""})
         self.assertEqual(faults(case, Ended(0, b"pta 1\nend\n", b"", 0.0)), [])
         self.assertEqual(faults(case, Ended(0, b"pta 1\n", b"", 0.0)), ["out is no whole report"])
-        self.assertEqual(faults(case, Ended(11, b"", b"", 0.0)), ["status 11 isn't listed"])
+        self.assertEqual(faults(case, Ended(14, b"", b"", 0.0)), ["status 14 isn't listed"])
+        self.assertEqual(faults(case, Ended(11, b"run 1\nwent 9\n", b"", 0.0)), ["out is no run that stopped"])
 
     def test_a_report_as_json(self):
         made = b'{"calls":[{"place":"a.i:1:2","targets":["f"]}],"edges":[["g","f"]],"report":2,"sets":[{"members":[],"name":"p"}]}\n'
