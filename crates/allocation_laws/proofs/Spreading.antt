@@ -35,6 +35,7 @@ use Rattle.call_sites.specs.Calls.{head_of, name_of, name_at, under_decay, named
 use Rattle.normal_form.specs.declared.normal.Assignment.{Assignment}
 use Rattle.normal_form.specs.Assignments.{assignments_by, assignments_at, assignments_of}
 use Rattle.normal_form.specs.Facts.{parameter_rows}
+use Rattle.normal_form.proofs.Demanding.{demanded}
 use Rattle.normal_form.specs.SystemOf.{constraint_of, held_by, library_pair, library_constraints, present_rows, taken_in, given_out, result_rows, entry_constraints, outside_constraints, start_constraints, Demands, by_node, by_call, by_library, by_start, setting_of, SystemOf}
 use Rattle.system_laws.proofs.Functions.{HasPlace, first_of, place_of}
 use Rattle.allocation_laws.specs.Spread.{IsRight, ReturnsFit, AreSpaced, AllocatorsSpread}
@@ -203,7 +204,7 @@ module _ (p : Program) (space : List Location) (system : System) (is : SystemOf 
   -- without the location in other rows the family is closed
   given_special : (r : ℕ) → IsGiven system (without F L special) r L → special r ≡ true
   given_special r g =
-      let kept = demanded_kept g.0 ((is.constraints g.0).0 g.1) in
+      let kept = demanded_kept g.0 ((demanded p (view_of space) system is g.0).0 g.1) in
       let ok = All-contains (IsConstraintValid system) system.constraints g.0 valid.constraints g.1 in
       elim g.2 [
         | inl fact ↦ kept.facts r (more_fact system (without F L special) F (without_inside F L special) g.0 r L fact)

@@ -92,7 +92,9 @@ fn one_step(alloc: Global, unit: &mut Unit, value: u32, ty: TypeId) -> Result<u3
     ensures ready { IsReady unit.new }
     ensures builds { Builds unit.old unit.new }
     ensures within { IfOk result (λ i. i < length unit.new.nodes.items) }
-    ensures made { Made unit.new result (Fits (over Upcast (place_of (core_at unit.old value)) (PointerTo (type_of unit.old.types ty.0)) (core_at unit.old value))) }
+    ensures made { Made unit.new result
+        (Fits
+        (over Upcast (place_of (core_at unit.old value)) (PointerTo (type_of unit.old.types ty.0)) (core_at unit.old value))) }
     ensures only_memory { IsOkUnless result CheckFault.OutOfMemory }
 {
     let place = place_of_node(unit, value);

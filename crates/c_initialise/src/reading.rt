@@ -45,7 +45,8 @@ fn designators_of(alloc: Global, source: &Source, item: u32) -> Result<Vec<Desig
     ensures { let s = told source.now in
         let part = part_at s source.now.syntax.now.tree.now.nodes.items in
         IfOk result (λ list.
-        map designator_of list.items ≡ all_designators (before item part) (children_of (slice_get source.now.syntax.now.tree.now.nodes.items item))) }
+        map designator_of list.items
+        ≡ all_designators (before item part) (children_of (slice_get source.now.syntax.now.tree.now.nodes.items item))) }
 {
     let mut designators = Vec::new(alloc);
     for child in children_of(source.syntax, item) {
@@ -71,7 +72,9 @@ pub fn read_init(
     requires node { production_of (slice_get source.now.syntax.now.tree.now.nodes.items node) ≡ p_init }
     ensures at { IfOk result (λ at. at < length inits.new.items) }
     ensures init { let s = told source.now in
-        IfOk result (λ at. part_at s source.now.syntax.now.tree.now.nodes.items node ≡ AnInit (init_at source.now.unit.now.types inits.new.items at)) }
+        IfOk result
+        (λ at. part_at s source.now.syntax.now.tree.now.nodes.items node
+        ≡ AnInit (init_at source.now.unit.now.types inits.new.items at)) }
     ensures grows { OnOk result (Grows source.now.unit.now.types inits.old.items inits.new.items) }
 {
     match child_before(source.syntax, ITEMS, node) {
@@ -102,7 +105,8 @@ pub fn read_items(
     ensures within { IfOk result (λ entries. ItemsBefore (length inits.new.items) entries.items) }
     ensures items { let s = told source.now in
         IfOk result (λ entries.
-        part_at s source.now.syntax.now.tree.now.nodes.items list ≡ AList (items_over (init_at source.now.unit.now.types inits.new.items) entries.items)) }
+        part_at s source.now.syntax.now.tree.now.nodes.items list
+        ≡ AList (items_over (init_at source.now.unit.now.types inits.new.items) entries.items)) }
     ensures grows { OnOk result (Grows source.now.unit.now.types inits.old.items inits.new.items) }
 {
     let mut entries = Vec::new(alloc);
@@ -129,7 +133,9 @@ fn read_item(
     requires inits { AreInits source.now.unit.now.types inits.old.items }
     requires item { production_of (slice_get source.now.syntax.now.tree.now.nodes.items item) ≡ p_item }
     ensures item { let s = told source.now in
-        IfOk result (λ entry. IsItem source.now.unit.now.types inits.new.items (part_at s source.now.syntax.now.tree.now.nodes.items item) entry) }
+        IfOk result
+        (λ entry. IsItem source.now.unit.now.types inits.new.items
+        (part_at s source.now.syntax.now.tree.now.nodes.items item) entry) }
     ensures grows { OnOk result (Grows source.now.unit.now.types inits.old.items inits.new.items) }
 {
     match child_before(source.syntax, INIT, item) {

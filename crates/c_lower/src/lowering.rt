@@ -1,8 +1,9 @@
 // The unit of a text, or its first refusal.
-ghost use Rattle.std.specs.Prelude.{MatchResult, IfErr};
+ghost use Rattle.std.specs.Prelude.{MatchResult, IfOk, IfErr};
 ghost use Rattle.c_lexer.specs.Cut.{IsTokens};
 ghost use Rattle.c_parser.specs.c_units.Units.{IsUnit};
 ghost use Rattle.c_scope.specs.Resolves.{IsBound};
+ghost use Rattle.core_nodes.specs.Once.{HasOnce};
 ghost use Rattle.c_senses.specs.Names.{source_of};
 ghost use Rattle.sense_laws.specs.Senses.{ChildrenFirst};
 ghost use Rattle.c_lower.specs.unit_lowering.PassedOn.{RefusedIn};
@@ -36,6 +37,9 @@ pub fn lower_unit(
     requires first { ChildrenFirst (source_of tokens.now tree.now) }
     ensures lowered { MatchResult result (IsLowered (source_of tokens.now tree.now) name) (RefusedIn (source_of tokens.now tree.now)) }
     ensures built { IfErr result IsOtherFault }
+
+    // No type stands twice in the unit.
+    ensures once { IfOk result (λ unit. HasOnce unit.types) }
 {
     lower(alloc, tokens, tree, bound, name)
 }

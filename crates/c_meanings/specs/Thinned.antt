@@ -1,7 +1,7 @@
 -- Lists of declarations without those that give their name no more than those before them: a round of declarations
 -- that is made again.
 use Rattle.std.specs.Prelude.{ℕ, ⊤, ◌≡◌, ◌<◌, ◌||◌, Bool, true, false, List, [], ◌∷◌, ◌++◌, length, get_or, Option}
-use Rattle.std.specs.Prelude.{Some, None}
+use Rattle.std.specs.Prelude.{Some, None, IfSome}
 use Rattle.core_tree.specs.declared.node.Unit.{Unit}
 use Rattle.c_types.specs.declared.term.TypeId.{TypeId}
 use Rattle.c_types.specs.Trees.{Ctype}
@@ -28,12 +28,13 @@ use Rattle.c_meanings.specs.declared.thinned.Thinned.{Thinned}
 use Rattle.c_meanings.specs.Known.{nodes_in}
 use Rattle.c_meanings.specs.Later.{later}
 
--- the nodes of a declaration that is no parameter and has no initialiser; they are among so many
+-- the nodes of a declaration that is no parameter; they are among so many
 pub record AreParts (s : Source) (count leaf : ℕ) (p : Parts) : Type 0 where
   pub parameter : (sense : ℕ → Sense) → is_parameter s sense leaf ≡ false
-  pub plain : (sense : ℕ → Sense) → initialiser_for s sense leaf ≡ None
+  pub initialiser : (sense : ℕ → Sense) → initialiser_for s sense leaf ≡ p.initialiser
   pub declarator : outermost_of s leaf ≡ Some p.declarator
   pub specifiers : specs_of s p.declarator ≡ Some p.specifiers
+  pub initialiser_below : IfSome p.initialiser (λ i. i < count)
   pub declarator_below : p.declarator < count
   pub specifiers_below : p.specifiers < count
 

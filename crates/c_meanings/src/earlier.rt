@@ -1,5 +1,5 @@
 // The declarations of a name before one, without those that give it no more than those before them.
-ghost use Rattle.std.specs.Prelude.{◌≡◌, ◌<◌, ℕ, true, List, All, length, IfOk, IfSome, IsOkUnless};
+ghost use Rattle.std.specs.Prelude.{◌≡◌, ◌<◌, ℕ, true, List, All, length, IfOk, IfSome, IsOkUnless, None};
 ghost use Rattle.core_nodes.specs.declared.fault.CheckFault.TheVariants.{OutOfMemory};
 ghost use Rattle.core_tree.specs.declared.node.Unit.{Unit as UnitSpec};
 ghost use Rattle.c_senses.specs.World.{World};
@@ -16,12 +16,12 @@ ghost use Rattle.name_chains.specs.Links.{listed, IsLinkOf};
 
 use crate::kept::{Linkages, internal_asked};
 use crate::linkage::entity_of;
-use crate::names::{Names, symbol_link};
+use crate::names::{Names, link_at, symbol_link};
 use crate::thinned::{thin, thinned_list, thinned_now, unknown_in};
 use c_results::Results;
 use c_scope::Declared;
 use core_nodes::CheckFault;
-use name_chains::{in_scope_link, typing_link};
+use name_chains::{in_scope_link, list_of, typing_link};
 use std::alloc::Global;
 use tree_reads::Syntax;
 
@@ -71,6 +71,68 @@ pub(crate) fn typing_thinned(
     let last = typing_link(&names.chains, leaf);
     let links = names.chains.links.as_slice();
     thinned_now(alloc, syntax, results, &mut linkages.typing, links, last)
+}
+
+// Declarations that give together the type that those of a list do, by its last link: without those that give no more than those before
+// them, where they are known.
+fn typing_before(
+    alloc: Global,
+    names: &Names,
+    syntax: &Syntax,
+    results: &Results,
+    linkages: &mut Linkages,
+    last: Option<u32>,
+) -> Result<Vec<Declared>, CheckFault>
+    requires names { AreNamed syntax.now results.now names.now }
+    requires linkages { AreLinkages syntax.now results.now names.now linkages.old }
+    requires last { IsLinkOf names.now.chains.links.items last }
+    ensures linkages { AreLinkages syntax.now results.now names.now linkages.new }
+    ensures gives { IfOk result (λ v. (u : UnitSpec) (uses : List (ℕ × ℕ)) →
+        let s = source_in syntax.now uses in
+        let sense = sense_in (senses_made u results.now) in
+        spec.all_together None (spec.types_of s sense v.items)
+        ≡ spec.all_together None (spec.types_of s sense (listed names.now.chains.links.items last))) }
+    ensures leaves { IfOk result (λ v. All (λ d. d.node < nodes_in syntax.now) v.items) }
+    ensures memory { IsOkUnless result OutOfMemory }
+{
+    let links = names.chains.links.as_slice();
+    if let Some(list) = thinned_now(alloc, syntax, results, &mut linkages.typing, links, last)? {
+        return Ok(list);
+    }
+    match list_of(alloc, links, last) {
+        Ok(list) => Ok(list),
+        Err(_) => Err(CheckFault::OutOfMemory),
+    }
+}
+
+/// Declarations that give together the type of a declared name behind its declaration (C11 6.2.7p4), its own last. Only memory may want.
+/// The contract says what they give and that what is kept stays right, and nothing of how often a declaration is looked at: those before
+/// its own are without those that give no more than those before them.
+pub fn typing_list(
+    alloc: Global,
+    names: &Names,
+    syntax: &Syntax,
+    results: &Results,
+    linkages: &mut Linkages,
+    leaf: u32,
+) -> Result<Vec<Declared>, CheckFault>
+    requires names { AreNamed syntax.now results.now names.now }
+    requires linkages { AreLinkages syntax.now results.now names.now linkages.old }
+    ensures linkages { AreLinkages syntax.now results.now names.now linkages.new }
+    ensures gives { IfOk result (λ v. (u : UnitSpec) (uses : List (ℕ × ℕ)) →
+        let s = source_in syntax.now uses in
+        let sense = sense_in (senses_made u results.now) in
+        spec.all_together None (spec.types_of s sense v.items) ≡ spec.type_behind s sense leaf) }
+    ensures leaves { IfOk result (λ v. All (λ d. d.node < nodes_in syntax.now) v.items) }
+    ensures memory { IsOkUnless result OutOfMemory }
+{
+    let Some(place) = typing_link(&names.chains, leaf) else {
+        return Ok(Vec::new(alloc));
+    };
+    let own = link_at(names, place);
+    let mut list = typing_before(alloc, names, syntax, results, linkages, own.before)?;
+    list.push(own.declared)?;
+    Ok(list)
 }
 
 // Thins the list of a symbol's declarations with internal linkage that ends with a link, where it stays known whether that one has it.

@@ -1,5 +1,6 @@
 // What is kept of the linkage of earlier declarations while more is made.
-ghost use Rattle.std.specs.Prelude.{◌≡◌, ◌<◌, ◌&&◌, ◌||◌, ◌⊎◌, ℕ, Bool, List, length, get_or, slice_get, Option, Some, None, true, IfOk, IfSome, IsOkUnless};
+ghost use Rattle.std.specs.Prelude.{◌≡◌, ◌<◌, ◌&&◌, ◌||◌, ◌⊎◌, ℕ, Bool, List, length, get_or, slice_get, Option, Some};
+ghost use Rattle.std.specs.Prelude.{None, true, IfOk, IfSome, IsOkUnless};
 ghost use Rattle.core_tree.specs.declared.node.Unit.{Unit as UnitSpec};
 ghost use Rattle.core_nodes.specs.declared.fault.CheckFault.TheVariants.{OutOfMemory};
 ghost use Rattle.c_results.specs.declared.made.Made.{Made as MadeSpec};

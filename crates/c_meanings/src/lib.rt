@@ -12,7 +12,7 @@ mod storage;
 mod thinned;
 mod types;
 
-pub use earlier::{internal_thinned, scope_thinned};
+pub use earlier::{internal_thinned, scope_thinned, typing_list};
 pub use kept::{Linkages, internal_kept, same_internal_kept};
 pub use linkage::{entity_of, is_internal, is_internal_after, linkage_of};
 pub use meanings::{Meaning, meaning_at};

@@ -184,7 +184,8 @@ fn entity_named(
         let s = source_in syntax.now uses in
         let sense = sense_in (senses_made unit.old results.now) in
         meaning_seen unit.new m
-        ≡ option_map (spec.object_or_function s sense (spec.entity_of s sense (spec.named_by s sense leaf))) (spec.type_behind s sense leaf)) }
+        ≡ option_map (spec.object_or_function s sense (spec.entity_of s sense (spec.named_by s sense leaf)))
+        (spec.type_behind s sense leaf)) }
     ensures within { IfOk result (IsMeaningWithin unit.new) }
     ensures memory { IsOkUnless result CheckFault.OutOfMemory }
 {

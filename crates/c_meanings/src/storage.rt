@@ -65,7 +65,8 @@ pub fn is_static_object(syntax: &Syntax, results: &Results, leaf: u32) -> bool
 // The storage of a function: with a body or only declared.
 fn of_function(syntax: &Syntax, leaf: u32) -> Storage
     requires { leaf < length syntax.now.tree.now.nodes.items }
-    ensures { (uses : List (ℕ × ℕ)) (sense : ℕ → Sense) → result ≡ function_storage (spec.is_defined (source_in syntax.now uses) sense leaf) }
+    ensures { (uses : List (ℕ × ℕ)) (sense : ℕ → Sense)
+        → result ≡ function_storage (spec.is_defined (source_in syntax.now uses) sense leaf) }
 {
     if is_defined(syntax, leaf) {
         Storage::FunctionBody

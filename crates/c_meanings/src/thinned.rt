@@ -1,5 +1,6 @@
 // Lists of declarations without those that give their name no more than those before them: a round of declarations that is made again.
-ghost use Rattle.std.specs.Prelude.{◌≡◌, ◌<◌, ◌++◌, ◌∷◌, [], ◌⊎◌, ℕ, Bool, List, All, length, get_or, slice_get, Some, None, true, false, IfOk, IfSome, IsOkUnless};
+ghost use Rattle.std.specs.Prelude.{◌≡◌, ◌<◌, ◌++◌, ◌∷◌, [], ◌⊎◌, ℕ, Bool, List, All, length, get_or, slice_get, Some};
+ghost use Rattle.std.specs.Prelude.{None, true, false, IfOk, IfSome, IsOkUnless};
 ghost use Rattle.core_nodes.specs.declared.fault.CheckFault.TheVariants.{OutOfMemory};
 ghost use Rattle.core_tree.specs.declared.node.Unit.{Unit as UnitSpec};
 ghost use Rattle.c_senses.specs.Sense.{sense_in};
@@ -217,7 +218,8 @@ pub(crate) fn thin(
     requires leaves { HaveLeaves (nodes_in syntax.now) links.now }
     requires place { place < length links.now }
     ensures thinned { (internal : Bool) →
-        ((link : LinkSpec) → slice_get links.now place ≡ Some link → StaysWanted syntax.now results.now internal link.declared.node wanted) →
+        ((link : LinkSpec) → slice_get links.now place ≡ Some link
+        → StaysWanted syntax.now results.now internal link.declared.node wanted) →
         AreThinned syntax.now results.now internal links.now thinned.old →
         AreThinned syntax.now results.now internal links.now thinned.new }
     ensures memory { IsOkUnless result OutOfMemory }

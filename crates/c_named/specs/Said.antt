@@ -8,6 +8,7 @@ use Rattle.c_senses.specs.Sense.{Sense}
 use Rattle.c_senses.specs.Declarators.{name_in}
 use Rattle.c_senses.specs.Entities.{is_typedef, is_linked, declares_function, is_internal, has_one_linkage}
 use Rattle.c_senses.specs.Entities.{internal_before, all_same, all_together, types_of, some_such, defines}
+use Rattle.c_senses.specs.Entities.{type_behind}
 use Rattle.c_named.specs.declared.said.Said.{Said}
 use Rattle.c_named.specs.Lists.{all_of, types_at, some_defines}
 
@@ -30,11 +31,14 @@ pub record IsSaid (w : World) (s : Source) (sense : ℕ → Sense) (leaf : ℕ) 
       is_internal s sense leaf ≡ true
       → some_defines s sense said.internal_before.items
       ≡ some_such s sense (λ d. defines w s sense d.node) (internal_before w s sense leaf)
+  pub typing :
+      said.is_typed ≡ true → all_together None (types_at s sense said.typing.items) ≡ type_behind s sense leaf
 
 -- the leaves are those of nodes, in a tree of so many
 pub record IsSaidIn (count : ℕ) (said : Said) : Type 0 where
   pub in_scope : All (λ leaf. leaf < count) said.in_scope.items
   pub internal_before : All (λ leaf. leaf < count) said.internal_before.items
+  pub typing : All (λ leaf. leaf < count) said.typing.items
 
 -- it is said of the name of a declarator with those children
 abbrev pub AreSaid : World → Source → (ℕ → Sense) → List ℕ → Said → Type 0

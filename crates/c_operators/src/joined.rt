@@ -123,7 +123,8 @@ pub fn null_second(alloc: Global, unit: &mut Unit, a: u32, b: u32) -> Result<(u3
     ensures ready { IsReady unit.new }
     ensures builds { Builds unit.old unit.new }
     ensures within { IfOk result (λ both. (both.0 < length unit.new.nodes.items) × (both.1 < length unit.new.nodes.items)) }
-    ensures joined { BothGiven unit.new result (Fits (spec.pair (core_at unit.old a) (null_spec (ctype_of (core_at unit.old a)) (core_at unit.old b)))) }
+    ensures joined { BothGiven unit.new result
+        (Fits (spec.pair (core_at unit.old a) (null_spec (ctype_of (core_at unit.old a)) (core_at unit.old b)))) }
 {
     let ty = type_of_node(unit, a);
     let right = null_value(alloc, unit, ty, b)?;
@@ -138,7 +139,8 @@ pub fn null_first(alloc: Global, unit: &mut Unit, a: u32, b: u32) -> Result<(u32
     ensures ready { IsReady unit.new }
     ensures builds { Builds unit.old unit.new }
     ensures within { IfOk result (λ both. (both.0 < length unit.new.nodes.items) × (both.1 < length unit.new.nodes.items)) }
-    ensures joined { BothGiven unit.new result (Fits (spec.pair (null_spec (ctype_of (core_at unit.old b)) (core_at unit.old a)) (core_at unit.old b))) }
+    ensures joined { BothGiven unit.new result
+        (Fits (spec.pair (null_spec (ctype_of (core_at unit.old b)) (core_at unit.old a)) (core_at unit.old b))) }
 {
     let ty = type_of_node(unit, b);
     let left = null_value(alloc, unit, ty, a)?;
@@ -158,7 +160,8 @@ fn converted_second(
     ensures ready { IsReady unit.new }
     ensures builds { Builds unit.old unit.new }
     ensures within { IfOk result (λ both. (both.0 < length unit.new.nodes.items) × (both.1 < length unit.new.nodes.items)) }
-    ensures joined { BothGiven unit.new result (Fits (spec.pair (core_at unit.old a) (converted_spec (ctype_of (core_at unit.old a)) (core_at unit.old b)))) }
+    ensures joined { BothGiven unit.new result
+        (Fits (spec.pair (core_at unit.old a) (converted_spec (ctype_of (core_at unit.old a)) (core_at unit.old b)))) }
 {
     let ty = type_of_node(unit, a);
     let right = converted(alloc, unit, ty, b)?;
@@ -173,7 +176,8 @@ fn converted_first(alloc: Global, unit: &mut Unit, a: u32, b: u32) -> Result<(u3
     ensures ready { IsReady unit.new }
     ensures builds { Builds unit.old unit.new }
     ensures within { IfOk result (λ both. (both.0 < length unit.new.nodes.items) × (both.1 < length unit.new.nodes.items)) }
-    ensures joined { BothGiven unit.new result (Fits (spec.pair (converted_spec (ctype_of (core_at unit.old b)) (core_at unit.old a)) (core_at unit.old b))) }
+    ensures joined { BothGiven unit.new result
+        (Fits (spec.pair (converted_spec (ctype_of (core_at unit.old b)) (core_at unit.old a)) (core_at unit.old b))) }
 {
     let ty = type_of_node(unit, b);
     let left = converted(alloc, unit, ty, a)?;

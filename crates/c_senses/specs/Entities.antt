@@ -58,6 +58,11 @@ abbrev pub with_length : Option ℕ → Ctype → Ctype
 with_length (Some n) (ArrayOf of None) = ArrayOf of (Some n)
 with_length n t = t
 
+-- the length of an array
+abbrev pub length_in : Option Ctype → Option ℕ
+length_in (Some (ArrayOf of n)) = n
+length_in t = None
+
 -- what stands behind a node among some nodes
 abbrev pub behind : ℕ → List ℕ → List ℕ
 behind i [] = []
@@ -243,6 +248,10 @@ module _ (s : Source) (sense : ℕ → Sense) where
   -- that are seen there give together
   abbrev pub type_behind : ℕ → Option Ctype
   type_behind leaf = all_together None (types_of (typing_declarations s (ordinary_at s leaf)))
+
+  -- the length that the declarations of a name that are seen behind its own give it together (6.2.7p4)
+  abbrev pub length_seen : ℕ → Option ℕ
+  length_seen leaf = length_in (type_behind leaf)
 
   -- an array that waits for its initialiser to give it a length has, in that initialiser, the length that the
   -- declarations before it give, if they do; there the name is still the last one of them

@@ -32,9 +32,15 @@ use Rattle.c_senses.specs.Objects.{part_at}
 use Rattle.c_senses.specs.Constants.{constant_in}
 use Rattle.c_senses.specs.Limits.{within_limits, lacks_a_length}
 use Rattle.c_senses.specs.Places.{own_place}
-use Rattle.c_senses.specs.Entities.{with_length, internal_agrees, initialised_by, derived_type, specified_of}
+use Rattle.c_senses.specs.Entities.{with_length, length_seen, internal_agrees, initialised_by, derived_type}
+use Rattle.c_senses.specs.Entities.{specified_of}
 use Rattle.c_senses.specs.Entities.{entity_of, is_static_object, is_in_static, is_automatic_storage, storage_of}
 use Rattle.c_senses.specs.Sense.{Sense, Nothing, IsCore, IsType, IsDeclarator, IsInitial, IsValue, value_in, fits}
+
+-- the sense of an initialiser of an array whose length was seen before: it has that length
+abbrev pub with_seen : Option ℕ → Sense → Sense
+with_seen n (IsInitial initial None) = IsInitial initial n
+with_seen n x = x
 
 -- a number, a place or a pointer that is fixed before the program runs: what a static object's initialiser may hold
 abbrev pub is_integer_type : Ctype → Bool
@@ -280,12 +286,19 @@ module _ (w : World) (s : Source) (sense : ℕ → Sense) where
   name_of_declarator (IsDeclarator name ds) = name
   name_of_declarator x = None
 
+  -- an array without a length has, before its values are placed, the length that is seen of its name (6.2.7p4), and
+  -- keeps it
+  abbrev pub initialised_as : ℕ → ℕ → ℕ → Ctype → Given Sense
+  initialised_as at declarator leaf t =
+      object_initialiser at declarator leaf (with_length (length_seen s sense leaf) t) >>= (λ made.
+      Fits (with_seen (length_seen s sense leaf) made))
+
   abbrev pub initialised_object : ℕ → ℕ → Option ℕ → Given Sense
   initialised_object at declarator None = Refuses Operand at
   initialised_object at declarator (Some leaf) =
       given_some
       (derived_type s sense (specified_of s sense leaf) (Some declarator)) Operand at >>=
-      object_initialiser
+      initialised_as
       at declarator leaf
 
   abbrev pub init_in : ℕ → Option ℕ → Given Sense

@@ -1,5 +1,6 @@
 // The cases and the defaults of switches (C11 6.8.4.2p3).
-ghost use Rattle.std.specs.Prelude.{◌≡◌, ◌<◌, ◌+◌, ◌||◌, ◌&&◌, ◌==◌, ℕ, ℤ, List, Some, None, is_some, length, take, All, IfOk, OnOk, if◌then◌else◌};
+ghost use Rattle.std.specs.Prelude.{◌≡◌, ◌<◌, ◌+◌, ◌||◌, ◌&&◌, ◌==◌, ℕ, ℤ, List, Some, None, is_some, length, take, All};
+ghost use Rattle.std.specs.Prelude.{IfOk, OnOk, if◌then◌else◌};
 ghost use Rattle.std.specs.Ordering.{int_eq};
 ghost use Rattle.c_senses.specs.Tree.{Source, is_number};
 ghost use Rattle.c_senses.specs.World.{World};

@@ -76,7 +76,10 @@ fn with_node(
 
 // Whether a cursor has gone past some number.
 fn is_past(cursor: &Cursor, nodes: &[u32], below: u32) -> bool
-    ensures { result ≡ false → 0 < cursor.now.done → cursor.now.done ≤ length nodes.now → slice_index nodes.now (cursor.now.done - 1) < below }
+    ensures { result ≡ false
+        → 0 < cursor.now.done
+        → cursor.now.done ≤ length nodes.now
+        → slice_index nodes.now (cursor.now.done - 1) < below }
 {
     if cursor.done == 0 {
         return false;

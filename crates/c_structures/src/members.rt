@@ -1,5 +1,6 @@
 // Lists of members, and their declarations.
-ghost use Rattle.std.specs.Prelude.{◌≡◌, ◌<◌, ◌++◌, ◌∷◌, [], ℕ, List, length, map, Option, None, option_and_then, ◌||◌, not, OnOk, IfOk, IfSome, IsOkUnless, All};
+ghost use Rattle.std.specs.Prelude.{◌≡◌, ◌<◌, ◌++◌, ◌∷◌, [], ℕ, List, length, map, Option, None, option_and_then, ◌||◌};
+ghost use Rattle.std.specs.Prelude.{not, OnOk, IfOk, IfSome, IsOkUnless, All};
 ghost use Rattle.c_types.specs.Trees.{Ctype};
 ghost use Rattle.c_senses.specs.Given.{Fits};
 ghost use Rattle.core_tree.specs.declared.node.Unit.{Unit as UnitSpec};

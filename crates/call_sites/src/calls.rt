@@ -10,7 +10,10 @@ ghost use Rattle.pta_base.specs.declared.effect.Effect.{Effect};
 ghost use Rattle.lib_summaries.specs.Table.{effects_of};
 ghost use Rattle.row_numbers.specs.Objects.{library_number};
 ghost use Rattle.row_numbers.specs.Setting.{value_rows, rest_row};
-ghost use Rattle.call_sites.specs.Calls.{variadic_count, argument_rows, is_call, head_of, rest_of, name_of, name_at, under_decay, decayed_at, named_callee, named_library, is_giving, is_giver, library_of, giver_in, givers_in, is_named, object_by, fresh_by, fresh_in, caller_by};
+ghost use Rattle.call_sites.specs.Calls.{variadic_count, argument_rows, is_call, head_of, rest_of, name_of, name_at};
+ghost use Rattle.call_sites.specs.Calls.{under_decay, decayed_at, named_callee, named_library, is_giving, is_giver};
+ghost use Rattle.call_sites.specs.Calls.{library_of, giver_in, givers_in, is_named, object_by, fresh_by, fresh_in};
+ghost use Rattle.call_sites.specs.Calls.{caller_by};
 ghost use Rattle.row_numbers.specs.Frame.{IsFrame, IsNodeIn, setting_in};
 
 use c_types::key::ObjectKey;

@@ -4,7 +4,8 @@ ghost use Rattle.std.specs.Prelude.{◌≡◌, ℕ, ◌+◌, ◌<◌, ◌^◌, �
 ghost use Rattle.c_types.specs.Table.{type_of, types_of, IsAfter, IsFirstOf, IsNowhere};
 ghost use Rattle.c_types.specs.Trees.{Ctype, NoTypes, FunctionFrom, VoidType, grow, tree_at, trees_at};
 ghost use Rattle.type_rules.specs.Kinds.{int};
-ghost use Rattle.call_sites.specs.Signatures.{comparison, at_end, two_pointers, void_pointer, IsOther, IsSignature, called_type, calling_type};
+ghost use Rattle.call_sites.specs.Signatures.{comparison, at_end, two_pointers, void_pointer, IsOther, IsSignature};
+ghost use Rattle.call_sites.specs.Signatures.{called_type, calling_type};
 ghost use Rattle.row_numbers.specs.Functions.{type_or_void};
 
 use c_types::table::TypeTable;

@@ -3,4 +3,5 @@ pub mod Literals
 pub mod Numbered
 pub mod Copied
 pub mod Extends
+pub mod Told
 pub mod carried_types

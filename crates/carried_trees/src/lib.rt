@@ -6,8 +6,10 @@ mod carrying;
 mod literals;
 mod nodes;
 mod tags;
+mod told;
 mod whole;
 
 pub use carrying::WholeTree;
 pub use tags::open_in;
+pub use told::is_tree_told;
 pub use whole::carry_whole;

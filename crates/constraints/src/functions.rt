@@ -1,6 +1,7 @@
 // What is known of functions.
 
-ghost use Rattle.std.specs.Prelude.{◌≡◌, ℕ, ◌+◌, ◌<◌, ◌≤◌, ◌^◌, ◌++◌, IfOk, IfSome, OnOk, All, List, length, map, filter, unwrap_or, slice_get, Some};
+ghost use Rattle.std.specs.Prelude.{◌≡◌, ℕ, ◌+◌, ◌<◌, ◌≤◌, ◌^◌, ◌++◌, IfOk, IfSome, OnOk, All, List, length, map, filter};
+ghost use Rattle.std.specs.Prelude.{unwrap_or, slice_get, Some};
 ghost use Rattle.c_types.specs.Table.{type_of};
 ghost use Rattle.c_types.specs.declared.key.ObjectKey.{ObjectKey};
 ghost use Rattle.core_tree.specs.Typed.{trees_in};
@@ -13,7 +14,8 @@ ghost use Rattle.row_numbers.specs.Setting.{none_row, result_nodes, takes_furthe
 ghost use Rattle.row_numbers.specs.Frame.{IsNumbered};
 ghost use Rattle.row_numbers.specs.Functions.{key_type};
 ghost use Rattle.row_numbers.specs.Results.{AreResults};
-ghost use Rattle.normal_form.specs.Facts.{further_rows, cell_list, parameter_rows, parameters_by, effects_by, library_by, IsFunctionFact, AreFunctions};
+ghost use Rattle.normal_form.specs.Facts.{further_rows, cell_list, parameter_rows, parameters_by, effects_by, library_by};
+ghost use Rattle.normal_form.specs.Facts.{IsFunctionFact, AreFunctions};
 
 use crate::owned::Owned;
 use c_types::key::ObjectKey;

@@ -1,6 +1,7 @@
 // What is known of types.
 
-ghost use Rattle.std.specs.Prelude.{◌≡◌, ℕ, ◌+◌, ◌<◌, ◌^◌, ◌++◌, ◌∷◌, [], Some, None, Option, IfOk, IfSome, MatchOption, OnOk, All, List, length, map, replicate, slice_get, IsTrue};
+ghost use Rattle.std.specs.Prelude.{◌≡◌, ℕ, ◌+◌, ◌<◌, ◌^◌, ◌++◌, ◌∷◌, [], Some, None, Option, IfOk, IfSome, MatchOption};
+ghost use Rattle.std.specs.Prelude.{OnOk, All, List, length, map, replicate, slice_get, IsTrue};
 ghost use Rattle.std.specs.List.{range_with_len};
 ghost use Rattle.c_types.specs.Table.{type_of, members_in};
 ghost use Rattle.c_types.specs.Made.{IsMade};

@@ -9,6 +9,7 @@ use Rattle.c_senses.specs.passed.c_consts.Core.{Core, Of, MoreCores, InOrder}
 use Rattle.c_types.specs.Made.{IsMade}
 use Rattle.c_types.specs.declared.term.MemberTerm.{MemberTerm}
 use Rattle.c_senses.specs.World.{World}
+use Rattle.core_nodes.specs.Once.{HasOnce}
 use Rattle.core_nodes.specs.Standing.{no_core, cores_among, core_over, cores_grown, cores_of, core_at, cores_at, part_of, part_with, parts_in, IsReady, Builds, Knows}
 
 cores_append : (t : Table) (done : List Core) (a b : List Node) → cores_grown t done (a ++ b) ≡ cores_grown t (cores_grown t done a) b
@@ -59,6 +60,7 @@ module _ (old new : Unit) (n : Node) (types : new.types ≡ old.types) (nodes : 
     parts = λ tag. ap (λ (t : Table). parts_in t (members_in t tag)) types;
     extents = λ x. ap (λ (t : Table). extent_in t x) types;
     entities = entities;
+    once = λ h. subst (λ (t : Table). HasOnce t) (sym types) h;
   }
 
 slice_get_last : {X : Type 0} (xs : List X) (y : X) (i : ℕ) (e : X) → slice_get (xs ++ y ∷ []) i ≡ Some e → ((i < length xs) × (slice_get xs i ≡ Some e)) ⊎ ((i ≡ length xs) × (e ≡ y))
@@ -115,6 +117,7 @@ module _ (old new : Unit) (types : new.types ≡ old.types) (nodes : new.nodes.i
     parts = λ tag. ap (λ (t : Table). parts_in t (members_in t tag)) types;
     extents = λ x. ap (λ (t : Table). extent_in t x) types;
     entities = entities;
+    once = λ h. subst (λ (t : Table). HasOnce t) (sym types) h;
   }
 
 pub ready_same : (t : Table) (nodes more : List Node) → more ≡ nodes → InOrder t nodes → InOrder t more
@@ -131,6 +134,7 @@ builds_on a b c p q = record {
   parts = λ tag. q.parts tag ∙ p.parts tag;
   extents = λ x. q.extents x ∙ p.extents x;
   entities = q.entities ∙ p.entities;
+  once = λ h. q.once (p.once h);
 }
 
 -- members keep their types
@@ -145,8 +149,8 @@ parts_retyped : (old new : Table) → ((id : ℕ) → id < length old.terms → 
 parts_retyped old new kept None within = refl
 parts_retyped old new kept (Some list) within = ap Some (list_retyped old new kept list (within list refl))
 
-pub type_builds : (old new : Unit) → IsReady old → (nodes : new.nodes ≡ old.nodes) → ((id : ℕ) → id < length old.types.terms → type_of new.types id ≡ type_of old.types id) → length old.types.terms ≤ length new.types.terms → new.types.tags ≡ old.types.tags → IsMade old.types → ((tag : ℕ) → members_in new.types tag ≡ members_in old.types tag) → ((t : Ctype) → extent_in new.types t ≡ extent_in old.types t) → new.entities.items ≡ old.entities.items → Builds old new
-type_builds old new ready nodes kept terms tags is_made members extents entities = record {
+pub type_builds : (old new : Unit) → IsReady old → (nodes : new.nodes ≡ old.nodes) → ((id : ℕ) → id < length old.types.terms → type_of new.types id ≡ type_of old.types id) → length old.types.terms ≤ length new.types.terms → new.types.tags ≡ old.types.tags → IsMade old.types → ((tag : ℕ) → members_in new.types tag ≡ members_in old.types tag) → ((t : Ctype) → extent_in new.types t ≡ extent_in old.types t) → new.entities.items ≡ old.entities.items → (HasOnce old.types → HasOnce new.types) → Builds old new
+type_builds old new ready nodes kept terms tags is_made members extents entities once = record {
   more = rw nodes (omega arith);
   cores = λ i h. core_retyped old new ready nodes kept i;
   terms = terms;
@@ -155,6 +159,7 @@ type_builds old new ready nodes kept terms tags is_made members extents entities
   parts = λ tag. ap (parts_in new.types) (members tag) ∙ parts_retyped old.types new.types kept (members_in old.types tag) (λ list at k m here. (is_made.members tag list at k m here).0);
   extents = extents;
   entities = entities;
+  once = once;
 }
 
 -- what a world says goes on being true

@@ -1,4 +1,5 @@
 pub mod Growing
+pub mod Once
 pub mod Reading
 pub mod SameTypes
 pub mod Failing

@@ -1,3 +1,4 @@
+pub mod Once
 pub mod Standing
 pub mod Sorts
 pub mod PassedOn

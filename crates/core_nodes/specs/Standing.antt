@@ -11,6 +11,7 @@ use Rattle.c_senses.specs.passed.c_consts.Core.{Core, Cores, Of, NoCores, MoreCo
 pub use Rattle.c_senses.specs.PassedOn.{part_with, part_of, parts_in}
 use Rattle.c_senses.specs.World.{World, extent}
 use Rattle.c_senses.specs.Given.{Given, Fits, Refuses}
+use Rattle.core_nodes.specs.Once.{HasOnce}
 use Rattle.core_nodes.specs.declared.fault.CheckFault.{CheckFault}
 use Rattle.core_nodes.specs.declared.fault.CheckFault.TheVariants.{BadOperand, Unsupported, OutOfMemory}
 
@@ -46,7 +47,8 @@ cores_at u (i ∷ is) = MoreCores (core_at u i) (cores_at u is)
 abbrev pub IsReady : Unit → Type 0
 IsReady u = InOrder u.types u.nodes.items
 
--- what stands goes on standing, with the same members, layouts and entities
+-- What stands goes on standing, with the same members, layouts and entities; and a table without a type that stands
+-- twice goes on being one.
 pub record Builds (old new : Unit) : Type 0 where
   pub more : length old.nodes.items ≤ length new.nodes.items
   pub cores : (i : ℕ) → i < length old.nodes.items → core_at new i ≡ core_at old i
@@ -57,6 +59,7 @@ pub record Builds (old new : Unit) : Type 0 where
       → parts_in new.types (members_in new.types tag) ≡ parts_in old.types (members_in old.types tag)
   pub extents : (t : Ctype) → extent_in new.types t ≡ extent_in old.types t
   pub entities : new.entities.items ≡ old.entities.items
+  pub once : HasOnce old.types → HasOnce new.types
 
 -- what a call answers of a row: the node of the core tree that the row gives, or its refusal
 abbrev pub Made : Unit → Result ℕ CheckFault → Given Core → Type 0

@@ -1,11 +1,12 @@
 // New types and nodes in a unit.
 ghost use Rattle.std.specs.Prelude.{◌≡◌, ℕ, ◌+◌, ◌<◌, ◌≤◌, [], ◌∷◌, ◌++◌, IfOk, OnOk, OnErr, IsOkUnless, All, length};
 ghost use Rattle.c_types.specs.Trees.{Ctype, grow, PointerTo};
-ghost use Rattle.c_types.specs.Table.{types_of, type_of, IsAfter, HasTag};
+ghost use Rattle.c_types.specs.Table.{types_of, type_of, IsAfter, HasTag, IsFirstOf};
 ghost use Rattle.c_types.specs.Made.{IsSized, KeepsApart};
 ghost use Rattle.core_tree.specs.Rows.{int};
 ghost use Rattle.c_senses.specs.passed.c_consts.Core.{Core, Of, leaf, over, over_two, over_three};
 ghost use Rattle.c_senses.specs.Given.{Fits};
+ghost use Rattle.core_nodes.specs.Once.{HasOnce};
 ghost use Rattle.core_nodes.specs.Standing.{core_at, cores_at, IsReady, Builds, Made, TypeMade};
 
 use crate::CheckFault;
@@ -135,7 +136,8 @@ pub fn push_over_three(
     push_node(unit, kind, place, ty, Children::three(a, b, c))
 }
 
-/// The type of a term that names no tag: the first of the unit that is the same, where there is one, else one more.
+/// The type of a term: the first of the unit that is the same, where there is one, and then nothing is added; else one more. So no type
+/// stands twice in a unit that is made by it.
 pub fn add_type(unit: &mut Unit, term: Term) -> Result<TypeId, CheckFault>
     requires ready { IsReady unit.old }
     requires types { IsAfter (length unit.old.types.terms) term }
@@ -146,13 +148,19 @@ pub fn add_type(unit: &mut Unit, term: Term) -> Result<TypeId, CheckFault>
     ensures builds { Builds unit.old unit.new }
     ensures made { TypeMade unit.new result (grow (types_of unit.old.types) term) }
     ensures within { IfOk result (λ id. id.0 < length unit.new.types.terms) }
+    ensures once { HasOnce unit.old.types → HasOnce unit.new.types }
+    ensures known { (id : ℕ) → IsFirstOf unit.old.types (grow (types_of unit.old.types) term) id →
+        IfOk result (λ found. found.0 ≡ id) × OnOk result (unit.new.types ≡ unit.old.types) }
 {
     let _count = unit.types.type_count();
-    if let Some(known) = unit.types.find(&term)? {
-        return Ok(known);
+    let found = unit.types.find(&term)?;
+    match found {
+        Some(known) => Ok(known),
+        None => {
+            let ty = unit.types.add(term)?;
+            Ok(ty)
+        }
     }
-    let ty = unit.types.add(term)?;
-    Ok(ty)
 }
 
 /// The type of pointers to a type.

@@ -6,7 +6,8 @@ ghost use Rattle.core_tree.specs.Typed.{decayed};
 ghost use Rattle.c_senses.specs.passed.c_consts.Core.{ctype_of};
 ghost use Rattle.c_senses.specs.Given.{Fits};
 ghost use Rattle.c_senses.specs.World.{World};
-ghost use Rattle.c_senses.specs.Conversions.{value_of, fetched_or_decayed, made, promotion, common, read_width, is_narrow, promoted, place_width};
+ghost use Rattle.c_senses.specs.Conversions.{value_of, fetched_or_decayed, made, promotion, common, read_width, is_narrow};
+ghost use Rattle.c_senses.specs.Conversions.{promoted, place_width};
 ghost use Rattle.core_nodes.specs.Standing.{core_at, IsReady, Builds, Made, TypeMade, Knows};
 
 use crate::CheckFault;

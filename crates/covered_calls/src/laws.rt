@@ -19,7 +19,8 @@ pub fn steps_given()
     ensures { StepsGiven }
 {}
 
-/// The step that leaves the frame of a function at which the program is entered leaves the state covered, and what the function gives, which
+/// The step that leaves the frame of a function at which the program is entered leaves the state covered, and what the function gives,
+/// which
 /// is handed over, in the row of what lies outside.
 pub fn steps_handed()
     ensures { StepsHanded }

@@ -57,7 +57,7 @@ use Rattle.covered_effects.proofs.Needs.{rows_below, called_listed, function_fir
 use Rattle.covered_effects.proofs.Effects.{none_after, kept_still, all_left, all_long, EffectGoes}
 
 -- the rows that look at texts alone, or at nothing
-abbrev quiet : Row → Bool
+abbrev pub quiet : Row → Bool
 quiet (Writes Compare) = true
 quiet (Answers AnyNumber) = true
 quiet (Answers Abort) = true
@@ -193,7 +193,7 @@ module _ (world : World) (stands : Stands world) (characters : TypeId) (served :
     | inr is ↦ ended_shape o.row.shape (subst (λ (t : Ctype). HasShape t o.row.shape) (sym (called_listed (key_type (trees_of world) (FunctionKey k)) o.listed) ∙ is) o.shape)
   ]
 
-  row_quiet : (row : Row) → slice_get rows k ≡ Some row → quiet row ≡ true
+  pub row_quiet : (row : Row) → slice_get rows k ≡ Some row → quiet row ≡ true
   row_quiet row at = (let o = shape (rows_below k row at) in quiet_at rows summaries k row o.row quiet_rows at o.row_is (back_shape o))
 
   module _ (e : Effected) (result : TypeId)

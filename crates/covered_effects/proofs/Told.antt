@@ -26,7 +26,7 @@ none_some : {X : Type 0} → {x : X} → ◌≡◌ {A = Option X} None (Some x) 
 none_some h = cc
 
 -- the argument of that place is a pointer, and the result is one to an object
-abbrev takes_pointer : ℕ → List ℕ → Bool
+abbrev pub takes_pointer : ℕ → List ℕ → Bool
 takes_pointer zero (c ∷ d ∷ e ∷ rest) = eqb c 112 || eqb c 102
 takes_pointer (suc k) (c ∷ rest) = takes_pointer k rest
 takes_pointer k shape = false
@@ -143,7 +143,7 @@ module _ (t : Ctype) (shape : List ℕ) (h : HasShape t shape) (l : is_listed t 
   parts : Listed t shape
   parts = listed t shape h l
 
-  takes : (k : ℕ) → takes_pointer k shape ≡ true → TakesPointer t k
+  pub takes : (k : ℕ) → takes_pointer k shape ≡ true → TakesPointer t k
   takes k is =
       let a = argument_told parts.parameters parts.form parts.result shape k parts.fits is in
       (a.0, ap (λ (x : Ctype). type_from (parameter_types x) k) parts.type ∙ a.1)

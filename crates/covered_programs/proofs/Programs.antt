@@ -85,7 +85,7 @@ module _ (units : List Unit) (p : Program) (system : System) (family : Family) (
   fit : TagsFit p.types
   fit = tags_fit units h.linked.numbers p.types h.tables sizes h.made h.named h.linked.types
 
-  scene : IsScene p system family
+  pub scene : IsScene p system family
   scene = record {
     valid = h.valid;
     made = h.made;

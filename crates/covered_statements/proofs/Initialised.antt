@@ -179,8 +179,8 @@ module _ (world : World) (runs : IsRunnable world) (memory : List Instance) (n :
         stores : StoresAt table world.system world.family (λ l. l ≡ object_row inside.location.content inside.first walked.part.node) (kept_row (row_in (setting_in world) v) (nodes_of table (type_at (trees_of world) v))) walked.part.ty
         stores =
             subst (λ (s : Ctype). StoresAt table world.system world.family (λ l. l ≡ object_row inside.location.content inside.first walked.part.node) (kept_row (row_in (setting_in world) v) (nodes_of table (type_at (trees_of world) v))) s) (sym walked.ty)
-            (item_stores world.program world.space world.system world.is_system world.family runs.stands.closed runs.stands.grounds runs.fit n e paths (type_of world.program.types node.ty.0) node.children node_is j path v path_is v_is
-            (type_at (trees_of world) v) refl own.0 own.1 memory a (key ∙ (sym own.3 ∙ sym (ap (entity_key e) own.1))) inside content top (type_at (trees_of world) v) refl shape.1 walks walked.part walked.part_is)
+            (item_stores world.program world.space world.system world.is_system world.family runs.stands.closed runs.stands.grounds n e paths (type_of world.program.types node.ty.0) node.children node_is j path v path_is v_is
+            (type_at (trees_of world) v) refl own.0 own.1 memory a (key ∙ (sym own.3 ∙ sym (ap (entity_key e) own.1))) inside content top refl walked.part walked.part_is)
 
     abbrev PartsOf : List (List PathStep × CellList) → Type 0
     PartsOf list = PartsIn g world.system runs.stands.grounds memory (object_row inside.location.content inside.first) (whole_part (whole_of table a)) list

@@ -1,29 +1,9 @@
-// Types that a unit is asked for again, and arrays of one name.
+// Arrays of one name.
 use crate::hand::empty_unit;
 use c_entities::{agree, together, with_length};
 use c_types::term::Term;
-use core_nodes::trees::{add_type, int_type, pointer_type};
+use core_nodes::trees::{add_type, int_type};
 use std::test::Fail;
-
-// A unit has each type once: asked again for int and for a pointer to it, it gets none more (C11 6.2.5).
-#[test]
-fn each_once(rt: HostRuntime) -> Result<(), Fail> {
-    let mut unit = empty_unit(rt.alloc())?;
-    let Ok(int) = int_type(&mut unit) else {
-        return Err(Fail::new("no int"));
-    };
-    let Ok(_pointer) = pointer_type(&mut unit, int) else {
-        return Err(Fail::new("no pointer"));
-    };
-    let Ok(again) = int_type(&mut unit) else {
-        return Err(Fail::new("no int again"));
-    };
-    let Ok(_other) = pointer_type(&mut unit, again) else {
-        return Err(Fail::new("no pointer again"));
-    };
-    assert!(rt; again == int && unit.types.type_count() == 2);
-    Ok(())
-}
 
 // `extern int a[];` and `int a[3];` agree and give `int[3]` together, in either order (C11 6.2.7p3).
 #[test]

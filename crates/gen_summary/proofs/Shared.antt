@@ -1,5 +1,5 @@
 -- The summary of the system with one row for each class of rows is that of the system that it was made from.
-use Rattle.std.proofs.Common.{◌≡◌, ℕ, ◌<◌, ◌==◌, ◌||◌, Bool, true, List, length, slice_get, sym, ◌∙◌, ap, arith}
+use Rattle.std.proofs.Common.{◌≡◌, ℕ, ◌<◌, Bool, true, List, length, slice_get, sym, ◌∙◌, ap, arith}
 use Rattle.std.specs.List.{filter, range_with_len, sum, sum_by}
 use Rattle.std.proofs.lemmas.List.Sums.{sum-map}
 use Rattle.std.proofs.lemmas.Option.{slice_get_within}
@@ -13,6 +13,7 @@ use Rattle.obj_space.specs.declared.location.Location.{Location}
 use Rattle.row_share.specs.share_laws.Renumbering.{new_row}
 use Rattle.row_share.proofs.share_laws.Forward.{IsRenumbered, over}
 use Rattle.row_share.proofs.share_laws.Leasts.{gives_least}
+use Rattle.alias_query.specs.Asked.{has_line}
 use Rattle.unit_report.specs.report_text.Report.{has_set}
 use Rattle.unit_report.specs.unit_system.Of.{IsSystemOf}
 use Rattle.unit_report.specs.Solved.{IsShared}
@@ -26,7 +27,7 @@ module _ (S T : System) (new : ℕ → ℕ) (is : IsRenumbered S T new) (G : Fam
   members_same : (space : List Location) → length space ≡ location_count S → member_count space T G ≡ member_count space S (over G new)
   members_same space count =
       sum_same (λ (location : ℕ). length (members_in T G location)) (λ (location : ℕ). length (members_in S (over G new) location)) (has_set space) (range_with_len 0 (length space))
-      (λ location has. (let found = found_or (λ (known : Location). known.collapsed || (known.ty == 4) || (known.ty == 7)) (slice_get space location) has in
+      (λ location has. (let found = found_or has_line (slice_get space location) has in
       let within : location < length space = slice_get_within space location found.0 found.1 in
       ap (λ (held : List ℕ). length held) (members_fixed S T new is G location (omega arith))))
 

@@ -6,6 +6,7 @@ ghost use Rattle.call_graph.specs.row_members.Members.{members_in};
 ghost use Rattle.unit_report.specs.report_text.Report.{has_set};
 ghost use Rattle.gen_summary.specs.Summary.{count_line, member_count, IsSummary};
 
+use alias_query::has_line;
 use call_graph::graph;
 use call_graph::row_members::members_of;
 use obj_space::Space;
@@ -13,13 +14,12 @@ use pta_base::OutOfMemory;
 use sol_model::{Rows, System};
 use std::alloc::{AllocError, Global};
 
-/// Whether a report prints the set of a location: that of one of pointer class or of list class, or of a collapsed one.
+/// Whether a report prints the set of a location.
 fn is_printed(space: &Space, location: u32) -> bool
     requires { location < length space.now }
     ensures { result ≡ has_set space.now location }
 {
-    let known = space.location(location);
-    known.collapsed || known.ty == 4 || known.ty == 7
+    has_line(space.location(location))
 }
 
 /// How many members the set of a location has where a report prints it; else none.

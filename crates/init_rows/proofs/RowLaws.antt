@@ -14,18 +14,18 @@ use Rattle.c_senses.specs.Tree.{Source, is_a, parent_of}
 use Rattle.c_senses.specs.Sense.{Sense, Nothing, IsCore, IsType, IsSpecified, IsDeclarator, IsDerivation, IsParameter, IsMembers, IsValue, IsRun, IsInitial}
 use Rattle.c_senses.specs.Places.{own_place}
 use Rattle.c_senses.specs.Limits.{within_limits}
-use Rattle.c_senses.specs.Entities.{internal_agrees, initialised_by, derived_type, specified_of, is_static_object, entity_of, with_length}
-use Rattle.c_senses.specs.Initialised.{most_elements, seen, outcome_of, made_of, initialised_fits, object_initialiser, name_of_declarator, initialised_object, init_in, init_row, Made}
+use Rattle.c_senses.specs.Entities.{internal_agrees, initialised_by, derived_type, specified_of, is_static_object, entity_of, with_length, length_seen}
+use Rattle.c_senses.specs.Initialised.{most_elements, seen, outcome_of, made_of, initialised_fits, object_initialiser, with_seen, initialised_as, name_of_declarator, initialised_object, init_in, init_row, Made}
 use Rattle.core_nodes.specs.declared.fault.CheckFault.{CheckFault}
 use Rattle.core_nodes.specs.declared.fault.CheckFault.TheVariants.{BadOperand, Unsupported, OutOfMemory}
 use Rattle.core_nodes.specs.Standing.{core_at}
 use Rattle.c_results.specs.declared.made.Made.{Made as MadeNode}
 use Rattle.c_results.specs.declared.made.Made.TheVariants.{Initial}
-use Rattle.c_results.specs.Standing.{Rowed}
+use Rattle.c_results.specs.Standing.{Rowed, sense_made}
 use Rattle.name_places.specs.Named.{name_within}
 use Rattle.init_rows.specs.declared.objects.Object.{Object}
 use Rattle.init_rows.specs.declared.objects.Target.{Target}
-use Rattle.init_rows.specs.Objects.{object_given, ObjectGiven, IsTarget, JudgedAs}
+use Rattle.init_rows.specs.Objects.{object_given, ObjectGiven, IsTarget, JudgedAs, known_length}
 use Rattle.init_rows.specs.Around.{object_at}
 
 bind_assoc : {A B C : Type 0} (g : Given A) (f : A → Given B) (h : B → Given C) → ((g >>= f) >>= h) ≡ (g >>= (λ x. f x >>= h))
@@ -127,7 +127,7 @@ module _ (w : World) (s : Source) (sense : ℕ → Sense) where
         no_name e = of_declarator ∙ ap (initialised_object w s sense at d) (sym e)
 
         module _ (leaf : ℕ) (name : Some leaf ≡ name_within (sense d)) where
-          pub of_name : init_row w s sense at ≡ (given_some (derived_type s sense (specified_of s sense leaf) (Some d)) Operand at >>= object_initialiser w s sense at d leaf)
+          pub of_name : init_row w s sense at ≡ (given_some (derived_type s sense (specified_of s sense leaf) (Some d)) Operand at >>= initialised_as w s sense at d leaf)
           of_name = of_declarator ∙ ap (initialised_object w s sense at d) (sym name)
 
 pub rowed_same : (u : Unit) (r : Result MadeNode CheckFault) (g h : Given Sense) → g ≡ h → Rowed u r h → Rowed u r g
@@ -145,13 +145,38 @@ pub fits_before : (w : World) (s : Source) (f g : ℕ → Sense) (t t' : Ctype) 
 fits_before w s f g t t' n leaf b same is h = h ∙ (ap (λ (x : ℕ → Sense). initialised_fits w s x (with_length n t) leaf) same ∙ ap (λ (x : Ctype). initialised_fits w s g (with_length n x) leaf) is)
 
 -- the row of an object, in a unit that has grown
-pub row_moved : (w : World) (s : Source) (f g : ℕ → Sense) (t : Ctype) (at declarator leaf : ℕ) (u : Unit) (r : Result MadeNode CheckFault) → f ≡ g → Rowed u r (object_initialiser w s f at declarator leaf t) → Rowed u r (object_initialiser w s g at declarator leaf t)
-row_moved w s f g t at declarator leaf u r same h = subst (λ (x : ℕ → Sense). Rowed u r (object_initialiser w s x at declarator leaf t)) same h
+pub row_moved : (w : World) (s : Source) (f g : ℕ → Sense) (t : Ctype) (at declarator leaf : ℕ) (u : Unit) (r : Result MadeNode CheckFault) → f ≡ g → Rowed u r (initialised_as w s f at declarator leaf t) → Rowed u r (initialised_as w s g at declarator leaf t)
+row_moved w s f g t at declarator leaf u r same h = subst (λ (x : ℕ → Sense). Rowed u r (initialised_as w s x at declarator leaf t)) same h
+
+-- what a length that is seen makes of an initialiser, and of nothing else
+pub seen_initial : (c : Core) (n m : Option ℕ) → IsInitial c (known_length n m) ≡ with_seen n (IsInitial c m)
+seen_initial c n None = refl
+seen_initial c n (Some k) = refl
+
+pub seen_other : (u : Unit) (m : MadeNode) (n : Option ℕ) → ((node : ℕ) (k : Option ℕ) → m ≡ Initial node k → ⊥) → sense_made u m ≡ with_seen n (sense_made u m)
+seen_other u (Initial node k) n h = absurd (h node k refl)
+seen_other u m n h = refl
+
+-- the row of an object of a type with the length that is seen, which was made in a unit that has grown
+module _ (w : World) (s : Source) (f g : ℕ → Sense) (at declarator leaf : ℕ) (t whole : Ctype) (n : Option ℕ) (same : f ≡ g) (seen_is : n ≡ length_seen s g leaf) (is : whole ≡ with_length n t) where
+  as_is : (object_initialiser w s f at declarator leaf whole >>= (λ x. Fits (with_seen n x))) ≡ initialised_as w s g at declarator leaf t
+  as_is =
+      ap (λ (x : ℕ → Sense). object_initialiser w s x at declarator leaf whole >>= (λ y. Fits (with_seen n y))) same
+      ∙ (ap (λ (x : Ctype). object_initialiser w s g at declarator leaf x >>= (λ y. Fits (with_seen n y))) is
+      ∙ ap (λ (m : Option ℕ). object_initialiser w s g at declarator leaf (with_length m t) >>= (λ y. Fits (with_seen m y))) seen_is)
+
+  pub seen_row : (u : Unit) (m : MadeNode) (x : Sense) → x ≡ with_seen n (sense_made u m) → object_initialiser w s f at declarator leaf whole ≡ Fits (sense_made u m) → initialised_as w s g at declarator leaf t ≡ Fits x
+  seen_row u m x e h = sym as_is ∙ (ap (λ (y : Given Sense). y >>= (λ z. Fits (with_seen n z))) h ∙ ap Fits (sym e))
+
+  pub seen_fault : (u : Unit) (e : CheckFault) → Rowed u (Err e) (object_initialiser w s f at declarator leaf whole) → Rowed u (Err e) (initialised_as w s g at declarator leaf t)
+  seen_fault u (BadOperand k) h = sym as_is ∙ ap (λ (y : Given Sense). y >>= (λ z. Fits (with_seen n z))) h
+  seen_fault u (Unsupported kind k) h = sym as_is ∙ ap (λ (y : Given Sense). y >>= (λ z. Fits (with_seen n z))) h
+  seen_fault u OutOfMemory h = tt
 
 -- an object without a type, and one with a type
 module _ (w : World) (s : Source) (sense : ℕ → Sense) (at declarator leaf : ℕ) where
   pub no_type : derived_type s sense (specified_of s sense leaf) (Some declarator) ≡ None → initialised_object w s sense at declarator (Some leaf) ≡ Refuses Operand at
-  no_type e = ap (λ (o : Option Ctype). given_some o Operand at >>= object_initialiser w s sense at declarator leaf) e
+  no_type e = ap (λ (o : Option Ctype). given_some o Operand at >>= initialised_as w s sense at declarator leaf) e
 
-  pub of_type : (t : Ctype) → derived_type s sense (specified_of s sense leaf) (Some declarator) ≡ Some t → initialised_object w s sense at declarator (Some leaf) ≡ object_initialiser w s sense at declarator leaf t
-  of_type t e = ap (λ (o : Option Ctype). given_some o Operand at >>= object_initialiser w s sense at declarator leaf) e
+  pub of_type : (t : Ctype) → derived_type s sense (specified_of s sense leaf) (Some declarator) ≡ Some t → initialised_object w s sense at declarator (Some leaf) ≡ initialised_as w s sense at declarator leaf t
+  of_type t e = ap (λ (o : Option Ctype). given_some o Operand at >>= initialised_as w s sense at declarator leaf) e

@@ -1,5 +1,5 @@
 -- What the initialiser of an object, or the list of a compound literal, gives.
-use Rattle.std.specs.Prelude.{ℕ, ◌≡◌, Bool, ⊤, if◌then◌else◌, Result, Ok, Err}
+use Rattle.std.specs.Prelude.{ℕ, ◌≡◌, Bool, ⊤, if◌then◌else◌, Option, Some, None, Result, Ok, Err}
 use Rattle.pta_base.specs.declared.kind.Kind.TheVariants.{Operand}
 use Rattle.pta_base.specs.declared.place.Place.{Place}
 use Rattle.c_types.specs.Trees.{Ctype}
@@ -66,6 +66,11 @@ pub record IsTarget (s : Source) (sense : ℕ → Sense) (leaf at : ℕ) (target
   pub static : target.is_static ≡ is_static_object s sense leaf
   pub entity : target.entity ≡ entity_of s sense leaf
   pub place : target.place ≡ own_place s at
+
+-- the length of an array behind its initialiser: the one that this gives, or else the one that is seen
+abbrev pub known_length : Option ℕ → Option ℕ → Option ℕ
+known_length before None = before
+known_length before (Some count) = Some count
 
 -- what is made of an object's initialiser, by whether the object's type fits
 abbrev pub JudgedAs : Result MadeNode CheckFault → Object → ℕ → Bool → Type 0

@@ -1,4 +1,4 @@
-// What the declarations of an internal name before an initialiser say of its object (C11 6.2.7p2, 6.7.9p22).
+// What the declarations of a name that are seen at an initialiser say of its object (C11 6.2.7p2, p4, 6.7.9p22).
 ghost use Rattle.std.specs.Prelude.{◌≡◌, ◌<◌, ℕ, List, length, All, IfOk, IfSome, IsOkUnless, None, true, ◌&&◌};
 ghost use Rattle.c_types.specs.Trees.{Ctype};
 ghost use Rattle.c_types.specs.Table.{type_of};
@@ -20,7 +20,7 @@ use c_entities::{agree, own_type, together, with_length};
 use c_named::Said;
 use c_results::Results;
 use c_types::table::TypeTable;
-use c_types::term::TypeId;
+use c_types::term::{Term, TypeId};
 use core_nodes::CheckFault;
 use core_tree::node::Unit;
 use std::alloc::Global;
@@ -69,6 +69,92 @@ fn types_together(
         so_far = joined(&unit.types, so_far, found);
     }
     Ok(so_far)
+}
+
+// The length of an array, if a type is one that has a length.
+fn length_in(types: &TypeTable, ty: Option<TypeId>) -> Option<u64>
+    requires { IfSome ty (λ t. t.0 < length types.now.terms) }
+    ensures { result ≡ spec.length_in (type_in types.now ty) }
+{
+    let Some(id) = ty else {
+        return None;
+    };
+    match types.term(id) {
+        Term::Array { length, .. } => *length,
+        _ => None,
+    }
+}
+
+/// A type with the length that is seen of an object's name, and that length.
+#[derive(Clone, Copy)]
+pub(crate) struct Lengthened {
+    pub declared: Declared,
+    pub seen: Option<u64>,
+}
+
+// A type with a length, if it lacks one, and whether it is within the limits.
+fn lengthen(
+    unit: &mut Unit,
+    seen: Option<u64>,
+    declared: Declared,
+) -> Result<Lengthened, CheckFault>
+    requires ready { IsReady unit.old }
+    requires ty { declared.ty.0 < length unit.old.types.terms }
+    ensures ready { IsReady unit.new }
+    ensures builds { Builds unit.old unit.new }
+    ensures seen { IfOk result (λ l. l.seen ≡ seen) }
+    ensures made { IfOk result (λ l.
+        type_of unit.new.types l.declared.ty.0 ≡ spec.with_length l.seen (type_of unit.old.types declared.ty.0)) }
+    ensures limited { (w : World) →
+        Knows w unit.old →
+        declared.limited ≡ limits.within_limits w (type_of unit.old.types declared.ty.0) →
+        IfOk result (λ l. l.declared.limited ≡ limits.within_limits w (type_of unit.new.types l.declared.ty.0)) }
+    ensures within { IfOk result (λ l. l.declared.ty.0 < length unit.new.types.terms) }
+    ensures memory { IsOkUnless result CheckFault.OutOfMemory }
+{
+    let Ok(ty) = with_length(unit, seen, declared.ty) else {
+        return Err(CheckFault::OutOfMemory);
+    };
+    let small = is_small(unit, ty);
+    let limited = both(declared.limited, small);
+    Ok(Lengthened {
+        declared: Declared { ty, limited },
+        seen,
+    })
+}
+
+/// The type of an object with the length that is seen of its name, if it has none of its own (C11 6.2.7p4). Only memory may want.
+pub(crate) fn seen_type(
+    alloc: Global,
+    unit: &mut Unit,
+    syntax: &Syntax,
+    results: &Results,
+    said: &Said,
+    declared: Declared,
+) -> Result<Lengthened, CheckFault>
+    requires ready { IsReady unit.old }
+    requires results { All (IsWithin unit.old) results.now }
+    requires ty { declared.ty.0 < length unit.old.types.terms }
+    requires said { IsSaidIn (length syntax.now.tree.now.nodes.items) said.now }
+    requires typed { said.now.is_typed ≡ true }
+    ensures ready { IsReady unit.new }
+    ensures builds { Builds unit.old unit.new }
+    ensures seen { (w : World) (uses : List (ℕ × ℕ)) (leaf : ℕ) →
+        let s = source_in syntax.now uses in
+        let sense = sense_in (senses_made unit.old results.now) in
+        IsSaid w s sense leaf said.now → IfOk result (λ l. l.seen ≡ spec.length_seen s sense leaf) }
+    ensures made { IfOk result (λ l.
+        type_of unit.new.types l.declared.ty.0 ≡ spec.with_length l.seen (type_of unit.old.types declared.ty.0)) }
+    ensures limited { (w : World) →
+        Knows w unit.old →
+        declared.limited ≡ limits.within_limits w (type_of unit.old.types declared.ty.0) →
+        IfOk result (λ l. l.declared.limited ≡ limits.within_limits w (type_of unit.new.types l.declared.ty.0)) }
+    ensures within { IfOk result (λ l. l.declared.ty.0 < length unit.new.types.terms) }
+    ensures memory { IsOkUnless result CheckFault.OutOfMemory }
+{
+    let behind = types_together(alloc, unit, syntax, results, said.typing.as_slice())?;
+    let seen = length_in(&unit.types, behind);
+    lengthen(unit, seen, declared)
 }
 
 // Whether a type agrees with the one before, if there is one.

@@ -1,5 +1,5 @@
 // The rows of initialisers, their lists and their designators (C11 6.5.2.5, 6.7.9), by their production.
-ghost use Rattle.std.specs.Prelude.{◌≡◌, ◌<◌, ℕ, List, length, All, IfOk};
+ghost use Rattle.std.specs.Prelude.{◌≡◌, ◌<◌, ℕ, List, length, All, IfOk, true};
 ghost use Rattle.c_senses.specs.World.{World};
 ghost use Rattle.c_senses.specs.Tree.{production_at, children_at};
 ghost use Rattle.c_senses.specs.Sense.{sense_in};
@@ -47,6 +47,7 @@ pub fn initial(
     requires named { All (IsNamedIn (length scope.now.syntax.now.tree.now.nodes.items)) scope.now.results.now }
     requires names { AreNamed scope.now.syntax.now scope.now.results.now names.now }
     requires said { IsSaidIn (length scope.now.syntax.now.tree.now.nodes.items) said.now }
+    requires typed { said.now.is_typed ≡ true }
     requires at { at < length scope.now.syntax.now.tree.now.nodes.items }
     requires part { IsInitialPart (production_at (source_read scope.now.syntax.now) at) }
     ensures ready { IsReady unit.new }

@@ -1,5 +1,5 @@
 // Rows of initialisers (C11 6.7.9).
-ghost use Rattle.std.specs.Prelude.{◌≡◌, ◌<◌, ℕ, List, slice_get, length, All, IfOk, IfSome, Some};
+ghost use Rattle.std.specs.Prelude.{◌≡◌, ◌<◌, ℕ, List, slice_get, length, All, IfOk, IfSome, Some, true};
 ghost use Rattle.core_tree.specs.declared.node.Unit.{Unit as UnitSpec};
 ghost use Rattle.c_types.specs.Table.{type_of};
 ghost use Rattle.c_grammar.specs.Productions.{p_init};
@@ -19,9 +19,9 @@ ghost use Rattle.statement_rows.specs.Kept.{HasAllRows};
 ghost use Rattle.c_initials.specs.Scope.{IsTold};
 ghost use Rattle.c_initials.specs.Filling.{Fills};
 ghost use Rattle.init_rows.specs.Around.{object_at, IsList, IsInit};
-ghost use Rattle.init_rows.specs.Objects.{IsTarget, JudgedAs};
+ghost use Rattle.init_rows.specs.Objects.{IsTarget, JudgedAs, known_length};
 
-use crate::agreeing::initialised_fits;
+use crate::agreeing::{initialised_fits, seen_type};
 use crate::objects::{Object, Target, object_initialised};
 use crate::types::{Declared, declared_type};
 use c_initials::storage::{Scope, is_static_object};
@@ -144,6 +144,88 @@ fn object_row(
     }
 }
 
+// The length of an array behind its initialiser: the one that this gives, or else the one that is seen.
+fn known_length(length: Option<u64>, seen: Option<u64>) -> Option<u64>
+    ensures { result ≡ known_length seen length }
+{
+    match length {
+        Some(count) => Some(count),
+        None => seen,
+    }
+}
+
+// The row of an initialiser, where a length was seen of its object's name.
+fn with_seen(made: Made, seen: Option<u64>) -> Made
+    ensures sense { (u : UnitSpec) → sense_made u result ≡ spec.with_seen seen (sense_made u made) }
+    ensures within { (u : UnitSpec) → IsWithin u made → IsWithin u result }
+    ensures kept { (u : UnitSpec) → HasAllRows (sense_made u made) → HasAllRows (sense_made u result) }
+    ensures named { (count : ℕ) → IsNamedIn count made → IsNamedIn count result }
+{
+    match made {
+        Made::Initial { node, length } => Made::Initial {
+            node,
+            length: known_length(length, seen),
+        },
+        other => other,
+    }
+}
+
+// The row of the whole initialiser of an object of a declared type, which has the length that is seen of its name, if it has none of
+// its own (C11 6.2.7p4).
+fn object_as(
+    alloc: Global,
+    unit: &mut Unit,
+    scope: &Scope,
+    names: &Names,
+    said: &Said,
+    declared: Declared,
+    leaf: u32,
+    at: u32,
+) -> Result<Made, CheckFault>
+    requires ready { IsReady unit.old }
+    requires results { All (IsWithin unit.old) scope.now.results.now }
+    requires rows { All (HasConstants unit.old) scope.now.results.now }
+    requires names { AreNamed scope.now.syntax.now scope.now.results.now names.now }
+    requires said { IsSaidIn (length scope.now.syntax.now.tree.now.nodes.items) said.now }
+    requires typed { said.now.is_typed ≡ true }
+    requires ty { declared.ty.0 < length unit.old.types.terms }
+    requires leaf { leaf < length scope.now.syntax.now.tree.now.nodes.items }
+    requires init { production_of (slice_get scope.now.syntax.now.tree.now.nodes.items at) ≡ p_init }
+    ensures ready { IsReady unit.new }
+    ensures builds { Builds unit.old unit.new }
+    ensures within { IfOk result (IsWithin unit.new) }
+    ensures kept { IfOk result (λ m. HasAllRows (sense_made unit.new m)) }
+    ensures named { (count : ℕ) → IfOk result (IsNamedIn count) }
+    ensures row { (w : World) (uses : List (ℕ × ℕ)) (declarator : ℕ) →
+        IsTold w unit.old scope.now →
+        Fills w unit.old →
+        let s = source_in scope.now.syntax.now uses in
+        let sense = sense_in (senses_made unit.old scope.now.results.now) in
+        let t = type_of unit.old.types declared.ty.0 in
+        IsSaid w s sense leaf said.now →
+        declared.limited ≡ within_limits w t →
+        Rowed unit.new result (spec.initialised_as w s sense at declarator leaf t) }
+{
+    let _count = unit.types.type_count();
+    let Ok(lengthened) = seen_type(alloc, unit, scope.syntax, scope.results, said, declared) else {
+        return Err(CheckFault::OutOfMemory);
+    };
+    let _more = unit.types.type_count();
+    match object_row(
+        alloc,
+        unit,
+        scope,
+        names,
+        said,
+        lengthened.declared,
+        leaf,
+        at,
+    ) {
+        Ok(made) => Ok(with_seen(made, lengthened.seen)),
+        Err(fault) => Err(fault),
+    }
+}
+
 // The row of the whole initialiser of the object that a declarator declares by a leaf.
 fn declared_row(
     alloc: Global,
@@ -160,6 +242,7 @@ fn declared_row(
     requires rows { All (HasConstants unit.old) scope.now.results.now }
     requires names { AreNamed scope.now.syntax.now scope.now.results.now names.now }
     requires said { IsSaidIn (length scope.now.syntax.now.tree.now.nodes.items) said.now }
+    requires typed { said.now.is_typed ≡ true }
     requires leaf { leaf < length scope.now.syntax.now.tree.now.nodes.items }
     requires init { production_of (slice_get scope.now.syntax.now.tree.now.nodes.items at) ≡ p_init }
     ensures ready { IsReady unit.new }
@@ -180,13 +263,14 @@ fn declared_row(
     };
     let _more = unit.types.type_count();
     match found {
-        Some(declared) => object_row(alloc, unit, scope, names, said, declared, leaf, at),
+        Some(declared) => object_as(alloc, unit, scope, names, said, declared, leaf, at),
         None => Err(CheckFault::BadOperand(at)),
     }
 }
 
 /// The row of an initialiser (C11 6.7.9): the whole one of an object gives the node that initialises it, with the length that it gives
-/// an array without one; one within braces has no sense of its own. It is refused as an initialiser at the first value that has no
+/// an array without one; one within braces has no sense of its own. An array without a length has the length that is seen of its name,
+/// if one is (6.2.7p4). It is refused as an initialiser at the first value that has no
 /// place; as an operand at a value that isn't one of the type there, or isn't fixed for a static object (6.7.9p4), and at the object's
 /// name where the length makes its type one past the limits, or one that doesn't agree with an earlier declaration of an internal
 /// name; and at the initialiser itself where no object is declared.
@@ -204,6 +288,7 @@ pub fn init_row(
     requires named { All (IsNamedIn (length scope.now.syntax.now.tree.now.nodes.items)) scope.now.results.now }
     requires names { AreNamed scope.now.syntax.now scope.now.results.now names.now }
     requires said { IsSaidIn (length scope.now.syntax.now.tree.now.nodes.items) said.now }
+    requires typed { said.now.is_typed ≡ true }
     requires at { at < length scope.now.syntax.now.tree.now.nodes.items }
     requires init { production_of (slice_get scope.now.syntax.now.tree.now.nodes.items at) ≡ p_init }
     ensures ready { IsReady unit.new }

@@ -47,7 +47,8 @@ fn link_merged(
     requires linkable { AreLinkable units.items }
     requires filled { AreFilled units.items }
     requires merged { AreMerged units.items type_starts.now merged }
-    ensures linked { MatchResult result (LinkedAt entries.now units.items) (λ fault. IsFaultUnless fault (LinksBadlyAt entries.now units.items fault)) }
+    ensures linked { MatchResult result (LinkedAt entries.now units.items)
+        (λ fault. IsFaultUnless fault (LinksBadlyAt entries.now units.items fault)) }
 
     // Each type, node and entity that is named is in range, and children come first.
     ensures range { IfOk result (λ p. InRange (trees_in p)) }
@@ -105,7 +106,8 @@ pub fn link_entries(alloc: Global, units: Vec<Unit>, entries: &[Text]) -> Result
     requires linkable { AreLinkable units.items }
     requires filled { AreFilled units.items }
     requires some { 1 ≤ length entries.now }
-    ensures linked { MatchResult result (LinkedAt entries.now units.items) (λ fault. IsFaultUnless fault (LinksBadlyAt entries.now units.items fault)) }
+    ensures linked { MatchResult result (LinkedAt entries.now units.items)
+        (λ fault. IsFaultUnless fault (LinksBadlyAt entries.now units.items fault)) }
 
     // Each type, node and entity that is named is in range, and children come first.
     ensures range { IfOk result (λ p. InRange (trees_in p)) }

@@ -61,7 +61,8 @@ fn add_unit(
 ) -> Result<(), OutOfMemory>
     requires { AreUnitNodes type_starts.now node_starts.now numbers.now u nodes.items }
     ensures { OnOk result
-        (AreAdded (slice_index type_starts.now u) (slice_index node_starts.now u) (entity_in numbers.now.starts.items numbers.now.numbers.items u) nodes.items list.old.items list.new.items) }
+        (AreAdded (slice_index type_starts.now u) (slice_index node_starts.now u)
+        (entity_in numbers.now.starts.items numbers.now.numbers.items u) nodes.items list.old.items list.new.items) }
 {
     let entities = entities_from(numbers, u);
     let _next = node_starts[u + 1];

@@ -2,3 +2,4 @@ pub mod Deciding
 mod Together
 pub mod Entities
 pub mod Origins
+pub mod Plain

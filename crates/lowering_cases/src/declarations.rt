@@ -352,6 +352,21 @@ a#16 ES [2]*v = init a#16([0]=conv:*v(decay(a#6:[2]*v)) [1]=conv:*v(decay(a#6:[2
 void*b[]={b,b};
 b#6 ES [2]*v used 11 = init b([0]=conv:*v(decay(b:[]*v)) [1]=conv:*v(decay(b:[]*v)))
 
+// an array without a length has the length that is seen of its name (6.2.7p4); a declaration in a block isn't seen behind it
+extern int a[3];int a[]={1,2};
+a#12 ED [3]i
+a#21 ES [3]i = init a#21([0]=1:i [1]=2:i)
+
+static int a[3];static int a[]={1,2};int f(void){return sizeof a;}
+a#28 IS [3]i = init a([0]=1:i [1]=2:i)
+f#42 EF ()i = block[](return(conv:i(12:ul)))
+
+extern int a[3];void f(void){extern int a[];}int a[]={1,2};
+a#12 ED [3]i
+f#22 EF ()v = block[]
+a#41 ED []i
+a#50 ES [3]i = init a#50([0]=1:i [1]=2:i)
+
 typedef int T;typedef int T;T x;void f(void){typedef char T;T y;}
 x#31 ES i
 f#38 EF ()v = block[y]

@@ -453,6 +453,12 @@ operand 28
 static int a[];static int a[3];static int a[4];
 operand 43
 
+extern int a[3];int a[]={1,2,3,4};
+initialiser 32
+
+static int a[2];static int a[]={1,2,3};
+initialiser 37
+
 int f(void){int x;int x;return 0;}
 redeclared 23
 

@@ -5,7 +5,10 @@ ghost use Rattle.c_types.specs.declared.term.PathStep.{PathStep as Step};
 ghost use Rattle.ref_cells.specs.declared.cells.Cell.{Cell as CellSeen};
 ghost use Rattle.covering_laws.specs.covered_state.Awaited.{IsApart};
 ghost use Rattle.row_covers.specs.Scene.{sight_of};
-ghost use Rattle.machine_covers.specs.Bare.{IsElements, BareBy, EntryApart, CellsApart, ValueApart, PairApart, ItemLeaves, ItemsLeave, LeavesAt, FrameLeaves, InstanceLeaves, StartEntry, StartOf, ConversionOf, OperandBy, OperandsBy, ConvertsBy, TopConverts, ItemsAwait, TopAwaits, FramesAwait, AwaitedBy, AwaitedAll};
+ghost use Rattle.machine_covers.specs.Bare.{IsElements, BareBy, EntryApart, CellsApart, ValueApart, PairApart, ItemLeaves};
+ghost use Rattle.machine_covers.specs.Bare.{ItemsLeave, LeavesAt, FrameLeaves, InstanceLeaves, StartEntry, StartOf};
+ghost use Rattle.machine_covers.specs.Bare.{ConversionOf, OperandBy, OperandsBy, ConvertsBy, TopConverts, ItemsAwait};
+ghost use Rattle.machine_covers.specs.Bare.{TopAwaits, FramesAwait, AwaitedBy, AwaitedAll};
 
 use c_types::key::ObjectKey;
 use core_tree::NodeKind;

@@ -49,9 +49,9 @@ fn are_parts_covered(
 /// Whether sets cover the state of a machine: each pointer or function in a cell of memory is in the row of the cell's location, what items
 /// hold is in the rows of their nodes, what is returned in those of the result; each frame's function is a target of the call that entered
 /// it, or stands in the call graph under the function of the library that called it back; pending functions of the library, kept functions
-/// and notes are covered; each instance, one that has ended too, is of its object and type, each path stands in its tree, and an object that
-/// waits for the type of a conversion is pointed to by that conversion's operand alone; what was handed over to the outside is in the row
-/// of what lies there. It takes no memory. The time that it takes grows
+/// and notes are covered; each instance, one that has ended too, is of its object and type, each path stands in its tree, and an object
+/// that waits for the type of a conversion is pointed to by that conversion's operand alone; what was handed over to the outside is in the
+/// row of what lies there. It takes no memory. The time that it takes grows
 /// with memory, frames and items one by one; the row of each node's value, and the number of each call, is counted over the nodes before.
 ///
 /// Where the system is that of the machine's program over this space, this is `IsCovered`: what the invariant of steps says of memory,

@@ -12,7 +12,11 @@ ghost use Rattle.covering_laws.specs.covered_memory.Covered.{outside_row};
 ghost use Rattle.call_sites.specs.Calls.{rest_of};
 ghost use Rattle.covering_laws.specs.covered_memory.Spots.{spot};
 ghost use Rattle.covering_laws.specs.covered_library.Calls.{instance_row, place_row};
-ghost use Rattle.machine_covers.specs.Frames.{numbered, width_of, width_at, result_start, GivenBy, ReturnedBy, ValueBy, ArgumentBy, ArgumentAt, ArgumentsBy, PendingAt, ThereBy, EntryExists, ValueExists, PendingBackBy, LibraryBy, ItemBy, ItemAt, CalledBy, UnderBy, FrameBy, EndAt, KeptBy, StoreBy, NotedBy, NotesBy, HandedAll, FramesBy, KeptAll, first_of};
+ghost use Rattle.machine_covers.specs.Frames.{numbered, width_of, width_at, result_start, GivenBy, ReturnedBy, ValueBy};
+ghost use Rattle.machine_covers.specs.Frames.{ArgumentBy, ArgumentAt, ArgumentsBy, PendingAt, ThereBy, EntryExists};
+ghost use Rattle.machine_covers.specs.Frames.{ValueExists, PendingBackBy, LibraryBy, ItemBy, ItemAt, CalledBy, UnderBy};
+ghost use Rattle.machine_covers.specs.Frames.{FrameBy, EndAt, KeptBy, StoreBy, NotedBy, NotesBy, HandedAll, FramesBy};
+ghost use Rattle.machine_covers.specs.Frames.{KeptAll, first_of};
 
 use c_types::key::ObjectKey;
 use c_types::term::{PathStep, TypeId};

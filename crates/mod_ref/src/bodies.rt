@@ -125,7 +125,8 @@ fn add_node(
     requires rows { HasRowsFor ground.now.system.now touched.old }
     requires row { row < length ground.now.system.now.functions }
     ensures gains { OnOk result ((node : Node) → slice_get ground.now.program.now.nodes.items n ≡ Some node →
-        Gains touched.old touched.new (In row (NodeTouches (setting_in ground.now) ground.now.system.now (members ground.now.rows.now) access n node))) }
+        Gains touched.old touched.new
+        (In row (NodeTouches (setting_in ground.now) ground.now.system.now (members ground.now.rows.now) access n node))) }
     ensures rows { HasRowsFor ground.now.system.now touched.new }
 {
     let node = &ground.program.nodes[n];
@@ -146,7 +147,9 @@ fn add_own(
     requires ground { IsGround ground.now }
     requires node { n < length ground.now.program.now.nodes.items }
     requires rows { HasRowsFor ground.now.system.now touched.old }
-    ensures gains { OnOk result (Gains touched.old touched.new (OwnTouches (setting_in ground.now) ground.now.system.now (members ground.now.rows.now) access n)) }
+    ensures gains { OnOk result
+        (Gains touched.old touched.new
+        (OwnTouches (setting_in ground.now) ground.now.system.now (members ground.now.rows.now) access n)) }
     ensures rows { HasRowsFor ground.now.system.now touched.new }
 {
     let Some(f) = ground.function_around(n) else {
@@ -165,7 +168,9 @@ pub(crate) fn add_bodies(
 ) -> Result<(), OutOfMemory>
     requires ground { IsGround ground.now }
     requires rows { HasRowsFor ground.now.system.now touched.old }
-    ensures { OnOk result (Gains touched.old touched.new (BodyTouches (setting_in ground.now) ground.now.system.now (members ground.now.rows.now) access)) }
+    ensures { OnOk result
+        (Gains touched.old touched.new
+        (BodyTouches (setting_in ground.now) ground.now.system.now (members ground.now.rows.now) access)) }
 {
     for n in 0..ground.program.nodes.len() {
         add_own(alloc, ground, access, n, touched)?;

@@ -56,7 +56,8 @@ impl Ground<'_> {
     pub(crate) fn function_around(&self, n: usize) -> Option<u32>
         requires ground { IsGround self.now }
         requires node { n < length self.now.program.now.nodes.items }
-        ensures { MatchOption result ((f : ℕ) → IsInBody (setting_in self.now) self.now.system.now f n → ⊥) (λ f. IsInBody (setting_in self.now) self.now.system.now f n) }
+        ensures { MatchOption result ((f : ℕ) → IsInBody (setting_in self.now) self.now.system.now f n → ⊥)
+            (λ f. IsInBody (setting_in self.now) self.now.system.now f n) }
     {
         let entity = self.owners[n]?;
         let location = self.space.first(ObjectKey::Entity(entity))?;
@@ -73,7 +74,9 @@ pub(crate) fn first_rows(
     requires range { InRange (trees_in program.now) }
     requires nodes { length program.now.nodes.items < 2 ^ 32 }
     requires entities { length program.now.entities.items < 2 ^ 32 }
-    ensures { IfOk result (λ list. list.items ≡ map (row (trees_in program.now) (view_of space.now)) (range_with_len 0 (length program.now.nodes.items))) }
+    ensures { IfOk result
+        (λ list. list.items
+        ≡ map (row (trees_in program.now) (view_of space.now)) (range_with_len 0 (length program.now.nodes.items))) }
 {
     match number_rows(alloc, program, space)? {
         Numbers::Few(numbering) => Ok(numbering.rows),

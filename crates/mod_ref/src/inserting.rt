@@ -111,7 +111,8 @@ fn insert_each(system: &System, touched: &mut Rows, row: u32, ty: Option<u32>, h
     requires rows { HasRowsFor system.now touched.old }
     requires row { row < length system.now.functions }
     requires held { All (IsLocation system.now) held.now }
-    ensures gains { Gains touched.old touched.new (In row (λ node. (location : ℕ) × Contains held.now location × IsReached system.now ty location node)) }
+    ensures gains { Gains touched.old touched.new
+        (In row (λ node. (location : ℕ) × Contains held.now location × IsReached system.now ty location node)) }
     ensures rows { HasRowsFor system.now touched.new }
 {
     for i in 0..held.len() {

@@ -84,7 +84,8 @@ fn insert_arguments(
     requires call { IsCallValid ground.now.system.now call.now }
     requires rows { HasRowsFor ground.now.system.now touched.old }
     requires row { row < length ground.now.system.now.functions }
-    ensures gains { OnOk result (Gains touched.old touched.new (In row (IsInArguments ground.now.system.now (members ground.now.rows.now) call.now))) }
+    ensures gains { OnOk result
+        (Gains touched.old touched.new (In row (IsInArguments ground.now.system.now (members ground.now.rows.now) call.now))) }
     ensures rows { HasRowsFor ground.now.system.now touched.new }
 {
     let arguments = call.arguments.as_slice();
@@ -172,7 +173,8 @@ fn insert_at(
     requires rows { HasRowsFor ground.now.system.now touched.old }
     requires row { row < length ground.now.system.now.functions }
     ensures found { IsTrue result ↔ ((number : ℕ) × (function : Function) × IsLibraryAt ground.now.system.now call.now location number function) }
-    ensures gains { Gains touched.old touched.new (In row (IsMadeAt (view_of ground.now.space.now) ground.now.system.now access call.now location)) }
+    ensures gains { Gains touched.old touched.new
+        (In row (IsMadeAt (view_of ground.now.space.now) ground.now.system.now access call.now location)) }
     ensures rows { HasRowsFor ground.now.system.now touched.new }
 {
     let Some(number) = library_at(ground.system, call, location) else {
@@ -198,7 +200,9 @@ fn add_made(
     requires held { All (IsLocation ground.now.system.now) held.now }
     requires rows { HasRowsFor ground.now.system.now touched.old }
     requires row { row < length ground.now.system.now.functions }
-    ensures found { IsTrue result ↔ ((at : ℕ) × Contains held.now at × ((number : ℕ) × (function : Function) × IsLibraryAt ground.now.system.now call.now at number function)) }
+    ensures found { IsTrue result
+        ↔ ((at : ℕ) × Contains held.now at
+        × ((number : ℕ) × (function : Function) × IsLibraryAt ground.now.system.now call.now at number function)) }
     ensures gains { Gains touched.old touched.new (In row (λ location. (at : ℕ) × Contains held.now at
         × IsMadeAt (view_of ground.now.space.now) ground.now.system.now access call.now at location)) }
     ensures rows { HasRowsFor ground.now.system.now touched.new }
@@ -244,7 +248,9 @@ pub(crate) fn add_calls(
 ) -> Result<(), OutOfMemory>
     requires ground { IsGround ground.now }
     requires rows { HasRowsFor ground.now.system.now touched.old }
-    ensures gains { OnOk result (Gains touched.old touched.new (CallsTouch (setting_in ground.now) ground.now.system.now (members ground.now.rows.now) access)) }
+    ensures gains { OnOk result
+        (Gains touched.old touched.new
+        (CallsTouch (setting_in ground.now) ground.now.system.now (members ground.now.rows.now) access)) }
     ensures rows { HasRowsFor ground.now.system.now touched.new }
 {
     for i in 0..ground.system.calls.len() {

@@ -64,8 +64,10 @@ fn touched(
 fn both(alloc: Global, ground: &Ground<'_>, functions: u32) -> Result<Effects, OutOfMemory>
     requires ground { IsGround ground.now }
     requires functions { functions ≡ length ground.now.system.now.functions }
-    ensures reads { IfOk result (λ made. IsTouch (setting_in ground.now) ground.now.system.now (members ground.now.rows.now) Access.Read made.reads) }
-    ensures writes { IfOk result (λ made. IsTouch (setting_in ground.now) ground.now.system.now (members ground.now.rows.now) Access.Write made.writes) }
+    ensures reads { IfOk result
+        (λ made. IsTouch (setting_in ground.now) ground.now.system.now (members ground.now.rows.now) Access.Read made.reads) }
+    ensures writes { IfOk result
+        (λ made. IsTouch (setting_in ground.now) ground.now.system.now (members ground.now.rows.now) Access.Write made.writes) }
 {
     let edges = graph(alloc, ground.system, ground.rows)?;
     let listed = edges.as_slice();
@@ -78,7 +80,9 @@ fn both(alloc: Global, ground: &Ground<'_>, functions: u32) -> Result<Effects, O
 
 /// Whether numbers of 32 bits number a program's entities, its types by their tags, the functions of its system, and its nodes.
 fn is_numbered(program: &Program, system: &System) -> bool
-    ensures { IsTrue result → (length program.now.entities.items < 2 ^ 32) × (program.now.types.tags + 8 < 2 ^ 32) × (length system.now.functions < 2 ^ 32)
+    ensures { IsTrue result
+        → (length program.now.entities.items < 2 ^ 32) × (program.now.types.tags + 8 < 2 ^ 32)
+        × (length system.now.functions < 2 ^ 32)
         × (length program.now.nodes.items < 2 ^ 32) }
 {
     program.entities.len() <= u32::MAX as usize

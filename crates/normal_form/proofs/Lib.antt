@@ -3,3 +3,4 @@ pub mod InitialLemmas
 pub mod WholeLemmas
 pub mod SpotLemmas
 pub mod MemberNodes
+pub mod Demanding

@@ -1,12 +1,12 @@
 -- The spots of initialisers, one by one.
-use Rattle.std.proofs.Common.{arith, ◌≡◌, ◌∙◌, ℕ, zero, suc, ◌+◌, ◌<◌, ◌≤◌, List, [], ◌∷◌, Bool, true, false, cond, length, drop, get_or, Some, refl, ap, sym, subst, drop-cons}
+use Rattle.std.proofs.Common.{arith, ◌≡◌, ℕ, zero, suc, ◌<◌, ◌^◌, List, [], ◌∷◌, Bool, true, false, cond, length, get_or, Option, Some, None, unwrap_or, refl, ap, sym, subst}
+use Rattle.std.proofs.lemmas.Bool.{lt-ltb}
 use Rattle.c_types.specs.declared.term.PathStep.{PathStep}
 use Rattle.c_types.specs.Trees.{Ctype}
-use Rattle.c_types.specs.Table.{Table}
-use Rattle.c_types.specs.Paths.{part_type}
+use Rattle.c_types.specs.Parts.{within_32}
 use Rattle.core_tree.specs.Typed.{CoreTrees}
 use Rattle.obj_space.specs.View.{SpaceView}
-use Rattle.normal_form.specs.Assignments.{is_union_type, step_node, path_node, put_at}
+use Rattle.normal_form.specs.Assignments.{put_at}
 use Rattle.normal_form.specs.Spots.{IsSpotted, AreSpotted}
 
 spot_at : (u : CoreTrees) (s : SpaceView) (e : ℕ) (ps : List (List PathStep)) (vs : List ℕ) (i : ℕ) (dp : List PathStep) (dv : ℕ) → i < length ps → i < length vs → AreSpotted u s e ps vs
@@ -26,12 +26,7 @@ put_nothing [] true location from h = refl
 put_nothing [] false location from h = refl
 put_nothing (t ∷ nodes) b location from h = absurd (omega arith)
 
--- a step on a path leads no further than the whole path
-pub step_within : (table : Table) (t : Ctype) (path : List PathStep) (i : ℕ) (d : PathStep) (node total : ℕ) → i < length path → is_union_type t ≡ false → node + path_node table (Some t) (drop i path) ≡ total
-    → node + step_node table t (get_or path i d) ≤ total
-step_within table t path i d node total lt apart here =
-    let step = get_or path i d in
-    let first : path_node table (Some t) (drop i path) ≡ step_node table t step + path_node table (part_type table t step) (drop (suc i) path) =
-    ap (path_node table (Some t)) (drop-cons path i d lt)
-    ∙ ap (λ (b : Bool). cond b 0 (step_node table t step + path_node table (part_type table t step) (drop (suc i) path))) apart in
-    omega arith
+-- a number of 32 bits is kept
+pub small_kept : (o : Option ℕ) → unwrap_or o 0 < 2 ^ 32 → unwrap_or (within_32 o) 0 ≡ unwrap_or o 0
+small_kept None small = refl
+small_kept (Some n) small = ap (λ (b : Bool). unwrap_or (cond b (Some n) None) 0) (lt-ltb n (2 ^ 32) small)

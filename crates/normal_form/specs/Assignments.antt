@@ -1,13 +1,11 @@
 -- What each kind of node demands: one definition for each row of the table of core nodes.
 use Rattle.std.specs.Prelude.{ℕ, ◌+◌, ◌++◌, ◌&&◌, Bool, true, false, if◌then◌else◌, List, [], ◌∷◌, Option, Some}
 use Rattle.std.specs.Prelude.{None, length, map, drop, slice_get, unwrap_or}
-use Rattle.c_types.specs.Trees.{Ctype, VoidType, PointerTo, StructureOf, UnionOf}
+use Rattle.c_types.specs.Trees.{Ctype, VoidType, PointerTo, UnionOf}
 use Rattle.c_types.specs.Table.{Table, type_of}
-use Rattle.c_types.specs.Paths.{part_type}
 use Rattle.std.specs.Option.{option_map}
 use Rattle.std.specs.List.{flat_map, range_with_len}
 use Rattle.c_types.specs.declared.term.PathStep.{PathStep}
-use Rattle.c_types.specs.declared.term.PathStep.TheVariants.{Index, Member as MemberStep}
 use Rattle.c_types.specs.declared.key.ObjectKey.TheVariants.{Entity as EntityKey, Text as TextKey}
 use Rattle.c_types.specs.declared.key.ObjectKey.TheVariants.{Varargs as VarargsKey}
 use Rattle.type_rules.specs.Conversions.{result_of}
@@ -20,6 +18,7 @@ use Rattle.core_tree.specs.declared.node.NodeKind.TheVariants.{CallNode, VarArgs
 use Rattle.core_tree.specs.declared.node.NodeKind.TheVariants.{Return, Initialise}
 use Rattle.core_tree.specs.Typed.{CoreTrees, type_at}
 use Rattle.obj_space.specs.View.{SpaceView}
+use Rattle.obj_space.specs.Spots.{node_along}
 use Rattle.normal_form.specs.declared.normal.Assignment.{Assignment}
 use Rattle.normal_form.specs.declared.normal.Assignment.TheVariants.{Address, Copy, Load, Store, Field}
 use Rattle.row_numbers.specs.Kept.{nodes_of, member_node, kept, kept_row}
@@ -181,22 +180,10 @@ abbrev pub return_row : Setting → ℕ → List ℕ → List Assignment
 return_row w n (v ∷ []) = returned_by w (slice_get w.owners n) v
 return_row w n children = []
 
-abbrev pub is_structure_type : Ctype → Bool
-is_structure_type (StructureOf tag) = true
-is_structure_type t = false
-
--- how far one step leads from a type's node: elements of an array share their nodes (6.7.9p17 for paths)
-abbrev pub step_node : Table → Ctype → PathStep → ℕ
-step_node table t (Index i) = 0
-step_node table t (MemberStep k) = if is_structure_type t then member_node table t k else 0
-
--- how far the node at the end of a path stands behind an object's first; what is in a union is at the union's node
--- (6.7.2.1p16)
+-- how far the node at the end of a path stands behind an object's first
 abbrev pub path_node : Table → Option Ctype → List PathStep → ℕ
 path_node table None path = 0
-path_node table (Some t) [] = 0
-path_node table (Some t) (step ∷ rest) =
-    if is_union_type t then 0 else step_node table t step + path_node table (part_type table t step) rest
+path_node table (Some t) path = unwrap_or (node_along table t path) 0
 
 -- how far it stands behind the first location of an entity's object, and which location it is
 abbrev pub target_node : CoreTrees → ℕ → List PathStep → ℕ

@@ -3,3 +3,4 @@ pub mod Assignments
 pub mod Spots
 pub mod Facts
 pub mod SystemOf
+pub mod Laws

@@ -1,7 +1,7 @@
 -- The system of a program.
-use Rattle.std.specs.Prelude.{◌≡◌, ℕ, ◌<◌, ◌≤◌, ◌^◌, ◌↔◌, List, [], ◌∷◌, ◌++◌, Option, Some, None, length}
-use Rattle.std.specs.Prelude.{◌==◌, slice_get, Contains, option_and_then, map, filter, not}
-use Rattle.std.specs.List.{flat_map}
+use Rattle.std.specs.Prelude.{◌≡◌, ℕ, ◌<◌, ◌≤◌, ◌^◌, List, [], ◌∷◌, ◌++◌, Option, Some, None, length}
+use Rattle.std.specs.Prelude.{◌==◌, slice_get, Contains, option_and_then, map, filter, not, IsPermutation}
+use Rattle.std.specs.List.{flat_map, range_with_len}
 use Rattle.c_types.specs.declared.key.ObjectKey.{ObjectKey}
 use Rattle.c_types.specs.declared.key.ObjectKey.TheVariants.{Entity as EntityKey, Library, Outside}
 use Rattle.core_tree.specs.declared.node.Program.{Program}
@@ -89,8 +89,15 @@ abbrev pub start_constraints : CoreTrees → SpaceView → List ℕ → List Con
 start_constraints u s [] = argument_constraints u s
 start_constraints u s entries = outside_constraints u s entries (s.first Outside)
 
--- what a program demands: what its nodes do, the rule of each call, what the library's objects hold, and what is there
--- when it begins
+-- what a program demands, each demand once: what its nodes do, in their order, the rule of each call, what the
+-- library's objects hold, and what is there when it begins. What two nodes demand in the same words stands twice.
+abbrev pub demands_of : Setting → ℕ → List Constraint
+demands_of w calls =
+    map constraint_of (assignments_of w) ++ map (λ call. Call call) (range_with_len 0 calls)
+    ++ library_constraints w.space
+    ++ start_constraints w.trees w.space w.entries
+
+-- the same, demand by demand
 pub data Demands (w : Setting) (calls : ℕ) (c : Constraint) : Type 0 where
   by_node : {a : Assignment} → Contains (assignments_of w) a → constraint_of a ≡ c → Demands w calls c
   by_call : {call : ℕ} → call < calls → Call call ≡ c → Demands w calls c
@@ -100,24 +107,23 @@ pub data Demands (w : Setting) (calls : ℕ) (c : Constraint) : Type 0 where
 abbrev pub setting_of : Program → SpaceView → List (Option ℕ) → Setting
 setting_of p s owners = record { trees = trees_in p; space = s; owners = owners; entries = p.entries.items }
 
--- S is the system of P, whose locations are those of the space. The order of its constraints is free.
+-- S is the system of P, whose locations are those of the space: its constraints are what the program demands, each once,
+-- in any order.
 pub record SystemOf (p : Program) (s : SpaceView) (system : System) : Type 0 where
   pub owners : List (Option ℕ)
   pub around : AreOwners (trees_in p) owners
   pub rows : system.rows ≡ row_total (trees_in p) s
   pub locations : system.locations ≡ location_facts (trees_in p) s
   pub types : system.types ≡ type_facts p.types
-  pub constraints : (c : Constraint)
-      → Contains system.constraints c ↔ Demands (setting_of p s owners) (length system.calls) c
+  pub constraints : IsPermutation (demands_of (setting_of p s owners) (length system.calls)) system.constraints
   pub calls : AreCalls (setting_of p s owners) system.calls
   pub functions : AreFunctions (trees_in p) s system.functions
 
--- the assignments of a program, and its calls
+-- the assignments of a program, each once and in any order, and its calls
 pub record IsWhole (p : Program) (s : SpaceView) (normal : Normal) : Type 0 where
   pub owners : List (Option ℕ)
   pub around : AreOwners (trees_in p) owners
-  pub assignments : (a : Assignment)
-      → Contains normal.assignments a ↔ Contains (assignments_of (setting_of p s owners)) a
+  pub assignments : IsPermutation (assignments_of (setting_of p s owners)) normal.assignments
   pub calls : AreCalls (setting_of p s owners) normal.calls
 
 -- the normal form of a program; past 2^24 rows it has no lists

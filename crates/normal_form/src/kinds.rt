@@ -58,7 +58,9 @@ fn value(
     requires named { (node : Node) × (slice_get frame.now.program.now.nodes.items n ≡ Some node) × (node.kind ≡ kind.now) }
     requires ty { ty.0 < length frame.now.program.now.types.terms }
     requires children { All (IsNodeIn frame.now) children.now }
-    ensures { OnOk result (out.new ≡ out.old ++ value_of_kind (setting_in frame.now) n kind.now (type_of frame.now.program.now.types ty.0) children.now) }
+    ensures { OnOk result
+        (out.new
+        ≡ out.old ++ value_of_kind (setting_in frame.now) n kind.now (type_of frame.now.program.now.types ty.0) children.now) }
 {
     match kind {
         NodeKind::Fetch => fetched(alloc, frame, n, ty, children, out),
@@ -123,7 +125,9 @@ pub(crate) fn demanded(
     requires ty { ty.0 < length frame.now.program.now.types.terms }
     requires children { All (IsNodeIn frame.now) children.now }
     requires spotted { KindSpotted (setting_in frame.now).trees (setting_in frame.now).space kind.now children.now }
-    ensures { OnOk result (out.new ≡ out.old ++ row_of_kind (setting_in frame.now) n kind.now (type_of frame.now.program.now.types ty.0) children.now) }
+    ensures { OnOk result
+        (out.new
+        ≡ out.old ++ row_of_kind (setting_in frame.now) n kind.now (type_of frame.now.program.now.types ty.0) children.now) }
 {
     place(frame, n, kind, children, out)?;
     value(alloc, frame, n, kind, ty, children, out)?;

@@ -4,6 +4,7 @@
 pub mod each;
 mod initial;
 mod kinds;
+pub mod laws;
 mod normal;
 mod rows;
 pub mod whole;

@@ -9,7 +9,11 @@ ghost use Rattle.row_numbers.specs.Numbers.{type_number};
 ghost use Rattle.row_numbers.specs.Kept.{nodes_of};
 ghost use Rattle.normal_form.specs.Each.{made_for, IsSmall};
 ghost use Rattle.row_numbers.specs.Setting.{Setting};
-ghost use Rattle.normal_form.specs.Assignments.{is_pointer, pointed, named_row, text_row, passed_row, moved_row, convert_row, member_row, upcast_row, fetch_row, update_row, assign_row, choose_row, sequence_row, member_of_value_row, is_union_type, part_first, returned_by, return_row, varargs_row, next_arg_row, gathered_row, call_row};
+ghost use Rattle.normal_form.specs.Assignments.{is_pointer, pointed, named_row, text_row, passed_row, moved_row};
+ghost use Rattle.normal_form.specs.Assignments.{convert_row, member_row, upcast_row, fetch_row, update_row, assign_row};
+ghost use Rattle.normal_form.specs.Assignments.{choose_row, sequence_row, member_of_value_row, is_union_type, part_first};
+ghost use Rattle.normal_form.specs.Assignments.{returned_by, return_row, varargs_row, next_arg_row, gathered_row};
+ghost use Rattle.normal_form.specs.Assignments.{call_row};
 ghost use Rattle.row_numbers.specs.Frame.{IsFrame, IsNodeIn, setting_in};
 
 use crate::each::{Each, push_each};
@@ -313,7 +317,8 @@ pub(crate) fn converted(
     requires node { n < length frame.now.program.now.nodes.items }
     requires ty { ty.0 < length frame.now.program.now.types.terms }
     requires children { All (IsNodeIn frame.now) children.now }
-    ensures { OnOk result (out.new ≡ out.old ++ convert_row (setting_in frame.now) n (type_of frame.now.program.now.types ty.0) children.now) }
+    ensures { OnOk result
+        (out.new ≡ out.old ++ convert_row (setting_in frame.now) n (type_of frame.now.program.now.types ty.0) children.now) }
 {
     match children {
         [v] => {
@@ -431,7 +436,8 @@ pub(crate) fn fetched(
     requires node { n < length frame.now.program.now.nodes.items }
     requires ty { ty.0 < length frame.now.program.now.types.terms }
     requires children { All (IsNodeIn frame.now) children.now }
-    ensures { OnOk result (out.new ≡ out.old ++ fetch_row (setting_in frame.now) n (type_of frame.now.program.now.types ty.0) children.now) }
+    ensures { OnOk result
+        (out.new ≡ out.old ++ fetch_row (setting_in frame.now) n (type_of frame.now.program.now.types ty.0) children.now) }
 {
     match children {
         [p] => loaded(alloc, frame, n, ty, *p, out),
@@ -452,7 +458,8 @@ pub(crate) fn updated(
     requires node { n < length frame.now.program.now.nodes.items }
     requires ty { ty.0 < length frame.now.program.now.types.terms }
     requires children { All (IsNodeIn frame.now) children.now }
-    ensures { OnOk result (out.new ≡ out.old ++ update_row (setting_in frame.now) n (type_of frame.now.program.now.types ty.0) children.now) }
+    ensures { OnOk result
+        (out.new ≡ out.old ++ update_row (setting_in frame.now) n (type_of frame.now.program.now.types ty.0) children.now) }
 {
     match children {
         [p, _] => loaded(alloc, frame, n, ty, *p, out),
@@ -473,7 +480,8 @@ fn taken(
     requires node { n < length frame.now.program.now.nodes.items }
     requires ty { ty.0 < length frame.now.program.now.types.terms }
     requires value { v < length frame.now.program.now.nodes.items }
-    ensures { OnOk result (out.new ≡ out.old ++ sequence_row (setting_in frame.now) n (type_of frame.now.program.now.types ty.0) (v ∷ v ∷ [])) }
+    ensures { OnOk result
+        (out.new ≡ out.old ++ sequence_row (setting_in frame.now) n (type_of frame.now.program.now.types ty.0) (v ∷ v ∷ [])) }
 {
     let each = Each::Copies {
         to: frame.row(n),
@@ -495,7 +503,8 @@ pub(crate) fn assigned(
     requires node { n < length frame.now.program.now.nodes.items }
     requires ty { ty.0 < length frame.now.program.now.types.terms }
     requires children { All (IsNodeIn frame.now) children.now }
-    ensures { OnOk result (out.new ≡ out.old ++ assign_row (setting_in frame.now) n (type_of frame.now.program.now.types ty.0) children.now) }
+    ensures { OnOk result
+        (out.new ≡ out.old ++ assign_row (setting_in frame.now) n (type_of frame.now.program.now.types ty.0) children.now) }
 {
     match children {
         [p, v] => {
@@ -527,7 +536,8 @@ pub(crate) fn chosen(
     requires node { n < length frame.now.program.now.nodes.items }
     requires ty { ty.0 < length frame.now.program.now.types.terms }
     requires children { All (IsNodeIn frame.now) children.now }
-    ensures { OnOk result (out.new ≡ out.old ++ choose_row (setting_in frame.now) n (type_of frame.now.program.now.types ty.0) children.now) }
+    ensures { OnOk result
+        (out.new ≡ out.old ++ choose_row (setting_in frame.now) n (type_of frame.now.program.now.types ty.0) children.now) }
 {
     match children {
         [_, a, b] => {
@@ -551,7 +561,8 @@ pub(crate) fn in_sequence(
     requires node { n < length frame.now.program.now.nodes.items }
     requires ty { ty.0 < length frame.now.program.now.types.terms }
     requires children { All (IsNodeIn frame.now) children.now }
-    ensures { OnOk result (out.new ≡ out.old ++ sequence_row (setting_in frame.now) n (type_of frame.now.program.now.types ty.0) children.now) }
+    ensures { OnOk result
+        (out.new ≡ out.old ++ sequence_row (setting_in frame.now) n (type_of frame.now.program.now.types ty.0) children.now) }
 {
     match children {
         [_, b] => taken(alloc, frame, n, ty, *b, out),
@@ -596,7 +607,10 @@ pub(crate) fn member_of_value(
     requires node { n < length frame.now.program.now.nodes.items }
     requires ty { ty.0 < length frame.now.program.now.types.terms }
     requires children { All (IsNodeIn frame.now) children.now }
-    ensures { OnOk result (out.new ≡ out.old ++ member_of_value_row (setting_in frame.now) n member (type_of frame.now.program.now.types ty.0) children.now) }
+    ensures { OnOk result
+        (out.new
+        ≡ out.old
+        ++ member_of_value_row (setting_in frame.now) n member (type_of frame.now.program.now.types ty.0) children.now) }
 {
     match children {
         [v] => {

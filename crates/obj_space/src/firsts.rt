@@ -41,7 +41,8 @@ pub(crate) fn first_of(firsts: &Firsts, key: ObjectKey) -> Option<u32>
 
 // Puts a location for a kind and a number.
 fn put(firsts: &mut Firsts, kind: u32, number: u32, l: u32) -> Result<(), OutOfMemory>
-    ensures { IfOk result (λ done. (k n : ℕ) → kept_at firsts.new k n ≡ (if kind == k && number == n then Some l else kept_at firsts.old k n)) }
+    ensures { IfOk result
+        (λ done. (k n : ℕ) → kept_at firsts.new k n ≡ (if kind == k && number == n then Some l else kept_at firsts.old k n)) }
 {
     firsts.insert((kind, number), l)?;
     Ok(())

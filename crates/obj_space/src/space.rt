@@ -1,6 +1,7 @@
 // The locations of a program, by number, by name and by object.
 
-ghost use Rattle.std.specs.Prelude.{◌≡◌, ℕ, ◌+◌, ◌<◌, ◌^◌, ◌++◌, [], Bool, None, Some, IfOk, IfSome, OnOk, MatchOption, length, map, slice_get};
+ghost use Rattle.std.specs.Prelude.{◌≡◌, ℕ, ◌+◌, ◌<◌, ◌^◌, ◌++◌, [], Bool, None, Some, IfOk, IfSome, OnOk, MatchOption};
+ghost use Rattle.std.specs.Prelude.{length, map, slice_get};
 ghost use Rattle.std.specs.List.{flat_map};
 ghost use Rattle.obj_made.specs.Made.{objects_in};
 ghost use Rattle.obj_space.specs.Objects.{library_part};

@@ -6,6 +6,11 @@ end
 `~
 a.i`a.i`5```link no main
 ~
+a.i`a.i`0`extern int a[3];int a[]={1,2};int main(void){return 0;}`pta 1
+end
+`~
+a.i`a.i`5`int a[]={1,2};extern int a[3];int main(void){return 0;}``link conflict a a.i
+~
 a.i`a.i`0`int x,*p,**q; int main(void){p=*q;q=&p;*q=&x;return 0;}`pta 1
 set p: x
 set q: p

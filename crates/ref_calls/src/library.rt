@@ -18,7 +18,8 @@ ghost use Rattle.ref_cells.specs.declared.instance.Instance.{Instance};
 ghost use Rattle.covering_laws.specs.calm_effects.Calm.{IsCalm};
 ghost use Rattle.ref_frames.specs.Tops.{items_at};
 ghost use Rattle.ref_frames.specs.Made.{IsRunning, seen};
-ghost use Rattle.ref_calls.specs.Library.{named_by, object_of, result_in, term_in, performed, comparison_of, back_by, kept_of, goes_by, library_row};
+ghost use Rattle.ref_calls.specs.Library.{named_by, object_of, result_in, term_in, performed, comparison_of, back_by};
+ghost use Rattle.ref_calls.specs.Library.{kept_of, goes_by, library_row};
 
 use crate::calls::{function_type, named_callee};
 use crate::signatures::{called, is_comparison};

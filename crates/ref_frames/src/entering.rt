@@ -13,7 +13,8 @@ ghost use Rattle.row_numbers.specs.Functions.{key_id};
 ghost use Rattle.call_sites.specs.Signatures.{called_type};
 ghost use Rattle.ref_cells.specs.Answers.{Gives};
 ghost use Rattle.ref_frames.specs.Made.{IsRunning, seen};
-ghost use Rattle.ref_frames.specs.Frames.{entered, entered_objects, is_typed, have_types, list_of, parameter_object, parameter_objects, pointers_from};
+ghost use Rattle.ref_frames.specs.Frames.{entered, entered_objects, is_typed, have_types, list_of, parameter_object};
+ghost use Rattle.ref_frames.specs.Frames.{parameter_objects, pointers_from};
 
 use crate::running::Running;
 use c_types::key::ObjectKey;

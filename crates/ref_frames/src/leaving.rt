@@ -9,7 +9,8 @@ ghost use Rattle.ref_cells.specs.Numbers.{converted};
 ghost use Rattle.ref_state.specs.declared.frames.Frame.{Frame};
 ghost use Rattle.ref_state.specs.Changes.{ended_all};
 ghost use Rattle.ref_state.specs.Values.{cell_of};
-ghost use Rattle.ref_frames.specs.Frames.{all_ended, caller_given, finished, given_by, handed_over, is_main_in, left_frame, left_start, result_of, status_by};
+ghost use Rattle.ref_frames.specs.Frames.{all_ended, caller_given, finished, given_by, handed_over, is_main_in};
+ghost use Rattle.ref_frames.specs.Frames.{left_frame, left_start, result_of, status_by};
 
 use crate::frames::depth;
 use crate::tops::settle;

@@ -6,6 +6,7 @@ pub mod KnownSteps
 pub mod Longer
 pub mod PreparedFacts
 pub mod FirstInstances
+pub mod HandedOnward
 pub mod Stepped
 pub mod TopFrame
 pub mod WordFree

@@ -10,6 +10,7 @@ use Rattle.ref_state.specs.ref_types.Types.{id, types_with, library_ids}
 use Rattle.ref_blocks.specs.Plans.{IsPlan}
 use Rattle.ref_frames.specs.Made.{AreParameters, AreElementsKnown}
 use Rattle.ref_frames.specs.Running.{Running}
+use Rattle.ref_start.specs.Handed.{AreRead}
 use Rattle.ref_machine.specs.declared.prepared.Prepared.{Prepared}
 use Rattle.ref_machine.specs.declared.machine.Machine.{Machine}
 use Rattle.ref_machine.specs.Types.{trees_with}
@@ -33,8 +34,10 @@ pub record IsGrounded (w : Running) : Type 0 where
   pub elements : AreElementsKnown (length w.trees.types.terms) w.characters w.space
   pub texts : w.characters.0 + 1 < length w.trees.types.terms
 
--- it, a state whose objects have types of the machine's table, and the instances that objects have from the start
+-- it, a state whose objects have types of the machine's table, the instances that objects have from the start, and
+-- what is kept of the pointers that were handed over
 pub record IsMachineOf (p : Program) (machine : Machine) : Type 0 where
   pub prepared : IsPreparedOf p machine.prepared
   pub known : AreKnown (length (types_with p.types).terms) machine.state.memory
   pub standing : AreStanding machine.standing machine.state.memory
+  pub handed : AreRead (types_with p.types) machine.state.handed machine.places

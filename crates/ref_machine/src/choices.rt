@@ -8,7 +8,8 @@ ghost use Rattle.core_tree.specs.Typed.{type_at};
 ghost use Rattle.ref_statements.specs.Nodes.{picks};
 ghost use Rattle.ref_frames.specs.Made.{IsRunning, seen};
 ghost use Rattle.ref_start.specs.Begin.{main_of};
-ghost use Rattle.ref_machine.specs.Step.{library_chooses, is_pointer, is_measure, measures, node_chooses, item_chooses, main_chooses, start_chooses, outside_chooses};
+ghost use Rattle.ref_machine.specs.Step.{library_chooses, is_pointer, is_measure, measures, node_chooses, item_chooses};
+ghost use Rattle.ref_machine.specs.Step.{main_chooses, start_chooses, outside_chooses};
 
 use c_types::table::TypeTable;
 use c_types::term::{Term, TypeId};

@@ -6,6 +6,7 @@ ghost use Rattle.core_tree.specs.Range.{InRange};
 ghost use Rattle.ref_cells.specs.Places.{AreKnown};
 ghost use Rattle.ref_state.specs.ref_types.Types.{types_with};
 ghost use Rattle.ref_calls.specs.Outcomes.{Steps};
+ghost use Rattle.ref_start.specs.Handed.{AreRead};
 ghost use Rattle.ref_machine.specs.Machines.{IsPreparedOf};
 ghost use Rattle.ref_machine.specs.Types.{running};
 ghost use Rattle.ref_machine.specs.Step.{step};
@@ -23,6 +24,7 @@ use pta_base::Listing;
 use ref_cells::cells::Cell;
 use ref_frames::frames::depth;
 use ref_mem::memory::Memory;
+use ref_start::handed::{HandedPlaces, no_places};
 use ref_start::standing::{Standing, standing_in};
 use ref_start::start::start_memory;
 use ref_state::frames::{Frame, Frames};
@@ -37,27 +39,31 @@ fn listed(frames: &Frames) -> &[Frame]
     frames.list.as_slice()
 }
 
-// A step, whose objects' types stay those of the machine's table, and their instances where they are.
+// A step, whose objects' types stay those of the machine's table, and their instances where they are. What is kept of the pointers
+// that were handed over stays right.
 fn stepped(
     alloc: Global,
     prepared: &Prepared,
     standing: &Standing,
     program: &Program,
+    kept: &mut HandedPlaces,
     state: &mut State,
     word: u64,
 ) -> Result<StepAnswer, OutOfMemory>
     requires prepared { IsPreparedOf program.now prepared.now }
     requires known { AreKnown (length (types_with program.now.types).terms) state.old.memory }
     requires standing { AreStanding standing.now state.old.memory }
+    requires handed { AreRead (types_with program.now.types) state.old.handed kept.old }
     ensures step { Steps result state.old state.new (step (running program.now) state.old word) }
     ensures known { AreKnown (length (types_with program.now.types).terms) state.new.memory }
     ensures standing { AreStanding standing.now state.new.memory }
+    ensures handed { AreRead (types_with program.now.types) state.new.handed kept.new }
 {
     let running = prepared.running(alloc, program);
     if depth(&state.frames) > 0 {
         frame_step(&running, &prepared.plan, standing, state, word)
     } else {
-        outside_step(&running, prepared.library, state, word)
+        outside_step(&running, prepared.library, kept, state, word)
     }
 }
 
@@ -67,6 +73,7 @@ pub struct Machine {
     alloc: Global,
     prepared: Prepared,
     standing: Standing,
+    places: HandedPlaces,
     state: State,
 }
 
@@ -92,6 +99,7 @@ impl Machine {
             alloc,
             prepared,
             standing,
+            places: no_places(alloc),
             state: State {
                 memory,
                 frames: Frames::new(alloc),
@@ -127,6 +135,7 @@ impl Machine {
             &self.prepared,
             &self.standing,
             program,
+            &mut self.places,
             &mut self.state,
             word,
         )

@@ -15,12 +15,14 @@ ghost use Rattle.ref_state.specs.ref_types.Types.{library_ids};
 ghost use Rattle.ref_frames.specs.Made.{IsRunning, seen};
 ghost use Rattle.ref_calls.specs.Outcomes.{Steps, Goes, outcome};
 ghost use Rattle.ref_calls.specs.Reached.{reached};
+ghost use Rattle.ref_start.specs.Handed.{AreRead};
 ghost use Rattle.ref_blocks.specs.Plans.{IsPlan};
 ghost use Rattle.ref_statements.specs.Made.{IsWorld};
 ghost use Rattle.ref_statements.specs.Nodes.{do_row, wait_row};
 ghost use Rattle.ref_statements.specs.Rows.{computes};
 ghost use Rattle.ref_machine.specs.Standing.{AreStanding};
-ghost use Rattle.ref_machine.specs.Step.{top_items, placed, target_of, is_direct, called, call_row, calls, takes, waited, leaves, item_step, outside_step};
+ghost use Rattle.ref_machine.specs.Step.{top_items, placed, target_of, is_direct, called, call_row, calls, takes, waited};
+ghost use Rattle.ref_machine.specs.Step.{leaves, item_step, outside_step};
 
 use crate::standing::standing_at;
 use c_types::key::ObjectKey;
@@ -41,6 +43,7 @@ use ref_frames::leaving::leave;
 use ref_frames::running::Running;
 use ref_frames::tops::replace_item;
 use ref_start::entries::starts;
+use ref_start::handed::HandedPlaces;
 use ref_start::standing::{Standing, place_value};
 use ref_state::items::Item;
 use ref_state::notes::Notes;
@@ -410,21 +413,25 @@ pub fn frame_step(
     }
 }
 
-/// A step of a program without a frame: it begins, or is entered from outside, or is at its end.
+/// A step of a program without a frame: it begins, or is entered from outside, or is at its end. What is kept of the pointers that
+/// were handed over stays right for what was handed over before the step.
 pub fn outside_step(
     running: &Running<'_>,
     library: LibraryTypes,
+    kept: &mut HandedPlaces,
     state: &mut State,
     word: u64,
 ) -> Result<StepAnswer, OutOfMemory>
     requires running { IsRunning running.now }
     requires library { library ≡ library_ids running.now.characters.0 }
-    ensures { Steps result state.old state.new (outside_step (seen running.now) state.old state.old.status word) }
+    requires kept { AreRead running.now.trees.types.now state.old.handed kept.old }
+    ensures step { Steps result state.old state.new (outside_step (seen running.now) state.old state.old.status word) }
+    ensures kept { AreRead running.now.trees.types.now state.old.handed kept.new }
 {
     if let Some(status) = state.status {
         return end_step(running, state, status);
     }
-    match starts(running, library, state, word) {
+    match starts(running, library, kept, state, word) {
         Ok(stores) => {
             state.notes = Notes::of(stores);
             Ok(StepAnswer::Went)

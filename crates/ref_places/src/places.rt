@@ -6,7 +6,8 @@ ghost use Rattle.ref_cells.specs.Wholes.{shape_in, IsOver};
 ghost use Rattle.c_types.specs.Table.{type_of};
 ghost use Rattle.ref_cells.specs.Answers.{Gives};
 ghost use Rattle.ref_cells.specs.Places.{AreKnown};
-ghost use Rattle.ref_places.specs.Places.{has_key, is_type, is_array, own_instance, first_instance, instance_of, named_row, varargs_row, deref_row, stepped, member_row, decay_row, upcast_row};
+ghost use Rattle.ref_places.specs.Places.{has_key, is_type, is_array, own_instance, first_instance, instance_of};
+ghost use Rattle.ref_places.specs.Places.{named_row, varargs_row, deref_row, stepped, member_row, decay_row, upcast_row};
 
 use crate::parts::type_there;
 use c_types::key::ObjectKey;

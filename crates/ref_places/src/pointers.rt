@@ -1,6 +1,7 @@
 // Pointers moved and compared.
 
-ghost use Rattle.std.specs.Prelude.{◌≡◌, ℕ, ◌<◌, ◌-◌, [], ◌∷◌, ◌++◌, List, Ok, Err, if◌then◌else◌, pos, IfOk, IfSome, length, slice_get, take};
+ghost use Rattle.std.specs.Prelude.{◌≡◌, ℕ, ◌<◌, ◌-◌, [], ◌∷◌, ◌++◌, List, Ok, Err, if◌then◌else◌, pos, IfOk, IfSome};
+ghost use Rattle.std.specs.Prelude.{length, slice_get, take};
 ghost use Rattle.std.specs.Ordering.{int_eq};
 ghost use Rattle.c_consts.specs.Wrapped.{truth};
 ghost use Rattle.c_types.specs.declared.term.PathStep.{PathStep};
@@ -9,7 +10,9 @@ ghost use Rattle.ref_cells.specs.declared.cells.Cell.TheVariants.{Pointer};
 ghost use Rattle.ref_cells.specs.Wholes.{shape_in, IsOver};
 ghost use Rattle.ref_cells.specs.Answers.{Gives, Agrees};
 ghost use Rattle.ref_cells.specs.Places.{AreKnown};
-ghost use Rattle.ref_places.specs.Pointers.{last_index, front, count_of, mark_moved, in_order, elements_at, index_moved, moved, same_bool, same_step, same_path, same_pointer, between, ordered, compared};
+ghost use Rattle.ref_places.specs.Pointers.{last_index, front, count_of, mark_moved, in_order, elements_at, index_moved};
+ghost use Rattle.ref_places.specs.Pointers.{moved, same_bool, same_step, same_path, same_pointer, between, ordered};
+ghost use Rattle.ref_places.specs.Pointers.{compared};
 ghost use Rattle.ref_places.specs.Pointers.{signed_by};
 ghost use Rattle.ref_cells.specs.declared.cells.Reason.TheVariants.{OutOfRange};
 

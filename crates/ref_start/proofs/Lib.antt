@@ -7,3 +7,4 @@ pub mod MemoryKept
 pub mod FilledSteps
 pub mod BeginSteps
 pub mod EntrySteps
+pub mod HandedSteps

@@ -4,3 +4,4 @@ pub mod Fixed
 pub mod Start
 pub mod Begin
 pub mod Entries
+pub mod Handed

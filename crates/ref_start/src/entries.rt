@@ -1,23 +1,26 @@
 // A program that is entered from outside, by functions whose arguments a word chooses.
 
-ghost use Rattle.std.specs.Prelude.{◌≡◌, ◌+◌, ◌%◌, ◌<◌, [], ◌∷◌, ◌++◌, List, IfOk, OnOk, OnErr, length, map, pos, take};
+ghost use Rattle.std.specs.Prelude.{◌≡◌, ◌+◌, ◌%◌, ◌^◌, ◌<◌, [], ◌∷◌, ◌++◌, List, IfOk, OnOk, OnErr, get_or, length, map, pos, take};
 ghost use Rattle.c_types.specs.declared.key.ObjectKey.{ObjectKey};
 ghost use Rattle.c_types.specs.declared.term.TypeId.{TypeId};
 ghost use Rattle.c_types.specs.Trees.{PointerTo};
-ghost use Rattle.c_types.specs.Table.{type_of};
+ghost use Rattle.c_types.specs.Table.{Table, type_of};
 ghost use Rattle.core_tree.specs.Range.{InRange};
 ghost use Rattle.core_tree.specs.Seen.{core_of};
 ghost use Rattle.ref_cells.specs.Answers.{Gives};
 ghost use Rattle.ref_cells.specs.declared.cells.Cell.{Cell};
-ghost use Rattle.ref_cells.specs.declared.cells.Cell.TheVariants.{Number};
+ghost use Rattle.ref_cells.specs.declared.cells.Cell.TheVariants.{Null, Number};
 ghost use Rattle.ref_cells.specs.Numbers.{converted};
-ghost use Rattle.ref_elements.specs.Types.{same_type};
 ghost use Rattle.ref_state.specs.ref_types.Types.{library_ids};
 ghost use Rattle.ref_frames.specs.Made.{IsRunning, seen};
 ghost use Rattle.ref_frames.specs.OnTop.{only};
-ghost use Rattle.ref_start.specs.Entries.{handed_as, bytes_outside, outside_object, with_argument, with_object, with_new, with_pointer, given_as, given_one, given_all, given_with, entered_given, enters_entry, ends, enters_one, starts};
+ghost use Rattle.ref_start.specs.Handed.{ArePlaces, AreRead, cells_for};
+ghost use Rattle.ref_start.specs.Entries.{bytes_outside, outside_object, with_argument, with_object, with_new};
+ghost use Rattle.ref_start.specs.Entries.{with_pointer, given_as, given_one, given_all, given_with, entered_given};
+ghost use Rattle.ref_start.specs.Entries.{enters_entry, ends, enters_one, starts};
 
 use crate::begin::{begin, main_entry, with_objects};
+use crate::handed::{HandedPlaces, count_at, keep_place, kept_cell, no_places, read_on};
 use crate::objects::element_of;
 use c_types::key::ObjectKey;
 use c_types::table::TypeTable;
@@ -27,7 +30,6 @@ use pta_base::Listing;
 use ref_cells::cells::{Cell, Cells, MemFault, Reason, Value};
 use ref_cells::instance::Instance;
 use ref_cells::numbers::converted;
-use ref_elements::parts::same_type;
 use ref_frames::entering::{Activation, enter, entered};
 use ref_frames::leaving::finish;
 use ref_frames::running::Running;
@@ -41,65 +43,24 @@ use std::mem;
 // How many bytes a new object has that isn't made with its type.
 const BYTES: u64 = 64;
 
-/// What an entry is given: new objects outside, what is handed over with it, each under its type, and its arguments.
+/// What an entry is given: new objects outside, what is handed over with it, each under its type, with the places that are kept of
+/// it, and its arguments.
 #[derive(Drop)]
 pub struct Handing {
     pub fresh: Listing<Instance>,
     pub handed: Listing<(TypeId, Cell)>,
+    pub kept: HandedPlaces,
     pub arguments: Listing<Value>,
 }
 
-// Whether an id is of a pointer's type. One that isn't the table's is of none.
-fn is_of(types: &TypeTable, id: TypeId, ty: TypeId, to: TypeId) -> bool
-    requires ty { ty.0 < length types.now.terms }
-    requires pointer { type_of types.now ty.0 ≡ PointerTo (type_of types.now to.0) }
-    ensures { result ≡ same_type (type_of types.now id.0) (type_of types.now ty.0) }
-{
-    if id.0 < types.type_count() {
-        same_type(types, id, ty)
-    } else {
-        false
-    }
-}
-
-// What was handed over under a pointer's type, behind other cells.
-fn push_handed(
-    alloc: Global,
-    types: &TypeTable,
-    handed: &[(TypeId, Cell)],
-    ty: TypeId,
-    to: TypeId,
-    cells: &mut Vec<Cell>,
-) -> Result<(), OutOfMemory>
-    requires ty { ty.0 < length types.now.terms }
-    requires pointer { type_of types.now ty.0 ≡ PointerTo (type_of types.now to.0) }
-    ensures { OnOk result (cells.new.items ≡ cells.old.items ++ handed_as types.now (type_of types.now ty.0) handed.now) }
-{
-    for entry in handed {
-        if is_of(types, entry.0, ty, to) {
-            push(cells, entry.1.copy(alloc)?)?;
-        }
-    }
-    Ok(())
-}
-
-// What was handed over under a pointer's type, before a step and in it.
-fn handed_as(
-    alloc: Global,
-    types: &TypeTable,
-    handed: &[(TypeId, Cell)],
-    more: &[(TypeId, Cell)],
-    ty: TypeId,
-    to: TypeId,
-) -> Result<Vec<Cell>, OutOfMemory>
-    requires ty { ty.0 < length types.now.terms }
-    requires pointer { type_of types.now ty.0 ≡ PointerTo (type_of types.now to.0) }
-    ensures { IfOk result (λ cells. cells.items ≡ handed_as types.now (type_of types.now ty.0) (handed.now ++ more.now)) }
-{
-    let mut cells = Vec::new(alloc);
-    push_handed(alloc, types, handed, ty, to, &mut cells)?;
-    push_handed(alloc, types, more, ty, to, &mut cells)?;
-    Ok(cells)
+/// What an entry's arguments are chosen by: what was handed over before, with the places that are kept of it, how many instances
+/// there are, and a number h.
+#[derive(Clone, Copy)]
+pub struct Offer<'a> {
+    pub handed: &'a [(TypeId, Cell)],
+    pub kept: &'a HandedPlaces,
+    pub count: usize,
+    pub h: u64,
 }
 
 // How many bytes a new object outside has.
@@ -128,8 +89,10 @@ fn outside_object(alloc: Global, ty: Option<TypeId>) -> Instance
 
 // One argument more.
 fn put_argument(alloc: Global, made: &mut Handing, cell: Cell) -> Result<(), OutOfMemory>
-    ensures { (before : List (TypeId × Cell)) →
+    ensures given { (before : List (TypeId × Cell)) →
         OnOk result (given_with before made.new ≡ with_argument (given_with before made.old) cell) }
+    ensures own { (table : Table) → ArePlaces table made.old.handed made.old.kept →
+        OnOk result (ArePlaces table made.new.handed made.new.kept) }
 {
     made.arguments.push(Value::one(alloc, cell)?)?;
     Ok(())
@@ -137,7 +100,8 @@ fn put_argument(alloc: Global, made: &mut Handing, cell: Cell) -> Result<(), Out
 
 // How many there are of two kinds.
 fn sum_of(a: usize, b: usize) -> Result<usize, OutOfMemory>
-    ensures { IfOk result (λ sum. sum ≡ a + b) }
+    ensures sum { IfOk result (λ sum. sum ≡ a + b) }
+    ensures small { IfOk result (λ sum. sum < 2 ^ 33) }
 {
     if a > u32::MAX as usize || b > u32::MAX as usize {
         Err(OutOfMemory)
@@ -161,16 +125,20 @@ fn next_number(count: usize, made: &Handing) -> Result<u32, OutOfMemory>
 // A new object, of that number, and a pointer to its start as an argument, which is handed over under its type.
 fn put_object(
     alloc: Global,
+    types: &TypeTable,
     number: u32,
     ty: TypeId,
     to: Option<TypeId>,
     made: &mut Handing,
 ) -> Result<(), OutOfMemory>
-    ensures { (before : List (TypeId × Cell)) →
+    ensures given { (before : List (TypeId × Cell)) →
         OnOk result (given_with before made.new ≡ with_object number ty to (given_with before made.old)) }
+    ensures own { ArePlaces types.now made.old.handed made.old.kept →
+        OnOk result (ArePlaces types.now made.new.handed made.new.kept) }
 {
     made.fresh.push(outside_object(alloc, to))?;
     made.handed.push((ty, element_of(alloc, number, 0)?))?;
+    keep_place(&mut made.kept, types, ty)?;
     put_argument(alloc, made, element_of(alloc, number, 0)?)
 }
 
@@ -185,57 +153,100 @@ fn put_new(
 ) -> Result<(), OutOfMemory>
     requires ty { ty.0 < length types.now.terms }
     requires to { to.0 < length types.now.terms }
-    ensures { (before : List (TypeId × Cell)) → OnOk result (given_with before made.new
+    ensures given { (before : List (TypeId × Cell)) → OnOk result (given_with before made.new
         ≡ with_new types.now number ty (type_of types.now to.0) (given_with before made.old)) }
+    ensures own { ArePlaces types.now made.old.handed made.old.kept →
+        OnOk result (ArePlaces types.now made.new.handed made.new.kept) }
 {
     match types.term(to) {
         Term::Function { .. } => put_argument(alloc, made, Cell::Null),
         Term::Void | Term::Bool | Term::Floating | Term::VaList | Term::Integer { .. } => {
-            put_object(alloc, number, ty, pointee(types, ty), made)
+            put_object(alloc, types, number, ty, pointee(types, ty), made)
         }
         Term::Pointer(_) | Term::Array { .. } | Term::Structure(_) | Term::Union(_) => {
-            put_object(alloc, number, ty, pointee(types, ty), made)
+            put_object(alloc, types, number, ty, pointee(types, ty), made)
         }
     }
 }
 
-// A pointer as an argument, by a choice: null, a new one, or one of these cells.
+// The k-th pointer that was handed over under a type, before a step and in it.
+fn handed_at(
+    alloc: Global,
+    types: &TypeTable,
+    offer: &Offer<'_>,
+    made: &Handing,
+    ty: TypeId,
+    to: TypeId,
+    k: usize,
+) -> Result<Cell, OutOfMemory>
+    requires ty { ty.0 < length types.now.terms }
+    requires pointer { type_of types.now ty.0 ≡ PointerTo (type_of types.now to.0) }
+    requires before { ArePlaces types.now offer.now.handed.now offer.now.kept.now }
+    requires own { ArePlaces types.now made.now.handed made.now.kept }
+    requires k { k < length (cells_for types.now ty.0 offer.now.handed.now made.now.handed) }
+    ensures { IfOk result (λ cell. cell ≡ get_or (cells_for types.now ty.0 offer.now.handed.now made.now.handed) k Null) }
+{
+    let first = types.first_same(ty);
+    let before = count_at(offer.kept, first);
+    if k < before {
+        kept_cell(alloc, offer.handed, offer.kept, first, k)
+    } else {
+        kept_cell(alloc, made.handed.as_slice(), &made.kept, first, k - before)
+    }
+}
+
+// A pointer as an argument, by a choice: null, a new one, or one of those that were handed over under its type.
 fn put_pointer(
     alloc: Global,
     types: &TypeTable,
-    number: u32,
+    offer: &Offer<'_>,
     ty: TypeId,
     to: TypeId,
-    cells: &[Cell],
     choice: u64,
     made: &mut Handing,
 ) -> Result<(), OutOfMemory>
     requires ty { ty.0 < length types.now.terms }
     requires to { to.0 < length types.now.terms }
-    requires choice { choice < length cells.now + 2 }
-    ensures { (before : List (TypeId × Cell)) → OnOk result (given_with before made.new
-        ≡ with_pointer types.now number ty (type_of types.now to.0) cells.now choice (given_with before made.old)) }
+    requires pointer { type_of types.now ty.0 ≡ PointerTo (type_of types.now to.0) }
+    requires before { ArePlaces types.now offer.now.handed.now offer.now.kept.now }
+    requires own { ArePlaces types.now made.old.handed made.old.kept }
+    requires choice { choice < length (cells_for types.now ty.0 offer.now.handed.now made.old.handed) + 2 }
+    ensures given { OnOk result (given_with offer.now.handed.now made.new
+        ≡ with_pointer types.now (offer.now.count + length made.old.fresh) ty (type_of types.now to.0)
+        (cells_for types.now ty.0 offer.now.handed.now made.old.handed) choice (given_with offer.now.handed.now made.old)) }
+    ensures own { OnOk result (ArePlaces types.now made.new.handed made.new.kept) }
 {
     if choice == 0 {
         put_argument(alloc, made, Cell::Null)
     } else if choice == 1 {
+        let number = next_number(offer.count, made)?;
         put_new(alloc, types, number, ty, to, made)
     } else {
-        let cell = cells[(choice - 2) as usize].copy(alloc)?;
+        let cell = handed_at(alloc, types, offer, made, ty, to, (choice - 2) as usize)?;
         put_argument(alloc, made, cell)
     }
 }
 
-// One of two more choices than there are cells.
-fn choice_of(h: u64, cells: &[Cell]) -> Result<u64, OutOfMemory>
-    ensures value { IfOk result (λ choice. choice ≡ h % (length cells.now + 2)) }
-    ensures below { IfOk result (λ choice. choice < length cells.now + 2) }
+// One of two more choices than there are pointers that were handed over under a type, before a step and in it.
+fn choice_of(
+    types: &TypeTable,
+    offer: &Offer<'_>,
+    made: &Handing,
+    ty: TypeId,
+    to: TypeId,
+) -> Result<u64, OutOfMemory>
+    requires ty { ty.0 < length types.now.terms }
+    requires pointer { type_of types.now ty.0 ≡ PointerTo (type_of types.now to.0) }
+    requires before { ArePlaces types.now offer.now.handed.now offer.now.kept.now }
+    requires own { ArePlaces types.now made.now.handed made.now.kept }
+    ensures value { IfOk result (λ choice. choice
+        ≡ offer.now.h % (length (cells_for types.now ty.0 offer.now.handed.now made.now.handed) + 2)) }
+    ensures below { IfOk result (λ choice. choice
+        < length (cells_for types.now ty.0 offer.now.handed.now made.now.handed) + 2) }
 {
-    if cells.len() > u32::MAX as usize {
-        Err(OutOfMemory)
-    } else {
-        Ok(h % (cells.len() as u64 + 2))
-    }
+    let first = types.first_same(ty);
+    let cells = sum_of(count_at(offer.kept, first), count_at(&made.kept, first))?;
+    Ok(offer.h % (cells as u64 + 2))
 }
 
 // The number h as one of a type.
@@ -251,23 +262,23 @@ fn number_as(types: &TypeTable, ty: TypeId, h: u64) -> Cell
 fn put_as(
     alloc: Global,
     types: &TypeTable,
-    handed: &[(TypeId, Cell)],
-    count: usize,
-    h: u64,
+    offer: &Offer<'_>,
     ty: TypeId,
     made: &mut Handing,
 ) -> Result<(), OutOfMemory>
     requires ty { ty.0 < length types.now.terms }
-    ensures { OnOk result (given_with handed.now made.new
-        ≡ given_as types.now count h ty (type_of types.now ty.0) (given_with handed.now made.old)) }
+    requires before { ArePlaces types.now offer.now.handed.now offer.now.kept.now }
+    requires own { ArePlaces types.now made.old.handed made.old.kept }
+    ensures given { OnOk result (given_with offer.now.handed.now made.new
+        ≡ given_as types.now offer.now.count offer.now.h ty (type_of types.now ty.0) (given_with offer.now.handed.now made.old)) }
+    ensures own { OnOk result (ArePlaces types.now made.new.handed made.new.kept) }
 {
+    let h = offer.h;
     match types.term(ty) {
         Term::Pointer(to) => {
             let to = *to;
-            let cells = handed_as(alloc, types, handed, made.handed.as_slice(), ty, to)?;
-            let choice = choice_of(h, cells.as_slice())?;
-            let number = next_number(count, made)?;
-            put_pointer(alloc, types, number, ty, to, cells.as_slice(), choice, made)
+            let choice = choice_of(types, offer, made, ty, to)?;
+            put_pointer(alloc, types, offer, ty, to, choice, made)
         }
         Term::Void | Term::Bool | Term::Floating => put_argument(
             alloc,
@@ -288,44 +299,71 @@ fn put_as(
 fn put_one(
     alloc: Global,
     trees: &Trees<'_>,
-    handed: &[(TypeId, Cell)],
-    count: usize,
-    h: u64,
+    offer: &Offer<'_>,
     e: u32,
     made: &mut Handing,
 ) -> Result<(), OutOfMemory>
-    requires { InRange (core_of trees.now) }
-    ensures { OnOk result (given_with handed.now made.new
-        ≡ given_one (core_of trees.now) count h (given_with handed.now made.old) (ObjectKey.Entity e)) }
+    requires range { InRange (core_of trees.now) }
+    requires before { ArePlaces trees.now.types.now offer.now.handed.now offer.now.kept.now }
+    requires own { ArePlaces trees.now.types.now made.old.handed made.old.kept }
+    ensures given { OnOk result (given_with offer.now.handed.now made.new
+        ≡ given_one (core_of trees.now) offer.now.count offer.now.h (given_with offer.now.handed.now made.old) (ObjectKey.Entity e)) }
+    ensures own { OnOk result (ArePlaces trees.now.types.now made.new.handed made.new.kept) }
 {
     match trees.entities.get(e as usize) {
-        Some(entity) => put_as(alloc, trees.types, handed, count, h, entity.ty, made),
+        Some(entity) => put_as(alloc, trees.types, offer, entity.ty, made),
         None => Ok(()),
     }
 }
 
-// The arguments of these parameters, by one number h.
+// The arguments of these parameters.
 fn given_all(
     alloc: Global,
     trees: &Trees<'_>,
+    offer: &Offer<'_>,
+    parameters: &[u32],
+) -> Result<Handing, OutOfMemory>
+    requires range { InRange (core_of trees.now) }
+    requires before { ArePlaces trees.now.types.now offer.now.handed.now offer.now.kept.now }
+    ensures { IfOk result (λ made. given_with offer.now.handed.now made ≡ given_all (core_of trees.now) offer.now.count offer.now.h
+        (record { fresh = []; handed = offer.now.handed.now; arguments = [] }) (map ObjectKey.Entity parameters.now)) }
+{
+    let mut made = Handing {
+        fresh: Listing::new(alloc),
+        handed: Listing::new(alloc),
+        kept: no_places(alloc),
+        arguments: Listing::new(alloc),
+    };
+    for e in parameters {
+        put_one(alloc, trees, offer, *e, &mut made)?;
+    }
+    Ok(made)
+}
+
+// The arguments of these parameters by the number h, in a memory of so many instances. It reads what was handed over since the
+// last time that an entry was entered.
+fn given_by(
+    running: &Running<'_>,
+    kept: &mut HandedPlaces,
     handed: &[(TypeId, Cell)],
     count: usize,
     h: u64,
     parameters: &[u32],
 ) -> Result<Handing, OutOfMemory>
-    requires { InRange (core_of trees.now) }
-    ensures { IfOk result (λ made. given_with handed.now made ≡ given_all (core_of trees.now) count h
+    requires running { IsRunning running.now }
+    requires kept { AreRead running.now.trees.types.now handed.now kept.old }
+    ensures made { IfOk result (λ made. given_with handed.now made ≡ given_all (core_of running.now.trees) count h
         (record { fresh = []; handed = handed.now; arguments = [] }) (map ObjectKey.Entity parameters.now)) }
+    ensures kept { AreRead running.now.trees.types.now handed.now kept.new }
 {
-    let mut made = Handing {
-        fresh: Listing::new(alloc),
-        handed: Listing::new(alloc),
-        arguments: Listing::new(alloc),
+    read_on(kept, running.trees.types, handed)?;
+    let offer = Offer {
+        handed,
+        kept,
+        count,
+        h,
     };
-    for e in parameters {
-        put_one(alloc, trees, handed, count, h, *e, &mut made)?;
-    }
-    Ok(made)
+    given_all(running.alloc, &running.trees, &offer, parameters)
 }
 
 // More is handed over. At `Err` nothing has changed.
@@ -398,6 +436,7 @@ fn enter_given(
     let Handing {
         fresh,
         handed,
+        kept: _kept,
         arguments,
     } = given;
     let made = entered(running, count, main_entry(e), arguments.as_slice())?;
@@ -406,25 +445,29 @@ fn enter_given(
     Ok(stores)
 }
 
-// An entry is entered, with arguments by the number h. At `Err` nothing has changed.
+// An entry is entered, with arguments by the number h. At `Err` nothing has changed, but that more may have been read of what was
+// handed over.
 fn enters_entry(
     running: &Running<'_>,
+    kept: &mut HandedPlaces,
     state: &mut State,
     e: u32,
     h: u64,
 ) -> Result<Listing<(Cell, Cell)>, MemFault>
-    requires { IsRunning running.now }
+    requires running { IsRunning running.now }
+    requires kept { AreRead running.now.trees.types.now state.old.handed kept.old }
     ensures row { Gives (λ stores. record state.new { notes = only stores }) result
         (enters_entry (seen running.now) state.old e h) }
     ensures err { OnErr result (state.new ≡ state.old) }
+    ensures kept { AreRead running.now.trees.types.now state.old.handed kept.new }
 {
     let count = state.memory.instances().len();
     let Some(parameters) = running.parameters.get(e as usize) else {
         return Err(MemFault::Stop(Reason::Mismatch));
     };
-    let given = given_all(
-        running.alloc,
-        &running.trees,
+    let given = given_by(
+        running,
+        kept,
         state.handed.as_slice(),
         count,
         h,
@@ -433,23 +476,27 @@ fn enters_entry(
     enter_given(running, state, e, given)
 }
 
-// One of the entries is entered, or the program ends, as the word says. At `Err` nothing has changed.
+// One of the entries is entered, or the program ends, as the word says. At `Err` nothing has changed, but that more may have been
+// read of what was handed over.
 fn enters_one(
     running: &Running<'_>,
+    kept: &mut HandedPlaces,
     state: &mut State,
     word: u64,
 ) -> Result<Listing<(Cell, Cell)>, MemFault>
-    requires { IsRunning running.now }
+    requires running { IsRunning running.now }
+    requires kept { AreRead running.now.trees.types.now state.old.handed kept.old }
     ensures row { Gives (λ stores. record state.new { notes = only stores }) result
         (enters_one (seen running.now) state.old running.now.entries.now word) }
     ensures err { OnErr result (state.new ≡ state.old) }
+    ensures kept { AreRead running.now.trees.types.now state.old.handed kept.new }
 {
     let count = running.entries.len() as u64;
     if count > u32::MAX as u64 {
         return Err(MemFault::OutOfMemory);
     }
     match running.entries.get((word % (count + 1)) as usize) {
-        Some(e) => enters_entry(running, state, *e, word / (count + 1)),
+        Some(e) => enters_entry(running, kept, state, *e, word / (count + 1)),
         None => {
             finish(running.alloc, state, 0, false);
             Ok(Listing::new(running.alloc))
@@ -459,24 +506,29 @@ fn enters_one(
 
 /// A step without a frame, of a program that isn't at its end: it begins at main, or, where it has entries, one of them is
 /// entered with arguments that the word chooses, or it ends with the status 0. It gives the pointers that an entry's parameters
-/// hold. A program without main and entries is Mismatch. At `Err` nothing has changed.
+/// hold. A program without main and entries is Mismatch. At `Err` nothing has changed. What is kept of the pointers that were
+/// handed over stays right for what was handed over before the step; a step that enters an entry first reads what was handed over
+/// since, and looks at no other of them than it chooses.
 #[tactic(auto, unfolding(crate::specs::Entries::starts))]
 pub fn starts(
     running: &Running<'_>,
     types: LibraryTypes,
+    kept: &mut HandedPlaces,
     state: &mut State,
     word: u64,
 ) -> Result<Listing<(Cell, Cell)>, MemFault>
     requires running { IsRunning running.now }
     requires types { types ≡ library_ids running.now.characters.0 }
+    requires kept { AreRead running.now.trees.types.now state.old.handed kept.old }
     ensures row { Gives (λ stores. record state.new { notes = only stores }) result (starts (seen running.now) state.old word) }
     ensures err { OnErr result (state.new ≡ state.old) }
+    ensures kept { AreRead running.now.trees.types.now state.old.handed kept.new }
 {
     match running.entries {
         [] => {
             begin(running, types, state, word)?;
             Ok(Listing::new(running.alloc))
         }
-        [_, ..] => enters_one(running, state, word),
+        [_, ..] => enters_one(running, kept, state, word),
     }
 }

@@ -8,7 +8,8 @@ ghost use Rattle.core_tree.specs.Seen.{core_of};
 ghost use Rattle.ref_cells.specs.Places.{AreKnown};
 ghost use Rattle.ref_start.specs.Start.{cells_by};
 ghost use Rattle.ref_start.specs.Standing.{AreFirst};
-ghost use Rattle.ref_start.specs.Fixed.{way_of, Keeps, all_fixed, kept_by, branch_by, chosen_by, value_over, fixed, value_at, static_body, static_bodies, PartsGiven, BodiesGiven};
+ghost use Rattle.ref_start.specs.Fixed.{way_of, Keeps, all_fixed, kept_by, branch_by, chosen_by, value_over, fixed};
+ghost use Rattle.ref_start.specs.Fixed.{value_at, static_body, static_bodies, PartsGiven, BodiesGiven};
 
 use crate::standing::{Standing, first_named, place_value};
 use c_types::term::{OutOfMemory, Term};

@@ -4,6 +4,7 @@
 pub mod begin;
 pub mod entries;
 pub mod fixed;
+pub mod handed;
 pub mod objects;
 pub mod standing;
 pub mod start;

@@ -8,7 +8,9 @@ ghost use Rattle.core_tree.specs.Seen.{core_of};
 ghost use Rattle.ref_cells.specs.declared.cells.Cell.TheVariants.{Pointer};
 ghost use Rattle.ref_mem.specs.Writes.{changed};
 ghost use Rattle.ref_state.specs.ref_types.Types.{type_in};
-ghost use Rattle.ref_start.specs.Objects.{object_types, object_with, cells_from, characters, text_object, entity_object, literal_object, object_of, is_new, object_at, objects_after, pointed, library_pointed, static_objects};
+ghost use Rattle.ref_start.specs.Objects.{object_types, object_with, cells_from, characters, text_object, entity_object};
+ghost use Rattle.ref_start.specs.Objects.{literal_object, object_of, is_new, object_at, objects_after, pointed};
+ghost use Rattle.ref_start.specs.Objects.{library_pointed, static_objects};
 
 use c_types::key::ObjectKey;
 use c_types::term::{OutOfMemory, PathStep, TypeId};

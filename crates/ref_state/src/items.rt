@@ -2,7 +2,8 @@
 
 ghost use Rattle.std.specs.Prelude.{◌≡◌, [], ◌∷◌, ◌++◌, ◌<◌, ◌≤◌, IfOk, OnOk, OnErr, length, slice_get, remove, drop};
 ghost use Rattle.std.specs.Option.{option_copied};
-ghost use Rattle.ref_state.specs.Items.{given, settled, top_values, top_left, values_of, left_of, with_left, filled, shut, operand_taken, replaced, opened, below_filled, below_shut, on_second};
+ghost use Rattle.ref_state.specs.Items.{given, settled, top_values, top_left, values_of, left_of, with_left, filled, shut};
+ghost use Rattle.ref_state.specs.Items.{operand_taken, replaced, opened, below_filled, below_shut, on_second};
 ghost use Rattle.ref_state.specs.Values.{no_value};
 
 use c_types::term::OutOfMemory;

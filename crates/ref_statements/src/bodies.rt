@@ -6,7 +6,8 @@ ghost use Rattle.ref_cells.specs.Answers.{Agrees, Gives};
 ghost use Rattle.ref_state.specs.Values.{cell_of};
 ghost use Rattle.ref_values.specs.Values.{is_true};
 ghost use Rattle.ref_blocks.specs.Plans.{blocks_by, EndsKnown};
-ghost use Rattle.ref_statements.specs.Statements.{if_row, branch, parts_left, asks, while_row, do_while_row, for_row, switch_row, switches_to, number_in, turns_by};
+ghost use Rattle.ref_statements.specs.Statements.{if_row, branch, parts_left, asks, while_row, do_while_row, for_row};
+ghost use Rattle.ref_statements.specs.Statements.{switch_row, switches_to, number_in, turns_by};
 ghost use Rattle.ref_blocks.specs.Jumps.{switch_target};
 ghost use Rattle.ref_statements.specs.Made.{IsWorld, change_by};
 

@@ -11,7 +11,10 @@ ghost use Rattle.ref_cells.specs.Answers.{Gives, Agrees};
 ghost use Rattle.ref_cells.specs.declared.cells.Cell.TheVariants.{Number};
 ghost use Rattle.ref_cells.specs.Places.{AreKnown};
 ghost use Rattle.ref_values.specs.Numbers.{type_of_numbers};
-ghost use Rattle.ref_values.specs.Memory.{fetch_row, stores_at, assign_row, pointee, complete_only, typed_by, pointer_converted, number_converted, convert_row, pointer_moved, is_minus, number_updated, scalar_updated, cell_updated, update_written, update_row, is_union, is_empty, value_within, member_of_value_row, has_scalars, is_missing};
+ghost use Rattle.ref_values.specs.Memory.{fetch_row, stores_at, assign_row, pointee, complete_only, typed_by};
+ghost use Rattle.ref_values.specs.Memory.{pointer_converted, number_converted, convert_row, pointer_moved, is_minus};
+ghost use Rattle.ref_values.specs.Memory.{number_updated, scalar_updated, cell_updated, update_written, update_row};
+ghost use Rattle.ref_values.specs.Memory.{is_union, is_empty, value_within, member_of_value_row, has_scalars, is_missing};
 
 use crate::numbers::{Numbers, converted_to, over_two, promoted, update_type};
 use c_types::table::TypeTable;

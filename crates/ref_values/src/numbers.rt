@@ -7,7 +7,8 @@ ghost use Rattle.c_consts.specs.Operators.{Operands};
 ghost use Rattle.c_types.specs.Trees.{IntegerType};
 ghost use Rattle.c_types.specs.Table.{type_of};
 ghost use Rattle.ref_cells.specs.Numbers.{converted};
-ghost use Rattle.ref_values.specs.Numbers.{type_of_numbers, compares, shifts, left_operand, right_operand, two_in, over_one, over_two, promoted, common_integers, common, update_type, is_narrow};
+ghost use Rattle.ref_values.specs.Numbers.{type_of_numbers, compares, shifts, left_operand, right_operand, two_in};
+ghost use Rattle.ref_values.specs.Numbers.{over_one, over_two, promoted, common_integers, common, update_type, is_narrow};
 
 use crate::ranges::{Range, binary, unary};
 use c_types::table::TypeTable;

@@ -13,7 +13,9 @@ ghost use Rattle.core_tree.specs.Typed.{type_at};
 ghost use Rattle.ref_mem.specs.Reads.{one_cell};
 ghost use Rattle.ref_state.specs.Values.{cell_in};
 ghost use Rattle.ref_elements.specs.declared.outcome.Next.TheVariants.{Done};
-ghost use Rattle.ref_values.specs.Values.{is_true, one_row, two_row, lacks_one, lacks, uses_all, one_of, two_of, gives_cell, deref_computed, member_computed, cell_computed, one_computed, two_computed, value_computed, computed_by, computed};
+ghost use Rattle.ref_values.specs.Values.{is_true, one_row, two_row, lacks_one, lacks, uses_all, one_of, two_of};
+ghost use Rattle.ref_values.specs.Values.{gives_cell, deref_computed, member_computed, cell_computed, one_computed};
+ghost use Rattle.ref_values.specs.Values.{two_computed, value_computed, computed_by, computed};
 
 use crate::memory::{
     Update, assign_row, convert_row, fetch_row, is_missing, member_of_value_row, pointer_moved,

@@ -35,6 +35,8 @@ use Rattle.text_units.specs.Lowered.{IsParsed, IsRightText, AreRightTexts, IsRef
 use Rattle.report_cli.specs.Linking.{IsLinkRefusal, HaveManyNodes, HaveManyWords, link_refusal}
 use Rattle.report_cli.specs.Outcome.{Denotes, AreRefusedTogether, IsRefusedBy, Refuses, RefusesSide, RefusesTold}
 use Rattle.text_units.specs.Refused.{IsRefusedText, FirstRefused}
+use Rattle.text_units.specs.Kinds.{IsKindLine}
+use Rattle.text_units.proofs.KindLines.{kinds_built}
 
 -- the names of told units are those that were asked for
 named_first : (name : List ℕ) (names : List (List ℕ)) (o : Option (List ℕ)) (told : Option (List NamedText)) → IfSome told (λ units. names ≡ map (λ (unit : NamedText). unit.0) units)
@@ -43,7 +45,7 @@ named_first name names None told h = tt
 named_first name names (Some text) None h = tt
 named_first name names (Some text) (Some units) h = ap (λ (rest : List (List ℕ)). name ∷ rest) h
 
-names_told : (text_of : List ℕ → Option (List ℕ)) (names : List (List ℕ)) → IfSome (told_units text_of names) (λ units. names ≡ map (λ (unit : NamedText). unit.0) units)
+pub names_told : (text_of : List ℕ → Option (List ℕ)) (names : List (List ℕ)) → IfSome (told_units text_of names) (λ units. names ≡ map (λ (unit : NamedText). unit.0) units)
 names_told text_of [] = refl
 names_told text_of (name ∷ names) = named_first name names (text_of name) (told_units text_of names) (names_told text_of names)
 
@@ -397,48 +399,48 @@ with_told_for text_of words command sliced texts slice Q says names slice_is rea
 abbrev pub IsStatus : ℕ → Type 0
 IsStatus status = (status ≡ 3) ⊎ ((status ≡ 4) ⊎ ((status ≡ 5) ⊎ ((status ≡ 6) ⊎ ((status ≡ 10) ⊎ (status ≡ 12)))))
 
--- the same where those entries are named: 12 comes where there are some
-abbrev IsStatusOf : List (List ℕ) → ℕ → Type 0
-IsStatusOf entries status = (status ≡ 3) ⊎ ((status ≡ 4) ⊎ ((status ≡ 5) ⊎ ((status ≡ 6) ⊎ ((status ≡ 10) ⊎ ((status ≡ 12) × (entries ≢ []))))))
+-- the same where those entries are named: 12 comes where there are some, and 4 where a text is refused by itself
+abbrev IsStatusOf : List (List ℕ) → Type 0 → ℕ → Type 0
+IsStatusOf entries Alone status = (status ≡ 3) ⊎ (((status ≡ 4) × Alone) ⊎ ((status ≡ 5) ⊎ ((status ≡ 6) ⊎ ((status ≡ 10) ⊎ ((status ≡ 12) × (entries ≢ []))))))
 
 named_so : (before after : List (List ℕ)) (name : List ℕ) (entries : List (List ℕ)) → entries ≡ before ++ name ∷ after → entries ≢ []
 named_so [] after name entries split none = absurd (cc)
 named_so (first ∷ before) after name entries split none = absurd (cc)
 
-module _ (entries : List (List ℕ)) where
-  lexical_status : (unit : NamedText) (fault : LexFault) → (fault ≡ OutOfMemory → ⊥) → IsStatusOf entries (lexical_refusal unit fault).status
+module _ (entries : List (List ℕ)) (Alone : Type 0) where
+  lexical_status : (unit : NamedText) (fault : LexFault) → (fault ≡ OutOfMemory → ⊥) → IsStatusOf entries Alone (lexical_refusal unit fault).status
   lexical_status unit (BadByte at) real = inl refl
   lexical_status unit (Unended at) real = inl refl
   lexical_status unit (BadNumber at) real = inl refl
   lexical_status unit TooLong real = inr (inr (inr (inl refl)))
   lexical_status unit OutOfMemory real = absurd (real refl)
 
-  syntax_status : (name : List ℕ) (list : List Token) (fault : Fault) → IsStatusOf entries (syntax_refusal name list fault).status
-  syntax_status name list (malformed number) = inl refl
-  syntax_status name list (unsupported kind number) = inr (inl refl)
-  syntax_status name list (too_deep number) = inr (inr (inr (inl refl)))
+  syntax_status : Alone → (name : List ℕ) (list : List Token) (fault : Fault) → IsStatusOf entries Alone (syntax_refusal name list fault).status
+  syntax_status alone name list (malformed number) = inl refl
+  syntax_status alone name list (unsupported kind number) = inr (inl (refl, alone))
+  syntax_status alone name list (too_deep number) = inr (inr (inr (inl refl)))
 
-  name_status : (name : List ℕ) (list : List Token) (nodes : List Node) (fault : NameFault) → (fault ≡ names.OutOfMemory → ⊥) → IsStatusOf entries (name_refusal name list nodes fault).status
-  name_status name list nodes (names.Undeclared node) real = inr (inl refl)
-  name_status name list nodes (names.Redeclared node) real = inr (inl refl)
-  name_status name list nodes names.OutOfMemory real = absurd (real refl)
+  name_status : Alone → (name : List ℕ) (list : List Token) (nodes : List Node) (fault : NameFault) → (fault ≡ names.OutOfMemory → ⊥) → IsStatusOf entries Alone (name_refusal name list nodes fault).status
+  name_status alone name list nodes (names.Undeclared node) real = inr (inl (refl, alone))
+  name_status alone name list nodes (names.Redeclared node) real = inr (inl (refl, alone))
+  name_status alone name list nodes names.OutOfMemory real = absurd (real refl)
 
-  status_of : (answer other : Answer) → answer ≡ other → IsStatusOf entries other.status → IsStatusOf entries answer.status
-  status_of answer other same h = let P : Answer → Type 0 = λ a. IsStatusOf entries a.status in subst P (sym same) h
+  status_of : (answer other : Answer) → answer ≡ other → IsStatusOf entries Alone other.status → IsStatusOf entries Alone answer.status
+  status_of answer other same h = let P : Answer → Type 0 = λ a. IsStatusOf entries Alone a.status in subst P (sym same) h
 
-  alone_status : (unit : NamedText) (answer : Answer) → IsRefusedAlone unit answer → IsStatusOf entries answer.status
+  alone_status : Alone → (unit : NamedText) (answer : Answer) → IsRefusedAlone unit answer → IsStatusOf entries Alone answer.status
   unfolding IsRefusedAlone
-  alone_status unit answer (inl h) = status_of answer _ h.3 (lexical_status unit h.0 h.1)
-  alone_status unit answer (inr (inl h)) = status_of answer _ h.4 (syntax_status unit.0 h.0 h.2)
-  alone_status unit answer (inr (inr h)) = status_of answer _ h.7 (name_status unit.0 h.0 h.2.nodes h.4 h.5)
+  alone_status alone unit answer (inl h) = status_of answer _ h.3 (lexical_status unit h.0 h.1)
+  alone_status alone unit answer (inr (inl h)) = status_of answer _ h.4 (syntax_status alone unit.0 h.0 h.2)
+  alone_status alone unit answer (inr (inr h)) = status_of answer _ h.7 (name_status alone unit.0 h.0 h.2.nodes h.4 h.5)
 
-  first_status : (number : ℕ) (units : List NamedText) (answer : Answer) → FirstRefused IsRefusedText number units answer → IsStatusOf entries answer.status
-  first_status number [] answer h = absurd h
-  first_status number (unit ∷ units) answer (inl (inl h)) = alone_status unit answer h
-  first_status number (unit ∷ units) answer (inl (inr h)) = status_of answer _ h.answer_is (inr (inl refl))
-  first_status number (unit ∷ units) answer (inr h) = first_status (number + 1) units answer h.2
+  first_status : Alone → (number : ℕ) (units : List NamedText) (answer : Answer) → FirstRefused IsRefusedText number units answer → IsStatusOf entries Alone answer.status
+  first_status alone number [] answer h = absurd h
+  first_status alone number (unit ∷ units) answer (inl (inl h)) = alone_status alone unit answer h
+  first_status alone number (unit ∷ units) answer (inl (inr h)) = status_of answer _ h.answer_is (inr (inl (refl, alone)))
+  first_status alone number (unit ∷ units) answer (inr h) = first_status alone (number + 1) units answer h.2
 
-  link_status : (units : List Unit) (names : List (List ℕ)) (fault : LinkFault) → LinksBadlyAt entries units fault → IsStatusOf entries (link_refusal names fault).status
+  link_status : (units : List Unit) (names : List (List ℕ)) (fault : LinkFault) → LinksBadlyAt entries units fault → IsStatusOf entries Alone (link_refusal names fault).status
   link_status units names (link.Conflict name unit) h = inr (inr (inl refl))
   link_status units names (link.Twice name unit) h = inr (inr (inl refl))
   link_status units names (link.Undefined place name) h = inr (inr (inl refl))
@@ -446,55 +448,67 @@ module _ (entries : List (List ℕ)) where
   link_status units names (link.NoEntry name) h = inr (inr (inr (inr (inr (refl, named_so h.fault_is.2.before h.fault_is.2.after name entries h.fault_is.2.split)))))
   link_status units names link.OutOfMemory h = absurd h.fault_is
 
-  together_status : (units : List NamedText) (answer : Answer) → AreRefusedTogether entries units answer → IsStatusOf entries answer.status
+  together_status : (units : List NamedText) (answer : Answer) → AreRefusedTogether entries units answer → IsStatusOf entries Alone answer.status
   together_status units answer (inl h) = status_of answer _ h.answer_is (link_status h.units (map (λ (unit : NamedText). unit.0) units) h.fault h.badly)
   together_status units answer (inr (inl h)) = status_of answer _ h.answer_is (inr (inr (inr (inl refl))))
   together_status units answer (inr (inr h)) = status_of answer _ h.answer_is (inr (inr (inr (inl refl))))
 
-  refuses_status : (units : List NamedText) (answer : Answer) → Refuses entries units answer → IsStatusOf entries answer.status
+  refuses_status : (units : List NamedText) (answer : Answer) → (FirstRefused IsRefusedText 0 units answer → Alone) → Refuses entries units answer → IsStatusOf entries Alone answer.status
   unfolding Refuses
-  refuses_status units answer (inl h) = first_status 0 units answer h
-  refuses_status units answer (inr h) = together_status units answer h
+  refuses_status units answer alone (inl h) = first_status (alone h) 0 units answer h
+  refuses_status units answer alone (inr h) = together_status units answer h
 
-  refused_script_status : (program : Program) (space : List Location) (system : System) (script : NamedText) (answer : Answer) → IsRefusedScript program space system script answer → IsStatusOf entries answer.status
+  refused_script_status : (program : Program) (space : List Location) (system : System) (script : NamedText) (answer : Answer) → IsRefusedScript program space system script answer → IsStatusOf entries Alone answer.status
   refused_script_status program space system script answer (inl h) = status_of answer _ h.answer_is (inr (inr (inr (inl refl))))
   refused_script_status program space system script answer (inr h) = status_of answer _ h.answer_is (inr (inr (inr (inr (inl refl)))))
 
-  refused_side_status : (side : Side) (program : Program) (space : List Location) (system : System) (answer : Answer) → IsRefusedSide side program space system answer → IsStatusOf entries answer.status
+  refused_side_status : (side : Side) (program : Program) (space : List Location) (system : System) (answer : Answer) → IsRefusedSide side program space system answer → IsStatusOf entries Alone answer.status
   refused_side_status no_side program space system answer h = absurd h
   refused_side_status (with_questions script) program space system answer h = refused_script_status program space system script answer h
   refused_side_status (with_words steps words) program space system answer (inl h) = status_of answer _ h.answer_is (inr (inr (inr (inl refl))))
   refused_side_status (with_words steps words) program space system answer (inr h) = status_of answer _ h.answer_is (inl refl)
 
-  side_status : (units : List NamedText) (side : Side) (answer : Answer) → RefusesSide entries units side answer → IsStatusOf entries answer.status
+  side_status : (units : List NamedText) (side : Side) (answer : Answer) → RefusesSide entries units side answer → IsStatusOf entries Alone answer.status
   side_status units side answer h = refused_side_status side h.program h.space h.system answer h.refused
 
 -- a refusal has one of these statuses
-told_status : (told : Told) (answer : Answer) → RefusesTold told answer → IsStatusOf told.entries answer.status
-told_status told answer (inl h) = refuses_status told.entries told.units answer h
-told_status told answer (inr h) = side_status told.entries told.units told.side answer h
+told_status : (told : Told) (answer : Answer) → RefusesTold told answer → IsStatusOf told.entries (FirstRefused IsRefusedText 0 told.units answer) answer.status
+told_status told answer (inl h) = refuses_status told.entries (FirstRefused IsRefusedText 0 told.units answer) told.units answer (λ first. first) h
+told_status told answer (inr h) = side_status told.entries (FirstRefused IsRefusedText 0 told.units answer) told.units told.side answer h
 
-listed : (entries : List (List ℕ)) (status : ℕ) → IsStatusOf entries status → IsStatus status
-listed entries status (inl three) = inl three
-listed entries status (inr (inl four)) = inr (inl four)
-listed entries status (inr (inr (inl five))) = inr (inr (inl five))
-listed entries status (inr (inr (inr (inl six)))) = inr (inr (inr (inl six)))
-listed entries status (inr (inr (inr (inr (inl ten))))) = inr (inr (inr (inr (inl ten))))
-listed entries status (inr (inr (inr (inr (inr twelve))))) = inr (inr (inr (inr (inr twelve.0))))
+listed : (entries : List (List ℕ)) (Alone : Type 0) (status : ℕ) → IsStatusOf entries Alone status → IsStatus status
+listed entries Alone status (inl three) = inl three
+listed entries Alone status (inr (inl four)) = inr (inl four.0)
+listed entries Alone status (inr (inr (inl five))) = inr (inr (inl five))
+listed entries Alone status (inr (inr (inr (inl six)))) = inr (inr (inr (inl six)))
+listed entries Alone status (inr (inr (inr (inr (inl ten))))) = inr (inr (inr (inr (inl ten))))
+listed entries Alone status (inr (inr (inr (inr (inr twelve))))) = inr (inr (inr (inr (inr twelve.0))))
 
 pub refused_status : (told : Told) (fault : UnitsFault) (status : ℕ) (line : List ℕ) → fault ≡ Refused status line → IsFaultOfTold told fault → IsStatus status
 refused_status told fault status line is refused =
     let P : UnitsFault → Type 0 = λ f. IsFaultOfTold told f in
-    listed told.entries status (told_status told (record { status = status; out = []; err = line }) (subst P is refused))
+    listed told.entries _ status (told_status told (record { status = status; out = []; err = line }) (subst P is refused))
 
 -- with the status 12 some entry was named
-twelve_named : (entries : List (List ℕ)) (status : ℕ) → IsStatusOf entries status → status ≡ 12 → entries ≢ []
-twelve_named entries status (inl three) is = absurd (omega arith)
-twelve_named entries status (inr (inl four)) is = absurd (omega arith)
-twelve_named entries status (inr (inr (inl five))) is = absurd (omega arith)
-twelve_named entries status (inr (inr (inr (inl six)))) is = absurd (omega arith)
-twelve_named entries status (inr (inr (inr (inr (inl ten))))) is = absurd (omega arith)
-twelve_named entries status (inr (inr (inr (inr (inr twelve))))) is = twelve.1
+twelve_named : (entries : List (List ℕ)) (Alone : Type 0) (status : ℕ) → IsStatusOf entries Alone status → status ≡ 12 → entries ≢ []
+twelve_named entries Alone status (inl three) is = absurd (omega arith)
+twelve_named entries Alone status (inr (inl four)) is = (let other = four.0 in absurd (omega arith))
+twelve_named entries Alone status (inr (inr (inl five))) is = absurd (omega arith)
+twelve_named entries Alone status (inr (inr (inr (inl six)))) is = absurd (omega arith)
+twelve_named entries Alone status (inr (inr (inr (inr (inl ten))))) is = absurd (omega arith)
+twelve_named entries Alone status (inr (inr (inr (inr (inr twelve))))) is = twelve.1
+
+-- with the status 4 a text is refused by itself, under a kind that is built
+four_alone : (entries : List (List ℕ)) (Alone : Type 0) (status : ℕ) → IsStatusOf entries Alone status → status ≡ 4 → Alone
+four_alone entries Alone status (inl three) is = absurd (omega arith)
+four_alone entries Alone status (inr (inl four)) is = four.1
+four_alone entries Alone status (inr (inr (inl five))) is = absurd (omega arith)
+four_alone entries Alone status (inr (inr (inr (inl six)))) is = absurd (omega arith)
+four_alone entries Alone status (inr (inr (inr (inr (inl ten))))) is = absurd (omega arith)
+four_alone entries Alone status (inr (inr (inr (inr (inr twelve))))) is = (let other = twelve.0 in absurd (omega arith))
+
+pub told_kind : (told : Told) (answer : Answer) → RefusesTold told answer → answer.status ≡ 4 → IsKindLine answer
+told_kind told answer h four = kinds_built.first 0 told.units answer (four_alone told.entries _ answer.status (told_status told answer h) four) four
 
 entry_of_units : (number : Option ℕ) (read : Told) → (told_by number read).entries ≢ [] → read.entries ≢ []
 entry_of_units None read named = named
@@ -503,6 +517,6 @@ entry_of_units (Some number) read named = absurd (named refl)
 pub entry_asked : (words : List (List ℕ)) (command : Command) (texts : List (List ℕ)) (status : ℕ) (line : List ℕ) → Says (found_in words) command → IsRefusedBy (told_as command texts) status line → status ≡ 12 → entries_read words ≢ []
 entry_asked words command texts status line says refused is =
     let told : Told = told_as command texts in
-    let named : told.entries ≢ [] = twelve_named told.entries status (told_status told (record { status = status; out = []; err = line }) refused) is in
+    let named : told.entries ≢ [] = twelve_named told.entries _ status (told_status told (record { status = status; out = []; err = line }) refused) is in
     let N : List (List ℕ) → Type 0 = λ names. names ≢ [] in
     subst N (entries_asked words command says) (entry_of_units command.generated (read_as command texts) named)

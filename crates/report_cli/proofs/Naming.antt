@@ -1,4 +1,4 @@
--- Units that are right for texts whose names are well formed are told apart by their names, and so are their program's locations.
+-- Units that are right for texts whose names are well formed are told apart by their names, and so are the locations of a whole program.
 use Rattle.std.proofs.Common.{◌≡◌, ◌∙◌, ℕ, zero, suc, ◌+◌, ◌<◌, ◌≤◌, ◌&&◌, not, Bool, true, false, Option, None, Some, List, [], ◌∷◌, map, length, arith, refl, sym, ap, subst, get_or}
 use Rattle.std.specs.Prelude.{nat_eq, codes}
 use Rattle.std.specs.List.{All, list_all}
@@ -9,12 +9,11 @@ use Rattle.core_tree.specs.declared.node.Program.{Program}
 use Rattle.sol_model.specs.declared.system.System.{System}
 use Rattle.obj_space.specs.declared.location.Location.{Location}
 use Rattle.obj_space.specs.Space.{DistinctNames}
-use Rattle.unit_link.specs.Needs.{AreLinkable}
-use Rattle.unit_report.specs.unit_system.Of.{AreLinkedAs}
+use Rattle.unit_report.specs.unit_system.Of.{IsSystemOf}
 use Rattle.location_laws.specs.name_shapes.Bytes.{is_unit_byte, IsMadeOf}
 use Rattle.location_laws.proofs.name_shapes.Cutting.{and}
 use Rattle.location_laws.specs.named_laws.Units.{IsNamedUnit, AreNamedUnits}
-use Rattle.location_laws.proofs.named_laws.Whole.{linked_distinct}
+use Rattle.location_laws.specs.named_laws.Whole.{IsWhole}
 use Rattle.declared_type_laws.proofs.named_rest.Whole.{named_whole}
 use Rattle.command_line.specs.Distinct.{AreDistinct}
 use Rattle.command_line.specs.Rules.{HasUnits, IsUnitWord}
@@ -64,11 +63,9 @@ are_named texts units bytes right u x at =
     let P : List ℕ → Type 0 = λ name. IsMadeOf is_unit_byte name in
     named_of (0 + u) own.text x own.right (subst P same (bytes u own.text.0 within))
 
--- and the locations of their program
-pub are_distinct : (entries : List (List ℕ)) (units : List Unit) (program : Program) (space : List Location) (system : System) → AreLinkable units → AreNamedUnits units → AreLinkedAs entries units program space system → DistinctNames space
-are_distinct entries units program space system linkable named h =
-    let P : List Location → Type 0 = λ locations. DistinctNames locations in
-    subst P (sym h.system_of.space_is) (linked_distinct units program linkable named h.own.linked h.own.made h.own.named)
+-- and the locations of a whole program
+pub are_distinct : (program : Program) (space : List Location) (system : System) → IsSystemOf program space system → IsWhole program → DistinctNames space
+are_distinct program space system of whole = let P : List Location → Type 0 = λ locations. DistinctNames locations in subst P (sym of.space_is) whole.names
 
 -- the unit words of right words, of which a generated program has none
 pub distinct_units : (number : Option (List ℕ)) (units : List (List ℕ)) → HasUnits number units → AreDistinct units

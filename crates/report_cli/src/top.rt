@@ -1,5 +1,6 @@
 // The top call.
-ghost use Rattle.std.specs.Prelude.{◌≡◌, ◌≢◌, ◌⊎◌, ℕ, ◌<◌, ◌≤◌, ◌^◌, None, Some, List, [], length, zip, IfErr, IfOk, IfSome, IsSome, Contains};
+ghost use Rattle.std.specs.Prelude.{◌≡◌, ◌≢◌, ◌⊎◌, ℕ, ◌<◌, ◌≤◌, ◌^◌, None, Some, List, [], length, zip, IfErr, IfOk};
+ghost use Rattle.std.specs.Prelude.{IfSome, IsSome, Contains};
 ghost use Rattle.pta_base.specs.Outside.{HasRisen, IsSteady};
 ghost use Rattle.core_tree.specs.declared.node.Program.{Program};
 ghost use Rattle.sol_model.specs.declared.system.System.{System};
@@ -13,8 +14,9 @@ ghost use Rattle.report_cli.specs.Printed.{IsPrinted};
 ghost use Rattle.text_units.specs.Alone.{AreReadAlone};
 ghost use Rattle.report_cli.specs.Scripts.{named_side};
 ghost use Rattle.report_cli.specs.Accepted.{AreAccepted};
-ghost use Rattle.report_cli.specs.Outcome.{Denotes, IsRefusedBy, RefusesToldRead, RefusesToldRight, Outcome};
+ghost use Rattle.report_cli.specs.Outcome.{Denotes, IsRefusedBy, RefusesTold, RefusesToldRead, RefusesToldRight, Outcome};
 ghost use Rattle.text_units.specs.Refused.{HaveRightUnits};
+ghost use Rattle.text_units.specs.Kinds.{IsKindLine};
 ghost use Rattle.unit_report.specs.report_text.Outside.{Grows, GrowsInPart};
 ghost use Rattle.report_cli.specs.Outside.{IsWritten, Receives, source_fault, sink_fault, out_of_memory, usage_line};
 ghost use Rattle.unit_report.specs.Solved.{IsKept, IsSolvedShared};
@@ -361,6 +363,11 @@ pub fn analyse<R: Threads + Wait + Sync, U: Units, O: Sink, E: Sink, G: Gate + S
     ensures outcome { result ≢ 7 → result ≢ 8 → result ≢ 9 → IfSome (told_for (U.text units.old) (texts_of words.now)) (λ told.
         (answer : Answer) × Outcome (texts_of words.now) told answer × (result ≡ answer.status)
         × Grows (O.written out.old) (O.written out.new) answer.out
+        × Receives (E.written err.old) (E.written err.new) (E.faults err.old) (E.faults err.new) answer.err) }
+
+    // Status 4 names a kind of what isn't accepted, and never that of what isn't built.
+    ensures built { result ≡ 4 → IfSome (told_for (U.text units.old) (texts_of words.now)) (λ told.
+        (answer : Answer) × RefusesTold told answer × IsKindLine answer
         × Receives (E.written err.old) (E.written err.new) (E.faults err.old) (E.faults err.new) answer.err) }
     ensures said { result ≡ 2 → Receives (E.written err.old) (E.written err.new) (E.faults err.old) (E.faults err.new) usage_line }
     ensures usage { (result ≡ 2 → AreRight (texts_of words.now) → ⊥) × (AreRight (texts_of words.now) ⊎ ((result ≡ 2) ⊎ (result ≡ 9))) }

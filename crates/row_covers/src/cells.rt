@@ -169,7 +169,9 @@ fn is_entry_covered(
     requires known { AreKnown (length scene.now.trees.types.now.terms) memory.now }
     requires rows { IsRowed scene.now.trees.types.now rows }
     requires whole { IfSome whole (IsOver (length scene.now.trees.types.now.terms)) }
-    ensures { IsTrue result ↔ EntryBy (sets_over scene.now) memory.now (row_by scene.now.trees.types.now rows) (whole_part (shape_in scene.now.trees.types.now whole)) entry.now }
+    ensures { IsTrue result
+        ↔ EntryBy (sets_over scene.now) memory.now (row_by scene.now.trees.types.now rows)
+        (whole_part (shape_in scene.now.trees.types.now whole)) entry.now }
 {
     let end = end_in(scene.trees.types, whole, entry.0.as_slice());
     is_covered(
@@ -192,7 +194,11 @@ pub fn are_covered(
     requires known { AreKnown (length scene.now.trees.types.now.terms) memory.now }
     requires rows { IsRowed scene.now.trees.types.now rows }
     requires whole { IfSome whole (IsOver (length scene.now.trees.types.now.terms)) }
-    ensures { IsTrue result ↔ All (λ entry. EntryBy (sets_over scene.now) memory.now (row_by scene.now.trees.types.now rows) (whole_part (shape_in scene.now.trees.types.now whole)) entry) cells.now }
+    ensures { IsTrue result
+        ↔ All
+        (λ entry. EntryBy (sets_over scene.now) memory.now (row_by scene.now.trees.types.now rows)
+        (whole_part (shape_in scene.now.trees.types.now whole)) entry)
+        cells.now }
 {
     cells.iter().all(|entry| is_entry_covered(scene, memory, rows, whole, entry))
 }

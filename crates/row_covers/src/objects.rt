@@ -8,7 +8,8 @@ ghost use Rattle.obj_space.specs.Parts.{size_number};
 ghost use Rattle.obj_space.specs.View.{first_from};
 ghost use Rattle.ref_cells.specs.Places.{IsKnown, AreKnown};
 ghost use Rattle.ref_cells.specs.Wholes.{IsOver, shape_of, shape_in};
-ghost use Rattle.row_covers.specs.Objects.{is_class_of, IsScalarOf, IsArrayOf, FitsContent, MayWait, ShapeBy, KindBy, OwnBy, InstanceBy, KnownBy, MemoryBy, element_in, is_further, rows_of};
+ghost use Rattle.row_covers.specs.Objects.{is_class_of, IsScalarOf, IsArrayOf, FitsContent, MayWait, ShapeBy, KindBy};
+ghost use Rattle.row_covers.specs.Objects.{OwnBy, InstanceBy, KnownBy, MemoryBy, element_in, is_further, rows_of};
 ghost use Rattle.row_covers.specs.Scene.{IsScene, sets_over};
 
 use crate::cells::{NodeRows, are_covered};

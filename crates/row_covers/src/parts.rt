@@ -42,7 +42,9 @@ fn is_union(types: &TypeTable, id: TypeId) -> bool
 // A member of a part.
 fn into_member(types: &TypeTable, whole: Part, k: u32) -> Option<Part>
     requires { whole.ty.0 < length types.now.terms }
-    ensures { (n : ℕ) → whole.node ≡ near n → Follows types.now result (step_by types.now (type_of types.now whole.ty.0) n whole.inside (PathStep.Member k)) }
+    ensures { (n : ℕ)
+        → whole.node ≡ near n
+        → Follows types.now result (step_by types.now (type_of types.now whole.ty.0) n whole.inside (PathStep.Member k)) }
 {
     let ty = part_of(types, whole.ty, PathStep::Member(k))?;
     if whole.inside {
@@ -59,7 +61,9 @@ fn into_member(types: &TypeTable, whole: Part, k: u32) -> Option<Part>
 // An element of a part.
 fn into_element(types: &TypeTable, whole: Part, i: u64) -> Option<Part>
     requires { whole.ty.0 < length types.now.terms }
-    ensures { (n : ℕ) → whole.node ≡ near n → Follows types.now result (step_by types.now (type_of types.now whole.ty.0) n whole.inside (PathStep.Index i)) }
+    ensures { (n : ℕ)
+        → whole.node ≡ near n
+        → Follows types.now result (step_by types.now (type_of types.now whole.ty.0) n whole.inside (PathStep.Index i)) }
 {
     match types.term(whole.ty) {
         Term::Array { of, .. } => Some(Part { ty: *of, ..whole }),
@@ -70,7 +74,9 @@ fn into_element(types: &TypeTable, whole: Part, i: u64) -> Option<Part>
 // One step from a part.
 fn step_from(types: &TypeTable, whole: Part, step: PathStep) -> Option<Part>
     requires { whole.ty.0 < length types.now.terms }
-    ensures { (n : ℕ) → whole.node ≡ near n → Follows types.now result (step_by types.now (type_of types.now whole.ty.0) n whole.inside step) }
+    ensures { (n : ℕ)
+        → whole.node ≡ near n
+        → Follows types.now result (step_by types.now (type_of types.now whole.ty.0) n whole.inside step) }
 {
     match step {
         PathStep::Index(i) => into_element(types, whole, i),
@@ -115,7 +121,8 @@ pub fn end_along(types: &TypeTable, whole: TypeId, path: &[PathStep]) -> Option<
 // What stands at the end of a path of one step and more from an array of elements of a type.
 fn element_end(types: &TypeTable, of: TypeId, step: PathStep, rest: &[PathStep]) -> Option<End>
     requires { of.0 < length types.now.terms }
-    ensures { (n : Option ℕ) → IsEnd (part_at types.now (Some (reached (ArrayOf (type_of types.now of.0) n) 0 false)) (step ∷ rest.now)) result }
+    ensures { (n : Option ℕ)
+        → IsEnd (part_at types.now (Some (reached (ArrayOf (type_of types.now of.0) n) 0 false)) (step ∷ rest.now)) result }
 {
     match step {
         PathStep::Index(_) => end_along(types, of, rest),

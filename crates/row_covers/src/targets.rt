@@ -71,7 +71,8 @@ pub fn function_at(scene: &Scene<'_>, key: ObjectKey) -> Option<u32>
 pub fn is_target_at(scene: &Scene<'_>, n: u32, key: ObjectKey) -> bool
     requires { Fits scene.now.system.now scene.now.rows.now }
     ensures { let system = scene.now.system.now in IsTrue result ↔
-        TargetBy system (members scene.now.rows.now) (call_number scene.now.trees.nodes.now n) (function_in system (first_from 0 scene.now.space.now key)) }
+        TargetBy system (members scene.now.rows.now) (call_number scene.now.trees.nodes.now n)
+        (function_in system (first_from 0 scene.now.space.now key)) }
 {
     let Some(call) = call_at(scene, n) else {
         return false;
@@ -86,7 +87,9 @@ pub fn is_target_at(scene: &Scene<'_>, n: u32, key: ObjectKey) -> bool
 pub fn is_in_graph(scene: &Scene<'_>, library: u32, key: ObjectKey) -> bool
     requires { Fits scene.now.system.now scene.now.rows.now }
     ensures { let system = scene.now.system.now in IsTrue result ↔
-        GraphBy system (members scene.now.rows.now) (function_in system (first_from 0 scene.now.space.now (Key.Function library))) (function_in system (first_from 0 scene.now.space.now key)) }
+        GraphBy system (members scene.now.rows.now)
+        (function_in system (first_from 0 scene.now.space.now (Key.Function library)))
+        (function_in system (first_from 0 scene.now.space.now key)) }
 {
     let Some(caller) = function_at(scene, ObjectKey::Function(library)) else {
         return false;
@@ -115,7 +118,8 @@ fn is_number_back(scene: &Scene<'_>, call: usize, back: u32) -> bool
 pub fn is_called_back_at(scene: &Scene<'_>, n: u32, key: ObjectKey) -> bool
     requires { Fits scene.now.system.now scene.now.rows.now }
     ensures { let system = scene.now.system.now in IsTrue result ↔
-        BackBy system (members scene.now.rows.now) (call_number scene.now.trees.nodes.now n) (function_in system (first_from 0 scene.now.space.now key)) }
+        BackBy system (members scene.now.rows.now) (call_number scene.now.trees.nodes.now n)
+        (function_in system (first_from 0 scene.now.space.now key)) }
 {
     let Some(call) = call_at(scene, n) else {
         return false;

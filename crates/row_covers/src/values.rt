@@ -144,7 +144,8 @@ pub fn is_held_covered(scene: &Scene<'_>, memory: &[Instance], n: u32, value: &V
 pub fn is_node_covered(scene: &Scene<'_>, memory: &[Instance], n: u32, value: &Value) -> bool
     requires scene { IsScene scene.now }
     requires known { AreKnown (length scene.now.trees.types.now.terms) memory.now }
-    ensures { let u = core_of scene.now.trees in IsTrue result ↔ HasBy (sets_over scene.now) u (view_of scene.now.space.now) memory.now (sort_at u n) n value.now }
+    ensures { let u = core_of scene.now.trees in IsTrue result
+        ↔ HasBy (sets_over scene.now) u (view_of scene.now.space.now) memory.now (sort_at u n) n value.now }
 {
     let Some(node) = scene.trees.nodes.get(n as usize) else {
         return has_row(scene, memory, None, value.cells.as_slice());

@@ -1,6 +1,7 @@
 // The numbers of functions and rows.
 
-ghost use Rattle.std.specs.Prelude.{◌≡◌, ℕ, ◌+◌, ◌*◌, ◌<◌, ◌≤◌, ◌^◌, List, IfOk, IfSome, All, length, map, take, sum, slice_get, if◌then◌else◌};
+ghost use Rattle.std.specs.Prelude.{◌≡◌, ℕ, ◌+◌, ◌*◌, ◌<◌, ◌≤◌, ◌^◌, List, IfOk, IfSome, All, length, map, take, sum};
+ghost use Rattle.std.specs.Prelude.{slice_get, if◌then◌else◌};
 ghost use Rattle.std.specs.Option.{option_map};
 ghost use Rattle.std.specs.List.{filter_map, range_with_len};
 ghost use Rattle.c_types.specs.Table.{type_of};
@@ -11,7 +12,8 @@ ghost use Rattle.core_tree.specs.Typed.{trees_in, sort_of, type_at};
 ghost use Rattle.core_tree.specs.Range.{InRange};
 ghost use Rattle.row_numbers.specs.Kept.{nodes_of, kept_count};
 ghost use Rattle.row_numbers.specs.Functions.{key_id, type_or_void};
-ghost use Rattle.row_numbers.specs.Setting.{width_by, width, own_width, widths, result_nodes, start_at, lead, trail, calls_further, takes_further, row};
+ghost use Rattle.row_numbers.specs.Setting.{width_by, width, own_width, widths, result_nodes, start_at, lead, trail};
+ghost use Rattle.row_numbers.specs.Setting.{calls_further, takes_further, row};
 ghost use Rattle.row_numbers.specs.Numbering.{present_before, own_row};
 
 use crate::kept::kept_count;

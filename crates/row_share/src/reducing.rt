@@ -5,7 +5,8 @@ ghost use Rattle.sol_model.specs.Solutions.{IsLeast};
 ghost use Rattle.sol_model.specs.Systems.{IsValid, location_count};
 ghost use Rattle.row_share.specs.share_laws.Classes.{AreClasses};
 ghost use Rattle.row_share.specs.share_laws.Laws.{AgreeThrough};
-ghost use Rattle.row_share.specs.share_laws.Renumbering.{new_row, renumbered, renumbered_call, renumbered_function, is_idle, twins, own_below, AreNumbers, IsReduced};
+ghost use Rattle.row_share.specs.share_laws.Renumbering.{new_row, renumbered, renumbered_call, renumbered_function};
+ghost use Rattle.row_share.specs.share_laws.Renumbering.{is_idle, twins, own_below, AreNumbers, IsReduced};
 
 use crate::Share;
 use crate::renumber::{call_of, constraint_of, function_of, list_of, new_row, types_of};

@@ -1,5 +1,6 @@
 //! Rows of a system that must have equal sets, systems with one row for all of them, and why their least solutions agree.
-ghost use Rattle.row_share.specs.share_laws.Laws.{ClassesHaveEqualSets, ReducedGivesLeast, ReducedHasEqualSets, ReducedHasSameGraph, ReducedIsValid};
+ghost use Rattle.row_share.specs.share_laws.Laws.{ClassesHaveEqualSets, ReducedGivesLeast, ReducedHasEqualSets};
+ghost use Rattle.row_share.specs.share_laws.Laws.{ReducedHasSameGraph, ReducedIsValid};
 
 /// Rows of one class have equal sets in the least solution.
 pub fn classes_have_equal_sets()

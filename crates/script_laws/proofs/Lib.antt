@@ -1,2 +1,3 @@
 mod Settings
+mod Known
 pub mod Whole

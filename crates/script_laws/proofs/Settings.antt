@@ -33,7 +33,8 @@ rooted texts units right = record {
       record { nodes = own.right.right.no_other_node; initialisers = own.right.right.initialises_once };
 }
 
-one_program : (entries : List (List ℕ)) (texts : List NamedText) (us vs : List Unit) (p q : Program) → AreRightTexts 0 texts us → AreRightTexts 0 texts vs → IsProgramOf entries us p → IsProgramOf entries vs q → AreOne p q
+-- the programs that texts denote are one, but for numbers
+pub one_program : (entries : List (List ℕ)) (texts : List NamedText) (us vs : List Unit) (p q : Program) → AreRightTexts 0 texts us → AreRightTexts 0 texts vs → IsProgramOf entries us p → IsProgramOf entries vs q → AreOne p q
 one_program entries texts us vs p q h k one other =
     twin_programs us vs p q (right_twins.all us vs (same_texts 0 texts us vs h k)) (rooted texts us h) (rooted texts vs k) one.linked other.linked
 

@@ -1,25 +1,31 @@
--- What is told has one status and one line.
-use Rattle.std.proofs.Common.{◌≡◌, ◌∙◌, ◌++◌, ◌⊎◌, ℕ, Bool, true, false, if◌then◌else◌, List, codes, Result, Err, arith, sym, ap, inl, inr}
+-- What is told has one status, one line and one text.
+use Rattle.std.proofs.Common.{◌≡◌, ◌∙◌, ◌++◌, ◌⊎◌, ℕ, Bool, true, false, if◌then◌else◌, List, codes, Option, Some, Result, Err, arith, sym, ap, subst, inl, inr}
 use Rattle.std.specs.Prelude.{decimal}
+use Rattle.core_tree.specs.declared.node.Unit.{Unit}
 use Rattle.core_tree.specs.declared.node.Program.{Program}
 use Rattle.sol_model.specs.declared.system.System.{System}
 use Rattle.obj_space.specs.declared.location.Location.{Location}
-use Rattle.unit_report.specs.unit_system.Of.{IsSystemOf}
+use Rattle.unit_report.specs.unit_system.Of.{IsProgramOf, IsSystemOf}
+use Rattle.twin_report_laws.specs.linked.Linked.{IsOf}
+use Rattle.twin_report_laws.proofs.linked.Whole.{one_report, one_summary, one_text}
 use Rattle.alias_query.specs.Script.{lines_of}
 use Rattle.c_lexer.specs.Places.{line_of, column_of}
 use Rattle.run_text.proofs.OneReading.{one_reading}
 use Rattle.text_units.specs.Answers.{NamedText, Answer, refusal, place_text}
 use Rattle.text_units.specs.Alone.{malformed_at}
-use Rattle.report_cli.specs.Told.{Side, no_side, with_questions, with_words, Told}
+use Rattle.text_units.specs.Lowered.{AreRightTexts}
+use Rattle.report_cli.specs.Told.{Side, no_side, with_questions, with_words, Told, form_of, generated, told_for}
 use Rattle.report_cli.specs.Outside.{IsWritten}
-use Rattle.report_cli.specs.Printed.{AreAnswersTo, IsPrinted, IsRefusedScript, AreRefusedWords}
+use Rattle.report_cli.specs.Printed.{AreAnswersTo, IsInForm, IsPrinted, IsReport, IsSummary, IsRefusedScript, AreRefusedWords}
 use Rattle.report_cli.specs.Outcome.{Denotes, Refuses, RefusesSide, RefusesTold, OutcomeOf, Outcome}
 use Rattle.report_cli.specs.Accepted.{IsTakenScript, AreTakenWords, TakesSide, AreAccepted}
 use Rattle.report_cli.proofs.Taken.{words_taken_or_refused}
 use Rattle.report_cli.proofs.Linked.{formed}
 use Rattle.report_cli.proofs.Together.{one_outcome}
-use Rattle.script_laws.specs.Scripted.{OneScript, SameStatus, SameFate, OneFate}
-use Rattle.script_laws.proofs.Settings.{same_scripts, within}
+use Rattle.report_cli.proofs.Naming.{are_named}
+use Rattle.script_laws.specs.Scripted.{OneScript, SameStatus, AreNamedTexts, SameOut, SameFate, OneFate}
+use Rattle.script_laws.proofs.Settings.{one_program, same_scripts, within}
+use Rattle.script_laws.proofs.Known.{known, words_named}
 
 taken : (entries : List (List ℕ)) (texts : List NamedText) (p q : Program) (space : List Location) (system : System) (side : Side) → Denotes entries texts p → Denotes entries texts q → IsSystemOf p space system
     → TakesSide p side → TakesSide q side
@@ -139,24 +145,93 @@ printed_status told no_side p q system other out text a b h k = h.1 ∙ sym k.1
 printed_status told (with_questions script) p q system other out text a b h k = h.1 ∙ sym k.1
 printed_status told (with_words steps words) p q system other out text a b h k = inr (run_status _ a h.status_is, run_status _ b k.status_is)
 
-told_so : (told : Told) (one other : Answer) → OutcomeOf told one → OutcomeOf told other → SameFate told.side one other
+-- ---- what is written
+same_out : (told : Told) (out text : List ℕ) → out ≡ text → SameOut told out text
+same_out told out text h = record { script = λ script side. h; report = λ json side form. h; summary = λ number side form. h }
+
+same_fate : (told : Told) (one other : Answer) → one ≡ other → SameFate told one other
+same_fate told one other same = record {
+  status = same_status told.side one.status other.status (ap (λ (a : Answer). a.status) same);
+  err = ap (λ (a : Answer). a.err) same;
+  out = λ named. same_out told one.out other.out (ap (λ (a : Answer). a.out) same);
+}
+
+is_of : (entries : List (List ℕ)) (texts : List NamedText) (units : List Unit) (p : Program) (space : List Location) (system : System) → AreNamedTexts texts → AreRightTexts 0 texts units → IsProgramOf entries units p → IsSystemOf p space system
+    → IsOf entries units p space system
+is_of entries texts units p space system named right of own = record { known = known texts units named right; program = of; system_of = own }
+
+module _ (entries : List (List ℕ)) (texts : List NamedText) (p q : Program) (system other : System) (out text : List ℕ) (named : AreNamedTexts texts) where
+  script_out : (script : NamedText) → Denotes entries texts p → Denotes entries texts q → AreAnswersTo script.1 p system out → AreAnswersTo script.1 q other text → out ≡ text
+  unfolding Denotes AreAnswersTo
+  script_out script (us, h, one) (vs, k, two) x y =
+      let (space, s, answers) = x.1 in
+      let (more, z, others) = y.1 in
+      sym
+      (one_text us vs p q space more system other script.1 out text (one_program entries texts us vs p q h k one two) (are_named texts us named.bytes h) (is_of entries texts us p space system named h one s) (is_of entries texts vs q more other named k two z) answers
+      others)
+
+  report_out : (json : Bool) → Denotes entries texts p → Denotes entries texts q → IsReport json p system out → IsReport json q other text → out ≡ text
+  unfolding Denotes IsReport
+  report_out json (us, h, one) (vs, k, two) (space, s, report) (more, z, again) =
+      sym
+      (one_report json us vs p q space more system other out text (one_program entries texts us vs p q h k one two) (is_of entries texts us p space system named h one s) (is_of entries texts vs q more other named k two z) report again)
+
+  summary_out : (number : ℕ) → Denotes entries texts p → Denotes entries texts q → IsSummary number p system out → IsSummary number q other text → out ≡ text
+  unfolding Denotes IsSummary
+  summary_out number (us, h, one) (vs, k, two) (space, s, summary) (more, z, again) =
+      sym
+      (one_summary number us vs p q space more system other out text (one_program entries texts us vs p q h k one two) (is_of entries texts us p space system named h one s) (is_of entries texts vs q more other named k two z) summary again)
+
+-- what is printed with nothing beside the units, and answers to a script
+in_form : (told : Told) (p : Program) (system : System) (out : List ℕ) (a : ℕ) → told.side ≡ no_side → IsPrinted told.form told.side p system out a → IsInForm told.form p system out
+in_form told p system out a none x =
+    let P : Side → Type 0 = λ side. IsPrinted told.form side p system out a in
+    let printed : IsPrinted told.form no_side p system out a = subst P none x in
+    printed.0
+
+answers_of : (told : Told) (script : NamedText) (p : Program) (system : System) (out : List ℕ) (a : ℕ) → told.side ≡ with_questions script → IsPrinted told.form told.side p system out a → AreAnswersTo script.1 p system out
+answers_of told script p system out a asked x =
+    let P : Side → Type 0 = λ side. IsPrinted told.form side p system out a in
+    let printed : IsPrinted told.form (with_questions script) p system out a = subst P asked x in
+    printed.0
+
+as_report : (told : Told) (json : Bool) (p : Program) (system : System) (out : List ℕ) → told.form ≡ form_of false false json → IsInForm told.form p system out → IsReport json p system out
+as_report told json p system out form x = subst (λ f. IsInForm f p system out) form x
+
+as_summary : (told : Told) (number : ℕ) (p : Program) (system : System) (out : List ℕ) → told.form ≡ (generated number).form → IsInForm told.form p system out → IsSummary number p system out
+as_summary told number p system out form x = subst (λ f. IsInForm f p system out) form x
+
+printed_out : (told : Told) (p q : Program) (system other : System) (out text : List ℕ) (a b : ℕ) → AreNamedTexts told.units → Denotes told.entries told.units p → Denotes told.entries told.units q
+    → IsPrinted told.form told.side p system out a → IsPrinted told.form told.side q other text b → SameOut told out text
+printed_out told p q system other out text a b named h k x y = record {
+  script = λ script asked. script_out told.entries told.units p q system other out text named script h k (answers_of told script p system out a asked x) (answers_of told script q other text b asked y);
+  report = λ json none form.
+      report_out told.entries told.units p q system other out text named json h k (as_report told json p system out form (in_form told p system out a none x)) (as_report told json q other text form (in_form told q other text b none y));
+  summary = λ number none form.
+      summary_out told.entries told.units p q system other out text named number h k (as_summary told number p system out form (in_form told p system out a none x)) (as_summary told number q other text form (in_form told q other text b none y));
+}
+
+told_so : (told : Told) (one other : Answer) → OutcomeOf told one → OutcomeOf told other → SameFate told one other
 told_so told one other (inl h) (inl k) = record {
   status = printed_status told told.side h.0 k.0 h.1 k.1 one.out other.out one.status other.status h.3 k.3;
   err = h.4 ∙ sym k.4;
+  out = λ named. printed_out told h.0 k.0 h.1 k.1 one.out other.out one.status other.status named h.2 k.2 h.3 k.3;
 }
 told_so told one other (inl h) (inr k) = absurd (printed told h.0 h.1 one.out one.status other h.2 h.3 k)
 told_so told one other (inr h) (inl k) = absurd (printed told k.0 k.1 other.out other.status one k.2 k.3 h)
-told_so told one other (inr h) (inr k) =
-    let same : one ≡ other = told_refused told one other h k in
-    record { status = same_status told.side one.status other.status (ap (λ (a : Answer). a.status) same); err = ap (λ (a : Answer). a.err) same }
+told_so told one other (inr h) (inr k) = same_fate told one other (told_refused told one other h k)
 
-words_so : (words : List (List ℕ)) (told : Told) (one other : Answer) → Outcome words told one → Outcome words told other → SameFate told.side one other
-words_so words told one other (inl h) (inl k) =
-    let same : one ≡ other = h.1 ∙ sym k.1 in
-    record { status = same_status told.side one.status other.status (ap (λ (a : Answer). a.status) same); err = ap (λ (a : Answer). a.err) same }
+words_so : (words : List (List ℕ)) (told : Told) (one other : Answer) → Outcome words told one → Outcome words told other → SameFate told one other
+words_so words told one other (inl h) (inl k) = same_fate told one other (h.1 ∙ sym k.1)
 words_so words told one other (inl h) (inr k) = absurd (h.0 k.0)
 words_so words told one other (inr h) (inl k) = absurd (k.0 h.0)
 words_so words told one other (inr h) (inr k) = told_so told one other h.1 k.1
 
+bytes_so : (text_of : List ℕ → Option (List ℕ)) (words : List (List ℕ)) (told : Told) (one other : Answer) → told_for text_of words ≡ Some told → Outcome words told one → Outcome words told other
+    → SameOut told one.out other.out
+bytes_so text_of words told one other e (inl h) (inl k) = same_out told one.out other.out (ap (λ (a : Answer). a.out) (h.1 ∙ sym k.1))
+bytes_so text_of words told one other e (inl h) (inr k) = absurd (h.0 k.0)
+bytes_so text_of words told one other e (inr h) k = (words_so words told one other (inr h) k).out (words_named text_of words told e h.0)
+
 pub one_fate : OneFate
-one_fate = record { refused = told_refused; printed = printed; accepted = accepted; told = told_so; words = words_so }
+one_fate = record { refused = told_refused; printed = printed; accepted = accepted; told = told_so; words = words_so; bytes = bytes_so }

@@ -1,11 +1,13 @@
--- What is told has one status and one line, whatever program its units denote.
-use Rattle.std.specs.Prelude.{◌≡◌, ◌⊎◌, ℕ, List}
+-- What is told has one status, one line and one text, whatever program its units denote.
+use Rattle.std.specs.Prelude.{◌≡◌, ◌⊎◌, ℕ, Bool, false, List, Option, Some, map}
 use Rattle.core_tree.specs.declared.node.Program.{Program}
 use Rattle.sol_model.specs.declared.system.System.{System}
 use Rattle.obj_space.specs.declared.location.Location.{Location}
 use Rattle.unit_report.specs.unit_system.Of.{IsSystemOf}
+use Rattle.command_line.specs.Distinct.{AreDistinct}
 use Rattle.text_units.specs.Answers.{NamedText, Answer}
-use Rattle.report_cli.specs.Told.{Side, no_side, with_questions, with_words, Told}
+use Rattle.report_cli.specs.Words.{AreUnitNames}
+use Rattle.report_cli.specs.Told.{Side, no_side, with_questions, with_words, Told, form_of, generated, told_for}
 use Rattle.report_cli.specs.Outside.{IsWritten}
 use Rattle.report_cli.specs.Printed.{IsPrinted}
 use Rattle.report_cli.specs.Outcome.{Denotes, RefusesSide, RefusesTold, OutcomeOf, Outcome}
@@ -35,10 +37,23 @@ SameStatus no_side one other = one ≡ other
 SameStatus (with_questions script) one other = one ≡ other
 SameStatus (with_words steps words) one other = (one ≡ other) ⊎ (IsWritten one × IsWritten other)
 
--- the same status, and the same line of `err`
-pub record SameFate (side : Side) (one other : Answer) : Type 0 where
-  pub status : SameStatus side one.status other.status
+-- texts whose names are distinct, and of the bytes of units' names
+pub record AreNamedTexts (texts : List NamedText) : Type 0 where
+  pub distinct : AreDistinct (map (λ text. text.0) texts)
+  pub bytes : AreUnitNames (map (λ text. text.0) texts)
+
+-- the same bytes, of answers to a script, of a report, as lines or as JSON, and of the summary of a generated program;
+-- of what functions touch, of where a run may stop and of a run's text it isn't said
+pub record SameOut (told : Told) (one other : List ℕ) : Type 0 where
+  pub script : (script : NamedText) → told.side ≡ with_questions script → one ≡ other
+  pub report : (json : Bool) → told.side ≡ no_side → told.form ≡ form_of false false json → one ≡ other
+  pub summary : (number : ℕ) → told.side ≡ no_side → told.form ≡ (generated number).form → one ≡ other
+
+-- the same status, the same line of `err`, and where units have such names the same text
+pub record SameFate (told : Told) (one other : Answer) : Type 0 where
+  pub status : SameStatus told.side one.status other.status
   pub err : one.err ≡ other.err
+  pub out : AreNamedTexts told.units → SameOut told one.out other.out
 
 -- What is told, and words with it.
 pub record OneFate : Type 0 where
@@ -52,10 +67,15 @@ pub record OneFate : Type 0 where
   pub accepted : (told : Told) (p : Program) (space : List Location) (system : System)
       → Denotes told.entries told.units p
       → IsSystemOf p space system → TakesSide p told.side → AreAccepted told
-  -- two answers to what is told have one status and one line
-  pub told : (told : Told) (one other : Answer) → OutcomeOf told one → OutcomeOf told other
-      → SameFate told.side one other
+  -- two answers to what is told have one status, one line and one text
+  pub told : (told : Told) (one other : Answer) → OutcomeOf told one → OutcomeOf told other → SameFate told one other
   pub words : (words : List (List ℕ)) (told : Told) (one other : Answer)
       → Outcome words told one
       → Outcome words told other
-      → SameFate told.side one other
+      → SameFate told one other
+  -- so two calls of the same words, for which the same texts are told, print the same bytes
+  pub bytes : (text_of : List ℕ → Option (List ℕ)) (words : List (List ℕ)) (told : Told) (one other : Answer)
+      → told_for text_of words ≡ Some told
+      → Outcome words told one
+      → Outcome words told other
+      → SameOut told one.out other.out

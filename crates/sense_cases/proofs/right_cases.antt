@@ -6,3 +6,5 @@ pub mod PointedValid
 pub mod Pointed
 pub mod LocalsValid
 pub mod Locals
+pub mod LengthsValid
+pub mod Lengths

@@ -271,14 +271,35 @@ DifferentResults = IsUnit text.different_results (
     ∷ []))
     ∷ []) []
 
+-- 6.2.7p4: an array without a length has the length that is seen of its name, so that fewer values than elements
+-- may follow
+abbrev pub SeenBeforeValues : Type 0
+SeenBeforeValues =
+    IsUnit text.seen_before_values
+    (only_declared 3 (ArrayOf int (Some 3))
+    ∷ file_object 9 (ArrayOf int (Some 3))
+    (Some
+    (initialised 9 13 ((Index 0 ∷ []) ∷ (Index 1 ∷ []) ∷ []) (number 1 14 int ∷ number 2 16 int ∷ [])))
+    ∷ [])
+    []
+
+abbrev pub StaticBeforeValues : Type 0
+StaticBeforeValues =
+    IsUnit text.static_before_values
+    (internal 3 10 (ArrayOf int (Some 3))
+    (Some (initialised 3 14 ((Index 0 ∷ []) ∷ []) (number 1 15 int ∷ [])))
+    ∷ [])
+    []
+
+-- a string has no closing zero where that length leaves no room for it
 abbrev pub LengthOfLatest : Type 0
 LengthOfLatest = IsUnit text.length_of_latest (
     file_object 2 (ArrayOf character (Some 2)) None
-    ∷ file_object 8 (ArrayOf character (Some 3))
+    ∷ file_object 8 (ArrayOf character (Some 2))
     (Some
-    (initialised 8 12 ((Index 0 ∷ []) ∷ (Index 1 ∷ []) ∷ (Index 2 ∷ []) ∷ [])
-    (number 97 12 character ∷ number 98 12 character ∷ number 0 12 character ∷ [])))
-    ∷ defined 15 (of_void int) (block [] 19 (returned 20 (changed int (number 3 21 unsigned_long)) ∷ []))
+    (initialised 8 12 ((Index 0 ∷ []) ∷ (Index 1 ∷ []) ∷ [])
+    (number 97 12 character ∷ number 98 12 character ∷ [])))
+    ∷ defined 15 (of_void int) (block [] 19 (returned 20 (changed int (number 2 21 unsigned_long)) ∷ []))
     ∷ []) []
 
 -- a function that is defined with `()` has that type, also where a call goes by the list of another declaration
@@ -333,6 +354,8 @@ pub record NamesStand : Type 0 where
   pub other_in_initialiser : OtherInInitialiser
   pub different_elements : DifferentElements
   pub different_results : DifferentResults
+  pub seen_before_values : SeenBeforeValues
+  pub static_before_values : StaticBeforeValues
   pub length_of_latest : LengthOfLatest
   pub defined_without_list : DefinedWithoutList
   pub typedef_in_block : TypedefInBlock

@@ -310,6 +310,70 @@ different_results =
     ▸ Done))
     ▸ unit_end ▸ Done)
 
+-- extern int a[3];int a[]={1,2};
+abbrev pub seen_before_values : Branch
+seen_before_values =
+    Node p_unit
+    ((Node p_external
+    ((Node p_specs
+    ((Node p_storage (word word_extern ▸ Done)) ▸ (Node p_type (word word_int ▸ Done)) ▸ Done)) ▸
+    (Node p_declarator
+    (name (codes "a") ▸
+    (Node p_suffix
+    (open_bracket ▸ (Node p_assignment ((counted (codes "3")) ▸ Done)) ▸ shut_bracket ▸ Done))
+    ▸ Done))
+    ▸ ending ▸ Done))
+    ▸
+    (Node p_external
+    ((of_word word_int) ▸
+    (Node p_declarator (name (codes "a") ▸ (Node p_suffix (open_bracket ▸ shut_bracket ▸ Done)) ▸ Done)) ▸
+    (Node p_rest
+    (equals ▸
+    (Node p_init
+    (open_brace ▸
+    (Node p_items
+    ((Node p_item
+    ((Node p_init ((Node p_assignment ((counted (codes "1")) ▸ Done)) ▸ Done)) ▸ Done))
+    ▸ comma ▸
+    (Node p_item
+    ((Node p_init ((Node p_assignment ((counted (codes "2")) ▸ Done)) ▸ Done)) ▸ Done))
+    ▸ Done))
+    ▸ shut_brace ▸ Done))
+    ▸ semicolon ▸ Done))
+    ▸ Done))
+    ▸ unit_end ▸ Done)
+
+-- static int a[3];static int a[]={1};
+abbrev pub static_before_values : Branch
+static_before_values =
+    Node p_unit
+    ((Node p_external
+    ((Node p_specs
+    ((Node p_storage (word word_static ▸ Done)) ▸ (Node p_type (word word_int ▸ Done)) ▸ Done)) ▸
+    (Node p_declarator
+    (name (codes "a") ▸
+    (Node p_suffix
+    (open_bracket ▸ (Node p_assignment ((counted (codes "3")) ▸ Done)) ▸ shut_bracket ▸ Done))
+    ▸ Done))
+    ▸ ending ▸ Done))
+    ▸
+    (Node p_external
+    ((Node p_specs
+    ((Node p_storage (word word_static ▸ Done)) ▸ (Node p_type (word word_int ▸ Done)) ▸ Done)) ▸
+    (Node p_declarator (name (codes "a") ▸ (Node p_suffix (open_bracket ▸ shut_bracket ▸ Done)) ▸ Done)) ▸
+    (Node p_rest
+    (equals ▸
+    (Node p_init
+    (open_brace ▸
+    (Node p_items
+    ((Node p_item
+    ((Node p_init ((Node p_assignment ((counted (codes "1")) ▸ Done)) ▸ Done)) ▸ Done))
+    ▸ Done))
+    ▸ shut_brace ▸ Done))
+    ▸ semicolon ▸ Done))
+    ▸ Done))
+    ▸ unit_end ▸ Done)
+
 -- char a[2];char a[]="ab";int f(void){return sizeof a;}
 abbrev pub length_of_latest : Branch
 length_of_latest =

@@ -352,22 +352,11 @@ internal_differs =
     ▸ ending ▸ Done))
     ▸ unit_end ▸ Done)
 
--- static char a[2];static char a[]="ab";
+-- static char a[]="ab";static char a[2];
 abbrev pub length_differs : Branch
 length_differs =
     Node p_unit
     ((Node p_external
-    ((Node p_specs
-    ((Node p_storage (word word_static ▸ Done)) ▸ (Node p_type (word word_char ▸ Done)) ▸ Done))
-    ▸
-    (Node p_declarator
-    (name (codes "a") ▸
-    (Node p_suffix
-    (open_bracket ▸ (Node p_assignment ((counted (codes "2")) ▸ Done)) ▸ shut_bracket ▸ Done))
-    ▸ Done))
-    ▸ ending ▸ Done))
-    ▸
-    (Node p_external
     ((Node p_specs
     ((Node p_storage (word word_static ▸ Done)) ▸ (Node p_type (word word_char ▸ Done)) ▸ Done))
     ▸
@@ -378,6 +367,17 @@ length_differs =
     ((Node p_assignment ((Node p_primary (text (codes "\"ab\"") ▸ Done)) ▸ Done)) ▸ Done))
     ▸ semicolon ▸ Done))
     ▸ Done))
+    ▸
+    (Node p_external
+    ((Node p_specs
+    ((Node p_storage (word word_static ▸ Done)) ▸ (Node p_type (word word_char ▸ Done)) ▸ Done))
+    ▸
+    (Node p_declarator
+    (name (codes "a") ▸
+    (Node p_suffix
+    (open_bracket ▸ (Node p_assignment ((counted (codes "2")) ▸ Done)) ▸ shut_bracket ▸ Done))
+    ▸ Done))
+    ▸ ending ▸ Done))
     ▸ unit_end ▸ Done)
 
 -- static int n=1;static int n=2;
@@ -450,6 +450,39 @@ too_many =
     (Node p_item
     ((Node p_init ((Node p_assignment ((counted (codes "3")) ▸ Done)) ▸ Done)) ▸
     Done))
+    ▸ Done))
+    ▸ shut_brace ▸ Done))
+    ▸ semicolon ▸ Done))
+    ▸ Done))
+    ▸ unit_end ▸ Done)
+
+-- extern int a[1];int a[]={1,2};
+abbrev pub too_many_seen : Branch
+too_many_seen =
+    Node p_unit
+    ((Node p_external
+    ((Node p_specs
+    ((Node p_storage (word word_extern ▸ Done)) ▸ (Node p_type (word word_int ▸ Done)) ▸ Done)) ▸
+    (Node p_declarator
+    (name (codes "a") ▸
+    (Node p_suffix
+    (open_bracket ▸ (Node p_assignment ((counted (codes "1")) ▸ Done)) ▸ shut_bracket ▸ Done))
+    ▸ Done))
+    ▸ ending ▸ Done))
+    ▸
+    (Node p_external
+    ((of_word word_int) ▸
+    (Node p_declarator (name (codes "a") ▸ (Node p_suffix (open_bracket ▸ shut_bracket ▸ Done)) ▸ Done)) ▸
+    (Node p_rest
+    (equals ▸
+    (Node p_init
+    (open_brace ▸
+    (Node p_items
+    ((Node p_item
+    ((Node p_init ((Node p_assignment ((counted (codes "1")) ▸ Done)) ▸ Done)) ▸ Done))
+    ▸ comma ▸
+    (Node p_item
+    ((Node p_init ((Node p_assignment ((counted (codes "2")) ▸ Done)) ▸ Done)) ▸ Done))
     ▸ Done))
     ▸ shut_brace ▸ Done))
     ▸ semicolon ▸ Done))

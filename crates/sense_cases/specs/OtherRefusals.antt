@@ -28,13 +28,14 @@ pub record WordFaults : Type 0 where
 pub record LinkageFaults : Type 0 where
   pub both_linkages : IsRefused text.both_linkages Operand 6
   pub internal_differs : IsRefused text.internal_differs Operand 10
-  pub length_differs : IsRefused text.length_differs Operand 10
+  pub length_differs : IsRefused text.length_differs Operand 11
   pub internal_again : IsRefused text.internal_again Operand 9
   pub typedef_differs : IsRefused text.typedef_differs Operand 7
 
 -- 6.7.9: values and designators without a place, behind all faults of the expressions
 pub record InitialiserFaults : Type 0 where
   pub too_many : IsRefused text.too_many Initialiser 12
+  pub too_many_seen : IsRefused text.too_many_seen Initialiser 16
   pub braces_in_scalar : IsRefused text.braces_in_scalar Initialiser 5
   pub index_past : IsRefused text.index_past Initialiser 8
   pub no_member : IsRefused text.no_member Initialiser 11

@@ -1,3 +1,4 @@
 pub mod Units
 pub mod Pointed
 pub mod Locals
+pub mod Lengths

@@ -22,7 +22,7 @@ use Rattle.c_senses.specs.Statements.{assert_row, declaration_row, statement_row
 use Rattle.c_senses.specs.Given.{Given, Fits, Refuses}
 use Rattle.c_senses.specs.World.{World, Meaning}
 use Rattle.c_senses.specs.Declarators.{outermost_of, specs_of}
-use Rattle.c_senses.specs.Entities.{with_length, entity_of, specified_of}
+use Rattle.c_senses.specs.Entities.{with_length, length_seen, entity_of, specified_of}
 use Rattle.c_senses.specs.Initialised.{new_length, most_elements, seen, outcome_of, opening, brace, braced}
 use Rattle.c_senses.specs.Sense.{Sense, Nothing, IsCore, IsRun, IsInitial, sense_in}
 use Rattle.c_senses.specs.Rows.{AreSenses, world_at, row_of}
@@ -160,9 +160,9 @@ module _ (entities : ℕ → Option Ctype) (s : Source) (senses : List Sense) (a
       let asked = fit.initials n lt in
       record {
         objects = λ p declarator leaf t is parent rest by name type.
-            outcome_proper w entities world s f (entity_of s f leaf) t
-            (subst SomeProper type (derived_is_proper w entities s f before (specified_of s f leaf) (Some declarator) (specified_proper w entities s f before (option_and_then (specs_of s) (outermost_of s leaf)))))
-            (outcome_of w s f n (shape_for w.fillable most_elements t) (view.init_at (seen w s f) s.nodes n)) (asked.objects p declarator leaf t is parent rest by name type);
+            outcome_proper w entities world s f (entity_of s f leaf) (with_length (length_seen s f leaf) t)
+            (length_proper (length_seen s f leaf) t (subst SomeProper type (derived_is_proper w entities s f before (specified_of s f leaf) (Some declarator) (specified_proper w entities s f before (option_and_then (specs_of s) (outermost_of s leaf))))))
+            (outcome_of w s f n (shape_for w.fillable most_elements (with_length (length_seen s f leaf) t)) (view.init_at (seen w s f) s.nodes n)) (asked.objects p declarator leaf t is parent rest by name type);
         literals = λ p name t is parent over named type.
             outcome_proper w entities world s f (opening w s f p) t (subst (SoundSense w entities) type (before name))
             (outcome_of w s f (brace w s f p) (shape_for w.fillable most_elements t) (braced w s f (brace w s f p) (view.items_at (seen w s f) s.nodes n))) (asked.literals p name t is parent over named type);
@@ -312,7 +312,7 @@ asked_of entities s senses fit = record {
       let w : World = world_at s (take i senses) i in
       let f : ℕ → Sense = sense_in (take i senses) in
       record {
-        objects = λ p declarator leaf t is parent rest by name type. weaker_outcome w entities s f (entity_of s f leaf) t _ ((fit.initials i lt).objects i declarator leaf t type);
+        objects = λ p declarator leaf t is parent rest by name type. weaker_outcome w entities s f (entity_of s f leaf) (with_length (length_seen s f leaf) t) _ ((fit.initials i lt).objects i declarator leaf t type);
         literals = λ p name t is parent over named type. weaker_outcome w entities s f (opening w s f p) t _ ((fit.initials i lt).literals i p t);
       };
 }

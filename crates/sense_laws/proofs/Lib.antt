@@ -2,6 +2,7 @@ pub mod Bridge
 pub mod Standing
 pub mod Below
 pub mod Giving
+pub mod Seen
 pub mod Conversions
 pub mod Operators
 pub mod Objects

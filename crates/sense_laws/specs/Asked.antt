@@ -12,7 +12,8 @@ use Rattle.c_senses.specs.passed.c_inits.View as view
 use Rattle.c_senses.specs.Tree.{Source, is_a, children_at, child_of, parent_of}
 use Rattle.c_senses.specs.World.{World, Meaning, extent}
 use Rattle.c_senses.specs.Literals.{unsigned_long}
-use Rattle.c_senses.specs.Entities.{with_length, entity_of, specified_of, derived_type, initialised_by}
+use Rattle.c_senses.specs.Entities.{with_length, length_seen, entity_of, specified_of, derived_type}
+use Rattle.c_senses.specs.Entities.{initialised_by}
 use Rattle.c_senses.specs.Initialised.{type_along, new_length, most_elements, seen, outcome_of, opening, brace}
 use Rattle.c_senses.specs.Initialised.{braced, name_of_declarator}
 use Rattle.c_senses.specs.Statements.{objects_declared}
@@ -32,7 +33,8 @@ abbrev pub PrimaryFits : World → (ℕ → Option Ctype) → List ℕ → Type 
 PrimaryFits w entities children = FirstFits w entities children × FurtherIsVariadic w entities
 
 -- what is asked of node i where it is the initialiser of an object, with the declarator, the name and the type of
--- that object, and where it is the list of a compound literal, with the type of that
+-- that object, which has the length that is seen of its name, and where it is the list of a compound literal, with
+-- the type of that
 pub record InitialAsks (asks : ℕ → Ctype → Outcome → Type 0) (w : World) (s : Source) (sense : ℕ → Sense)
     (i : ℕ) : Type 0 where
   pub objects : (p declarator leaf : ℕ) (t : Ctype)
@@ -42,8 +44,8 @@ pub record InitialAsks (asks : ℕ → Ctype → Outcome → Type 0) (w : World)
       → initialised_by s sense i ≡ Some declarator
       → name_of_declarator w s sense (sense declarator) ≡ Some leaf
       → derived_type s sense (specified_of s sense leaf) (Some declarator) ≡ Some t
-      → Gives (asks (entity_of s sense leaf) t)
-      (outcome_of w s sense i (shape_for w.fillable most_elements t)
+      → Gives (asks (entity_of s sense leaf) (with_length (length_seen s sense leaf) t))
+      (outcome_of w s sense i (shape_for w.fillable most_elements (with_length (length_seen s sense leaf) t))
       (view.init_at (seen w s sense) s.nodes i))
   pub literals : (p name : ℕ) (t : Ctype)
       → is_a s p_items i ≡ true

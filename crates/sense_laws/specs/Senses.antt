@@ -11,7 +11,7 @@ use Rattle.c_grammar.specs.Productions.{p_statement, p_block, p_declaration, p_a
 use Rattle.c_senses.specs.passed.c_consts.Core.{Core, kind_of, core_sort}
 use Rattle.c_senses.specs.passed.c_inits.Made.{Part, shape_for}
 use Rattle.c_senses.specs.passed.c_inits.Initial.{Placed, Outcome, Places, NoPlace, lasting}
-use Rattle.c_senses.specs.Entities.{with_length, entity_of, specified_of, derived_type}
+use Rattle.c_senses.specs.Entities.{with_length, length_seen, entity_of, specified_of, derived_type}
 use Rattle.c_senses.specs.Initialised.{type_along, new_length, most_elements, seen, outcome_of, opening, brace}
 use Rattle.c_senses.specs.Initialised.{braced}
 use Rattle.c_senses.specs.passed.c_inits.View as view
@@ -121,8 +121,8 @@ OutcomeFits w entities s sense entity t (Places actions) =
 pub record InitialisersFit (w : World) (entities : ℕ → Option Ctype) (s : Source) (sense : ℕ → Sense) : Type 0 where
   pub objects : (at declarator leaf : ℕ) (t : Ctype)
       → derived_type s sense (specified_of s sense leaf) (Some declarator) ≡ Some t
-      → Gives (OutcomeFits w entities s sense (entity_of s sense leaf) t)
-      (outcome_of w s sense at (shape_for w.fillable most_elements t)
+      → Gives (OutcomeFits w entities s sense (entity_of s sense leaf) (with_length (length_seen s sense leaf) t))
+      (outcome_of w s sense at (shape_for w.fillable most_elements (with_length (length_seen s sense leaf) t))
       (view.init_at (seen w s sense) s.nodes at))
   pub literals : (at p : ℕ) (t : Ctype)
       → Gives (OutcomeFits w entities s sense (opening w s sense p) t)

@@ -24,6 +24,7 @@ builds_same u = record {
   parts = λ tag. refl;
   extents = λ t. refl;
   entities = refl;
+  once = λ h. h;
 }
 
 completes_on : (old new : Unit) (tag : ℕ) (ps : List Part) → Completes old new tag ps → growing.Completes old new tag ps
@@ -37,6 +38,9 @@ completes_on old new tag ps c = record {
   was_open = c.was_open;
   members = c.parts_are;
   look = c.look;
+  once = λ h. record {
+    each = λ i j first second e. h.each i j (omega (arith, first, c.terms)) (omega (arith, second, c.terms)) (sym (c.types i) ∙ (e ∙ c.types j));
+  };
 }
 
 module _ (s : Source) (sense : ℕ → Sense) (at : ℕ) (old new : Unit) where

@@ -3,3 +3,4 @@ pub mod Refused
 pub mod Shares
 pub mod Feeds
 pub mod Lowering
+pub mod KindLines

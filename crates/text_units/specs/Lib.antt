@@ -3,3 +3,4 @@ pub mod Alone
 pub mod Lowered
 pub mod Refused
 pub mod Faults
+pub mod Kinds

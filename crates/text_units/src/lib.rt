@@ -3,6 +3,7 @@
 
 pub mod alone;
 pub mod fault;
+pub mod laws;
 pub mod lowered;
 pub mod places;
 mod rows;

@@ -2,6 +2,6 @@ mod Spots
 mod Matched
 mod Calls
 pub mod Over
-mod Sets
-mod Edges
+pub mod Sets
+pub mod Edges
 pub mod Whole

@@ -1,5 +1,5 @@
 -- The report of the system with one row for each class of rows is that of the system that it was made from.
-use Rattle.std.proofs.Common.{◌≡◌, ℕ, ◌+◌, ◌<◌, ◌==◌, ◌||◌, Bool, true, false, cond, List, [], ◌∷◌, ◌++◌, map, length, Option, Some, None, slice_get, option_map, String, Global, refl, sym, ◌∙◌, ap, arith}
+use Rattle.std.proofs.Common.{◌≡◌, ℕ, ◌+◌, ◌<◌, ◌==◌, Bool, true, false, cond, List, [], ◌∷◌, ◌++◌, map, length, Option, Some, None, slice_get, option_map, String, Global, refl, sym, ◌∙◌, ap, arith}
 use Rattle.std.specs.Prelude.{codes}
 use Rattle.std.specs.List.{filter, cons_option, range_with_len}
 use Rattle.std.specs.Option.{option_map_or}
@@ -19,6 +19,7 @@ use Rattle.row_share.proofs.share_laws.Graphs.{same_graph}
 use Rattle.serde_json.specs.Data.{Data, string, array, object, item, no_items, member, no_members}
 use Rattle.serde_json.specs.View.{items_of}
 use Rattle.serde_json.specs.Written.{compact_text}
+use Rattle.alias_query.specs.Asked.{has_line}
 use Rattle.unit_report.specs.Reported.{IsReportAs}
 use Rattle.unit_report.specs.report_json.Json.{name_value, names_value, set_value, sets_value, call_value, calls_value, edge_value, edges_value, report_of, report_value, IsJsonReport}
 use Rattle.unit_report.specs.report_text.Report.{members_in, has_set, name_in, names_of, set_line, set_lines, agrees, is_function, targets_in, place_text, call_line, call_lines, Placed, placed, all_placed, in_order, calls_at, calls_in_order, function_name, edge_line, report_lines, text_of, IsReport}
@@ -103,7 +104,7 @@ module _ (S T : System) (new : ℕ → ℕ) (is : IsRenumbered S T new) (G : Fam
   -- ---- lines
   sets_same : (space : List Location) → length space ≡ location_count S → set_lines space T G ≡ set_lines space S (over G new)
   sets_same space count = map_filter (set_line space T G) (set_line space S (over G new)) (has_set space) (range_with_len 0 (length space))
-      (λ location has. (let found = found_or (λ (known : Location). known.collapsed || (known.ty == 4) || (known.ty == 7)) (slice_get space location) has in
+      (λ location has. (let found = found_or has_line (slice_get space location) has in
       let within : location < length space = slice_get_within space location found.0 found.1 in
       ap (λ (members : List ℕ). codes "set " ++ name_in space location ++ codes ":" ++ names_of space members) (members_fixed location (omega arith))))
 
@@ -155,7 +156,7 @@ module _ (S T : System) (new : ℕ → ℕ) (is : IsRenumbered S T new) (G : Fam
   set_values_same : (space : List Location) → length space ≡ location_count S → sets_value space T G ≡ sets_value space S (over G new)
   set_values_same space count = ap (λ (values : List Data). array (items_of values))
       (map_filter (set_value space T G) (set_value space S (over G new)) (has_set space) (range_with_len 0 (length space))
-      (λ location has. (let found = found_or (λ (known : Location). known.collapsed || (known.ty == 4) || (known.ty == 7)) (slice_get space location) has in
+      (λ location has. (let found = found_or has_line (slice_get space location) has in
       let within : location < length space = slice_get_within space location found.0 found.1 in
       ap (λ (members : List ℕ). object (member (codes "members") (names_value space members) (member (codes "name") (name_value space location) no_members))) (members_fixed location (omega arith)))))
 

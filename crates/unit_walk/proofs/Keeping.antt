@@ -8,6 +8,7 @@ use Rattle.core_tree.specs.declared.node.Unit.{Unit}
 use Rattle.c_inits.specs.Made.{Part, TagParts}
 use Rattle.c_inits.specs.Tables.{part_with, part_of}
 use Rattle.c_senses.specs.Sense.{IsCore, IsType, IsSpecified, IsDeclarator, IsDerivation, IsParameter, IsMembers, IsRun, IsInitial}
+use Rattle.core_nodes.specs.Once.{HasOnce}
 use Rattle.core_nodes.specs.Standing.{core_at}
 use Rattle.c_results.specs.declared.made.Made.{Made}
 use Rattle.c_results.specs.declared.made.Made.TheVariants as made
@@ -81,3 +82,7 @@ module _ (old new : Unit) where
   pub entities_grown : (es : List TagParts) → Grows old new es → new.entities.items ≡ old.entities.items
   entities_grown [] b = b.entities
   entities_grown (c ∷ rest) b = b.entities
+
+  pub once_grown : (es : List TagParts) → Grows old new es → HasOnce old.types → HasOnce new.types
+  once_grown [] b = b.once
+  once_grown (c ∷ rest) b = b.once

@@ -2,6 +2,7 @@
 ghost use Rattle.std.specs.Prelude.{◌≡◌, ◌≤◌, ℕ, [], IfOk, MatchResult};
 ghost use Rattle.name_uses.specs.passed.expression_rows.Readable.{IsReadable};
 ghost use Rattle.parsed_tree_laws.specs.family_laws.Families.{Families};
+ghost use Rattle.core_nodes.specs.Once.{HasOnce};
 ghost use Rattle.core_nodes.specs.Standing.{IsReady};
 ghost use Rattle.limit_laws.specs.Limits.{AlwaysLimited};
 ghost use Rattle.struct_rows.specs.Built.{HasTagTypes};
@@ -27,6 +28,7 @@ pub(crate) fn walk_nodes(
     requires known { IsKnown known.now }
     requires ready { IsReady unit.old }
     requires open { unit.old.types.completed ≡ [] }
+    requires once { HasOnce unit.old.types }
     requires types { HasTagTypes (source_known known.now) unit.old.types }
     requires readable { (at : ℕ) → IsReadable (source_known known.now) at }
     requires families { Families (source_known known.now) }
@@ -36,6 +38,7 @@ pub(crate) fn walk_nodes(
     ensures stand { IfOk result (λ results. Stand (nodes_known known.now) unit.new results) }
     ensures entities { IfOk result (λ results. unit.new.entities.items ≡ unit.old.entities.items) }
     ensures types { IfOk result (λ results. HasTagTypes (source_known known.now) unit.new.types) }
+    ensures once { IfOk result (λ results. HasOnce unit.new.types) }
     ensures walked { let s = source_known known.now in
         MatchResult result (λ results. IsWalkedTo s end unit.new results) (λ fault. RefusedBefore s end fault) }
 {

@@ -2,6 +2,7 @@
 ghost use Rattle.std.specs.Prelude.{◌≡◌, ◌≤◌, ℕ, List, [], length, IfOk, IfSome, IsOkUnless, MatchResult};
 ghost use Rattle.core_tree.specs.declared.node.Unit.{Unit as UnitSpec};
 ghost use Rattle.core_nodes.specs.declared.fault.CheckFault.TheVariants.{OutOfMemory};
+ghost use Rattle.core_nodes.specs.Once.{HasOnce};
 ghost use Rattle.core_nodes.specs.Standing.{IsReady};
 ghost use Rattle.c_lexer.specs.Cut.{IsTokens};
 ghost use Rattle.c_scope.specs.Resolves.{IsBound};
@@ -98,6 +99,7 @@ fn ground_of<'a>(
 fn open_unit(alloc: Global, numbered: &Numbered) -> Result<Unit, CheckFault>
     ensures ready { IfOk result IsReady }
     ensures open { IfOk result (λ unit. unit.types.completed ≡ []) }
+    ensures once { IfOk result (λ unit. HasOnce unit.types) }
     ensures count { IfOk result (λ unit. unit.types.tags ≡ numbered.now.tags.count) }
     ensures tags { (uses : List (ℕ × ℕ)) →
         let s = source_in numbered.now.syntax uses in
@@ -147,6 +149,7 @@ pub fn walk_to<'a>(
     ensures ordered { IfOk result (λ w. AreInOrder (source_ground w.ground bound.now)) }
     ensures stand { IfOk result (λ w. Stand (nodes_ground w.ground) w.unit w.results) }
     ensures types { IfOk result (λ w. HasTagTypes (source_ground w.ground bound.now) w.unit.types) }
+    ensures once { IfOk result (λ w. HasOnce w.unit.types) }
     ensures walked { MatchResult result
         (λ w. IsWalkedTo (source_ground w.ground bound.now) end w.unit w.results)
         (RefusedEarly (source_of tokens.now tree.now) end) }
@@ -211,6 +214,7 @@ pub fn walk<'a>(
     ensures ordered { IfOk result (λ w. AreInOrder (source_ground w.ground bound.now)) }
     ensures stand { IfOk result (λ w. Stand (nodes_ground w.ground) w.unit w.results) }
     ensures types { IfOk result (λ w. HasTagTypes (source_ground w.ground bound.now) w.unit.types) }
+    ensures once { IfOk result (λ w. HasOnce w.unit.types) }
     ensures walked { MatchResult result
         (λ w. IsWalked (source_ground w.ground bound.now) w.unit w.results)
         (RefusedIn (source_of tokens.now tree.now)) }

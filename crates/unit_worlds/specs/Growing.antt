@@ -4,7 +4,7 @@ use Rattle.c_types.specs.Layout.{Extent, member_extent}
 use Rattle.c_types.specs.Table.{type_of, members_in, look_in}
 use Rattle.core_tree.specs.declared.node.Unit.{Unit}
 use Rattle.c_inits.specs.Made.{Part, TagParts}
-use Rattle.c_results.specs.passed.core_nodes.Standing.{core_at, parts_in, Builds}
+use Rattle.c_results.specs.passed.core_nodes.Standing.{core_at, parts_in, Builds, HasOnce}
 use Rattle.c_senses.specs.Tree.{Source}
 use Rattle.c_senses.specs.Sense.{Sense, Nothing}
 use Rattle.c_senses.specs.Tags.{completed_from, types_of_parts}
@@ -29,6 +29,7 @@ pub record Completes (old new : Unit) (tag : ℕ) (parts : List Part) : Type 0 w
       → look_in new.types t
       ≡ (if tag == t then Some (map (member_extent (look_in old.types)) (types_of_parts parts))
       else look_in old.types t)
+  pub once : HasOnce old.types → HasOnce new.types
 
 -- what a row does to its unit, by what its node completes
 abbrev pub Grows : Unit → Unit → List TagParts → Type 0

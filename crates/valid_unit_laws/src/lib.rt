@@ -3,4 +3,5 @@
 
 pub mod built_valid;
 pub mod lowered_laws;
+pub mod plain_functions;
 pub mod specified_types;

@@ -20,7 +20,7 @@ use Rattle.c_senses.specs.Sense.{Sense, IsCore, IsValue, IsDeclarator, IsInitial
 use Rattle.c_senses.specs.Rows.{AreSenses, world_at}
 use Rattle.c_senses.specs.Declarators.{outermost_of}
 use Rattle.c_senses.specs.Limits.{is_function_type}
-use Rattle.c_senses.specs.Entities.{is_linked, is_internal, is_typedef, entity_of, named_by, has_earlier_length, last_of, type_behind, own_type, object_or_function, declared_meaning, enumerated, meaning_of, initialised_by}
+use Rattle.c_senses.specs.Entities.{with_length, length_seen, is_linked, is_internal, is_typedef, entity_of, named_by, has_earlier_length, last_of, type_behind, own_type, object_or_function, declared_meaning, enumerated, meaning_of, initialised_by}
 use Rattle.c_senses.specs.Initialised.{name_of_declarator, opening}
 use Rattle.c_inits.specs.Initial.{Outcome, Places, NoPlace}
 use Rattle.c_senses.specs.Right.{core_of_sense, representative, declared_name, IsPart, Within, Itself, Below}
@@ -281,7 +281,7 @@ module _ (tokens : Tokens) (unit : ℕ) (tree : Tree) (tag_number : ℕ → ℕ)
       initials = λ i lt.
           record {
             objects = λ p declarator leaf y is parent rest by_it named typed.
-                restands (W i) (F i) (entity_of s (F i) leaf) y _ (passing (entity_of s (F i) leaf) (object_passes i declarator leaf is by_it (sym (same_name (W i) (F i) (F i declarator)) ∙ named))) ((asked.initials i lt).objects p declarator leaf y is parent rest by_it named typed);
+                restands (W i) (F i) (entity_of s (F i) leaf) (with_length (length_seen s (F i) leaf) y) _ (passing (entity_of s (F i) leaf) (object_passes i declarator leaf is by_it (sym (same_name (W i) (F i) (F i declarator)) ∙ named))) ((asked.initials i lt).objects p declarator leaf y is parent rest by_it named typed);
             literals = λ p name y is parent over named typed.
                 restands (W i) (F i) (opening (W i) s (F i) p) y _ (passing (opening (W i) s (F i) p) (opening_passes (W i) (F i) p over)) ((asked.initials i lt).literals p name y is parent over named typed);
           };

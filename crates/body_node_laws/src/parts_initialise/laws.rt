@@ -1,5 +1,6 @@
 //! The laws: functions that do nothing, whose contracts they are.
-ghost use Rattle.body_node_laws.specs.parts_initialise.Initialise.{TopsInitialise, AutomaticsInitialise, NamesInitialise, UnitsInitialiseOnce};
+ghost use Rattle.body_node_laws.specs.parts_initialise.Initialise.{TopsInitialise, AutomaticsInitialise, NamesInitialise};
+ghost use Rattle.body_node_laws.specs.parts_initialise.Initialise.{UnitsInitialiseOnce};
 
 /// An initialiser that stands under no other node is the body of its object (C11 6.7.9).
 pub fn tops_initialise()

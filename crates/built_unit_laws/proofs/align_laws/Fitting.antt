@@ -12,7 +12,7 @@ use Rattle.c_senses.specs.Tree.{Source, is_a, children_at}
 use Rattle.c_senses.specs.Given.{Fits}
 use Rattle.c_senses.specs.World.{World, extent}
 use Rattle.c_senses.specs.Literals.{unsigned_long}
-use Rattle.c_senses.specs.Entities.{entity_of}
+use Rattle.c_senses.specs.Entities.{with_length, length_seen, entity_of}
 use Rattle.c_senses.specs.Initialised.{opening}
 use Rattle.c_senses.specs.Statements.{objects_declared}
 use Rattle.c_senses.specs.Tags.{completed_from, look_of}
@@ -113,7 +113,7 @@ asked_of entities s senses fit = record {
       let w : World = world_at s (take i senses) i in
       let f : ℕ → Sense = sense_in (take i senses) in
       record {
-        objects = λ p declarator leaf t is parent rest by name type. weaker_outcome w entities s f (entity_of s f leaf) t _ ((fit.initials i lt).objects i declarator leaf t type);
+        objects = λ p declarator leaf t is parent rest by name type. weaker_outcome w entities s f (entity_of s f leaf) (with_length (length_seen s f leaf) t) _ ((fit.initials i lt).objects i declarator leaf t type);
         literals = λ p name t is parent over named type. weaker_outcome w entities s f (opening w s f p) t _ ((fit.initials i lt).literals i p t);
       };
 }

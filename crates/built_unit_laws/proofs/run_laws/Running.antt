@@ -15,7 +15,7 @@ use Rattle.c_senses.specs.Tree.{Source, production_at, children_at, is_a, first_
 use Rattle.c_senses.specs.Given.{Given, Fits, ◌>>=◌, given_some}
 use Rattle.c_senses.specs.World.{World}
 use Rattle.c_senses.specs.Entities.{initialised_by, specified_of, derived_type, entity_of}
-use Rattle.c_senses.specs.Initialised.{name_of_declarator, initialised_object, object_initialiser, init_in}
+use Rattle.c_senses.specs.Initialised.{name_of_declarator, initialised_object, initialised_as, init_in}
 use Rattle.c_senses.specs.Statements.{is_automatic_object, automatic_name, objects_among, objects_in_rest, objects_declared, runs_initialiser, initials_among, run_in}
 use Rattle.c_senses.specs.Sense.{Sense, Nothing, IsDeclarator, IsRun, IsInitial, Derivation, Specified, sense_in}
 use Rattle.c_senses.specs.Rows.{AreSenses, row_of}
@@ -28,7 +28,7 @@ use Rattle.core_node_laws.specs.passed.parsed_tree_laws.grown_parts.Parts.{IsBro
 use Rattle.core_node_laws.proofs.passed.parsed_tree_laws.grown_parts.Declaring.{AllIn, IsDeclarationList, Asserts, Alone, Names, NamesAsm, declaration_list, rest_parts, rest_list}
 use Rattle.built_unit_laws.specs.run_laws.Runs.{DeclarationsRun}
 use Rattle.built_unit_laws.proofs.run_laws.Times.{known_at, world_of, known, unknown, told_later, row_as, fitted}
-use Rattle.built_unit_laws.proofs.run_laws.Shapes.{IsPlain, plain_leaf, plain_asm, plain_assert, plain_specs, plain_declarator, Initialises, object_gives}
+use Rattle.built_unit_laws.proofs.run_laws.Shapes.{IsPlain, plain_leaf, plain_asm, plain_assert, plain_specs, plain_declarator, Initialises, as_gives}
 use Rattle.built_unit_laws.proofs.run_laws.Automatic.{IsLocal, local_of, of_local, local_entity, local_as, specified_later}
 
 -- lists
@@ -122,12 +122,12 @@ record Begun (s : Source) (sense : ℕ → Sense) (e : ℕ) (x : Core) : Type 0 
 
 module _ (w : World) (s : Source) (sense : ℕ → Sense) (e : ℕ) (x : Core) (n : Option ℕ) where
   begun_object : (declarator leaf : ℕ) (ds : List Derivation) → initialised_by s sense e ≡ Some declarator → sense declarator ≡ IsDeclarator (Some leaf) ds
-      → (z : Option Specified) → specified_of s sense leaf ≡ z → (o : Option Ctype) → derived_type s sense z (Some declarator) ≡ o → (given_some o Operand e >>= object_initialiser w s sense e declarator leaf) ≡ Fits (IsInitial x n) → Begun s sense e x
+      → (z : Option Specified) → specified_of s sense leaf ≡ z → (o : Option Ctype) → derived_type s sense z (Some declarator) ≡ o → (given_some o Operand e >>= initialised_as w s sense e declarator leaf) ≡ Fits (IsInitial x n) → Begun s sense e x
   begun_object declarator leaf ds found is None told None made h = cc
   begun_object declarator leaf ds found is None told (Some t) made h = cc
   begun_object declarator leaf ds found is (Some z) told None made h = cc
   begun_object declarator leaf ds found is (Some z) told (Some t) made h =
-      let k : Initialises w s sense (entity_of s sense leaf) (IsInitial x n) = fitted (Initialises w s sense (entity_of s sense leaf)) (object_initialiser w s sense e declarator leaf t) (IsInitial x n) h (object_gives w s sense e declarator leaf t) in
+      let k : Initialises w s sense (entity_of s sense leaf) (IsInitial x n) = fitted (Initialises w s sense (entity_of s sense leaf)) (initialised_as w s sense e declarator leaf t) (IsInitial x n) h (as_gives w s sense e declarator leaf t) in
       record { declarator = declarator; leaf = leaf; derives = ds; words = z; paths = k.0; by = found; is = is; told = told; kind = k.1 }
 
   begun_at : (declarator : ℕ) → initialised_by s sense e ≡ Some declarator → (y : Sense) → sense declarator ≡ y → initialised_object w s sense e declarator (name_of_declarator w s sense y) ≡ Fits (IsInitial x n) → Begun s sense e x

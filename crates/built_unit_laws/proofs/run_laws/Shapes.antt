@@ -18,8 +18,8 @@ use Rattle.c_senses.specs.Given.{Given, Fits, given_if}
 use Rattle.c_senses.specs.World.{World, has_size}
 use Rattle.c_senses.specs.Constants.{constant_in}
 use Rattle.c_senses.specs.Declarators.{is_outermost, base_type, derived, adjusted, plain_declarator_row, derives_well, derivations, name_in}
-use Rattle.c_senses.specs.Entities.{with_length, named_row, parameter_named, initialiser_of, words_go, is_same_again, has_one_linkage, internal_fits, is_name_complete, definition_row, is_void_type, result_of, has_function_word, has_storage, is_defined, entity_of, is_static_object}
-use Rattle.c_senses.specs.Initialised.{outcome_of, most_elements, seen, made_of, placed_cores, new_length, object_initialiser, initialised_fits}
+use Rattle.c_senses.specs.Entities.{with_length, length_seen, named_row, parameter_named, initialiser_of, words_go, is_same_again, has_one_linkage, internal_fits, is_name_complete, definition_row, is_void_type, result_of, has_function_word, has_storage, is_defined, entity_of, is_static_object}
+use Rattle.c_senses.specs.Initialised.{outcome_of, most_elements, seen, made_of, placed_cores, new_length, object_initialiser, with_seen, initialised_as, initialised_fits}
 use Rattle.c_senses.specs.Places.{own_place}
 use Rattle.c_senses.specs.Statements.{assert_row}
 use Rattle.c_senses.specs.Sense.{Sense, Nothing, IsDeclarator, IsSpecified, IsRun, IsInitial}
@@ -108,10 +108,21 @@ module _ (w : World) (s : Source) (sense : ℕ → Sense) where
   made_gives static entity place t (Places actions) =
       then_gives (λ x. ⊤) (λ m. (paths : List Path) × (kind_of m.initial ≡ Initialise entity paths)) (placed_cores w s sense static (with_length (new_length w s sense t actions) t) (lasting [] actions)) _ (anything _) (λ values k. (_, refl))
 
-  pub object_gives : (at declarator leaf : ℕ) (t : Ctype) → Gives (Initialises (entity_of s sense leaf)) (object_initialiser w s sense at declarator leaf t)
+  object_gives : (at declarator leaf : ℕ) (t : Ctype) → Gives (Initialises (entity_of s sense leaf)) (object_initialiser w s sense at declarator leaf t)
   object_gives at declarator leaf t =
       then_gives (λ x. ⊤) (Initialises (entity_of s sense leaf)) (outcome_of w s sense at (shape_for w.fillable most_elements t) (view.init_at (seen w s sense) s.nodes at)) _ (anything _)
       (λ outcome k.
       then_gives (λ m. (paths : List Path) × (kind_of m.initial ≡ Initialise (entity_of s sense leaf) paths)) (Initialises (entity_of s sense leaf)) (made_of w s sense (is_static_object s sense leaf) (entity_of s sense leaf) (own_place s at) t outcome) _
       (made_gives (is_static_object s sense leaf) (entity_of s sense leaf) (own_place s at) t outcome)
       (λ m h. if_given (Initialises (entity_of s sense leaf)) (initialised_fits w s sense (with_length m.length t) leaf) Operand leaf (Fits (IsInitial m.initial m.length)) (λ e. h)))
+
+  -- whose length was seen before: the same tree
+  seen_initialises : (entity : ℕ) (n : Option ℕ) (x : Sense) → Initialises entity x → Initialises entity (with_seen n x)
+  seen_initialises entity n (IsInitial c None) h = h
+  seen_initialises entity n x h = h
+
+  pub as_gives : (at declarator leaf : ℕ) (t : Ctype) → Gives (Initialises (entity_of s sense leaf)) (initialised_as w s sense at declarator leaf t)
+  as_gives at declarator leaf t =
+      let n : Option ℕ = length_seen s sense leaf in
+      then_gives (Initialises (entity_of s sense leaf)) (Initialises (entity_of s sense leaf)) (object_initialiser w s sense at declarator leaf (with_length n t)) (λ x. Fits (with_seen n x)) (object_gives at declarator leaf (with_length n t))
+      (λ x h. seen_initialises (entity_of s sense leaf) n x h)

@@ -1,6 +1,7 @@
 //! Braced lists (C11 6.7.9p17 to p20).
 
-ghost use Rattle.std.specs.Prelude.{◌≡◌, ◌&&◌, not, is_some, ◌<◌, ◌++◌, ◌∷◌, [], true, false, List, map, length, slice_get, IfOk, IfSome, OnOk, MatchOption, All, None, Some};
+ghost use Rattle.std.specs.Prelude.{◌≡◌, ◌&&◌, not, is_some, ◌<◌, ◌++◌, ◌∷◌, [], true, false, List, map, length};
+ghost use Rattle.std.specs.Prelude.{slice_get, IfOk, IfSome, OnOk, MatchOption, All, None, Some};
 ghost use Rattle.c_types.specs.Table.{type_of};
 ghost use Rattle.c_inits.specs.Shapes.{Path};
 ghost use Rattle.c_inits.specs.Initial.{Outcome, initial, listed, only_text, or_text, of_value, is_scalar, starts};
@@ -226,7 +227,8 @@ fn fill_item(
         let start = starts t (before_of started (path_of frames.old.items)) (map designator_of entry.now.designators.items) in
         let init = init_at walk.now.types.now walk.now.inits.now entry.now.init in
         IfOk result (λ bad.
-        ItemGives t start init (path_of frames.new.items) path.now (map action_of actions.old.items) (map action_of actions.new.items) bad) }
+        ItemGives t start init (path_of frames.new.items) path.now (map action_of actions.old.items)
+        (map action_of actions.new.items) bad) }
     ensures stands { let w = walk.now in
         OnOk result (Stands w.types.now w.limit (type_shape w.types.now w.limit id.0) frames.new.items) }
 {

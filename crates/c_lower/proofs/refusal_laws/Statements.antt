@@ -22,9 +22,9 @@ use Rattle.c_senses.specs.Conversions.{is_scalar, operand_of, conversion, typed}
 use Rattle.c_senses.specs.Constants.{constant_in, is_whole}
 use Rattle.c_senses.specs.Limits.{within_limits}
 use Rattle.c_senses.specs.Sense.{Sense, Nothing, IsCore, IsType, IsValue, IsInitial, core_of, value_in}
-use Rattle.c_senses.specs.Entities.{with_length, specified_of, derived_type, initialised_by, is_static_object, entity_of, is_in_static}
+use Rattle.c_senses.specs.Entities.{with_length, length_seen, specified_of, derived_type, initialised_by, is_static_object, entity_of, is_in_static}
 use Rattle.c_senses.specs.Places.{own_place}
-use Rattle.c_senses.specs.Initialised.{most_elements, seen, type_along, expression_of, character_core, expression_core, is_fixed, is_automatic, fixed_or, placed_core, placed_cores, new_length, Made, made_of, outcome_of, initialised_fits, object_initialiser, name_of_declarator, initialised_object, init_in, init_row, is_in_body, opening, brace, braced, literal_of, literal_type, literal_in, items_row, designator_row}
+use Rattle.c_senses.specs.Initialised.{most_elements, seen, type_along, expression_of, character_core, expression_core, is_fixed, is_automatic, fixed_or, placed_core, placed_cores, new_length, Made, made_of, outcome_of, initialised_fits, object_initialiser, with_seen, initialised_as, name_of_declarator, initialised_object, init_in, init_row, is_in_body, opening, brace, braced, literal_of, literal_type, literal_in, items_row, designator_row}
 use Rattle.c_senses.specs.Statements.{statement, one, assert_row, ForParts, condition_of, statements_among, body_of, other_body, expression_in, is_statement_of, switch_around, switched, is_case_again, is_default_again, case_in, case_row, default_row, if_row, switch_row, while_row, do_row, expression_statement, for_first, for_condition, for_after, for_parts, for_of, for_row, is_loop, returned_type, return_row, of_word, leaf_statement, statement_row}
 use Rattle.c_lower.specs.refusal_laws.Refusals.{IsBuilt}
 use Rattle.c_lower.proofs.refusal_laws.Steps.{then_built, if_built, some_built, either_built}
@@ -77,10 +77,15 @@ module _ (w : World) (s : Source) (sense : ℕ → Sense) where
       (λ outcome. then_built {B = Sense} (made_of w s sense (is_static_object s sense leaf) (entity_of s sense leaf) (own_place s at) t outcome) _ (made_built (is_static_object s sense leaf) (entity_of s sense leaf) (own_place s at) t outcome)
       (λ made. if_built {A = Sense} (initialised_fits w s sense (with_length made.length t) leaf) Operand leaf (Fits (IsInitial made.initial made.length)) tt tt))
 
+  as_built : (at declarator leaf : ℕ) (t : Ctype) → IsBuilt (initialised_as w s sense at declarator leaf t)
+  as_built at declarator leaf t =
+      let n = length_seen s sense leaf in
+      then_built {B = Sense} (object_initialiser w s sense at declarator leaf (with_length n t)) (λ x. Fits (with_seen n x)) (object_built at declarator leaf (with_length n t)) (λ x. tt)
+
   initialised_built : (at declarator : ℕ) (o : Option ℕ) → IsBuilt (initialised_object w s sense at declarator o)
   initialised_built at declarator None = tt
   initialised_built at declarator (Some leaf) =
-      some_built {B = Sense} (derived_type s sense (specified_of s sense leaf) (Some declarator)) Operand at (object_initialiser w s sense at declarator leaf) tt (λ t. object_built at declarator leaf t)
+      some_built {B = Sense} (derived_type s sense (specified_of s sense leaf) (Some declarator)) Operand at (initialised_as w s sense at declarator leaf) tt (λ t. as_built at declarator leaf t)
 
   init_by : (at : ℕ) (o : Option ℕ) → IsBuilt (init_in w s sense at o)
   init_by at None = tt

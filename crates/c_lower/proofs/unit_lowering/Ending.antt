@@ -7,6 +7,7 @@ use Rattle.c_types.specs.Table.{Table}
 use Rattle.c_types.specs.Made.{IsMade, AreNamed}
 use Rattle.core_tree.specs.declared.node.Node.{Node}
 use Rattle.core_tree.specs.declared.node.Unit.{Unit}
+use Rattle.core_nodes.specs.Once.{HasOnce}
 use Rattle.core_nodes.specs.Standing.{Builds, IsReady, Knows}
 use Rattle.core_nodes.specs.declared.fault.CheckFault.{CheckFault}
 use Rattle.core_nodes.specs.declared.fault.CheckFault.TheVariants.{OutOfMemory}
@@ -128,12 +129,12 @@ completed_types name number types keys nodes list (Ok u) h = h.is_unit.made.type
 completed_types name number types keys nodes list (Err fault) h = h
 
 -- a right unit with that table has the types of the tags
-pub with_tags : (s : Source) (name : List ℕ) (types : Table) → HasTagTypes s types → IsMade types → AreNamed types → (r : Result Unit CheckFault) → IfOk r (Right s name) → MatchResult r (λ u. u.types ≡ types) (λ fault. fault ≡ OutOfMemory)
+pub with_tags : (s : Source) (name : List ℕ) (types : Table) → HasTagTypes s types → IsMade types → AreNamed types → HasOnce types → (r : Result Unit CheckFault) → IfOk r (Right s name) → MatchResult r (λ u. u.types ≡ types) (λ fault. fault ≡ OutOfMemory)
     → MatchResult r (λ u. Right s name u × HasTags s u) (λ fault. fault ≡ OutOfMemory)
-with_tags s name types has made named (Ok u) right is =
-    let tags : HasTags s u = record { types = subst (HasTagTypes s) (sym is) has; made = subst IsMade (sym is) made; named = subst AreNamed (sym is) named } in
+with_tags s name types has made named once (Ok u) right is =
+    let tags : HasTags s u = record { types = subst (HasTagTypes s) (sym is) has; made = subst IsMade (sym is) made; named = subst AreNamed (sym is) named; once = subst HasOnce (sym is) once } in
     (right, tags)
-with_tags s name types has made named (Err fault) right is = is
+with_tags s name types has made named once (Err fault) right is = is
 
 -- the numbers of the tags
 dense_of : (s : Source) (t : Tags) → known.AreTags s t → AreInOrder s → AreDense s
@@ -153,3 +154,8 @@ lowered s plain f t name same tags ordered (Ok u) h = record {
   tags = subst (λ (x : Source). HasTags x u) same h.1;
 }
 lowered s plain f t name same tags ordered (Err fault) h = subst (RefusedIn plain) (sym h) tt
+
+-- and no type stands twice in it
+pub lowered_once : (s : Source) (name : List ℕ) (r : Result Unit CheckFault) → MatchResult r (IsLowered s name) (RefusedIn s) → IfOk r (λ (u : Unit). HasOnce u.types)
+lowered_once s name (Ok u) h = h.tags.once
+lowered_once s name (Err fault) h = tt

@@ -2,6 +2,7 @@
 ghost use Rattle.std.specs.Prelude.{◌≡◌, ◌++◌, ℕ, List, All, length, map, IfOk, MatchResult};
 ghost use Rattle.core_tree.specs.declared.node.Unit.{Unit as UnitSpec};
 ghost use Rattle.core_nodes.specs.declared.fault.CheckFault.TheVariants.{OutOfMemory};
+ghost use Rattle.core_nodes.specs.Once.{HasOnce};
 ghost use Rattle.core_nodes.specs.Standing.{IsReady};
 ghost use Rattle.c_lexer.specs.Cut.{IsTokens};
 ghost use Rattle.c_parser.specs.c_units.Units.{IsUnit};
@@ -87,6 +88,7 @@ fn completed(alloc: Global, bound: &Bound, name: Text, walked: Walked) -> Result
     requires stand { Stand (nodes_ground walked.ground) walked.unit walked.results }
     requires walked { IsWalked (source_ground walked.ground bound.now) walked.unit walked.results }
     requires types { HasTagTypes (source_ground walked.ground bound.now) walked.unit.types }
+    requires once { HasOnce walked.unit.types }
     requires initials { InitialisesOwn (source_ground walked.ground bound.now) (senses_made walked.unit walked.results) }
     requires completes { PartsComplete (source_ground walked.ground bound.now) name }
     ensures { let s = source_ground walked.entry.ground bound.now in

@@ -1,5 +1,6 @@
 // What is known of each specifier's tag.
-ghost use Rattle.std.specs.Prelude.{◌≡◌, ◌<◌, ◌+◌, ◌==◌, ◌&&◌, ◌||◌, not, ℕ, List, Some, None, true, false, length, get_or, slice_get, IfOk, OnOk};
+ghost use Rattle.std.specs.Prelude.{◌≡◌, ◌<◌, ◌+◌, ◌==◌, ◌&&◌, ◌||◌, not, ℕ, List, Some, None, true, false, length};
+ghost use Rattle.std.specs.Prelude.{get_or, slice_get, IfOk, OnOk};
 ghost use Rattle.c_grammar.specs.Productions.{p_struct, p_members};
 ghost use Rattle.c_senses.specs.Tree as tree;
 ghost use Rattle.c_senses.specs.Tree.{Source};
@@ -294,7 +295,9 @@ pub(in crate::tag_numbers) fn completed_tags(
     count: usize,
 ) -> Result<Vec<bool>, OutOfMemory>
     ensures { IfOk result (λ flags. (uses : List (ℕ × ℕ)) →
-        let s = source_in syntax.now uses in AreRoles s roles.now → Declares s declaring.now → MarkedBefore s (length s.nodes) flags.items) }
+        let s = source_in syntax.now uses in AreRoles s roles.now
+        → Declares s declaring.now
+        → MarkedBefore s (length s.nodes) flags.items) }
 {
     if syntax.tree.nodes.len() > u32::MAX as usize {
         return Err(OutOfMemory);

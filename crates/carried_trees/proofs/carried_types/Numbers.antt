@@ -111,6 +111,7 @@ grown_on a b c p q = record {
   tags = q.tags ∙ p.tags;
   completed = q.completed ∙ p.completed;
   extents = λ t. q.extents t ∙ p.extents t;
+  once = λ h. q.once (p.once h);
 }
 
 -- a term over the numbers of types that are there

@@ -6,6 +6,7 @@ use Rattle.c_types.specs.declared.term.Term.TheVariants.{Void, Pointer, Array, F
 use Rattle.c_types.specs.declared.term.TypeId.{TypeId}
 use Rattle.c_types.specs.Trees.{Ctype, grow}
 use Rattle.c_types.specs.Table.{Table, types_of, type_of, extent_in}
+use Rattle.core_nodes.specs.Once.{HasOnce}
 use Rattle.carried_trees.specs.carried_types.Types.{carried_type, is_given_type}
 
 -- the number of a type in the other table
@@ -82,3 +83,4 @@ pub record IsGrown (old new : Table) : Type 0 where
   pub tags : new.tags ≡ old.tags
   pub completed : new.completed ≡ old.completed
   pub extents : (t : Ctype) → extent_in new t ≡ extent_in old t
+  pub once : HasOnce old → HasOnce new

@@ -2,7 +2,8 @@
 ghost use Rattle.std.specs.Prelude.{◌≡◌, ◌<◌, ◌+◌, true, false, None, Some, length, map, get_or, All, IfOk, IfSome};
 ghost use Rattle.c_types.specs.Table.{type_of};
 ghost use Rattle.carried_trees.specs.carried_types.Terms.{AreTagIds, AreTypes, tag_type};
-ghost use Rattle.carried_trees.specs.carried_types.Members.{AreTagged, AreAdded, AreDone, AreComplete, HaveKeyword, Lacks, are_flagged, moved_member, tag_named};
+ghost use Rattle.carried_trees.specs.carried_types.Members.{AreTagged, AreAdded, AreDone, AreComplete, HaveKeyword, Lacks};
+ghost use Rattle.carried_trees.specs.carried_types.Members.{are_flagged, moved_member, tag_named};
 
 use crate::carried_types::types::CarriedTypes;
 use c_types::table::TypeTable;
@@ -43,8 +44,8 @@ fn moved_members(
     Ok(list)
 }
 
-// Whether the types of members are given.
-fn are_flagged(given: &[bool], members: &[MemberTerm]) -> bool
+/// Whether the types of members are given.
+pub(in crate::carried_types) fn are_flagged(given: &[bool], members: &[MemberTerm]) -> bool
     requires { All (λ m. m.ty.0 < length given.now) members.now }
     ensures { result ≡ are_flagged given.now members.now }
 {

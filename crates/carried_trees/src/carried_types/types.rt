@@ -136,12 +136,12 @@ fn add_term(types: &mut TypeTable, term: Term) -> Result<u32, OutOfMemory>
     let Ok(found) = types.find(&term) else {
         return Err(OutOfMemory);
     };
-    if let Some(known) = found {
-        return Ok(known.0);
-    }
-    match types.add(term) {
-        Ok(ty) => Ok(ty.0),
-        Err(_) => Err(OutOfMemory),
+    match found {
+        Some(known) => Ok(known.0),
+        None => match types.add(term) {
+            Ok(ty) => Ok(ty.0),
+            Err(_) => Err(OutOfMemory),
+        },
     }
 }
 

@@ -19,9 +19,9 @@ use Rattle.core_nodes.specs.passed.c_senses.Conversions.{conversion, typed}
 use Rattle.core_nodes.specs.passed.c_senses.Constants.{constant_in}
 use Rattle.core_nodes.specs.passed.c_senses.Limits.{within_limits}
 use Rattle.core_nodes.specs.passed.c_senses.Places.{own_place}
-use Rattle.core_nodes.specs.passed.c_senses.Entities.{with_length, entity_of, is_static_object, is_in_static, derived_type, specified_of, initialised_by}
+use Rattle.core_nodes.specs.passed.c_senses.Entities.{with_length, length_seen, entity_of, is_static_object, is_in_static, derived_type, specified_of, initialised_by}
 use Rattle.core_nodes.specs.passed.c_senses.Sense.{Sense, Nothing, IsCore, IsInitial, value_in}
-use Rattle.core_nodes.specs.passed.c_senses.Initialised.{is_fixed, type_along, expression_of, character_core, expression_core, is_automatic, fixed_or, placed_core, placed_cores, new_length, Made, made_of, most_elements, seen, outcome_of, object_initialiser, initialised_object, name_of_declarator, init_in, opening, brace, braced, is_in_body, literal_core, literal_of, literal_type, literal_in, designator_row}
+use Rattle.core_nodes.specs.passed.c_senses.Initialised.{is_fixed, type_along, expression_of, character_core, expression_core, is_automatic, fixed_or, placed_core, placed_cores, new_length, Made, made_of, most_elements, seen, outcome_of, object_initialiser, with_seen, initialised_as, initialised_object, name_of_declarator, init_in, opening, brace, braced, is_in_body, literal_core, literal_of, literal_type, literal_in, designator_row}
 use Rattle.core_node_laws.specs.literal_initials.Holding.{OfSense, Holds, AllHold, InsideHold, ObjectsGive}
 use Rattle.core_node_laws.proofs.literal_initials.Giving.{Gives, then_gives, after, if_given, some_given, if_holds, if_says}
 use Rattle.core_node_laws.proofs.literal_initials.Values.{place_kept, conversion_kept, typed_kept}
@@ -107,10 +107,20 @@ module _ (asks : ℕ → Type 0) (w : World) (s : Source) (sense : ℕ → Sense
       if_holds (Gives (OfSense asks)) (has_sign s sign_left_bracket first) _ (Fits Nothing)
       (some_given (OfSense asks) (child_of s p_conditional at) Operand at _ (λ c. after (OfSense asks) (constant_in w s at (sense c)) _ (λ n. tt))) tt
 
+  -- whose length was seen before: the same tree
+  seen_kept : (n : Option ℕ) (x : Sense) → OfSense asks x → OfSense asks (with_seen n x)
+  seen_kept n (IsInitial c None) h = h
+  seen_kept n x h = h
+
+  as_kept : (at declarator leaf : ℕ) (t : Ctype) → asks (entity_of s sense leaf) → Gives (OfSense asks) (initialised_as w s sense at declarator leaf t)
+  as_kept at declarator leaf t told =
+      let n : Option ℕ = length_seen s sense leaf in
+      then_gives (OfSense asks) (OfSense asks) (object_initialiser w s sense at declarator leaf (with_length n t)) (λ x. Fits (with_seen n x)) (object_kept at declarator leaf (with_length n t) told) (λ x h. seen_kept n x h)
+
   initialised_kept : (at declarator : ℕ) (o : Option ℕ) → ((leaf : ℕ) → o ≡ Some leaf → asks (entity_of s sense leaf)) → Gives (OfSense asks) (initialised_object w s sense at declarator o)
   initialised_kept at declarator None own = tt
   initialised_kept at declarator (Some leaf) own =
-      some_given (OfSense asks) (derived_type s sense (specified_of s sense leaf) (Some declarator)) Operand at (object_initialiser w s sense at declarator leaf) (λ t. object_kept at declarator leaf t (own leaf refl))
+      some_given (OfSense asks) (derived_type s sense (specified_of s sense leaf) (Some declarator)) Operand at (initialised_as w s sense at declarator leaf) (λ t. as_kept at declarator leaf t (own leaf refl))
 
   init_in_kept : (at : ℕ) (o : Option ℕ) → ((declarator leaf : ℕ) → o ≡ Some declarator → name_of_declarator w s sense (sense declarator) ≡ Some leaf → asks (entity_of s sense leaf)) → Gives (OfSense asks) (init_in w s sense at o)
   init_in_kept at None own = tt

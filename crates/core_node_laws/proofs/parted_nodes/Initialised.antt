@@ -21,9 +21,9 @@ use Rattle.core_nodes.specs.passed.c_senses.Conversions.{conversion, typed}
 use Rattle.core_nodes.specs.passed.c_senses.Constants.{constant_in}
 use Rattle.core_nodes.specs.passed.c_senses.Limits.{within_limits}
 use Rattle.core_nodes.specs.passed.c_senses.Places.{own_place}
-use Rattle.core_nodes.specs.passed.c_senses.Entities.{with_length, entity_of, is_static_object, is_in_static, derived_type, specified_of, initialised_by}
+use Rattle.core_nodes.specs.passed.c_senses.Entities.{with_length, length_seen, entity_of, is_static_object, is_in_static, derived_type, specified_of, initialised_by}
 use Rattle.core_nodes.specs.passed.c_senses.Sense.{Sense, Nothing, IsCore, IsInitial, value_in}
-use Rattle.core_nodes.specs.passed.c_senses.Initialised.{paths_of, is_fixed, type_along, expression_of, character_core, expression_core, is_automatic, fixed_or, placed_core, placed_cores, new_length, Made, made_of, most_elements, seen, outcome_of, object_initialiser, initialised_object, name_of_declarator, init_in, opening, brace, braced, is_in_body, literal_core, literal_of, literal_type, literal_in, designator_row}
+use Rattle.core_nodes.specs.passed.c_senses.Initialised.{paths_of, is_fixed, type_along, expression_of, character_core, expression_core, is_automatic, fixed_or, placed_core, placed_cores, new_length, Made, made_of, most_elements, seen, outcome_of, object_initialiser, with_seen, initialised_as, initialised_object, name_of_declarator, init_in, opening, brace, braced, is_in_body, literal_core, literal_of, literal_type, literal_in, designator_row}
 use Rattle.core_node_laws.specs.near_nodes.Holding.{OfSense, Holds, AllHold, RowGives, IsFixedIf, AreFixedIf}
 use Rattle.core_node_laws.proofs.near_nodes.Nearness.{IfNear, all_near, first_near}
 use Rattle.core_node_laws.proofs.near_nodes.Inits.{OutcomeNear, AllPlaced, IfValues, IfItems, initial_near, lasting_near}
@@ -131,10 +131,20 @@ module _ (asks : Core → Type 0) (w : World) (s : Source) (sense : ℕ → Sens
         if_given (Holds asks) (within_limits w (with_length m.length t) && not (is_in_body w s sense at && is_in_static s sense at)) Operand (opening w s sense p) (Fits (literal_core w s sense p t m))
         (gives.literals p up (with_length m.length t) m.initial over, (h, tt))))
 
+    -- whose length was seen before: the same tree
+    seen_kept : (n : Option ℕ) (x : Sense) → OfSense s near asks x → OfSense s near asks (with_seen n x)
+    seen_kept n (IsInitial c None) h = h
+    seen_kept n x h = h
+
+    as_kept : (declarator leaf : ℕ) (t : Ctype) → initialised_by s sense at ≡ Some declarator → name_of_declarator w s sense (sense declarator) ≡ Some leaf → Gives (OfSense s near asks) (initialised_as w s sense at declarator leaf t)
+    as_kept declarator leaf t by named =
+        let n : Option ℕ = length_seen s sense leaf in
+        then_gives (OfSense s near asks) (OfSense s near asks) (object_initialiser w s sense at declarator leaf (with_length n t)) (λ x. Fits (with_seen n x)) (object_kept declarator leaf (with_length n t) by named) (λ x h. seen_kept n x h)
+
     initialised_kept : (declarator : ℕ) (o : Option ℕ) → initialised_by s sense at ≡ Some declarator → name_of_declarator w s sense (sense declarator) ≡ o → Gives (OfSense s near asks) (initialised_object w s sense at declarator o)
     initialised_kept declarator None by named = tt
     initialised_kept declarator (Some leaf) by named =
-        some_given (OfSense s near asks) (derived_type s sense (specified_of s sense leaf) (Some declarator)) Operand at (object_initialiser w s sense at declarator leaf) (λ t. object_kept declarator leaf t by named)
+        some_given (OfSense s near asks) (derived_type s sense (specified_of s sense leaf) (Some declarator)) Operand at (initialised_as w s sense at declarator leaf) (λ t. as_kept declarator leaf t by named)
 
     init_in_kept : (o : Option ℕ) → initialised_by s sense at ≡ o → Gives (OfSense s near asks) (init_in w s sense at o)
     init_in_kept None by = tt

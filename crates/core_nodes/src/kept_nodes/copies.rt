@@ -65,7 +65,8 @@ fn copy_node(
         (Fits (Of node.kind node.place (type_of unit.old.types node.ty.0)
         (cores_at unit.old (map (spec.number_of from numbers.now) node.children)))) }
     ensures added { IfOk result (λ i. (i ≡ length unit.old.nodes.items)
-        × (unit.new.nodes.items ≡ unit.old.nodes.items ++ record node { children = map (spec.number_of from numbers.now) node.children } ∷ [])) }
+        × (unit.new.nodes.items
+        ≡ unit.old.nodes.items ++ record node { children = map (spec.number_of from numbers.now) node.children } ∷ [])) }
     ensures types { unit.new.types ≡ unit.old.types }
     ensures memory { IsOkUnless result OutOfMemory }
 {

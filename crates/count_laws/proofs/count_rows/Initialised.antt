@@ -20,9 +20,9 @@ use Rattle.c_senses.specs.Conversions.{conversion, typed}
 use Rattle.c_senses.specs.Constants.{constant_in}
 use Rattle.c_senses.specs.Limits.{within_limits}
 use Rattle.c_senses.specs.Places.{own_place}
-use Rattle.c_senses.specs.Entities.{with_length, entity_of, is_static_object, is_in_static, derived_type, specified_of, initialised_by}
+use Rattle.c_senses.specs.Entities.{with_length, length_seen, entity_of, is_static_object, is_in_static, derived_type, specified_of, initialised_by}
 use Rattle.c_senses.specs.Sense.{Sense, Nothing, IsCore, IsInitial, value_in}
-use Rattle.c_senses.specs.Initialised.{is_fixed, type_along, expression_of, character_core, expression_core, is_automatic, fixed_or, placed_core, placed_cores, paths_of, new_length, Made, made_of, most_elements, seen, outcome_of, initialised_fits, object_initialiser, initialised_object, name_of_declarator, init_in, opening, brace, braced, is_in_body, literal_core, literal_of, literal_type, literal_in, designator_row}
+use Rattle.c_senses.specs.Initialised.{is_fixed, type_along, expression_of, character_core, expression_core, is_automatic, fixed_or, placed_core, placed_cores, paths_of, new_length, Made, made_of, most_elements, seen, outcome_of, initialised_fits, object_initialiser, with_seen, initialised_as, initialised_object, name_of_declarator, init_in, opening, brace, braced, is_in_body, literal_core, literal_of, literal_type, literal_in, designator_row}
 use Rattle.count_laws.specs.count_rows.Counts.{Count, count_whole, count_full, init_total, items_total}
 use Rattle.count_laws.specs.count_rows.Covers.{value_at}
 use Rattle.count_laws.proofs.count_rows.Giving.{Gives, then_gives, after, if_given, some_given, if_holds}
@@ -101,11 +101,19 @@ module _ (n : Count) (w : World) (s : Source) (sense : ℕ → Sense) where
       (made_kept m (init_total V init) (is_static_object s sense leaf) (entity_of s sense leaf) (own_place s at) t (initial shape init) (initial_out V shape init) (λ paths. own init paths refl))
       (λ made h. if_given (FullMost n m) (initialised_fits w s sense (with_length made.length t) leaf) Operand leaf (Fits (IsInitial made.initial made.length)) h)
 
+  -- whose length was seen before: the same tree
+  seen_kept : (m : ℕ) (k : Option ℕ) (x : Sense) → FullMost n m x → FullMost n m (with_seen k x)
+  seen_kept m k (IsInitial c None) h = h
+  seen_kept m k x h = h
+
   initialised_kept : (m at declarator : ℕ) (o : Option ℕ) → initialised_by s sense at ≡ Some declarator → name_of_declarator w s sense (sense declarator) ≡ o → ObjectMost m at → Gives (FullMost n m) (initialised_object w s sense at declarator o)
   initialised_kept m at declarator None by_it named own = tt
   initialised_kept m at declarator (Some leaf) by_it named own =
-      some_given (FullMost n m) (derived_type s sense (specified_of s sense leaf) (Some declarator)) Operand at (object_initialiser w s sense at declarator leaf)
-      (λ t. object_by m at leaf t (shape_for w.fillable most_elements t) (view.init_at (seen w s sense) s.nodes at) (λ init paths e. own declarator leaf init paths by_it named e))
+      some_given (FullMost n m) (derived_type s sense (specified_of s sense leaf) (Some declarator)) Operand at (initialised_as w s sense at declarator leaf)
+      (λ t.
+      let k : Option ℕ = length_seen s sense leaf in
+      then_gives (FullMost n m) (FullMost n m) (object_initialiser w s sense at declarator leaf (with_length k t)) (λ x. Fits (with_seen k x))
+      (object_by m at leaf (with_length k t) (shape_for w.fillable most_elements (with_length k t)) (view.init_at (seen w s sense) s.nodes at) (λ init paths e. own declarator leaf init paths by_it named e)) (λ x h. seen_kept m k x h))
 
   init_in_kept : (m at : ℕ) (o : Option ℕ) → initialised_by s sense at ≡ o → ObjectMost m at → Gives (FullMost n m) (init_in w s sense at o)
   init_in_kept m at None e own = tt

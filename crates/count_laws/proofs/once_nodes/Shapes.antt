@@ -8,7 +8,7 @@ use Rattle.core_tree.specs.declared.node.NodeKind.TheVariants.{Block, Initialise
 use Rattle.c_grammar.specs.Productions.{p_block, p_init, p_declarator, p_asm_name, p_rest, p_field, p_parameter}
 use Rattle.c_grammar.specs.Reads.{leaf}
 use Rattle.c_grammar.specs.Words.{word_inline, word_static}
-use Rattle.c_consts.specs.Core.{Of}
+use Rattle.c_consts.specs.Core.{Core, Of}
 use Rattle.c_inits.specs.Made.{shape_for}
 use Rattle.c_inits.specs.Initial.{Outcome, Places, NoPlace, lasting}
 use Rattle.c_inits.specs.View as view
@@ -18,8 +18,8 @@ use Rattle.c_senses.specs.World.{World, has_size}
 use Rattle.c_senses.specs.Places.{own_place}
 use Rattle.c_senses.specs.Sense.{Sense, Nothing, IsCore, IsDeclarator, IsInitial}
 use Rattle.c_senses.specs.Declarators.{is_outermost, base_type, derived, adjusted, plain_declarator_row, derives_well, derivations, name_in}
-use Rattle.c_senses.specs.Entities.{with_length, entity_of, is_static_object, specified_of, derived_type, initialised_by, named_row, parameter_named, initialiser_of, words_go, is_same_again, has_one_linkage, internal_fits, is_name_complete, definition_row, is_void_type, result_of, has_function_word, has_storage, is_defined}
-use Rattle.c_senses.specs.Initialised.{Made, made_of, new_length, placed_cores, most_elements, seen, outcome_of, initialised_fits, object_initialiser, initialised_object, name_of_declarator, init_in}
+use Rattle.c_senses.specs.Entities.{with_length, length_seen, entity_of, is_static_object, specified_of, derived_type, initialised_by, named_row, parameter_named, initialiser_of, words_go, is_same_again, has_one_linkage, internal_fits, is_name_complete, definition_row, is_void_type, result_of, has_function_word, has_storage, is_defined}
+use Rattle.c_senses.specs.Initialised.{Made, made_of, new_length, placed_cores, most_elements, seen, outcome_of, initialised_fits, object_initialiser, with_seen, initialised_as, initialised_object, name_of_declarator, init_in}
 use Rattle.c_senses.specs.Statements.{objects_in, cores_in}
 use Rattle.c_senses.specs.Rows.{at_its_name, row_of}
 use Rattle.count_laws.proofs.count_rows.Giving.{Gives, then_gives, after, if_given, some_given, if_holds}
@@ -53,15 +53,29 @@ module _ (w : World) (s : Source) (sense : ℕ → Sense) where
   made_shape static entity place t (NoPlace node) = tt
   made_shape static entity place t (Places actions) = after IsMade (placed_cores w s sense static (with_length (new_length w s sense t actions) t) (lasting [] actions)) _ (λ values. tt)
 
-  initialised_shape : (at declarator : ℕ) (o : Option ℕ) → Gives InitShape (initialised_object w s sense at declarator o)
-  initialised_shape at declarator None = tt
-  initialised_shape at declarator (Some leaf) =
-      some_given InitShape (derived_type s sense (specified_of s sense leaf) (Some declarator)) Operand at (object_initialiser w s sense at declarator leaf)
-      (λ t.
+  object_shape : (at declarator leaf : ℕ) (t : Ctype) → Gives InitShape (object_initialiser w s sense at declarator leaf t)
+  object_shape at declarator leaf t =
       after InitShape (outcome_of w s sense at (shape_for w.fillable most_elements t) (view.init_at (seen w s sense) s.nodes at)) _
       (λ outcome.
       then_gives IsMade InitShape (made_of w s sense (is_static_object s sense leaf) (entity_of s sense leaf) (own_place s at) t outcome) _ (made_shape (is_static_object s sense leaf) (entity_of s sense leaf) (own_place s at) t outcome)
-      (λ made h. if_given InitShape (initialised_fits w s sense (with_length made.length t) leaf) Operand leaf (Fits (IsInitial made.initial made.length)) h)))
+      (λ made h. if_given InitShape (initialised_fits w s sense (with_length made.length t) leaf) Operand leaf (Fits (IsInitial made.initial made.length)) h))
+
+  -- of whatever length
+  any_shape : (c : Core) (m n : Option ℕ) → InitShape (IsInitial c m) → InitShape (IsInitial c n)
+  any_shape (Of (Initialise e paths) place type under) m n h = tt
+  any_shape (Of kind place type under) m n h = h
+
+  seen_shape : (k : Option ℕ) (x : Sense) → InitShape x → InitShape (with_seen k x)
+  seen_shape k (IsInitial c None) h = any_shape c None k h
+  seen_shape k x h = h
+
+  initialised_shape : (at declarator : ℕ) (o : Option ℕ) → Gives InitShape (initialised_object w s sense at declarator o)
+  initialised_shape at declarator None = tt
+  initialised_shape at declarator (Some leaf) =
+      some_given InitShape (derived_type s sense (specified_of s sense leaf) (Some declarator)) Operand at (initialised_as w s sense at declarator leaf)
+      (λ t.
+      let k : Option ℕ = length_seen s sense leaf in
+      then_gives InitShape InitShape (object_initialiser w s sense at declarator leaf (with_length k t)) (λ x. Fits (with_seen k x)) (object_shape at declarator leaf (with_length k t)) (λ x h. seen_shape k x h))
 
   in_shape : (at : ℕ) (o : Option ℕ) → Gives InitShape (init_in w s sense at o)
   in_shape at None = tt

@@ -21,6 +21,7 @@ use Rattle.normal_form.specs.declared.normal.Assignment.{Assignment}
 use Rattle.normal_form.specs.declared.normal.Assignment.TheVariants.{Address, Copy, Load, Store, Field}
 use Rattle.normal_form.specs.Assignments.{place_of_kind, value_of_kind, statement_of_kind, row_of_kind, assignments_at, assignments_of, copies, loads, stores}
 use Rattle.normal_form.specs.SystemOf.{constraint_of, setting_of, SystemOf, Demands, by_node}
+use Rattle.normal_form.proofs.Demanding.{demanded}
 use Rattle.normal_form.proofs.WholeLemmas.{at_node}
 use Rattle.covering_laws.specs.covered_rows.Nodes.{IsNode}
 use Rattle.covering_laws.proofs.covered_rows.Lists.{map_has, flat_has, range_has, kept_has}
@@ -34,7 +35,7 @@ module _ (p : Program) (s : SpaceView) (system : System) (is : SystemOf p s syst
   w = setting_of p s is.owners
 
   pub satisfied : (c : Constraint) → Demands w (length system.calls) c → Satisfies system F c
-  satisfied c d = closed c ((is.constraints c).1 d)
+  satisfied c d = closed c ((demanded p s system is c).1 d)
 
   pub assigned : (a : Assignment) → Contains (assignments_of w) a → Satisfies system F (constraint_of a)
   assigned a h = satisfied (constraint_of a) (by_node {a = a} h refl)

@@ -1,6 +1,6 @@
 -- The system of a program is that of the program with more types.
-use Rattle.std.proofs.Common.{arith, ◌≡◌, ◌∙◌, ◌⊎◌, inl, inr, ℕ, zero, suc, ◌+◌, ◌-◌, ◌<◌, ◌≤◌, Bool, true, false, List, [], ◌∷◌, ◌++◌, take, length, length-append, find, Option, Some, None, slice_get, unwrap_or, Contains, refl, sym, ap, subst}
-use Rattle.std.specs.Prelude.{if◌then◌else◌}
+use Rattle.std.proofs.Common.{arith, ◌≡◌, ◌∙◌, ◌⊎◌, inl, inr, ℕ, zero, suc, ◌+◌, ◌-◌, ◌<◌, ◌≤◌, List, [], ◌∷◌, ◌++◌, take, map, length, length-append, find, Option, Some, None, slice_get, unwrap_or, refl, sym, ap, subst}
+use Rattle.std.specs.Prelude.{if◌then◌else◌, IsPermutation}
 use Rattle.std.specs.List.{AllZip, cons_option, enumerate_from, range_with_len}
 use Rattle.std.specs.Option.{option_map}
 use Rattle.std.proofs.lemmas.Bool.{cases_lt}
@@ -28,6 +28,7 @@ use Rattle.core_tree.specs.Valid.{UnderBody, ValidProgram}
 use Rattle.sol_model.specs.declared.system.System.{System}
 use Rattle.sol_model.specs.declared.system.CallSite.{CallSite}
 use Rattle.sol_model.specs.declared.system.Constraint.{Constraint}
+use Rattle.sol_model.specs.declared.system.Constraint.TheVariants.{Call}
 use Rattle.sol_model.specs.declared.system.Function.{Function}
 use Rattle.sol_model.specs.declared.system.LocationFact.{LocationFact}
 use Rattle.obj_space.specs.Space.{locations_in}
@@ -40,9 +41,8 @@ use Rattle.row_numbers.specs.Functions.{functions_of, function_at, parameters_of
 use Rattle.row_numbers.specs.Setting.{Setting, value_rows, takes_further}
 use Rattle.call_sites.specs.Signatures.{IsSignature, compares, ends, known, unknown, called_type, calling_type}
 use Rattle.call_sites.specs.Calls.{calls_upto, head_of, rest_of, givers_in, fresh_in, caller_by, ids_of, named_library, variadic_count, rows_past, argument_rows, IsCallSite, IsSiteAt, AreCalls}
-use Rattle.normal_form.specs.declared.normal.Assignment.{Assignment}
 use Rattle.normal_form.specs.Facts.{location_fact, location_facts, parameter_rows, parameters_by, IsFunctionFact, AreFunctions, number_if}
-use Rattle.normal_form.specs.SystemOf.{Demands, by_node, by_call, by_library, by_start, setting_of, SystemOf}
+use Rattle.normal_form.specs.SystemOf.{constraint_of, library_constraints, demands_of, setting_of, SystemOf}
 use Rattle.covering_laws.specs.object_contents.Contents.{IsMadeOf}
 use Rattle.covering_laws.proofs.object_contents.Contents.{contents_known}
 use Rattle.covering_laws.specs.grown_programs.Grown.{with_terms, IsSimple, MayFollow, IsKept, with_types, SystemsGrow}
@@ -242,21 +242,10 @@ module _ (p : Program) (more : List Term) (valid : ValidProgram p) (made : IsMad
         (λ k l at. ap (λ (n : ℕ). let r : LocationFact = record { collapsed = s.collapsed l; ty = s.node_type l; function = number_if (function_at u s l) n } in r)
         (ap (λ (ks : List ObjectKey). length ks) (functions_same p more made follow kept nodes_known entities_known s l)))
 
-    demands_more : (c : Constraint) → Demands w (length system.calls) c → Demands w' (length system.calls) c
-    demands_more c (by_node {a = a} has same) =
-        by_node {a = a} (subst (λ (list : List Assignment). Contains list a) (sym (assignments_same p more made follow kept nodes_known entities_known s is.owners)) has) same
-    demands_more c (by_call {call = call} lt same) = by_call {call = call} lt same
-    demands_more c (by_library has) = by_library has
-    demands_more c (by_start has) =
-        by_start (subst (λ (list : List Constraint). Contains list c) (sym (starts_same p more made follow kept nodes_known entities_known s p.entries.items)) has)
-
-    demands_less : (c : Constraint) → Demands w' (length system.calls) c → Demands w (length system.calls) c
-    demands_less c (by_node {a = a} has same) =
-        by_node {a = a} (subst (λ (list : List Assignment). Contains list a) (assignments_same p more made follow kept nodes_known entities_known s is.owners) has) same
-    demands_less c (by_call {call = call} lt same) = by_call {call = call} lt same
-    demands_less c (by_library has) = by_library has
-    demands_less c (by_start has) =
-        by_start (subst (λ (list : List Constraint). Contains list c) (starts_same p more made follow kept nodes_known entities_known s p.entries.items) has)
+    demands_same : demands_of w' (length system.calls) ≡ demands_of w (length system.calls)
+    demands_same =
+        both (λ (nodes begun : List Constraint). nodes ++ map (λ (call : ℕ). Call call) (range_with_len 0 (length system.calls)) ++ library_constraints s ++ begun)
+        (ap (map constraint_of) (assignments_same p more made follow kept nodes_known entities_known s is.owners)) (starts_same p more made follow kept nodes_known entities_known s p.entries.items)
 
     caller_same : (o : Option (Option ℕ)) → caller_by w' o ≡ caller_by w o
     caller_same None = refl
@@ -328,7 +317,7 @@ module _ (p : Program) (more : List Term) (valid : ValidProgram p) (made : IsMad
       rows = is.rows ∙ sym (total_same p more made follow kept nodes_known entities_known s);
       locations = is.locations ∙ sym facts_more;
       types = is.types ∙ sym (facts_same table more made follow kept);
-      constraints = λ c. (λ h. demands_more c ((is.constraints c).0 h), λ h. (is.constraints c).1 (demands_less c h));
+      constraints = subst (λ (list : List Constraint). IsPermutation list system.constraints) (sym demands_same) is.constraints;
       calls = calls_more;
       functions = functions_more;
     }

@@ -1,20 +1,22 @@
 -- What the types of a table are in a longer one.
-use Rattle.std.proofs.Common.{◌≡◌, ◌∙◌, ℕ, ◌+◌, ◌||◌, Bool, true, false, cond, List, [], ◌∷◌, ◌++◌, length, map, replicate, Option, Some, None, slice_get, refl, ap, unwrap_or}
+use Rattle.std.proofs.Common.{◌≡◌, ◌∙◌, ℕ, ◌+◌, ◌||◌, Bool, false, cond, List, [], ◌∷◌, ◌++◌, length, map, replicate, Option, Some, None, slice_get, refl, sym, ap, unwrap_or}
 use Rattle.std.specs.List.{list_any, range_with_len}
-use Rattle.std.specs.Option.{option_and_then}
+use Rattle.std.specs.Option.{option_map, option_and_then}
 use Rattle.c_types.specs.declared.term.Term.{Term}
 use Rattle.c_types.specs.declared.term.Term.TheVariants.{Void, Bool as BoolTerm, Integer, Floating, VaList, Pointer, Array, Function, Structure, Union}
 use Rattle.c_types.specs.declared.term.MemberTerm.{MemberTerm}
 use Rattle.c_types.specs.declared.term.PathStep.{PathStep}
 use Rattle.c_types.specs.declared.term.PathStep.TheVariants.{Index, Member}
-use Rattle.c_types.specs.Trees.{Ctype, StructureOf, UnionOf}
+use Rattle.c_types.specs.Trees.{Ctype, ArrayOf, StructureOf, UnionOf}
 use Rattle.c_types.specs.Layout.{Extent, Look, member_extent}
 use Rattle.c_types.specs.Table.{Table, type_of, extents_in, members_in}
 use Rattle.c_types.specs.Made.{IsMade}
 use Rattle.c_types.specs.Parts.{position, unless_flexible, member_node, field_in, within_32}
 use Rattle.c_types.specs.Paths.{with_length, member_type, part_type}
 use Rattle.row_numbers.specs.Kept.{nodes_in, nodes_of, member_node as kept_member, kept_row}
-use Rattle.normal_form.specs.Assignments.{is_union_type, is_structure_type, step_node, path_node, part_first}
+use Rattle.obj_space.specs.Spots.{Reached, reached, member_reached, step_by, part_at}
+use Rattle.obj_space.proofs.Followed.{step_member}
+use Rattle.normal_form.specs.Assignments.{path_node, part_first}
 use Rattle.normal_form.specs.Facts.{plain_fact, is_union, tagged, positions_by, tag_fact_by, tag_fact, type_facts}
 use Rattle.sol_model.specs.declared.system.TypeFact.{TypeFact}
 use Rattle.covering_laws.specs.grown_programs.Grown.{with_terms, IsSimple, MayFollow, IsKept}
@@ -92,20 +94,26 @@ module _ (table : Table) (more : List Term) (made : IsMade table) (follow : MayF
   part_type_same (UnionOf tag) (Member k) = type_by tag k (members_in table tag) refl
   part_type_same t step = refl
 
-  step_by : (b : Bool) (t : Ctype) (k : ℕ) → cond b (kept_member new t k) 0 ≡ cond b (kept_member table t k) 0
-  step_by true t k = member_node_same t k
-  step_by false t k = refl
+  element_same : (t : Ctype) (node : ℕ) (inside : Bool) (i : ℕ) → step_by new t node inside (Index i) ≡ step_by table t node inside (Index i)
+  element_same (ArrayOf of length) node inside i = refl
+  element_same t node inside i = refl
 
-  step_same : (t : Ctype) (step : PathStep) → step_node new t step ≡ step_node table t step
-  step_same t (Index i) = refl
-  step_same t (Member k) = step_by (is_structure_type t) t k
+  step_same : (t : Ctype) (node : ℕ) (inside : Bool) (step : PathStep) → step_by new t node inside step ≡ step_by table t node inside step
+  step_same t node inside (Index i) = element_same t node inside i
+  step_same t node inside (Member k) =
+      step_member new t node inside k
+      ∙ (both (λ (o : Option Ctype) (place : Option ℕ). member_reached t o place node inside) (part_type_same t (Member k)) (field_same t k) ∙ sym (step_member table t node inside k))
+
+  -- where a path leads
+  part_same : (path : List PathStep) (o : Option Reached) → part_at new o path ≡ part_at table o path
+  part_same [] o = refl
+  part_same (step ∷ rest) None = part_same rest None
+  part_same (step ∷ rest) (Some r) =
+      ap (λ (o : Option Reached). part_at new o rest) (step_same r.ty r.node r.inside step) ∙ part_same rest (step_by table r.ty r.node r.inside step)
 
   pub path_same : (path : List PathStep) (t : Option Ctype) → path_node new t path ≡ path_node table t path
   path_same path None = refl
-  path_same [] (Some t) = refl
-  path_same (step ∷ rest) (Some t) =
-      ap (λ (k : ℕ). cond (is_union_type t) 0 k)
-      (both (λ (a b : ℕ). a + b) (step_same t step) (ap (λ (o : Option Ctype). path_node new o rest) (part_type_same t step) ∙ path_same rest (part_type table t step)))
+  path_same path (Some t) = ap (λ (o : Option Reached). unwrap_or (option_map (λ (r : Reached). r.node) o) 0) (part_same path (Some (reached t 0 false)))
 
   pub first_same : (whole : Ctype) (first k : ℕ) → part_first new whole first k ≡ part_first table whole first k
   first_same whole first k = both (kept_row first) (nodes_same whole) (member_node_same whole k)

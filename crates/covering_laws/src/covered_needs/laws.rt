@@ -1,5 +1,6 @@
 //! What calls of library functions find (C11 7.22.3, 7.5, 7.4).
-ghost use Rattle.covering_laws.specs.covered_needs.Needs.{ArgumentMet, CallsAreMade, FreshIsMet, GroundsGrow, LibraryMade, NamesAreMet, TextIsMet};
+ghost use Rattle.covering_laws.specs.covered_needs.Needs.{ArgumentMet, CallsAreMade, FreshIsMet, GroundsGrow, LibraryMade};
+ghost use Rattle.covering_laws.specs.covered_needs.Needs.{NamesAreMet, TextIsMet};
 
 /// What a program's system stands on stays so over the table with more types.
 pub fn grounds_grow()

@@ -1,26 +1,29 @@
 -- What the rows of a declarator and of its initialiser ask of the type of an internal name.
-use Rattle.std.proofs.Common.{arith, ◌≡◌, ◌<◌, ◌⊎◌, inl, inr, nat_eq, ℕ, Bool, true, false, ◌||◌, List, length, Option, Some, None, refl, sym, ap, ◌∙◌, subst}
+use Rattle.std.proofs.Common.{arith, ◌≡◌, ◌<◌, ◌⊎◌, inl, inr, nat_eq, ℕ, Bool, true, false, ◌||◌, List, [], length, Option, Some, None, refl, sym, ap, ◌∙◌, subst}
 use Rattle.std.specs.Prelude.{⊤, option_and_then, if◌then◌else◌}
 use Rattle.std.proofs.lemmas.Bool.{eqb-true}
 use Rattle.pta_base.specs.declared.kind.Kind.TheVariants.{Operand}
+use Rattle.pta_base.specs.declared.place.Place.{Place}
 use Rattle.c_types.specs.Trees.{Ctype}
 use Rattle.c_grammar.specs.Productions.{p_external, p_rest, p_declaration, p_field, p_parameter, p_declarator, p_init}
 use Rattle.c_consts.specs.Core.{Core}
 use Rattle.c_inits.specs.Made.{shape_for}
 use Rattle.c_inits.specs.View as view
+use Rattle.c_inits.specs.Initial.{Outcome, Places, NoPlace, length_given, lasting}
 use Rattle.c_senses.specs.Tree.{Source, production_at, children_at, is_a, parent_of}
 use Rattle.c_senses.specs.Given.{Given, Fits, Refuses, ◌>>=◌, given_some}
 use Rattle.c_senses.specs.World.{World}
-use Rattle.c_senses.specs.Limits.{within_limits}
+use Rattle.c_senses.specs.Limits.{within_limits, lacks_a_length}
 use Rattle.c_senses.specs.Places.{own_place}
 use Rattle.c_senses.specs.Declarators.{is_outermost, specs_of, specified_at, base_type, derived, derivations, adjusted, name_in}
-use Rattle.c_senses.specs.Entities.{with_length, entity_of, is_static_object, specified, specified_of, derived_type, initialised_by, internal_agrees, parameter_named, named_row, by_place}
-use Rattle.c_senses.specs.Initialised.{most_elements, seen, outcome_of, made_of, initialised_fits, object_initialiser, initialised_object, init_in, name_of_declarator}
+use Rattle.c_senses.specs.Entities.{with_length, length_seen, entity_of, is_static_object, specified, specified_of, derived_type, initialised_by, internal_agrees, parameter_named, named_row, by_place}
+use Rattle.c_senses.specs.Initialised.{most_elements, seen, outcome_of, made_of, placed_cores, new_length, initialised_fits, object_initialiser, with_seen, initialised_as, initialised_object, init_in, name_of_declarator}
 use Rattle.c_senses.specs.Sense.{Sense, Nothing, IsSpecified, IsDeclarator, IsInitial, Specified, Derivation, sense_in}
 use Rattle.c_senses.specs.Rows.{AreSenses, declarator_row}
 use Rattle.sense_laws.specs.Sound.{Gives}
 use Rattle.sense_laws.proofs.Giving.{then_gives, if_given, and_left, and_right}
 use Rattle.sense_laws.proofs.Types.{anything}
+use Rattle.sense_laws.proofs.Seen.{initial_length, seen_is, seen_length}
 use Rattle.count_laws.proofs.passed.parsed_tree_laws.placed_laws.Climbing.{Grown}
 use Rattle.owner_laws.proofs.passed.definition_laws.linkage_laws.Seen.{parent_is}
 use Rattle.owner_laws.proofs.passed.definition_laws.function_definitions.Whole as whole_of
@@ -48,14 +51,40 @@ module _ (w : World) (s : Source) (f : ℕ → Sense) (i declarator leaf : ℕ) 
   abbrev IsAsked : Sense → Type 0
   IsAsked x = (c : Core) × (n : Option ℕ) × (x ≡ IsInitial c n) × (internal_agrees w s f (with_length n t) leaf ≡ true)
 
-  object_asks : Gives IsAsked (object_initialiser w s f i declarator leaf t)
+  -- with the length that was seen of its name
+  abbrev N : Option ℕ
+  N = length_seen s f leaf
+
+  abbrev U : Ctype
+  U = with_length N t
+
+  -- a type that has a length gets no new one
+  abbrev IsNew : Option ℕ → Type 0
+  IsNew m = lacks_a_length U ≡ false → m ≡ None
+
+  abbrev IsPlaced : Sense → Type 0
+  IsPlaced x = (c : Core) × (m : Option ℕ) × (x ≡ IsInitial c m) × IsNew m × (internal_agrees w s f (with_length m U) leaf ≡ true)
+
+  made_new : (static : Bool) (entity : ℕ) (place : Place) (o : Outcome) → Gives (λ m. IsNew m.length) (made_of w s f static entity place U o)
+  made_new static entity place (NoPlace node) = tt
+  made_new static entity place (Places actions) =
+      then_gives (λ x. ⊤) (λ m. IsNew m.length) (placed_cores w s f static (with_length (new_length w s f U actions) U) (lasting [] actions)) _ (anything _) (λ values k e. ap (λ (lacks : Bool). if lacks then Some (length_given actions) else None) e)
+
+  object_asks : Gives IsPlaced (object_initialiser w s f i declarator leaf U)
   object_asks =
-      then_gives (λ o. ⊤) IsAsked (outcome_of w s f i (shape_for w.fillable most_elements t) (view.init_at (seen w s f) s.nodes i)) _ (anything _)
+      then_gives (λ o. ⊤) IsPlaced (outcome_of w s f i (shape_for w.fillable most_elements U) (view.init_at (seen w s f) s.nodes i)) _ (anything _)
       (λ o k.
-      then_gives (λ m. ⊤) IsAsked (made_of w s f (is_static_object s f leaf) (entity_of s f leaf) (own_place s i) t o) _ (anything _)
-      (λ m j.
-      if_given IsAsked (initialised_fits w s f (with_length m.length t) leaf) Operand leaf (Fits (IsInitial m.initial m.length))
-      (λ fit. (m.initial, m.length, refl, and_right (within_limits w (with_length m.length t)) (internal_agrees w s f (with_length m.length t) leaf) fit))))
+      then_gives (λ m. IsNew m.length) IsPlaced (made_of w s f (is_static_object s f leaf) (entity_of s f leaf) (own_place s i) U o) _ (made_new (is_static_object s f leaf) (entity_of s f leaf) (own_place s i) o)
+      (λ m new.
+      if_given IsPlaced (initialised_fits w s f (with_length m.length U) leaf) Operand leaf (Fits (IsInitial m.initial m.length))
+      (λ fit. (m.initial, m.length, refl, new, and_right (within_limits w (with_length m.length U)) (internal_agrees w s f (with_length m.length U) leaf) fit))))
+
+  as_asks : Gives IsAsked (initialised_as w s f i declarator leaf t)
+  as_asks =
+      then_gives IsPlaced IsAsked (object_initialiser w s f i declarator leaf U) (λ x. Fits (with_seen N x)) object_asks
+      (λ x h.
+      let l : Option ℕ = initial_length (with_seen N (IsInitial h.0 h.1)) in
+      (h.0, l, ap (with_seen N) h.2 ∙ seen_is N h.1 h.0, ap (λ (u : Ctype). internal_agrees w s f u leaf) (seen_length N h.1 t h.0 h.3) ∙ h.4))
 
 module _ (s : Source) (tree : Grown s) (senses : List Sense) (are : AreSenses s senses) where
   abbrev G : ℕ → Sense
@@ -138,9 +167,9 @@ module _ (s : Source) (tree : Grown s) (senses : List Sense) (are : AreSenses s 
             let told : specified_of s (F i) leaf ≡ Some one.words = specified_later s senses m i leaf one.words one.told (omega (arith, before)) in
             let type : derived_type s (F i) (specified_of s (F i) leaf) (Some m) ≡ Some T =
             ap (λ (o : Option Specified). derived_type s (F i) o (Some m)) told ∙ ap (λ (y : Sense). elim y as (λ _. Option Ctype) [ IsDeclarator n ds ↦ Some (derived ds one.words.type) | _ ↦ None ]) (known s senses i m before ∙ one.is) in
-            let row : object_initialiser (W i) s (F i) i m leaf T ≡ Fits (sense_in senses i) =
-            sym (ap (λ (k : ℕ). initialised_object (W i) s (F i) i m (Some k)) same_leaf ∙ ap (λ (o : Option Ctype). given_some o Operand i >>= object_initialiser (W i) s (F i) i m leaf) type) ∙ e in
-            let asks = fitted (IsAsked (W i) s (F i) i m leaf T) (object_initialiser (W i) s (F i) i m leaf T) (sense_in senses i) row (object_asks (W i) s (F i) i m leaf T) in
+            let row : initialised_as (W i) s (F i) i m leaf T ≡ Fits (sense_in senses i) =
+            sym (ap (λ (k : ℕ). initialised_object (W i) s (F i) i m (Some k)) same_leaf ∙ ap (λ (o : Option Ctype). given_some o Operand i >>= initialised_as (W i) s (F i) i m leaf) type) ∙ e in
+            let asks = fitted (IsAsked (W i) s (F i) i m leaf T) (initialised_as (W i) s (F i) i m leaf T) (sense_in senses i) row (as_asks (W i) s (F i) i m leaf T) in
             record { before = before; core = asks.0; length_is = asks.1; is = asks.2; asked = asks.3 }
 
         by : (o : Option ℕ) → name_of_declarator (W i) s (F i) (F i m) ≡ o → initialised_object (W i) s (F i) i m (name_of_declarator (W i) s (F i) (F i m)) ≡ Fits (sense_in senses i) → Initial i

@@ -12,7 +12,7 @@ use Rattle.c_grammar.specs.Words.{word_extern, word_static}
 use Rattle.c_consts.specs.Core.{Core}
 use Rattle.c_scope.specs.declared.kinds.Declared.{Declared}
 use Rattle.c_inits.specs.Made.{shape_for}
-use Rattle.c_inits.specs.Initial.{Outcome, Places, NoPlace, Action, lasting}
+use Rattle.c_inits.specs.Initial.{Outcome, Places, NoPlace, Action, lasting, length_given}
 use Rattle.c_inits.specs.View as view
 use Rattle.c_senses.specs.Tree.{Source, production_at, children_at, is_a, is_name, last_where, child_of, parent_of}
 use Rattle.c_senses.specs.Given.{Given, Fits, ◌>>=◌, given_some}
@@ -20,8 +20,8 @@ use Rattle.c_senses.specs.World.{World}
 use Rattle.c_senses.specs.Limits.{lacks_a_length}
 use Rattle.c_senses.specs.Names.{ordinary_at, linked_before}
 use Rattle.c_senses.specs.Declarators.{is_declarator, is_outermost, outermost_of, declaration_around, specs_of}
-use Rattle.c_senses.specs.Entities.{with_length, entity_of, first_of, internal_among, specified_of, derived_type, parameter_type, declaration_of, is_parameter, own_type, length_given_by, initialised_by, initialiser_for, is_internal, is_linked, is_at_file, has_storage, declares_function, is_without_storage, is_static_at_file, some_such, is_static_object}
-use Rattle.c_senses.specs.Initialised.{new_length, most_elements, seen, outcome_of, name_of_declarator, made_of, placed_cores, object_initialiser, initialised_object, init_in, initialised_fits}
+use Rattle.c_senses.specs.Entities.{with_length, length_seen, entity_of, first_of, internal_among, specified_of, derived_type, parameter_type, declaration_of, is_parameter, own_type, length_given_by, initialised_by, initialiser_for, is_internal, is_linked, is_at_file, has_storage, declares_function, is_without_storage, is_static_at_file, some_such, is_static_object}
+use Rattle.c_senses.specs.Initialised.{new_length, most_elements, seen, outcome_of, name_of_declarator, made_of, placed_cores, object_initialiser, with_seen, initialised_as, initialised_object, init_in, initialised_fits}
 use Rattle.c_senses.specs.Places.{own_place}
 use Rattle.c_senses.specs.Sense.{Sense, Nothing, IsDeclarator, IsInitial, Derivation, Specified, sense_in}
 use Rattle.c_senses.specs.Rows.{AreSenses}
@@ -29,6 +29,7 @@ use Rattle.c_senses.specs.Right as right
 use Rattle.sense_laws.specs.Sound.{Gives}
 use Rattle.sense_laws.proofs.Giving.{then_gives, if_given, and_left}
 use Rattle.sense_laws.proofs.Types.{anything}
+use Rattle.sense_laws.proofs.Seen.{seen_whole}
 use Rattle.count_laws.proofs.passed.parsed_tree_laws.placed_laws.Climbing.{Grown}
 use Rattle.built_unit_laws.specs.passed.core_node_laws.standing_laws.Standing.{IsGrown}
 use Rattle.built_unit_laws.proofs.passed.core_node_laws.standing_laws.Climbing.{in_list, found_where, parent_is, parent_holds}
@@ -220,15 +221,17 @@ module _ (s : Source) (senses : List Sense) (are : AreSenses s senses) (grown : 
       either true = refl
       either false = refl
 
-  closed : (w : World) (f : ℕ → Sense) (t : Ctype) (n : Option ℕ) (actions : List Action) → lacks_a_length t ≡ false → with_length n t ≡ with_length (new_length w s f t actions) t
-  closed w f (ArrayOf of None) n actions h = cc
-  closed w f (ArrayOf of (Some k)) n actions h = plain n
-    where
-      plain : (n : Option ℕ) → with_length n (ArrayOf of (Some k)) ≡ ArrayOf of (Some k)
-      plain None = refl
-      plain (Some m) = refl
-  closed w f t None actions h = refl
-  closed w f t (Some n) actions h = refl
+  -- no length changes a type that has one, or none to have
+  kept : (t : Ctype) (n : Option ℕ) → lacks_a_length t ≡ false → with_length n t ≡ t
+  kept (ArrayOf of None) n h = cc
+  kept t None h = refl
+  kept t (Some n) h = refl
+
+  closed : (w : World) (f : ℕ → Sense) (t : Ctype) (n k : Option ℕ) (actions : List Action) → lacks_a_length t ≡ false → with_length n t ≡ with_length (new_length w s f (with_length k t) actions) (with_length k t)
+  closed w f t n k actions h =
+      let same : with_length k t ≡ t = kept t k h in
+      let none : new_length w s f t actions ≡ None = ap (λ (lacks : Bool). if lacks then Some (length_given actions) else None) h in
+      kept t n h ∙ sym (ap (λ (u : Ctype). with_length (new_length w s f u actions) u) same ∙ ap (λ (m : Option ℕ). with_length m t) none)
 
   name_found : (w : World) (f : ℕ → Sense) (x : Sense) (leaf : ℕ) → name_of_declarator w s f x ≡ Some leaf → (ds : List Derivation) × (x ≡ IsDeclarator (Some leaf) ds)
   name_found w f (IsDeclarator name ds) leaf e = (ds, ap (λ (o : Option ℕ). IsDeclarator o ds) e)
@@ -236,21 +239,30 @@ module _ (s : Source) (senses : List Sense) (are : AreSenses s senses) (grown : 
 
   module _ (i : ℕ) (lt : i < length senses) (p d leaf : ℕ) (t : Ctype) (actions : List Action) (is : is_a s p_init i ≡ true) (parent : parent_of s i ≡ Some p) (rest : is_a s p_rest p ≡ true) (by_it : initialised_by s (F i) i ≡ Some d) where
     module _ (name : name_of_declarator (world_of s senses i) s (F i) (F i d) ≡ Some leaf) (type : derived_type s (F i) (specified_of s (F i) leaf) (Some d) ≡ Some t)
-        (placed : outcome_of (world_of s senses i) s (F i) i (shape_for (world_of s senses i).fillable most_elements t) (view.init_at (seen (world_of s senses i) s (F i)) s.nodes i) ≡ Fits (Places actions)) where
-      row_length : (c : Core) × (sense_in senses i ≡ IsInitial c (new_length (world_of s senses i) s (F i) t actions))
+        (placed : outcome_of (world_of s senses i) s (F i) i (shape_for (world_of s senses i).fillable most_elements (with_length (length_seen s (F i) leaf) t)) (view.init_at (seen (world_of s senses i) s (F i)) s.nodes i) ≡ Fits (Places actions)) where
+      -- the type with the length that was seen of the name
+      abbrev U : Ctype
+      U = with_length (length_seen s (F i) leaf) t
+
+      abbrev RowIs : Sense → Type 0
+      RowIs x = (c : Core) × (x ≡ with_seen (length_seen s (F i) leaf) (IsInitial c (new_length (world_of s senses i) s (F i) U actions)))
+
+      row_length : RowIs (sense_in senses i)
       row_length =
           let w : World = world_of s senses i in
           let f : ℕ → Sense = F i in
           let init : Given Sense = init_in w s f i (initialised_by s f i) in
-          let step : (elim (parent_of s i) as (λ _. Given Sense) [ None ↦ Fits Nothing | Some q ↦ if is_a s p_rest q then init else Fits Nothing ]) ≡ object_initialiser w s f i d leaf t =
+          let step : (elim (parent_of s i) as (λ _. Given Sense) [ None ↦ Fits Nothing | Some q ↦ if is_a s p_rest q then init else Fits Nothing ]) ≡ initialised_as w s f i d leaf t =
           ap (λ (o : Option ℕ). elim o as (λ _. Given Sense) [ None ↦ Fits Nothing | Some q ↦ if is_a s p_rest q then init else Fits Nothing ]) parent
           ∙ (ap (λ (b : Bool). if b then init else Fits Nothing) rest
           ∙ (ap (init_in w s f i) by_it
-          ∙ (ap (initialised_object w s f i d) name ∙ ap (λ (o : Option Ctype). given_some o Operand i >>= object_initialiser w s f i d leaf) type))) in
-          fitted (HasLength w s f i d leaf t actions placed) (object_initialiser w s f i d leaf t) (sense_in senses i) (sym step ∙ row_as s senses are p_init i lt is) (object_length w s f i d leaf t actions placed)
+          ∙ (ap (initialised_object w s f i d) name ∙ ap (λ (o : Option Ctype). given_some o Operand i >>= initialised_as w s f i d leaf) type))) in
+          let n : Option ℕ = length_seen s f leaf in
+          fitted RowIs (initialised_as w s f i d leaf t) (sense_in senses i) (sym step ∙ row_as s senses are p_init i lt is)
+          (then_gives (HasLength w s f i d leaf U actions placed) RowIs (object_initialiser w s f i d leaf U) (λ x. Fits (with_seen n x)) (object_length w s f i d leaf U actions placed) (λ x h. (h.0, ap (with_seen n) h.1)))
 
       typed_object : is_internal s G leaf ≡ false → (lacks_a_length t ≡ false) ⊎ (initialiser_for s G leaf ≡ Some i)
-          → types_declared s senses (entity_of s (F i) leaf) ≡ Some (with_length (new_length (world_of s senses i) s (F i) t actions) t)
+          → types_declared s senses (entity_of s (F i) leaf) ≡ Some (with_length (new_length (world_of s senses i) s (F i) U actions) U)
       typed_object plain sized =
           let w : World = world_of s senses i in
           let f : ℕ → Sense = F i in
@@ -267,9 +279,10 @@ module _ (s : Source) (senses : List Sense) (are : AreSenses s senses) (grown : 
           let own : own_type s G leaf ≡ Some (with_length (length_given_by s G (initialiser_for s G leaf)) t) =
           ap (λ (b : Bool). if b then parameter_type s G (declaration_of s G leaf) else option_map (with_length (length_given_by s G (initialiser_for s G leaf))) (derived_type s G (specified_of s G leaf) (outermost_of s leaf))) (no_parameter d leaf at by_sense.outermost)
           ∙ ap (option_map (with_length (length_given_by s G (initialiser_for s G leaf)))) derived_at in
-          let same : with_length (length_given_by s G (initialiser_for s G leaf)) t ≡ with_length (new_length w s f t actions) t = elim sized [
-            | inl has ↦ closed w f t (length_given_by s G (initialiser_for s G leaf)) actions has
+          let same : with_length (length_given_by s G (initialiser_for s G leaf)) t ≡ with_length (new_length w s f U actions) U = elim sized [
+            | inl has ↦ closed w f t (length_given_by s G (initialiser_for s G leaf)) (length_seen s f leaf) actions has
             | inr own_init ↦ ap (λ (n : Option ℕ). with_length n t) (ap (length_given_by s G) own_init ∙ ap (λ (x : Sense). elim x as (λ _. Option ℕ) [ IsInitial c n ↦ n | _ ↦ None ]) row_length.1)
+                ∙ seen_whole w s f (length_seen s f leaf) t actions row_length.0
           ] in
           ap (types_declared s senses) entity ∙ (linkage_plain leaf plain named ∙ (own ∙ ap Some same))
         where

@@ -1,4 +1,5 @@
--- The type of an object at its initialiser.
+-- The type of an object at its initialiser. An array without a length has the length that was seen of its name (C11
+-- 6.2.7p4).
 use Rattle.std.specs.Prelude.{ℕ, ◌≡◌, ◌<◌, true, false, take, length, List, Some, ◌⊎◌}
 use Rattle.c_types.specs.Trees.{Ctype}
 use Rattle.c_grammar.specs.Productions.{p_rest, p_init}
@@ -8,8 +9,8 @@ use Rattle.c_inits.specs.View as view
 use Rattle.c_senses.specs.Tree.{Source, is_a, parent_of}
 use Rattle.c_senses.specs.Given.{Fits}
 use Rattle.c_senses.specs.Limits.{lacks_a_length}
-use Rattle.c_senses.specs.Entities.{with_length, entity_of, specified_of, derived_type, initialised_by}
-use Rattle.c_senses.specs.Entities.{initialiser_for, is_internal}
+use Rattle.c_senses.specs.Entities.{with_length, length_seen, entity_of, specified_of, derived_type}
+use Rattle.c_senses.specs.Entities.{initialised_by, initialiser_for, is_internal}
 use Rattle.c_senses.specs.Initialised.{new_length, most_elements, seen, outcome_of, name_of_declarator}
 use Rattle.c_senses.specs.Sense.{Sense, sense_in}
 use Rattle.c_senses.specs.Rows.{AreSenses, world_at}
@@ -35,11 +36,15 @@ ObjectsTyped =
     (Some declarator)
     ≡ Some t
     → outcome_of (world_at s (take i senses) i) s (sense_in (take i senses)) i
-    (shape_for (world_at s (take i senses) i).fillable most_elements t)
+    (shape_for (world_at s (take i senses) i).fillable most_elements
+    (with_length (length_seen s (sense_in (take i senses)) leaf) t))
     (view.init_at (seen (world_at s (take i senses) i) s (sense_in (take i senses))) s.nodes i)
     ≡ Fits (Places actions)
     → is_internal s (sense_in senses) leaf ≡ false
     → (lacks_a_length t ≡ false) ⊎ (initialiser_for s (sense_in senses) leaf ≡ Some i)
     → types_declared s senses (entity_of s (sense_in (take i senses)) leaf)
     ≡ Some
-    (with_length (new_length (world_at s (take i senses) i) s (sense_in (take i senses)) t actions) t)
+    (with_length
+    (new_length (world_at s (take i senses) i) s (sense_in (take i senses))
+    (with_length (length_seen s (sense_in (take i senses)) leaf) t) actions)
+    (with_length (length_seen s (sense_in (take i senses)) leaf) t))

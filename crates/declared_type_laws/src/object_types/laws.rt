@@ -2,7 +2,8 @@
 ghost use Rattle.declared_type_laws.specs.object_types.Objects.{ObjectsTyped};
 
 /// At the initialiser of an object that has no internal linkage (C11 6.2.2, 6.7.9), the object's type is the declarator's, with the length
-/// that the initialiser gives an array: where that type has a length, and where the initialiser is the one of that name.
+/// that was seen of an array's name before (6.2.7p4), or else the initialiser gives it: where the declarator's type has a length, and
+/// where the initialiser is the one of that name.
 pub fn objects_typed()
     ensures { ObjectsTyped }
 {}

@@ -16,7 +16,9 @@ ghost use Rattle.c_types.specs.Table.{type_of};
 ghost use Rattle.core_nodes.specs.Standing.{core_at, IsReady, Builds, Made as CoreMade, Knows};
 ghost use Rattle.c_results.specs.Standing.{senses_made, IsWithin, Rowed};
 ghost use Rattle.tree_reads.specs.Sources.{source_read};
-ghost use Rattle.expression_rows.specs.c_rows.Lists.{FurtherFits, SecondFits, NamesLast, LeafFits, named_leaf, lone_leaf, first_in, last_in, parts_seen, ended_core, next_core, copied_core, started_core};
+ghost use Rattle.expression_rows.specs.c_rows.Lists.{FurtherFits, SecondFits, NamesLast, LeafFits, named_leaf, lone_leaf};
+ghost use Rattle.expression_rows.specs.c_rows.Lists.{first_in, last_in, parts_seen, ended_core, next_core, copied_core};
+ghost use Rattle.expression_rows.specs.c_rows.Lists.{started_core};
 
 use crate::c_rows::parts::{core_of, sensed, type_of};
 use c_operators::objects::address_row;

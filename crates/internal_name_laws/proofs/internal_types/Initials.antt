@@ -14,8 +14,8 @@ use Rattle.c_senses.specs.Given.{Given, Fits, ◌>>=◌, given_some}
 use Rattle.c_senses.specs.World.{World}
 use Rattle.c_senses.specs.Limits.{lacks_a_length, is_function_type}
 use Rattle.c_senses.specs.Declarators.{is_outermost, derived}
-use Rattle.c_senses.specs.Entities.{with_length, entity_of, is_linked, is_internal, is_typedef, is_defined, is_at_file, has_storage, declares_function, is_static_object, specified_of, derived_type, own_type, initialised_by, initialiser_of, initialiser_for, length_given_by, has_function_words, only_extern, is_in_for, is_object_complete, words_go, is_name_complete, types_of}
-use Rattle.c_senses.specs.Initialised.{new_length, most_elements, seen, outcome_of, name_of_declarator, made_of, placed_cores, object_initialiser, initialised_object, init_in, initialised_fits}
+use Rattle.c_senses.specs.Entities.{with_length, length_seen, entity_of, is_linked, is_internal, is_typedef, is_defined, is_at_file, has_storage, declares_function, is_static_object, specified_of, derived_type, own_type, initialised_by, initialiser_of, initialiser_for, length_given_by, has_function_words, only_extern, is_in_for, is_object_complete, words_go, is_name_complete, types_of}
+use Rattle.c_senses.specs.Initialised.{new_length, most_elements, seen, outcome_of, name_of_declarator, made_of, placed_cores, object_initialiser, with_seen, initialised_as, initialised_object, init_in, initialised_fits}
 use Rattle.c_senses.specs.Places.{own_place}
 use Rattle.c_senses.specs.Right.{of_internal, with_one}
 use Rattle.c_senses.specs.Sense.{Sense, Nothing, IsDeclarator, IsInitial, Specified, sense_in}
@@ -24,6 +24,7 @@ use Rattle.c_grammar.specs.Words.{word_extern, word_static}
 use Rattle.sense_laws.specs.Sound.{Gives}
 use Rattle.sense_laws.proofs.Giving.{then_gives, if_given}
 use Rattle.sense_laws.proofs.Types.{anything}
+use Rattle.sense_laws.proofs.Seen.{initial_length, seen_whole}
 use Rattle.parsed_tree_laws.proofs.placed_laws.Climbing.{Grown}
 use Rattle.declared_type_laws.proofs.passed.built_unit_laws.run_laws.Times.{known_at, world_of, known, told_before, row_as, fitted}
 use Rattle.declared_type_laws.proofs.passed.built_unit_laws.run_laws.Automatic.{specified_later}
@@ -129,25 +130,34 @@ module _ (s : Source) (tree : Grown s) (of : InitialisersAreOf s) (senses : List
 
   module _ (i p d leaf : ℕ) (t : Ctype) (actions : List Action) (lt : i < length senses) (is : is_a s p_init i ≡ true) (parent : parent_of s i ≡ Some p) (rest : is_a s p_rest p ≡ true) (by_it : initialised_by s (F i) i ≡ Some d)
       (name : name_of_declarator (W i) s (F i) (F i d) ≡ Some leaf) (type : derived_type s (F i) (specified_of s (F i) leaf) (Some d) ≡ Some t)
-      (placed : outcome_of (W i) s (F i) i (shape_for (W i).fillable most_elements t) (view.init_at (seen (W i) s (F i)) s.nodes i) ≡ Fits (Places actions))
+      (placed : outcome_of (W i) s (F i) i (shape_for (W i).fillable most_elements (with_length (length_seen s (F i) leaf) t)) (view.init_at (seen (W i) s (F i)) s.nodes i) ≡ Fits (Places actions))
       (internal : is_internal s G leaf ≡ true) (given : initialiser_for s G leaf ≡ Some i) where
-    row_length : (c : Core) × (sense_in senses i ≡ IsInitial c (new_length (W i) s (F i) t actions))
+    -- the type with the length that was seen of the name
+    abbrev S : Ctype
+    S = with_length (length_seen s (F i) leaf) t
+
+    abbrev RowIs : Sense → Type 0
+    RowIs x = (c : Core) × (x ≡ with_seen (length_seen s (F i) leaf) (IsInitial c (new_length (W i) s (F i) S actions)))
+
+    row_length : RowIs (sense_in senses i)
     row_length =
         let w : World = W i in
         let f : ℕ → Sense = F i in
         let init : Given Sense = init_in w s f i (initialised_by s f i) in
-        let step : (elim (parent_of s i) as (λ _. Given Sense) [ None ↦ Fits Nothing | Some q ↦ if is_a s p_rest q then init else Fits Nothing ]) ≡ object_initialiser w s f i d leaf t =
+        let step : (elim (parent_of s i) as (λ _. Given Sense) [ None ↦ Fits Nothing | Some q ↦ if is_a s p_rest q then init else Fits Nothing ]) ≡ initialised_as w s f i d leaf t =
         ap (λ (o : Option ℕ). elim o as (λ _. Given Sense) [ None ↦ Fits Nothing | Some q ↦ if is_a s p_rest q then init else Fits Nothing ]) parent
         ∙ (ap (λ (b : Bool). if b then init else Fits Nothing) rest
         ∙ (ap (init_in w s f i) by_it
-        ∙ (ap (initialised_object w s f i d) name ∙ ap (λ (o : Option Ctype). given_some o Operand i >>= object_initialiser w s f i d leaf) type))) in
-        fitted (HasLength w s f i d leaf t actions placed) (object_initialiser w s f i d leaf t) (sense_in senses i) (sym step ∙ row_as s senses are p_init i lt is) (object_length w s f i d leaf t actions placed)
+        ∙ (ap (initialised_object w s f i d) name ∙ ap (λ (o : Option Ctype). given_some o Operand i >>= initialised_as w s f i d leaf) type))) in
+        let n : Option ℕ = length_seen s f leaf in
+        fitted RowIs (initialised_as w s f i d leaf t) (sense_in senses i) (sym step ∙ row_as s senses are p_init i lt is)
+        (then_gives (HasLength w s f i d leaf S actions placed) RowIs (object_initialiser w s f i d leaf S) (λ x. Fits (with_seen n x)) (object_length w s f i d leaf S actions placed) (λ x h. (h.0, ap (with_seen n) h.1)))
 
     linked : is_linked s G leaf ≡ true
     linked = (both (is_linked s G leaf) _ internal).0
 
     abbrev U : Ctype
-    U = with_length (new_length (W i) s (F i) t actions) t
+    U = with_length (new_length (W i) s (F i) S actions) S
 
     -- by the declarator of the name
     module _ (m : ℕ) (stands : StandsDeclaring s m) (outer : is_outermost s m ≡ true) (one : IsDeclaredBy s senses m leaf) where
@@ -178,7 +188,9 @@ module _ (s : Source) (tree : Grown s) (of : InitialisersAreOf s) (senses : List
       own =
           once.own leaf m one linked
           ∙ (ap (λ (o : Option ℕ). Some (with_length (length_given_by s G o) T)) own_init
-          ∙ (ap (λ (x : Sense). Some (with_length (elim x as (λ _. Option ℕ) [ IsInitial c n ↦ n | _ ↦ None ]) T)) row_length.1 ∙ ap (λ (u : Ctype). Some (with_length (new_length (W i) s (F i) t actions) u)) (sym type_is)))
+          ∙ (ap (λ (x : Sense). Some (with_length (elim x as (λ _. Option ℕ) [ IsInitial c n ↦ n | _ ↦ None ]) T)) row_length.1
+          ∙ (ap (λ (u : Ctype). Some (with_length (initial_length (with_seen (length_seen s (F i) leaf) (IsInitial row_length.0 (new_length (W i) s (F i) S actions)))) u)) (sym type_is)
+          ∙ ap Some (seen_whole (W i) s (F i) (length_seen s (F i) leaf) t actions row_length.0))))
 
       object : is_function_type U ≡ false
       object =
@@ -187,10 +199,10 @@ module _ (s : Source) (tree : Grown s) (of : InitialisersAreOf s) (senses : List
           let some : is_some (initialiser_of s (F m) m) ≡ true = ap is_some (initialiser_same s (F m) G m ∙ own_init) in
           let words : words_go (W m) s (F m) true leaf ≡ true = ap (λ (b : Bool). words_go (W m) s (F m) b leaf) (sym some) ∙ asked.words in
           let complete : is_name_complete (W m) s (F m) true T leaf ≡ true = ap (λ (b : Bool). is_name_complete (W m) s (F m) b T leaf) (sym some) ∙ asked.complete in
-          still_object t (new_length (W i) s (F i) t actions) (ap is_function_type type_is ∙ initialised_object_type (W m) s (F m) T leaf words complete)
+          still_object S (new_length (W i) s (F i) S actions) (still_object t (length_seen s (F i) leaf) (ap is_function_type type_is ∙ initialised_object_type (W m) s (F m) T leaf words complete))
 
       closed : lacks_a_length U ≡ false
-      closed = closed_now t (length_given actions)
+      closed = closed_now S (length_given actions)
 
       initialised : types_declared s senses (entity_of s (F i) leaf) ≡ Some U
       initialised =
@@ -209,5 +221,5 @@ module _ (s : Source) (tree : Grown s) (of : InitialisersAreOf s) (senses : List
               let below = below_at (types_of s G (of_internal s senses leaf)) e.whole one_type.0 e.type (types_joined.below (types_of s G (of_internal s senses leaf)) e.whole (agreed.agree leaf) e.all) one_type.1 in
               absurd (no_both (is_function_type U) (ap is_function_type is_whole ∙ function_below e.type e.whole one_type.2 below) object)
 
-    pub internal_initialised : types_declared s senses (entity_of s (F i) leaf) ≡ Some (with_length (new_length (W i) s (F i) t actions) t)
+    pub internal_initialised : types_declared s senses (entity_of s (F i) leaf) ≡ Some U
     internal_initialised = let stands = once.stands leaf linked in initialised stands.0 stands.1 stands.2 stands.3

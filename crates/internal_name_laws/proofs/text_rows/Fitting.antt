@@ -12,7 +12,7 @@ use Rattle.c_senses.specs.Tree.{Source}
 use Rattle.c_senses.specs.Names.{source_of, numbered}
 use Rattle.c_senses.specs.Given.{Given, Fits, Refuses}
 use Rattle.c_senses.specs.World.{World}
-use Rattle.c_senses.specs.Entities.{with_length, entity_of}
+use Rattle.c_senses.specs.Entities.{with_length, length_seen, entity_of}
 use Rattle.c_senses.specs.Initialised.{new_length, most_elements, seen, outcome_of}
 use Rattle.c_senses.specs.Sense.{Sense, sense_in}
 use Rattle.c_senses.specs.Rows.{AreSenses, world_at}
@@ -61,8 +61,9 @@ asked_fit s senses are grown brought fit = record {
       let f : ℕ → Sense = sense_in (take i senses) in
       record {
         objects = λ p declarator leaf t is parent rest by name type.
-            given_stands w (types_declared s senses) s f (entity_of s f leaf) t (outcome_of w s f i (shape_for w.fillable most_elements t) (view.init_at (seen w s f) s.nodes i))
-            (initials_within s (take i senses) i f i t (view.init_at (seen w s f) s.nodes i)) (λ actions e. fit.objects i lt p declarator leaf t actions is parent rest by name type e);
+            let u : Ctype = with_length (length_seen s f leaf) t in
+            given_stands w (types_declared s senses) s f (entity_of s f leaf) u (outcome_of w s f i (shape_for w.fillable most_elements u) (view.init_at (seen w s f) s.nodes i))
+            (initials_within s (take i senses) i f i u (view.init_at (seen w s f) s.nodes i)) (λ actions e. fit.objects i lt p declarator leaf t actions is parent rest by name type e);
         literals = λ p name t is parent over named type. literals_fit s senses are grown brought i lt p name t is parent over named type;
       };
 }

@@ -16,8 +16,8 @@ use Rattle.c_senses.specs.Tree.{Source, is_a, children_at, parent_of, paired}
 use Rattle.c_senses.specs.Names.{source_of, numbered}
 use Rattle.c_senses.specs.Given.{Fits}
 use Rattle.c_senses.specs.World.{Meaning}
-use Rattle.c_senses.specs.Entities.{with_length, entity_of, specified_of, derived_type, initialised_by, is_linked}
-use Rattle.c_senses.specs.Entities.{is_internal, has_earlier_length}
+use Rattle.c_senses.specs.Entities.{with_length, length_seen, entity_of, specified_of, derived_type, initialised_by}
+use Rattle.c_senses.specs.Entities.{is_linked, is_internal, has_earlier_length}
 use Rattle.c_senses.specs.Initialised.{new_length, most_elements, seen, outcome_of, name_of_declarator}
 use Rattle.c_senses.specs.Sense.{Sense, sense_in}
 use Rattle.c_senses.specs.Rows.{world_at}
@@ -57,13 +57,17 @@ pub record InternalFit (s : Source) (senses : List Sense) : Type 0 where
       (Some declarator)
       ≡ Some t
       → outcome_of (world_at s (take i senses) i) s (sense_in (take i senses)) i
-      (shape_for (world_at s (take i senses) i).fillable most_elements t)
+      (shape_for (world_at s (take i senses) i).fillable most_elements
+      (with_length (length_seen s (sense_in (take i senses)) leaf) t))
       (view.init_at (seen (world_at s (take i senses) i) s (sense_in (take i senses))) s.nodes i)
       ≡ Fits (Places actions)
       → is_internal s (sense_in senses) leaf ≡ true
       → types_declared s senses (entity_of s (sense_in (take i senses)) leaf)
       ≡ Some
-      (with_length (new_length (world_at s (take i senses) i) s (sense_in (take i senses)) t actions) t)
+      (with_length
+      (new_length (world_at s (take i senses) i) s (sense_in (take i senses))
+      (with_length (length_seen s (sense_in (take i senses)) leaf) t) actions)
+      (with_length (length_seen s (sense_in (take i senses)) leaf) t))
 
 abbrev pub RowsOfInitialisedTexts : Type 0
 RowsOfInitialisedTexts =

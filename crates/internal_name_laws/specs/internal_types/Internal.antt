@@ -13,8 +13,8 @@ use Rattle.c_senses.specs.Tree.{Source, is_a, parent_of}
 use Rattle.c_senses.specs.Names.{source_of, numbered}
 use Rattle.c_senses.specs.Given.{Fits}
 use Rattle.c_senses.specs.Limits.{is_function_type}
-use Rattle.c_senses.specs.Entities.{with_length, entity_of, specified_of, derived_type, initialised_by, is_internal}
-use Rattle.c_senses.specs.Entities.{types_of, all_together}
+use Rattle.c_senses.specs.Entities.{with_length, length_seen, entity_of, specified_of, derived_type, initialised_by}
+use Rattle.c_senses.specs.Entities.{is_internal, types_of, all_together}
 use Rattle.c_senses.specs.Initialised.{new_length, most_elements, seen, outcome_of, name_of_declarator}
 use Rattle.c_senses.specs.Right.{of_internal, with_one}
 use Rattle.c_senses.specs.Sense.{Sense, sense_in}
@@ -61,13 +61,17 @@ AreInitialised s senses =
     (Some declarator)
     ≡ Some t
     → outcome_of (world_at s (take i senses) i) s (sense_in (take i senses)) i
-    (shape_for (world_at s (take i senses) i).fillable most_elements t)
+    (shape_for (world_at s (take i senses) i).fillable most_elements
+    (with_length (length_seen s (sense_in (take i senses)) leaf) t))
     (view.init_at (seen (world_at s (take i senses) i) s (sense_in (take i senses))) s.nodes i)
     ≡ Fits (Places actions)
     → is_internal s (sense_in senses) leaf ≡ true
     → types_declared s senses (entity_of s (sense_in (take i senses)) leaf)
     ≡ Some
-    (with_length (new_length (world_at s (take i senses) i) s (sense_in (take i senses)) t actions) t)
+    (with_length
+    (new_length (world_at s (take i senses) i) s (sense_in (take i senses))
+    (with_length (length_seen s (sense_in (take i senses)) leaf) t) actions)
+    (with_length (length_seen s (sense_in (take i senses)) leaf) t))
 
 abbrev pub InitialisedInternals : Type 0
 InitialisedInternals =

@@ -15,7 +15,7 @@ use Rattle.c_inits.specs.View as view
 use Rattle.c_senses.specs.Tree.{Source, is_a, children_at, parent_of}
 use Rattle.c_senses.specs.Names.{source_of, numbered}
 use Rattle.c_senses.specs.Given.{Fits}
-use Rattle.c_senses.specs.Entities.{with_length, entity_of, specified_of, derived_type, initialised_by}
+use Rattle.c_senses.specs.Entities.{with_length, length_seen, entity_of, specified_of, derived_type, initialised_by}
 use Rattle.c_senses.specs.Initialised.{new_length, most_elements, seen, outcome_of, name_of_declarator}
 use Rattle.c_senses.specs.Sense.{Sense, sense_in}
 use Rattle.c_senses.specs.Rows.{world_at}
@@ -25,8 +25,8 @@ use Rattle.declared_type_laws.specs.passed.built_unit_laws.built_units.Built.{Is
 use Rattle.declared_type_laws.specs.passed.built_unit_laws.literal_types.PassedOn.{types_declared}
 
 -- the type that a name means at a primary agrees with its entity's, a function whose last parameter is found there is
--- variadic, and an object that is initialised has the type of its declarator, with the length that the initialiser
--- gives it
+-- variadic, and an object that is initialised has the type of its declarator, with the length that was seen of its
+-- name before (6.2.7p4), or else the initialiser gives it
 pub record TypesFit (s : Source) (senses : List Sense) : Type 0 where
   pub names : (i : ℕ)
       → i < length senses
@@ -50,12 +50,16 @@ pub record TypesFit (s : Source) (senses : List Sense) : Type 0 where
       (Some declarator)
       ≡ Some t
       → outcome_of (world_at s (take i senses) i) s (sense_in (take i senses)) i
-      (shape_for (world_at s (take i senses) i).fillable most_elements t)
+      (shape_for (world_at s (take i senses) i).fillable most_elements
+      (with_length (length_seen s (sense_in (take i senses)) leaf) t))
       (view.init_at (seen (world_at s (take i senses) i) s (sense_in (take i senses))) s.nodes i)
       ≡ Fits (Places actions)
       → types_declared s senses (entity_of s (sense_in (take i senses)) leaf)
       ≡ Some
-      (with_length (new_length (world_at s (take i senses) i) s (sense_in (take i senses)) t actions) t)
+      (with_length
+      (new_length (world_at s (take i senses) i) s (sense_in (take i senses))
+      (with_length (length_seen s (sense_in (take i senses)) leaf) t) actions)
+      (with_length (length_seen s (sense_in (take i senses)) leaf) t))
 
 abbrev pub RowsOfTexts : Type 0
 RowsOfTexts =

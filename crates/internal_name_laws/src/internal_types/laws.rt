@@ -8,7 +8,7 @@ pub fn entity_types_known()
 {}
 
 /// At the initialiser of an internal object (C11 6.7.9) its entity's type is the one that the declarator gives it, with the length that
-/// the initialiser gives an array.
+/// was seen of an array's name before (6.2.7p4), or else the initialiser gives it.
 pub fn internals_initialised()
     ensures { InitialisedInternals }
 {}

@@ -47,7 +47,8 @@ pub fn linked_type(
     requires own { own.0 < length types.now.terms }
     requires together { together.0 < length types.now.terms }
     ensures within { IfOk result (λ id. id.0 < length types.now.terms) }
-    ensures type_is { IfOk result (λ id. type_of types.now id.0 ≡ spec.linked_type body defined (type_of types.now own.0) (type_of types.now together.0)) }
+    ensures type_is { IfOk result
+        (λ id. type_of types.now id.0 ≡ spec.linked_type body defined (type_of types.now own.0) (type_of types.now together.0)) }
 {
     let kept = kept_type(types, body, own, together);
     if defined {

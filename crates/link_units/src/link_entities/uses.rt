@@ -26,7 +26,8 @@ fn earlier(before: Option<Place>, one: Option<Place>) -> Option<Place>
 // Keeps the earlier place at a number.
 fn keep_earlier(list: &mut Vec<Option<Place>>, at: usize, one: Option<Place>)
     requires { at < length list.old.items }
-    ensures { (kept : Option Place) × (list.new.items ≡ slice_set list.old.items at kept) × IsEarlier (slice_index_or list.old.items at None) one kept }
+    ensures { (kept : Option Place) × (list.new.items ≡ slice_set list.old.items at kept)
+        × IsEarlier (slice_index_or list.old.items at None) one kept }
 {
     let before = list[at];
     list[at] = earlier(before, one);

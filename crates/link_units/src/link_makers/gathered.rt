@@ -60,7 +60,9 @@ pub fn first_defined(
     requires scene { IsScene scene.now }
     requires firsts { AreFirsts scene.now.units.now scene.now.declared.now firsts.now }
     ensures { let ds = scene.now.declared.now in let units = scene.now.units.now in
-        IfOk result (λ list. AreGathered units ds (λ o d. first_passing o (is_defined (joined_of scene.now) (item_of d)) d) None ds list.items) }
+        IfOk result
+        (λ list. AreGathered units ds
+        (λ o d. first_passing o (is_defined (joined_of scene.now) (item_of d)) d) None ds list.items) }
 {
     let mut list = vec![in alloc; None; firsts.len()]?;
     for (here, d) in scene.declared.iter().enumerate() {

@@ -74,7 +74,9 @@ pub fn entities_of(
     requires merged { AreMerged units.now type_starts.now types.now }
     requires ready { AreReady types.now }
     requires few { length units.now < 2 ^ 32 }
-    ensures { MatchResult result (λ made. AreEntitiesOf entries.now (joined_by units.now types.now type_starts.now) made.0.items made.1) (λ fault.
+    ensures { MatchResult result
+        (λ made. AreEntitiesOf entries.now (joined_by units.now types.now type_starts.now) made.0.items made.1)
+        (λ fault.
         IsFaultUnless fault (LinksBadlyAt entries.now units.now fault)) }
 {
     let (declared, names) = checked(alloc, units, types, type_starts, entries)?;

@@ -16,7 +16,8 @@ pub fn start_located()
     ensures { StartLocated }
 {}
 
-/// The entries of a program that is linked from valid units are functions of external linkage with bodies, of integers and pointers alone; and it has
+/// The entries of a program that is linked from valid units are functions of external linkage with bodies, of integers and pointers
+/// alone; and it has
 /// none exactly where none are named.
 pub fn linked_entries()
     ensures { LinkedEntries }

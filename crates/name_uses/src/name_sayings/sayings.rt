@@ -1,5 +1,5 @@
 // What is said of a declared name.
-ghost use Rattle.std.specs.Prelude.{◌≡◌, ◌<◌, true, ℕ, List, All, length, IfOk, IsOkUnless};
+ghost use Rattle.std.specs.Prelude.{◌≡◌, ◌<◌, true, ℕ, List, All, length, IfOk, IsOkUnless, None};
 ghost use Rattle.core_tree.specs.declared.node.Unit.{Unit as UnitSpec};
 ghost use Rattle.c_senses.specs.World.{World};
 ghost use Rattle.c_senses.specs.Sense.{sense_in};
@@ -9,7 +9,7 @@ ghost use Rattle.c_results.specs.Standing.{senses_made};
 ghost use Rattle.tree_reads.specs.Sources.{source_in};
 ghost use Rattle.c_meanings.specs.Known.{AreNamed};
 ghost use Rattle.c_meanings.specs.Linkages.{AreLinkages};
-ghost use Rattle.c_named.specs.Lists.{leaves_of};
+ghost use Rattle.c_named.specs.Lists.{leaves_of, types_at};
 ghost use Rattle.c_named.specs.Said.{IsSaid, IsSaidIn};
 ghost use Rattle.name_uses.specs.name_sayings.Listed.{AreListed, GiveSame};
 
@@ -17,7 +17,7 @@ use crate::name_sayings::internal::internal_before;
 use crate::name_sayings::leaves::leaves_of;
 use c_meanings::{
     Linkages, Names, before_in_scope, declares_function, internal_kept, is_internal_after,
-    is_linked, is_typedef, nothing_seen, same_internal_kept, scope_thinned,
+    is_linked, is_typedef, nothing_seen, same_internal_kept, scope_thinned, typing_list,
 };
 use c_named::Said;
 use c_results::Results;
@@ -165,9 +165,38 @@ fn has_one_linkage(
     same_before(alloc, names, syntax, results, linkages, internal, leaf)
 }
 
+// The leaves of declarations that give together the type of a declared name behind its declaration, its own last: none are asked for
+// otherwise.
+fn typing_leaves(
+    alloc: Global,
+    names: &Names,
+    syntax: &Syntax,
+    results: &Results,
+    linkages: &mut Linkages,
+    typed: bool,
+    leaf: u32,
+) -> Result<Vec<u32>, CheckFault>
+    requires names { AreNamed syntax.now results.now names.now }
+    requires linkages { AreLinkages syntax.now results.now names.now linkages.old }
+    ensures linkages { AreLinkages syntax.now results.now names.now linkages.new }
+    ensures typing { IfOk result (λ list. (u : UnitSpec) (w : World) (uses : List (ℕ × ℕ)) →
+        let s = source_in syntax.now uses in
+        let sense = sense_in (senses_made u results.now) in
+        typed ≡ true → spec.all_together None (types_at s sense list.items) ≡ spec.type_behind s sense leaf) }
+    ensures within { IfOk result (λ list. All (λ other. other < length syntax.now.tree.now.nodes.items) list.items) }
+    ensures memory { IsOkUnless result CheckFault.OutOfMemory }
+{
+    if !typed {
+        return Ok(Vec::new(alloc));
+    }
+    let list = typing_list(alloc, names, syntax, results, linkages, leaf)?;
+    leaves_of(alloc, list.as_slice())
+}
+
 /// What the declarations of a unit say of the name that a leaf declares (C11 6.2.1, 6.2.2, 6.7p3), with what is kept of those before it.
-/// Only memory may want. Asked of the declarations of a unit in order, it looks at each of them once, where those of one name that stand
-/// behind one another are made alike.
+/// With `typed` it says also what gives the type of the name behind its declaration, with an initialiser (6.2.7p4). Only memory may want.
+/// Asked of the declarations of a unit in order, it looks at each of them once, where those of one name that stand behind one another are
+/// made alike.
 pub fn said_of(
     alloc: Global,
     names: &Names,
@@ -175,6 +204,7 @@ pub fn said_of(
     syntax: &Syntax,
     results: &Results,
     linkages: &mut Linkages,
+    typed: bool,
     leaf: u32,
 ) -> Result<Said, CheckFault>
     requires names { AreNamed syntax.now results.now names.now }
@@ -185,6 +215,7 @@ pub fn said_of(
     ensures said { IfOk result (λ said. (u : UnitSpec) (w : World) (uses : List (ℕ × ℕ)) →
         IsSaid w (source_in syntax.now uses) (sense_in (senses_made u results.now)) leaf said) }
     ensures within { IfOk result (IsSaidIn (length syntax.now.tree.now.nodes.items)) }
+    ensures typed { IfOk result (λ said. said.is_typed ≡ typed) }
     ensures memory { IsOkUnless result CheckFault.OutOfMemory }
 {
     let internal = internal_kept(names, syntax, results, linkages, leaf);
@@ -194,6 +225,7 @@ pub fn said_of(
     let earlier = internal_before(
         alloc, names, lists, syntax, results, linkages, internal, leaf,
     )?;
+    let typing = typing_leaves(alloc, names, syntax, results, linkages, typed, leaf)?;
     Ok(Said {
         is_typedef: typedef,
         is_linked: is_linked(names, syntax, leaf),
@@ -202,5 +234,7 @@ pub fn said_of(
         one_linkage,
         in_scope,
         internal_before: earlier,
+        is_typed: typed,
+        typing,
     })
 }

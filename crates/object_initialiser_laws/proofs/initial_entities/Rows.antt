@@ -18,14 +18,15 @@ use Rattle.c_senses.specs.Given.{Given, Fits}
 use Rattle.c_senses.specs.World.{World}
 use Rattle.c_senses.specs.Names.{source_of, numbered}
 use Rattle.c_senses.specs.Declarators.{is_declarator, is_outermost, outermost_of}
-use Rattle.c_senses.specs.Entities.{with_length, entity_of, specified_of, derived_type, initialised_by, is_static_object}
-use Rattle.c_senses.specs.Initialised.{Made, new_length, most_elements, seen, outcome_of, name_of_declarator, made_of, placed_cores, paths_of, object_initialiser, initialised_object, init_in, initialised_fits}
+use Rattle.c_senses.specs.Entities.{with_length, length_seen, entity_of, specified_of, derived_type, initialised_by, is_static_object}
+use Rattle.c_senses.specs.Initialised.{Made, new_length, most_elements, seen, outcome_of, name_of_declarator, made_of, placed_cores, paths_of, object_initialiser, with_seen, initialised_as, initialised_object, init_in, initialised_fits}
 use Rattle.c_senses.specs.Places.{own_place}
 use Rattle.c_senses.specs.Sense.{Sense, Nothing, IsDeclarator, IsInitial, Derivation, sense_in}
 use Rattle.c_senses.specs.Rows.{AreSenses}
 use Rattle.sense_laws.specs.Sound.{Gives}
 use Rattle.sense_laws.proofs.Giving.{then_gives, if_given, some_given, and_left}
 use Rattle.sense_laws.proofs.Types.{anything}
+use Rattle.sense_laws.proofs.Seen.{initial_length, seen_is}
 use Rattle.parsed_tree_laws.proofs.placed_laws.Climbing.{Grown}
 use Rattle.core_node_laws.specs.standing_laws.Standing.{IsGrown}
 use Rattle.core_node_laws.proofs.standing_laws.Climbing.{in_list, found_where, parent_is, parent_holds}
@@ -76,11 +77,31 @@ module _ (w : World) (s : Source) (f : ℕ → Sense) (i : ℕ) where
       (λ m h. if_given RowGives (initialised_fits w s f (with_length m.length t) leaf) Operand leaf (Fits (IsInitial m.initial m.length))
       (λ small. record { declarator = d; leaf = leaf; derives = ds; core = m.initial; length_given = m.length; paths = h.0; by_it = by_it; named = named; is = refl; kind = h.1 })))
 
+  -- with the length that was seen of its name
+  seen_row : (n : Option ℕ) (x : Sense) → RowGives x → RowGives (with_seen n x)
+  seen_row n x h = record {
+    declarator = h.declarator;
+    leaf = h.leaf;
+    derives = h.derives;
+    core = h.core;
+    length_given = initial_length (with_seen n (IsInitial h.core h.length_given));
+    paths = h.paths;
+    by_it = h.by_it;
+    named = h.named;
+    is = ap (with_seen n) h.is ∙ seen_is n h.length_given h.core;
+    kind = h.kind;
+  }
+
+  as_gives : (d leaf : ℕ) (ds : List Derivation) (t : Ctype) → initialised_by s f i ≡ Some d → f d ≡ IsDeclarator (Some leaf) ds → Gives RowGives (initialised_as w s f i d leaf t)
+  as_gives d leaf ds t by_it named =
+      let n : Option ℕ = length_seen s f leaf in
+      then_gives RowGives RowGives (object_initialiser w s f i d leaf (with_length n t)) (λ x. Fits (with_seen n x)) (object_gives d leaf ds (with_length n t) by_it named) (λ x h. seen_row n x h)
+
   named_gives : (d : ℕ) (o : Option ℕ) → initialised_by s f i ≡ Some d → name_of_declarator w s f (f d) ≡ o → Gives RowGives (initialised_object w s f i d o)
   named_gives d None by_it e = tt
   named_gives d (Some leaf) by_it e =
       let found = name_found w s f (f d) leaf e in
-      some_given RowGives (derived_type s f (specified_of s f leaf) (Some d)) Operand i (object_initialiser w s f i d leaf) (λ t k. object_gives d leaf found.0 t by_it found.1)
+      some_given RowGives (derived_type s f (specified_of s f leaf) (Some d)) Operand i (initialised_as w s f i d leaf) (λ t k. as_gives d leaf found.0 t by_it found.1)
 
   init_gives : (o : Option ℕ) → initialised_by s f i ≡ o → Gives RowGives (init_in w s f i o)
   init_gives None e = tt

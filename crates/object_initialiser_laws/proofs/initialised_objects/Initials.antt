@@ -12,13 +12,13 @@ use Rattle.c_senses.specs.Tree.{Source, is_a, parent_of}
 use Rattle.c_senses.specs.Given.{Given, Fits, Refuses, ◌>>=◌, given_if}
 use Rattle.c_senses.specs.World.{World}
 use Rattle.c_senses.specs.Names.{source_of, numbered}
-use Rattle.c_senses.specs.Entities.{with_length, entity_of, specified_of, derived_type, initialised_by, is_static_object}
-use Rattle.c_senses.specs.Initialised.{new_length, most_elements, seen, outcome_of, name_of_declarator, made_of, object_initialiser, initialised_object, init_in, initialised_fits}
+use Rattle.c_senses.specs.Entities.{with_length, length_seen, entity_of, specified_of, derived_type, initialised_by, is_static_object}
+use Rattle.c_senses.specs.Initialised.{new_length, most_elements, seen, outcome_of, name_of_declarator, made_of, object_initialiser, with_seen, initialised_as, initialised_object, init_in, initialised_fits}
 use Rattle.c_senses.specs.Places.{own_place}
 use Rattle.c_senses.specs.Sense.{Sense, Nothing, IsDeclarator, IsInitial, Derivation, sense_in}
 use Rattle.c_senses.specs.Rows.{AreSenses}
 use Rattle.sense_laws.specs.Sound.{Gives}
-use Rattle.sense_laws.proofs.Giving.{some_given}
+use Rattle.sense_laws.proofs.Giving.{then_gives, some_given}
 use Rattle.built_unit_laws.proofs.run_laws.Times.{known_at, world_of, told_before, row_as, fitted}
 use Rattle.internal_name_laws.proofs.passed.declared_type_laws.plain_names.Later.{known_later}
 use Rattle.built_unit_laws.specs.built_rows.Rows.{types_declared}
@@ -38,6 +38,10 @@ name_found w s f x leaf e = cc
 
 -- what the row of an object's initialiser asks
 module _ (w : World) (s : Source) (f : ℕ → Sense) (i : ℕ) where
+  -- a type with the length that was seen of its name
+  abbrev seen_type : ℕ → Ctype → Ctype
+  seen_type leaf t = with_length (length_seen s f leaf) t
+
   record RowAsks : Type 0 where
     declarator : ℕ
     leaf : ℕ
@@ -46,28 +50,32 @@ module _ (w : World) (s : Source) (f : ℕ → Sense) (i : ℕ) where
     by_it : initialised_by s f i ≡ Some declarator
     name : name_of_declarator w s f (f declarator) ≡ Some leaf
     typed : derived_type s f (specified_of s f leaf) (Some declarator) ≡ Some type
-    placed : outcome_of w s f i (shape_for w.fillable most_elements type) (view.init_at (seen w s f) s.nodes i) ≡ Fits (Places actions)
-    object : IsFunction type → ⊥
+    placed : outcome_of w s f i (shape_for w.fillable most_elements (seen_type leaf type)) (view.init_at (seen w s f) s.nodes i) ≡ Fits (Places actions)
+    object : IsFunction (seen_type leaf type) → ⊥
 
   abbrev behind : ℕ → Ctype → Outcome → Given Sense
   behind leaf t o = made_of w s f (is_static_object s f leaf) (entity_of s f leaf) (own_place s i) t o >>= (λ made. given_if (initialised_fits w s f (with_length made.length t) leaf) Operand leaf (Fits (IsInitial made.initial made.length)))
 
-  object_gives : (d leaf : ℕ) (t : Ctype) → initialised_by s f i ≡ Some d → name_of_declarator w s f (f d) ≡ Some leaf → derived_type s f (specified_of s f leaf) (Some d) ≡ Some t → Gives (λ x. RowAsks) (object_initialiser w s f i d leaf t)
-  object_gives d leaf t by_it name typed = by (outcome_of w s f i (shape_for w.fillable most_elements t) (view.init_at (seen w s f) s.nodes i)) refl (outcome_object w s f i w.fillable most_elements t (view.init_at (seen w s f) s.nodes i))
+  object_gives : (d leaf : ℕ) (t : Ctype) → initialised_by s f i ≡ Some d → name_of_declarator w s f (f d) ≡ Some leaf → derived_type s f (specified_of s f leaf) (Some d) ≡ Some t → Gives (λ x. RowAsks) (object_initialiser w s f i d leaf (seen_type leaf t))
+  object_gives d leaf t by_it name typed = by (outcome_of w s f i (shape_for w.fillable most_elements (seen_type leaf t)) (view.init_at (seen w s f) s.nodes i)) refl (outcome_object w s f i w.fillable most_elements (seen_type leaf t) (view.init_at (seen w s f) s.nodes i))
     where
       asks : (g : Given Sense) → RowAsks → Gives (λ x. RowAsks) g
       asks (Fits x) h = h
       asks (Refuses kind node) h = tt
 
-      by : (o : Given Outcome) → outcome_of w s f i (shape_for w.fillable most_elements t) (view.init_at (seen w s f) s.nodes i) ≡ o → Gives (λ x. IsFunction t → ⊥) o → Gives (λ x. RowAsks) (o >>= behind leaf t)
+      by : (o : Given Outcome) → outcome_of w s f i (shape_for w.fillable most_elements (seen_type leaf t)) (view.init_at (seen w s f) s.nodes i) ≡ o → Gives (λ x. IsFunction (seen_type leaf t) → ⊥) o → Gives (λ x. RowAsks) (o >>= behind leaf (seen_type leaf t))
       by (Refuses kind node) e h = tt
       by (Fits (NoPlace node)) e h = tt
-      by (Fits (Places actions)) e h = asks (behind leaf t (Places actions)) (record { declarator = d; leaf = leaf; type = t; actions = actions; by_it = by_it; name = name; typed = typed; placed = e; object = h })
+      by (Fits (Places actions)) e h = asks (behind leaf (seen_type leaf t) (Places actions)) (record { declarator = d; leaf = leaf; type = t; actions = actions; by_it = by_it; name = name; typed = typed; placed = e; object = h })
+
+  as_gives : (d leaf : ℕ) (t : Ctype) → initialised_by s f i ≡ Some d → name_of_declarator w s f (f d) ≡ Some leaf → derived_type s f (specified_of s f leaf) (Some d) ≡ Some t → Gives (λ x. RowAsks) (initialised_as w s f i d leaf t)
+  as_gives d leaf t by_it name typed =
+      then_gives (λ x. RowAsks) (λ x. RowAsks) (object_initialiser w s f i d leaf (seen_type leaf t)) (λ x. Fits (with_seen (length_seen s f leaf) x)) (object_gives d leaf t by_it name typed) (λ x h. h)
 
   named_gives : (d : ℕ) (o : Option ℕ) → initialised_by s f i ≡ Some d → name_of_declarator w s f (f d) ≡ o → Gives (λ x. RowAsks) (initialised_object w s f i d o)
   named_gives d None by_it e = tt
   named_gives d (Some leaf) by_it e =
-      some_given (λ x. RowAsks) (derived_type s f (specified_of s f leaf) (Some d)) Operand i (object_initialiser w s f i d leaf) (λ t k. object_gives d leaf t by_it e k)
+      some_given (λ x. RowAsks) (derived_type s f (specified_of s f leaf) (Some d)) Operand i (initialised_as w s f i d leaf) (λ t k. as_gives d leaf t by_it e k)
 
   init_gives : (o : Option ℕ) → initialised_by s f i ≡ o → Gives (λ x. RowAsks) (init_in w s f i o)
   init_gives None e = tt
@@ -101,8 +109,9 @@ module _ (s : Source) (senses : List Sense) (are : AreSenses s senses) (fit : Ty
           let leaf : r.leaf ≡ own.leaf = leaves (sym sense ∙ (ap (sense_in senses) one ∙ own.named)) in
           let entity : entity_of s f r.leaf ≡ entity_of s (sense_in senses) own.leaf = ap (entity_of s f) leaf ∙ (known i (omega (arith, before, one))).entity in
           let typed = fit.objects i lt p r.declarator r.leaf r.type r.actions is parent rest r.by_it r.name r.typed r.placed in
-          let same : with_length (new_length w s f r.type r.actions) r.type ≡ t = some_one (sym typed ∙ (ap (types_declared s senses) entity ∙ e)) in
-          r.object (function_below (new_length w s f r.type r.actions) r.type (subst IsFunction (sym same) function))
+          let u : Ctype = seen_type w s f i r.leaf r.type in
+          let same : with_length (new_length w s f u r.actions) u ≡ t = some_one (sym typed ∙ (ap (types_declared s senses) entity ∙ e)) in
+          r.object (function_below (new_length w s f u r.actions) u (subst IsFunction (sym same) function))
 
 pub initials_are_objects : InitialsAreObjects
 initials_are_objects tokens unit tree tag_number senses cut is are fit i p init parent rest own =

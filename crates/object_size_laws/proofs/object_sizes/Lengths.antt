@@ -14,8 +14,8 @@ use Rattle.c_senses.specs.Given.{Given, Fits, ◌>>=◌, given_some}
 use Rattle.c_senses.specs.World.{World}
 use Rattle.c_senses.specs.Limits.{within_limits}
 use Rattle.c_senses.specs.Declarators.{derived, outermost_of}
-use Rattle.c_senses.specs.Entities.{with_length, internal_agrees, specified_of, derived_type, initialised_by, entity_of, is_static_object}
-use Rattle.c_senses.specs.Initialised.{new_length, most_elements, seen, outcome_of, name_of_declarator, made_of, placed_cores, object_initialiser, initialised_object, init_in, initialised_fits}
+use Rattle.c_senses.specs.Entities.{with_length, length_seen, internal_agrees, specified_of, derived_type, initialised_by, entity_of, is_static_object}
+use Rattle.c_senses.specs.Initialised.{new_length, most_elements, seen, outcome_of, name_of_declarator, made_of, placed_cores, object_initialiser, with_seen, initialised_as, initialised_object, init_in, initialised_fits}
 use Rattle.c_senses.specs.Places.{own_place}
 use Rattle.c_senses.specs.Sense.{Sense, Nothing, IsDeclarator, IsInitial, Derivation, Specified, sense_in}
 use Rattle.c_senses.specs.Rows.{AreSenses}
@@ -47,6 +47,35 @@ module _ (w : World) (s : Source) (f : ℕ → Sense) (of : Ctype) where
       (λ small.
       let limited : within_limits w (with_length m.length open_array) ≡ true = and_left (within_limits w (with_length m.length open_array)) (internal_agrees w s f (with_length m.length open_array) leaf) small in
       (m.initial, h.0, ap (IsInitial m.initial) h.1, ap (λ (l : Option ℕ). within_limits w (with_length l open_array)) (sym h.1) ∙ limited))))
+
+  -- one whose length was seen before keeps it
+  abbrev IsClosed : ℕ → Sense → Type 0
+  IsClosed k x = (c : Core) × (x ≡ IsInitial c None) × (within_limits w (ArrayOf of (Some k)) ≡ true)
+
+  closed_made : (k : ℕ) (static : Bool) (entity : ℕ) (place : Place) (o : Outcome) → Gives (λ m. m.length ≡ None) (made_of w s f static entity place (ArrayOf of (Some k)) o)
+  closed_made k static entity place (NoPlace node) = tt
+  closed_made k static entity place (Places actions) =
+      let whole : Ctype = ArrayOf of (Some k) in
+      then_gives (λ x. ⊤) (λ m. m.length ≡ None) (placed_cores w s f static (with_length (new_length w s f whole actions) whole) (lasting [] actions)) _ (anything _) (λ values h. refl)
+
+  closed_length : (k at declarator leaf : ℕ) → Gives (IsClosed k) (object_initialiser w s f at declarator leaf (ArrayOf of (Some k)))
+  closed_length k at declarator leaf =
+      let whole : Ctype = ArrayOf of (Some k) in
+      then_gives (λ o. ⊤) (IsClosed k) (outcome_of w s f at (shape_for w.fillable most_elements whole) (view.init_at (seen w s f) s.nodes at)) _ (anything _)
+      (λ o j.
+      then_gives (λ m. m.length ≡ None) (IsClosed k) (made_of w s f (is_static_object s f leaf) (entity_of s f leaf) (own_place s at) whole o) _ (closed_made k (is_static_object s f leaf) (entity_of s f leaf) (own_place s at) o)
+      (λ m h.
+      if_given (IsClosed k) (initialised_fits w s f (with_length m.length whole) leaf) Operand leaf (Fits (IsInitial m.initial m.length))
+      (λ small.
+      let limited : within_limits w (with_length m.length whole) ≡ true = and_left (within_limits w (with_length m.length whole)) (internal_agrees w s f (with_length m.length whole) leaf) small in
+      (m.initial, ap (IsInitial m.initial) h, ap (λ (l : Option ℕ). within_limits w (with_length l whole)) (sym h) ∙ limited))))
+
+  as_length : (at declarator leaf : ℕ) → Gives HasLength (initialised_as w s f at declarator leaf open_array)
+  as_length at declarator leaf = by (length_seen s f leaf)
+    where
+      by : (n : Option ℕ) → Gives HasLength (object_initialiser w s f at declarator leaf (with_length n open_array) >>= (λ x. Fits (with_seen n x)))
+      by None = then_gives HasLength HasLength (object_initialiser w s f at declarator leaf open_array) (λ x. Fits (with_seen None x)) (object_length at declarator leaf) (λ x h. (h.0, h.1, ap (with_seen None) h.2, h.3))
+      by (Some k) = then_gives (IsClosed k) HasLength (object_initialiser w s f at declarator leaf (ArrayOf of (Some k))) (λ x. Fits (with_seen (Some k) x)) (closed_length k at declarator leaf) (λ x h. (h.0, k, ap (with_seen (Some k)) h.1, h.2))
 
 module _ (s : Source) (senses : List Sense) (are : AreSenses s senses) (init p m leaf : ℕ) (derives : List Derivation) (words : Specified) (of : Ctype) where
   abbrev W : World
@@ -86,6 +115,6 @@ module _ (s : Source) (senses : List Sense) (are : AreSenses s senses) (init p m
 
       pub length_is : HasLength W s F of (sense_in senses init)
       length_is =
-          let row : object_initialiser W s F init m leaf (ArrayOf of None) ≡ Fits (sense_in senses init) =
-          sym (ap (λ (x : Sense). row_by (name_of_declarator W s F x)) own ∙ ap (λ (o : Option Ctype). given_some o Operand init >>= object_initialiser W s F init m leaf) type_is) ∙ row_is in
-          fitted (HasLength W s F of) (object_initialiser W s F init m leaf (ArrayOf of None)) (sense_in senses init) row (object_length W s F of init m leaf)
+          let row : initialised_as W s F init m leaf (ArrayOf of None) ≡ Fits (sense_in senses init) =
+          sym (ap (λ (x : Sense). row_by (name_of_declarator W s F x)) own ∙ ap (λ (o : Option Ctype). given_some o Operand init >>= initialised_as W s F init m leaf) type_is) ∙ row_is in
+          fitted (HasLength W s F of) (initialised_as W s F init m leaf (ArrayOf of None)) (sense_in senses init) row (as_length W s F of init m leaf)

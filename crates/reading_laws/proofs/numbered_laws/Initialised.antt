@@ -17,9 +17,9 @@ use Rattle.c_senses.specs.Conversions.{conversion, typed}
 use Rattle.c_senses.specs.Constants.{constant_in}
 use Rattle.c_senses.specs.Limits.{within_limits}
 use Rattle.c_senses.specs.Places.{Own, First, At, OfPart, own_of, own_within, own_place}
-use Rattle.c_senses.specs.Entities.{with_length, entity_of, is_static_object, is_in_static, derived_type, specified_of, initialised_by}
+use Rattle.c_senses.specs.Entities.{with_length, length_seen, entity_of, is_static_object, is_in_static, derived_type, specified_of, initialised_by}
 use Rattle.c_senses.specs.Sense.{Sense, Nothing, IsCore, IsInitial, value_in}
-use Rattle.c_senses.specs.Initialised.{is_fixed, type_along, expression_of, character_core, expression_core, is_automatic, fixed_or, placed_core, placed_cores, new_length, Made, made_of, most_elements, seen, outcome_of, object_initialiser, initialised_object, name_of_declarator, init_in, opening, brace, braced, is_in_body, literal_core, literal_of, literal_type, literal_in, designator_row}
+use Rattle.c_senses.specs.Initialised.{is_fixed, type_along, expression_of, character_core, expression_core, is_automatic, fixed_or, placed_core, placed_cores, new_length, Made, made_of, most_elements, seen, outcome_of, object_initialiser, with_seen, initialised_as, initialised_object, name_of_declarator, init_in, opening, brace, braced, is_in_body, literal_core, literal_of, literal_type, literal_in, designator_row}
 use Rattle.reading_laws.specs.numbered_laws.Numbered.{OfUnit, AllOfUnit}
 use Rattle.reading_laws.proofs.numbered_laws.Giving.{Gives, then_gives, after, if_given, some_given, if_holds}
 use Rattle.reading_laws.proofs.numbered_laws.Values.{place_kept, conversion_kept, typed_kept}
@@ -105,10 +105,20 @@ module _ (w : World) (s : Source) (sense : ℕ → Sense) (each : (i : ℕ) → 
       if_holds (Gives (OfSense s.unit)) (has_sign s sign_left_bracket first) _ (Fits Nothing)
       (some_given (OfSense s.unit) (child_of s p_conditional at) Operand at _ (λ c. after (OfSense s.unit) (constant_in w s at (sense c)) _ (λ n. tt))) tt
 
+  -- whose length was seen before: the same tree
+  seen_kept : (n : Option ℕ) (x : Sense) → OfSense s.unit x → OfSense s.unit (with_seen n x)
+  seen_kept n (IsInitial c None) h = h
+  seen_kept n x h = h
+
+  as_kept : (at declarator leaf : ℕ) (t : Ctype) → Gives (OfSense s.unit) (initialised_as w s sense at declarator leaf t)
+  as_kept at declarator leaf t =
+      let n : Option ℕ = length_seen s sense leaf in
+      then_gives (OfSense s.unit) (OfSense s.unit) (object_initialiser w s sense at declarator leaf (with_length n t)) (λ x. Fits (with_seen n x)) (object_kept at declarator leaf (with_length n t)) (λ x h. seen_kept n x h)
+
   initialised_kept : (at declarator : ℕ) (o : Option ℕ) → Gives (OfSense s.unit) (initialised_object w s sense at declarator o)
   initialised_kept at declarator None = tt
   initialised_kept at declarator (Some leaf) =
-      some_given (OfSense s.unit) (derived_type s sense (specified_of s sense leaf) (Some declarator)) Operand at (object_initialiser w s sense at declarator leaf) (λ t. object_kept at declarator leaf t)
+      some_given (OfSense s.unit) (derived_type s sense (specified_of s sense leaf) (Some declarator)) Operand at (initialised_as w s sense at declarator leaf) (λ t. as_kept at declarator leaf t)
 
   init_in_kept : (at : ℕ) (o : Option ℕ) → Gives (OfSense s.unit) (init_in w s sense at o)
   init_in_kept at None = tt

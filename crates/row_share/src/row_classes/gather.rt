@@ -3,7 +3,8 @@ ghost use Rattle.std.specs.Prelude.{◌≡◌, ℕ, ◌+◌, ◌*◌, ◌≤◌,
 ghost use Rattle.sol_model.specs.Systems.{IsValid, IsRow};
 ghost use Rattle.edge_book.specs.Leaving.{targets_of};
 ghost use Rattle.row_share.specs.share_laws.Orders.{AreSources, IsOrder};
-ghost use Rattle.row_share.specs.share_laws.Gathered.{class_of, HasClass, IsClosedBack, IsGathering, IsUnderWay, ArePartly, IsClassFor, Gives, unclassed};
+ghost use Rattle.row_share.specs.share_laws.Gathered.{class_of, HasClass, IsClosedBack, IsGathering, IsUnderWay};
+ghost use Rattle.row_share.specs.share_laws.Gathered.{ArePartly, IsClassFor, Gives, unclassed};
 ghost use Rattle.row_share.specs.row_classes.Flowing.{AreInflows};
 
 use crate::row_classes::inflow::{Inflow, followed};

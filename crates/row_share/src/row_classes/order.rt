@@ -1,5 +1,6 @@
 //! The rows in the order in which a search in depth along copies leaves them.
-ghost use Rattle.std.specs.Prelude.{◌≡◌, ℕ, ◌+◌, ◌*◌, ◌≤◌, ◌<◌, true, false, [], ◌∷◌, ◌++◌, length, All, OnOk, IfOk, IfSome, IfNone, slice_index, slice_set};
+ghost use Rattle.std.specs.Prelude.{◌≡◌, ℕ, ◌+◌, ◌*◌, ◌≤◌, ◌<◌, true, false, [], ◌∷◌, ◌++◌, length, All, OnOk, IfOk};
+ghost use Rattle.std.specs.Prelude.{IfSome, IfNone, slice_index, slice_set};
 ghost use Rattle.sol_model.specs.Systems.{IsValid, IsRow};
 ghost use Rattle.edge_book.specs.Leaving.{targets_of};
 ghost use Rattle.row_share.specs.share_laws.Orders.{AreTargets, IsOrder, IsSearch, is_seen, unseen};

@@ -13,12 +13,13 @@ use Rattle.c_senses.specs.Tree.{Source, is_a, parent_of}
 use Rattle.c_senses.specs.Given.{Given, Fits, ◌>>=◌, given_some}
 use Rattle.c_senses.specs.World.{World}
 use Rattle.c_senses.specs.Places.{own_place}
-use Rattle.c_senses.specs.Entities.{with_length, entity_of, is_static_object, specified_of, derived_type, initialised_by}
-use Rattle.c_senses.specs.Initialised.{is_fixed, is_automatic, type_along, fixed_or, placed_core, placed_cores, made_of, new_length, most_elements, seen, outcome_of, initialised_fits, object_initialiser, initialised_object, name_of_declarator, init_in}
+use Rattle.c_senses.specs.Entities.{with_length, length_seen, entity_of, is_static_object, specified_of, derived_type, initialised_by}
+use Rattle.c_senses.specs.Initialised.{is_fixed, is_automatic, type_along, fixed_or, placed_core, placed_cores, made_of, new_length, most_elements, seen, outcome_of, initialised_fits, object_initialiser, initialised_as, initialised_object, name_of_declarator, init_in}
 use Rattle.c_senses.specs.Sense.{Sense, Nothing, IsDeclarator, IsInitial, Derivation, Specified}
 use Rattle.sense_laws.specs.Sound.{Gives}
 use Rattle.sense_laws.proofs.Giving.{then_gives, if_given, some_given}
 use Rattle.sense_laws.proofs.Types.{anything}
+use Rattle.sense_laws.proofs.Seen.{seen_gives}
 use Rattle.static_value_laws.specs.fixed_laws.Fixed.{all_fixed}
 
 -- the values of what a tree initialises are fixed
@@ -70,6 +71,11 @@ module _ (w : World) (s : Source) (f : ℕ → Sense) where
       then_gives (λ m. FixedIn automatic m.initial) InitialFixed (made_of w s f (is_static_object s f leaf) (entity_of s f leaf) (own_place s at) t o) _ (made_fixed (is_static_object s f leaf) (entity_of s f leaf) (own_place s at) t o is)
       (λ m h. if_given InitialFixed (initialised_fits w s f (with_length m.length t) leaf) Operand leaf (Fits (IsInitial m.initial m.length)) (λ small. h)))
 
+  as_fixed : (at declarator leaf : ℕ) (t : Ctype) → is_static_object s f leaf ≡ true → Gives InitialFixed (initialised_as w s f at declarator leaf t)
+  as_fixed at declarator leaf t is =
+      let n : Option ℕ = length_seen s f leaf in
+      seen_gives InitialFixed (λ c m k h. h) n (object_initialiser w s f at declarator leaf (with_length n t)) (object_fixed at declarator leaf (with_length n t) is)
+
   -- an initialiser of a declarator has a name, whose specifiers are known
   pub record Initialises (at declarator : ℕ) (x : Sense) : Type 0 where
     pub leaf : ℕ
@@ -83,7 +89,7 @@ module _ (w : World) (s : Source) (f : ℕ → Sense) where
   initial_of at declarator x e = by (f declarator) refl e
     where
       typed : (leaf : ℕ) (derives : List Derivation) → f declarator ≡ IsDeclarator (Some leaf) derives → (z : Option Specified) → specified_of s f leaf ≡ z
-          → (given_some (derived_type s f z (Some declarator)) Operand at >>= object_initialiser w s f at declarator leaf) ≡ Fits x → Initialises at declarator x
+          → (given_some (derived_type s f z (Some declarator)) Operand at >>= initialised_as w s f at declarator leaf) ≡ Fits x → Initialises at declarator x
       typed leaf derives is None told e = cc
       typed leaf derives is (Some words) told e = record {
         leaf = leaf;
@@ -92,7 +98,7 @@ module _ (w : World) (s : Source) (f : ℕ → Sense) where
         words = words;
         known = told;
         fixed = λ static. subst (λ (g : Given Sense). Gives InitialFixed g) e
-            (some_given InitialFixed (derived_type s f (Some words) (Some declarator)) Operand at (object_initialiser w s f at declarator leaf) (λ t told. object_fixed at declarator leaf t static));
+            (some_given InitialFixed (derived_type s f (Some words) (Some declarator)) Operand at (initialised_as w s f at declarator leaf) (λ t told. as_fixed at declarator leaf t static));
       }
 
       by : (y : Sense) → f declarator ≡ y → initialised_object w s f at declarator (name_of_declarator w s f y) ≡ Fits x → Initialises at declarator x

@@ -13,6 +13,7 @@ use Rattle.c_tags.specs.declared.tag_numbers.tags.Tags.{Tags}
 use Rattle.c_tags.specs.tag_numbers.Known.{AreTags}
 use Rattle.c_tags.proofs.tag_numbers.Listing.{any_here}
 use Rattle.tree_reads.specs.Sources.{source_in}
+use Rattle.core_nodes.specs.Once.{HasOnce}
 use Rattle.struct_rows.specs.Built.{is_of_tag, first_specifier, union_by, first_is_union, HasTagTypes}
 use Rattle.struct_rows.proofs.Building.{stands_here}
 use Rattle.struct_rows.specs.tag_types.Opened.{is_tag_union, IsOpened}
@@ -92,4 +93,19 @@ opened_types numbered uses table tags opened count = record {
       let inside : n < table.tags = omega (arith, below, count) in
       let first : is_tag_union numbered n ≡ first_is_union s n = sym (ap (union_by s) (first_of s numbered.tags tags n below)) in
       stands_here table n (first_is_union s n) (omega (arith, inside, opened.count)) (opened.types n inside ∙ ap (λ (u : Bool). tagged u n) first);
+}
+
+-- two tags have two types
+one_tag : (a b : Bool) (i j : ℕ) → tagged a i ≡ tagged b j → i ≡ j
+one_tag true true i j e = cc
+one_tag true false i j e = cc
+one_tag false true i j e = cc
+one_tag false false i j e = cc
+
+pub opened_once : (numbered : Numbered) (table : Table) → IsOpened numbered table → HasOnce table
+opened_once numbered table opened = record {
+  each = λ i j first second e.
+      let at_first = opened.types i (omega (arith, first, opened.count)) in
+      let at_second = opened.types j (omega (arith, second, opened.count)) in
+      one_tag (is_tag_union numbered i) (is_tag_union numbered j) i j (sym at_first ∙ (e ∙ at_second));
 }

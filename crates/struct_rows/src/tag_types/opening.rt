@@ -4,6 +4,7 @@ ghost use Rattle.c_types.specs.Table.{type_of};
 ghost use Rattle.c_inits.specs.Tables.{tagged};
 ghost use Rattle.c_senses.specs.Tags as spec;
 ghost use Rattle.tree_reads.specs.Sources.{source_read, source_in};
+ghost use Rattle.core_nodes.specs.Once.{HasOnce};
 ghost use Rattle.c_tags.specs.tag_numbers.Known.{AreTags};
 ghost use Rattle.struct_rows.specs.Built.{HasTagTypes};
 ghost use Rattle.struct_rows.specs.tag_types.Opened.{IsOpened, is_tag_union};
@@ -43,6 +44,7 @@ fn add_type(types: &mut TypeTable, numbered: &Numbered) -> Result<(), OutOfMemor
 pub fn open_types(alloc: Global, numbered: &Numbered) -> Result<TypeTable, OutOfMemory>
     ensures tags { IfOk result (λ types. types.tags ≡ numbered.now.tags.count) }
     ensures opened { IfOk result (IsOpened numbered.now) }
+    ensures once { IfOk result HasOnce }
 
     // So each tag of the unit has its type under its number.
     ensures types { (uses : List (ℕ × ℕ)) →

@@ -27,6 +27,7 @@ use Rattle.row_numbers.proofs.FrameLemmas.{locations_within}
 use Rattle.normal_form.specs.declared.normal.Assignment.{Assignment}
 use Rattle.normal_form.specs.Assignments.{assignments_by, assignments_at, assignments_of}
 use Rattle.normal_form.specs.Facts.{parameter_rows}
+use Rattle.normal_form.proofs.Demanding.{demanded}
 use Rattle.normal_form.specs.SystemOf.{held_by, library_pair, library_constraints, second_of, argument_constraints, present_rows, taken_in, given_out, result_rows, entry_constraints, outside_constraints, start_constraints, Demands, by_node, by_call, by_library, by_start, setting_of, SystemOf}
 use Rattle.system_laws.proofs.Calls.{first_below}
 use Rattle.system_laws.proofs.Rows.{result_rows_within}
@@ -176,7 +177,7 @@ module _ (p : Program) (space : List Location) (is_space : space ≡ locations_i
   fits_all : AreTypedDemands system
   fits_all = record {
     types = subst (λ (list : List TypeFact). All (λ fact. All (λ position. position < fact.nodes) fact.members) list) (sym is.types) (facts_valid p.types made fit);
-    constraints = λ k d lt. demanded_valid (get_or system.constraints k d) ((is.constraints (get_or system.constraints k d)).0 (Contains-get_or system.constraints k d lt));
+    constraints = λ k d lt. demanded_valid (get_or system.constraints k d) ((demanded p (view_of space) system is (get_or system.constraints k d)).0 (Contains-get_or system.constraints k d lt));
   }
 
 pub demands_fit : DemandsFit

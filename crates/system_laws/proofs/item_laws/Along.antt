@@ -1,23 +1,22 @@
 -- The nodes of the part at the end of a path stand in the whole's.
-use Rattle.std.proofs.Common.{arith, ◌≡◌, ◌∙◌, ◌⊎◌, ℕ, zero, suc, ◌+◌, ◌^◌, ◌<◌, Bool, true, false, cond, List, [], ◌∷◌, ◌++◌, length, length-append, take, Option, Some, None, IsSome, unwrap_or, slice_get, refl, sym, ap, subst, inl, inr}
+use Rattle.std.proofs.Common.{arith, ◌≡◌, ◌∙◌, ◌⊎◌, ℕ, zero, suc, ◌+◌, ◌<◌, Bool, true, false, cond, List, [], ◌∷◌, ◌++◌, length, length-append, take, Option, Some, None, IsSome, slice_get, refl, sym, ap, subst, inl, inr}
 use Rattle.std.specs.Prelude.{nat_lt}
 use Rattle.std.specs.Option.{option_map, option_and_then}
-use Rattle.std.proofs.lemmas.Bool.{lt-ltb, false≢true}
-use Rattle.std.proofs.lemmas.Option.{slice_get_within}
+use Rattle.std.proofs.lemmas.Bool.{false≢true}
 use Rattle.c_types.specs.declared.term.MemberTerm.{MemberTerm}
 use Rattle.c_types.specs.declared.term.PathStep.{PathStep}
 use Rattle.c_types.specs.declared.term.PathStep.TheVariants.{Index, Member}
 use Rattle.c_types.specs.Trees.{Ctype, VoidType, BoolType, IntegerType, FloatingType, VaListType, PointerTo, ArrayOf, FunctionFrom, StructureOf, UnionOf}
 use Rattle.c_types.specs.Layout.{Extent, all_nodes, repeated, of_members, structure_of, union_of, member_extent, element_extent}
-use Rattle.c_types.specs.Parts.{position, unless_flexible, member_node as place_in, within_32, field_in}
+use Rattle.c_types.specs.Parts.{position, unless_flexible, member_node as place_in, field_in}
 use Rattle.c_types.specs.Paths.{with_length, member_type, part_type, type_at_path}
 use Rattle.c_types.specs.Table.{Table, type_of, look_in, extent_in, extents_in, members_in}
 use Rattle.c_types.specs.Made.{IsMade, IsFlexible}
 use Rattle.c_types.proofs.Nodes.{union_nodes, extents_get}
 use Rattle.obj_space.specs.Parts.{nodes_of}
+use Rattle.obj_space.specs.Spots.{Reached, reached, member_reached, step_by, part_at}
 use Rattle.obj_space.proofs.Preorder.{get_before, get_behind, nodes_member, nodes_repeated, structure_nodes_some}
-use Rattle.row_numbers.specs.Kept.{member_node}
-use Rattle.normal_form.specs.Assignments.{is_union_type, step_node, path_node}
+use Rattle.normal_form.specs.Assignments.{is_union_type}
 use Rattle.normal_form.proofs.MemberNodes.{Positive, positive}
 
 some_one : {X : Type 0} → {x y : X} → ◌≡◌ {A = Option X} (Some x) (Some y) → x ≡ y
@@ -75,13 +74,13 @@ record IsPart (table : Table) (tag k : ℕ) (s : Ctype) : Type 0 where
   there : slice_get members k ≡ Some member
   type : with_length (type_of table member.ty.0) ≡ Some s
 
-part_at : (table : Table) (tag k : ℕ) (s : Ctype) (ms : List MemberTerm) → members_in table tag ≡ Some ms → (om : Option MemberTerm) → slice_get ms k ≡ om → option_and_then (λ (m : MemberTerm). with_length (type_of table m.ty.0)) om ≡ Some s → IsPart table tag k s
-part_at table tag k s ms is None at e = absurd (none_some e)
-part_at table tag k s ms is (Some m) at e = record { members = ms; members_are = is; member = m; there = at; type = e }
+member_part : (table : Table) (tag k : ℕ) (s : Ctype) (ms : List MemberTerm) → members_in table tag ≡ Some ms → (om : Option MemberTerm) → slice_get ms k ≡ om → option_and_then (λ (m : MemberTerm). with_length (type_of table m.ty.0)) om ≡ Some s → IsPart table tag k s
+member_part table tag k s ms is None at e = absurd (none_some e)
+member_part table tag k s ms is (Some m) at e = record { members = ms; members_are = is; member = m; there = at; type = e }
 
 part_of : (table : Table) (tag k : ℕ) (s : Ctype) (o : Option (List MemberTerm)) → members_in table tag ≡ o → member_type table o k ≡ Some s → IsPart table tag k s
 part_of table tag k s None is e = absurd (none_some e)
-part_of table tag k s (Some ms) is e = part_at table tag k s ms is (slice_get ms k) refl e
+part_of table tag k s (Some ms) is e = member_part table tag k s ms is (slice_get ms k) refl e
 
 module _ (table : Table) (made : IsMade table) where
   -- a complete part's whole is complete
@@ -129,17 +128,11 @@ module _ (table : Table) (made : IsMade table) where
   pub union_node_of : (tag : ℕ) → IsSome (extent_in table (UnionOf tag)) → slice_get (nodes (UnionOf tag)) 0 ≡ Some (UnionOf tag)
   union_node_of tag h = union_first tag (look_in table tag) h
 
-  module _ (whole : List Ctype) (small : length whole < 2 ^ 32) where
+  module _ (whole : List Ctype) where
     -- a part's nodes stand in the list from its node on, and it is complete
     pub record Holds (t : Ctype) (node : ℕ) : Type 0 where
       pub complete : IsSome (extent_in table t)
       pub stands : (j : ℕ) (b : Ctype) → slice_get (nodes t) j ≡ Some b → slice_get whole (node + j) ≡ Some b
-
-    within_whole : (t : Ctype) (node : ℕ) → Holds t node → node < length whole
-    within_whole t node h =
-        let (b, at) = first_node_of t h.complete in
-        let lt = slice_get_within whole (node + 0) b (h.stands 0 b at) in
-        omega arith
 
     member_holds : (tag k node : ℕ) (ms : List MemberTerm) (m : MemberTerm) → members_in table tag ≡ Some ms → slice_get ms k ≡ Some m → Holds (StructureOf tag) node
         → ((t : Table) → IsFlexible t (type_of table m.ty.0) → ⊥) → Holds (type_of table m.ty.0) (node + position (extents_in table ms) k)
@@ -161,34 +154,77 @@ module _ (table : Table) (made : IsMade table) where
               ap (slice_get whole) sum ∙ h.stands (pos + j) b behind;
         }
 
-    structure_holds : (tag k node : ℕ) (s : Ctype) → IsPart table tag k s → Holds (StructureOf tag) node → Holds s (node + member_node table (StructureOf tag) k)
-    structure_holds tag k node s p h =
+    -- where a step leads, outside of unions, and that the part's nodes stand there
+    record Leads (t : Ctype) (node : ℕ) (step : PathStep) (s : Ctype) : Type 0 where
+      next : ℕ
+      reaches : step_by table t node false step ≡ Some (reached s next false)
+      holds : Holds s next
+
+    structure_leads : (tag k node : ℕ) (s : Ctype) → IsPart table tag k s → part_type table (StructureOf tag) (Member k) ≡ Some s → Holds (StructureOf tag) node → Leads (StructureOf tag) node (Member k) s
+    structure_leads tag k node s p e h =
         let l = has_length (type_of table p.member.ty.0) s p.type in
         let pos = position (extents_in table p.members) k in
         let own = member_holds tag k node p.members p.member p.members_are p.there h l.fixed in
-        let lt = within_whole (type_of table p.member.ty.0) (node + pos) own in
         let found : field_in table (StructureOf tag) k ≡ Some pos =
         ap (λ (o : Option (List MemberTerm)). place_in table (λ members. position (extents_in table members) k) o k) p.members_are
         ∙ (ap (option_and_then (λ (x : MemberTerm). unless_flexible (type_of table x.ty.0) pos)) p.there ∙ l.place pos) in
-        let place : member_node table (StructureOf tag) k ≡ pos =
-        ap (λ (o : Option ℕ). unwrap_or (within_32 o) 0) found ∙ ap (λ (b : Bool). unwrap_or (cond b (Some pos) None) 0) (lt-ltb pos (2 ^ 32) (omega arith)) in
-        subst (λ (n : ℕ). Holds s (node + n)) (sym place) (subst (λ (t : Ctype). Holds t (node + pos)) l.same own)
+        record {
+          next = node + pos;
+          reaches = ap (λ (o : Option Ctype). member_reached (StructureOf tag) o (field_in table (StructureOf tag) k) node false) e
+              ∙ ap (λ (o : Option ℕ). member_reached (StructureOf tag) (Some s) o node false) found;
+          holds = subst (λ (t : Ctype). Holds t (node + pos)) l.same own;
+        }
 
-    element_holds : (b : Bool) (of s : Ctype) (n node : ℕ) → cond b (Some of) None ≡ Some s → Holds (ArrayOf of (Some n)) node → Holds s (node + 0)
-    element_holds false of s n node e h = absurd (none_some e)
-    element_holds true of s n node e h =
+    element_leads : (b : Bool) (of s : Ctype) (n node i : ℕ) → cond b (Some of) None ≡ Some s → Holds (ArrayOf of (Some n)) node → Leads (ArrayOf of (Some n)) node (Index i) s
+    element_leads false of s n node i e h = absurd (none_some e)
+    element_leads true of s n node i e h =
         let own : Holds of node = record {
           complete = some_repeated n (extent_in table of) h.complete;
           stands = λ j b at. h.stands j b (ap (λ (ns : List Ctype). slice_get ns j) (nodes_repeated n (extent_in table of)) ∙ at);
         } in
-        let none : node ≡ node + 0 = omega arith in
-        subst (λ (k : ℕ). Holds s k) none (subst (λ (t : Ctype). Holds t node) (some_one e) own)
+        record {
+          next = node;
+          reaches = ap (λ (x : Ctype). Some (reached x node false)) (some_one e);
+          holds = subst (λ (t : Ctype). Holds t node) (some_one e) own;
+        }
 
-    part_holds : (t : Ctype) (step : PathStep) (s : Ctype) (node : ℕ) → is_union_type t ≡ false → part_type table t step ≡ Some s → Holds t node → Holds s (node + step_node table t step)
-    part_holds (ArrayOf of (Some n)) (Index i) s node apart e h = element_holds (nat_lt i n) of s n node e h
-    part_holds (StructureOf tag) (Member k) s node apart e h = structure_holds tag k node s (part_of table tag k s (members_in table tag) refl e) h
-    part_holds (UnionOf tag) step s node apart e h = absurd (false≢true (sym apart))
-    part_holds t step s node apart e h = absurd (none_some e)
+    part_leads : (t : Ctype) (step : PathStep) (s : Ctype) (node : ℕ) → is_union_type t ≡ false → part_type table t step ≡ Some s → Holds t node → Leads t node step s
+    part_leads (ArrayOf of (Some n)) (Index i) s node apart e h = element_leads (nat_lt i n) of s n node i e h
+    part_leads (StructureOf tag) (Member k) s node apart e h = structure_leads tag k node s (part_of table tag k s (members_in table tag) refl e) e h
+    part_leads (UnionOf tag) step s node apart e h = absurd (false≢true (sym apart))
+    part_leads t step s node apart e h = absurd (none_some e)
+
+    -- what lies in a union stays at its node
+    inside_step : (t : Ctype) (step : PathStep) (s : Ctype) (node : ℕ) → part_type table t step ≡ Some s → step_by table t node true step ≡ Some (reached s node true)
+    inside_step (ArrayOf of (Some n)) (Index i) s node e = by (nat_lt i n) e
+      where
+        by : (b : Bool) → cond b (Some of) None ≡ Some s → Some (reached of node true) ≡ Some (reached s node true)
+        by true h = ap (λ (x : Ctype). Some (reached x node true)) (some_one h)
+        by false h = absurd (none_some h)
+    inside_step (StructureOf tag) (Member k) s node e = ap (λ (o : Option Ctype). member_reached (StructureOf tag) o (field_in table (StructureOf tag) k) node true) e
+    inside_step (UnionOf tag) (Member k) s node e = ap (λ (o : Option Ctype). member_reached (UnionOf tag) o (field_in table (UnionOf tag) k) node true) e
+    inside_step t step s node e = absurd (none_some e)
+
+    inside_along : (path : List PathStep) (t s : Ctype) (node : ℕ) → type_at_path table (Some t) path ≡ Some s → part_at table (Some (reached t node true)) path ≡ Some (reached s node true)
+    inside_along [] t s node e = ap (λ (x : Ctype). Some (reached x node true)) (some_one e)
+    inside_along (step ∷ rest) t s node e = by (part_type table t step) refl e (λ q. inside_along rest q s node)
+      where
+        by : (o : Option Ctype) → part_type table t step ≡ o → type_at_path table o rest ≡ Some s
+            → ((q : Ctype) → type_at_path table (Some q) rest ≡ Some s → part_at table (Some (reached q node true)) rest ≡ Some (reached s node true)) → part_at table (step_by table t node true step) rest ≡ Some (reached s node true)
+        by None part g next = absurd (path_none table rest s g)
+        by (Some q) part g next = ap (λ (o : Option Reached). part_at table o rest) (inside_step t step q node part) ∙ next q g
+
+    union_step : (t : Ctype) (step : PathStep) (s : Ctype) (node : ℕ) → is_union_type t ≡ true → part_type table t step ≡ Some s → step_by table t node false step ≡ Some (reached s (node + 0) true)
+    union_step (UnionOf tag) (Index i) s node kind e = absurd (none_some e)
+    union_step (UnionOf tag) (Member k) s node kind e =
+        let p = part_of table tag k s (members_in table tag) refl e in
+        let l = has_length (type_of table p.member.ty.0) s p.type in
+        let found : field_in table (UnionOf tag) k ≡ Some 0 =
+        ap (λ (o : Option (List MemberTerm)). place_in table (λ members. 0) o k) p.members_are
+        ∙ (ap (option_and_then (λ (x : MemberTerm). unless_flexible (type_of table x.ty.0) 0)) p.there ∙ l.place 0) in
+        ap (λ (o : Option Ctype). member_reached (UnionOf tag) o (field_in table (UnionOf tag) k) node false) e
+        ∙ ap (λ (o : Option ℕ). member_reached (UnionOf tag) (Some s) o node false) found
+    union_step t step s node kind e = absurd (false≢true kind)
 
     -- the part's nodes stand there, or it lies in a union that stands there
     pub record InUnion (node : ℕ) : Type 0 where
@@ -199,19 +235,25 @@ module _ (table : Table) (made : IsMade table) where
     union_there (UnionOf tag) node kind h = (let none : node ≡ node + 0 = omega arith in record { tag = tag; holds = subst (λ (k : ℕ). Holds (UnionOf tag) k) none h })
     union_there t node kind h = absurd (false≢true kind)
 
-    pub along : (path : List PathStep) (t s : Ctype) (node : ℕ) → Holds t node → type_at_path table (Some t) path ≡ Some s → Holds s (node + path_node table (Some t) path) ⊎ InUnion (node + path_node table (Some t) path)
-    along [] t s node h e = (let none : node ≡ node + 0 = omega arith in inl (subst (λ (k : ℕ). Holds s k) none (subst (λ (x : Ctype). Holds x node) (some_one e) h)))
-    along (step ∷ rest) t s node h e = by_kind (is_union_type t) refl (λ q m. along rest q s m)
-      where
-        by_part : (o : Option Ctype) → is_union_type t ≡ false → part_type table t step ≡ o → type_at_path table o rest ≡ Some s
-            → ((q : Ctype) (m : ℕ) → Holds q m → type_at_path table (Some q) rest ≡ Some s → Holds s (m + path_node table (Some q) rest) ⊎ InUnion (m + path_node table (Some q) rest))
-            → Holds s (node + (step_node table t step + path_node table o rest)) ⊎ InUnion (node + (step_node table t step + path_node table o rest))
-        by_part None apart part g next = absurd (path_none table rest s g)
-        by_part (Some q) apart part g next =
-            let sum : (node + step_node table t step) + path_node table (Some q) rest ≡ node + (step_node table t step + path_node table (Some q) rest) = omega arith in
-            subst (λ (k : ℕ). Holds s k ⊎ InUnion k) sum (next q (node + step_node table t step) (part_holds t step q node apart part h) g)
+    -- where a path within a type leads
+    pub record Led (path : List PathStep) (t : Ctype) (node : ℕ) (s : Ctype) : Type 0 where
+      pub part : Reached
+      pub part_is : part_at table (Some (reached t node false)) path ≡ Some part
+      pub there : Holds s part.node ⊎ InUnion part.node
 
-        by_kind : (b : Bool) → is_union_type t ≡ b → ((q : Ctype) (m : ℕ) → Holds q m → type_at_path table (Some q) rest ≡ Some s → Holds s (m + path_node table (Some q) rest) ⊎ InUnion (m + path_node table (Some q) rest))
-            → Holds s (node + cond b 0 (step_node table t step + path_node table (part_type table t step) rest)) ⊎ InUnion (node + cond b 0 (step_node table t step + path_node table (part_type table t step) rest))
-        by_kind true kind next = inr (union_there t node kind h)
-        by_kind false kind next = by_part (part_type table t step) kind refl e next
+    pub along : (path : List PathStep) (t s : Ctype) (node : ℕ) → Holds t node → type_at_path table (Some t) path ≡ Some s → Led path t node s
+    along [] t s node h e = record { part = reached t node false; part_is = refl; there = inl (subst (λ (x : Ctype). Holds x node) (some_one e) h) }
+    along (step ∷ rest) t s node h e = by (is_union_type t) refl (part_type table t step) refl e (λ q m. along rest q s m)
+      where
+        by : (b : Bool) → is_union_type t ≡ b → (o : Option Ctype) → part_type table t step ≡ o → type_at_path table o rest ≡ Some s
+            → ((q : Ctype) (m : ℕ) → Holds q m → type_at_path table (Some q) rest ≡ Some s → Led rest q m s) → Led (step ∷ rest) t node s
+        by b kind None part g next = absurd (path_none table rest s g)
+        by true kind (Some q) part g next = record {
+          part = reached s (node + 0) true;
+          part_is = ap (λ (o : Option Reached). part_at table o rest) (union_step t step q node kind part) ∙ inside_along rest q s (node + 0) g;
+          there = inr (union_there t node kind h);
+        }
+        by false kind (Some q) part g next =
+            let l = part_leads t step q node kind part h in
+            let led = next q l.next l.holds g in
+            record { part = led.part; part_is = ap (λ (o : Option Reached). part_at table o rest) l.reaches ∙ led.part_is; there = led.there }

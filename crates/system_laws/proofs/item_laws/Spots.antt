@@ -27,7 +27,7 @@ use Rattle.obj_made.specs.Made.{entity_content}
 use Rattle.obj_space.specs.declared.location.Location.{Location}
 use Rattle.obj_space.specs.Parts.{Part, nodes_of as tree_nodes, parts_of, is_collapsed}
 use Rattle.obj_space.specs.Space.{locations_in}
-use Rattle.obj_space.specs.Spots.{HasWholes, type_made}
+use Rattle.obj_space.specs.Spots.{HasWholes, Reached, type_made}
 use Rattle.obj_space.specs.View.{SpaceView, collapsed_of, first_from, view_of}
 use Rattle.obj_space.proofs.Placed.{get_mapped}
 use Rattle.obj_space.proofs.Preorder.{same_nodes}
@@ -132,52 +132,39 @@ module _ (p : Program) (space : List Location) (is_space : space ≡ locations_i
         let (l, first) = entity_begins p e x i part.0 at has_place part.1 in
         (l, ap (λ (list : List Location). first_from 0 list (EntityKey e)) is_space ∙ first)
 
-    small : length whole < 2 ^ 32
-    small = by whole refl
-      where
-        by : (ns : List Ctype) → whole ≡ ns → length whole < 2 ^ 32
-        by [] none = let zero_is : length whole ≡ 0 = ap (λ (l : List Ctype). length l) none in omega arith
-        by (b ∷ ns) some =
-            let many : length whole ≡ suc (length ns) = ap (λ (l : List Ctype). length l) some in
-            let (c, last) = present whole (length ns) (omega arith) in
-            let (l, first) = begins_at (length ns) c last in
-            let there = node_there l first (length ns) c last in
-            let lt = slice_get_within space (l + length ns) there.0 there.1 in
-            omega arith
-
     -- one item, by where its part stands
     module _ (path : List PathStep) (v : ℕ) where
       abbrev s : Ctype
       s = type_at tree v
 
-      location_at : (l : ℕ) → first_from 0 space (EntityKey e) ≡ Some l → spot tree view e path ≡ l + path_node p.types (Some t) path
-      location_at l first =
-          ap (λ (k : ℕ). k + target_node tree e path) (location_is ∙ ap (λ (o : Option ℕ). unwrap_or o 0) first) ∙ ap (λ (k : ℕ). l + k) (target_is path)
+      location_at : (n : ℕ) → path_node p.types (Some t) path ≡ n → (l : ℕ) → first_from 0 space (EntityKey e) ≡ Some l → spot tree view e path ≡ l + n
+      location_at n is l first =
+          ap (λ (k : ℕ). k + target_node tree e path) (location_is ∙ ap (λ (o : Option ℕ). unwrap_or o 0) first) ∙ ap (λ (k : ℕ). l + k) (target_is path ∙ is)
 
-      node_within : Holds p.types made whole small s (0 + path_node p.types (Some t) path) → (i : ℕ) → i < length (nodes_of p.types s) → spot tree view e path + i < length space
-      node_within h i lt =
+      node_within : (n : ℕ) → path_node p.types (Some t) path ≡ n → Holds p.types made whole s n → (i : ℕ) → i < length (nodes_of p.types s) → spot tree view e path + i < length space
+      node_within n is h i lt =
           let (b, own) = present (nodes_of p.types s) i lt in
           let node = h.stands i b (all_nodes (extent_in p.types s) i b own) in
-          let (l, first) = begins_at ((0 + path_node p.types (Some t) path) + i) b node in
-          let there = node_there l first ((0 + path_node p.types (Some t) path) + i) b node in
-          let less = slice_get_within space (l + ((0 + path_node p.types (Some t) path) + i)) there.0 there.1 in
-          let at_l = location_at l first in
+          let (l, first) = begins_at (n + i) b node in
+          let there = node_there l first (n + i) b node in
+          let less = slice_get_within space (l + (n + i)) there.0 there.1 in
+          let at_l = location_at n is l first in
           omega arith
 
-      held_put : Holds p.types made whole small s (0 + path_node p.types (Some t) path) → IsPut space (spot tree view e path) (nodes_of p.types s)
-      held_put h = record {
-        here = λ lt. (let less = node_within h 0 lt in omega arith);
-        each = λ apart i lt. node_within h i lt;
+      held_put : (n : ℕ) → path_node p.types (Some t) path ≡ n → Holds p.types made whole s n → IsPut space (spot tree view e path) (nodes_of p.types s)
+      held_put n is h = record {
+        here = λ lt. (let less = node_within n is h 0 lt in omega arith);
+        each = λ apart i lt. node_within n is h i lt;
       }
 
-      union_put : InUnion p.types made whole small (0 + path_node p.types (Some t) path) → IsPut space (spot tree view e path) (nodes_of p.types s)
-      union_put u =
+      union_put : (n : ℕ) → path_node p.types (Some t) path ≡ n → InUnion p.types made whole n → IsPut space (spot tree view e path) (nodes_of p.types s)
+      union_put n is u =
           let node = u.holds.stands 0 (UnionOf u.tag) (union_node_of p.types made u.tag u.holds.complete) in
-          let (l, first) = begins_at ((0 + path_node p.types (Some t) path) + 0) (UnionOf u.tag) node in
-          let there = node_there l first ((0 + path_node p.types (Some t) path) + 0) (UnionOf u.tag) node in
-          let less = slice_get_within space (l + ((0 + path_node p.types (Some t) path) + 0)) there.0 there.1 in
-          let at_l = location_at l first in
-          let here : l + ((0 + path_node p.types (Some t) path) + 0) ≡ spot tree view e path = omega arith in
+          let (l, first) = begins_at (n + 0) (UnionOf u.tag) node in
+          let there = node_there l first (n + 0) (UnionOf u.tag) node in
+          let less = slice_get_within space (l + (n + 0)) there.0 there.1 in
+          let at_l = location_at n is l first in
+          let here : l + (n + 0) ≡ spot tree view e path = omega arith in
           let collapsed : collapsed_of (slice_get space (spot tree view e path)) ≡ true = ap collapsed_of (ap (slice_get space) (sym here) ∙ there.1) ∙ there.2 in
           record {
             here = λ lt. omega arith;
@@ -194,11 +181,13 @@ module _ (p : Program) (space : List Location) (is_space : space ≡ locations_i
       item_put (inl there) = elim (some_or (extent_in p.types s)) [
         | inr none ↦ nothing_put (no_extent (extent_in p.types s) none)
         | inl complete ↦
-            let start : Holds p.types made whole small t 0 = record {
+            let start : Holds p.types made whole t 0 = record {
               complete = path_complete p.types made path t s there complete;
               stands = λ j b node. (let here : 0 + j ≡ j = omega arith in ap (slice_get whole) here ∙ node);
             } in
-            elim (along p.types made whole small path t s 0 start there) [ inl h ↦ held_put h | inr u ↦ union_put u ]
+            let led = along p.types made whole path t s 0 start there in
+            let is : path_node p.types (Some t) path ≡ led.part.node = ap (λ (o : Option Reached). unwrap_or (option_map (λ (r : Reached). r.node) o) 0) led.part_is in
+            elim (led.there) [ inl h ↦ held_put led.part.node is h | inr u ↦ union_put led.part.node is u ]
       ]
 
     all_spotted : (paths : List (List PathStep)) (values : List ℕ) → AllFill tree t paths values → AreSpotted tree view e paths values

@@ -55,7 +55,7 @@ use Rattle.outcome_laws.proofs.twin_words.Members.{Member, member_at, at_member,
 use Rattle.outcome_laws.proofs.twin_words.Library.{IsOwn, all_own, member_own, begins, location_key, library_view, library_external, one_name}
 use Rattle.outcome_laws.proofs.twin_locations.Options.{and_then_some, number_is}
 use Rattle.system_laws.specs.item_laws.Items.{HasPlace, IsPlacedIn, IsPlacedAt, KindPlaced}
-use Rattle.twin_report_laws.specs.linked.Linked.{IsPlain, HasPlain}
+use Rattle.linked_laws.specs.alike_laws.Plain.{IsPlain, DefinesPlain}
 use Rattle.twin_report_laws.specs.rows.Ready.{IsReady, HasId, HasCalled}
 use Rattle.twin_report_laws.proofs.rows.Views.{begins_view, in_role}
 use Rattle.twin_report_laws.proofs.rows.Nodes.{void_past}
@@ -295,7 +295,7 @@ open_number k External DeclaredOnly name h = (refl, refl, by (summary_of name) h
     by (Some found) e = (found, refl, some_one e)
 open_number k linkage storage name h = absurd (none_some h)
 
-module _ {entered : List (List ℕ)} (units : List Unit) (p : Program) (linkable : AreLinkable units) (h : LinkedAt entered units p) (ready : IsReady p) (plain : HasPlain p) where
+module _ {entered : List (List ℕ)} (units : List Unit) (p : Program) (linkable : AreLinkable units) (h : LinkedAt entered units p) (ready : IsReady p) (plain : DefinesPlain (trees_in p)) where
   abbrev j : Joined
   j = joined units h.numbers p.types
 
@@ -303,7 +303,7 @@ module _ {entered : List (List ℕ)} (units : List Unit) (p : Program) (linkable
   own_called : (e : ℕ) (x : Entity) → slice_get p.entities.items e ≡ Some x → x.storage ≡ FunctionBody → HasId p.types (called_type (key_type (trees_in p) (EntityKey e)))
   own_called e x at storage =
       let function : IsFunction (type_of p.types x.ty.0) = by x.body (ready.trees.bodied e x at) in
-      let own = signed_id p.types x.ty.0 (type_of p.types x.ty.0) refl function (h.signatures e x at storage) (plain.each e x at storage) in
+      let own = signed_id p.types x.ty.0 (type_of p.types x.ty.0) refl function (h.signatures e x at storage) (plain e x at storage) in
       subst (λ (o : Option Entity). HasId p.types (called_type (type_or_void p.types (option_map (λ (entity : Entity). entity.ty) o)))) (sym at) own
     where
       by : (o : Option ℕ) → HasBody (trees_in p) e x o → IsFunction (type_of p.types x.ty.0)
@@ -496,5 +496,5 @@ module _ {entered : List (List ℕ)} (units : List Unit) (p : Program) (linkable
             subst (λ (w : ObjectKey). HasId p.types (called_type (key_type (trees_in p) w))) same (library_called k (omega (arith, less, number)) y u)
       ]
 
-pub has_called : {entered : List (List ℕ)} (units : List Unit) (p : Program) → AreLinkable units → LinkedAt entered units p → IsReady p → HasPlain p → length p.types.terms + 2 < 2 ^ 32 → HasCalled p
+pub has_called : {entered : List (List ℕ)} (units : List Unit) (p : Program) → AreLinkable units → LinkedAt entered units p → IsReady p → DefinesPlain (trees_in p) → length p.types.terms + 2 < 2 ^ 32 → HasCalled p
 has_called units p linkable h ready plain room = record { each = called_each units p linkable h ready plain; room = room }

@@ -13,10 +13,14 @@ use Rattle.twin_report_laws.specs.reports.Same.{SameNames, Printed}
 use Rattle.twin_report_laws.proofs.reports.Whole.{one_report as one_report_of}
 use Rattle.twin_report_laws.specs.answers.Same.{CallsTold, IsAnswered}
 use Rattle.twin_report_laws.proofs.answers.Whole.{one_text as one_text_of}
-use Rattle.twin_report_laws.specs.prints.Prints.{OneReport, OneText}
+use Rattle.twin_report_laws.specs.prints.Prints.{AreOnePrint, OneReport, OneText}
 
 abbrev printed : (json : Bool) (p : Program) (space : List Location) (system : System) (text : List ℕ) → IsProgramReport json p space system text → Printed
 printed json p space system text r = record { space = space; names = r.names; system = system; family = r.family }
+
+pub spaces_same : (p q : Program) (space more : List Location) (one other : System) → IsSystemOf p space one → IsSystemOf q more other → AreOnePrint p q one other → SameNames space more
+spaces_same p q space more one other s z alike =
+    subst (λ (spaces : List Location). SameNames spaces more) (sym s.space_is) (subst (λ (spaces : List Location). SameNames (locations_in p) spaces) (sym z.space_is) alike.spaces)
 
 pub one_report : OneReport
 one_report json p q space more one other text again s z alike apart r t =
@@ -24,7 +28,7 @@ one_report json p q space more one other text again s z alike apart r t =
     (record { valid = s.valid; least = r.least; count = s.count })
     (record { valid = z.valid; least = t.least; count = z.count })
     (record {
-      spaces = subst (λ (spaces : List Location). SameNames spaces more) (sym s.space_is) (subst (λ (spaces : List Location). SameNames (locations_in p) spaces) (sym z.space_is) alike.spaces);
+      spaces = spaces_same p q space more one other s z alike;
       units = t.names_are ∙ (alike.units ∙ sym r.names_are);
       systems = alike.systems;
       apart = apart;
@@ -49,7 +53,7 @@ pub one_text : OneText
 one_text p q space more one other script text again s z alike distinct told r t =
     one_text_of (made_setting space one p.names.items) (made_setting more other q.names.items) (lines_of script) text again
     (record {
-      spaces = subst (λ (spaces : List Location). SameNames spaces more) (sym s.space_is) (subst (λ (spaces : List Location). SameNames (locations_in p) spaces) (sym z.space_is) alike.spaces);
+      spaces = spaces_same p q space more one other s z alike;
       distinct = subst (λ (spaces : List Location). DistinctNames spaces) (sym s.space_is) distinct;
       units = alike.units;
       systems = alike.systems;

@@ -32,7 +32,7 @@ module _ (one other : System) (o : AreOneSystem one other) (F G : Family) (valid
   argument_there x y (suc k) row same h =
       subst (λ (lists : List (List ℕ)). option_and_then first_row (slice_get lists k) ≡ Some (o.to.row row)) (sym same.arguments) (place_there o.to.row x.arguments k row h)
 
-  target_over : (n : ℕ) (x y : CallSite) → slice_get one.calls n ≡ Some x → IsCallOver one other o.to n x y → (number : ℕ) (a : Function) → IsTarget one F x number a
+  pub target_over : (n : ℕ) (x y : CallSite) → slice_get one.calls n ≡ Some x → IsCallOver one other o.to n x y → (number : ℕ) (a : Function) → IsTarget one F x number a
       → (b : Function) × IsTarget other G y number b × SameFunction o.to a b
   target_over n x y at over number a t =
       let (b, function) = function_over one other o number a valid t.known in

@@ -14,12 +14,12 @@ use Rattle.twin_report_laws.specs.systems.Systems.{Maps, SameCall, SameFunction}
 use Rattle.twin_report_laws.proofs.systems.Whole.{one_solution}
 use Rattle.twin_report_laws.specs.reports.Same.{SameSite, AreOneSystem}
 
-has_one : {X : Type 0} (xs : List X) (i : ℕ) → i < length xs → (x : X) × (slice_get xs i ≡ Some x)
+pub has_one : {X : Type 0} (xs : List X) (i : ℕ) → i < length xs → (x : X) × (slice_get xs i ≡ Some x)
 has_one [] i lt = absurd (omega arith)
 has_one (x ∷ xs) zero lt = (x, refl)
 has_one (x ∷ xs) (suc i) lt = has_one xs i (omega arith)
 
-both_or_neither : (a b : Bool) → (b ≡ true → a ≡ true) → (a ≡ true → b ≡ true) → a ≡ b
+pub both_or_neither : (a b : Bool) → (b ≡ true → a ≡ true) → (a ≡ true → b ≡ true) → a ≡ b
 both_or_neither true b from to = sym (to refl)
 both_or_neither false true from to = from refl
 both_or_neither false false from to = refl

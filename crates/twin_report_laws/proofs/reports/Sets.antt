@@ -17,7 +17,7 @@ use Rattle.unit_report.specs.report_text.Report.{name_in, names_of, members_in, 
 use Rattle.twin_report_laws.specs.reports.Same.{AreOneSystem}
 use Rattle.twin_report_laws.proofs.reports.Over.{turned, IsCallOver, function_over, same_count, agree_both, row_same}
 
-filter_same : (p q : ℕ → Bool) → ((k : ℕ) → q k ≡ p k) → (xs : List ℕ) → filter q xs ≡ filter p xs
+pub filter_same : (p q : ℕ → Bool) → ((k : ℕ) → q k ≡ p k) → (xs : List ℕ) → filter q xs ≡ filter p xs
 filter_same p q same [] = refl
 filter_same p q same (x ∷ xs) =
     ap (λ (b : Bool). cond b (x ∷ filter q xs) (filter q xs)) (same x) ∙ ap (λ (rest : List ℕ). cond (p x) (x ∷ rest) rest) (filter_same p q same xs)

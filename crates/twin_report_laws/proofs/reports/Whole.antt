@@ -2,7 +2,7 @@
 use Rattle.std.proofs.Common.{◌≡◌, ℕ, zero, suc, ◌+◌, ◌<◌, Bool, true, false, cond, List, [], ◌∷◌, ◌++◌, length, map, Option, Some, None, slice_get, String, Global, string_bytes, refl, sym, ◌∙◌, ap, subst, arith}
 use Rattle.std.specs.List.{filter, range_with_len}
 use Rattle.std.specs.Option.{option_map, option_map_or}
-use Rattle.std.specs.Prelude.{codes, decimal}
+use Rattle.std.specs.Prelude.{codes, decimal, fold}
 use Rattle.std.proofs.lemmas.Option.{same_Some, slice_get_within, slice_get-map}
 use Rattle.pta_base.specs.declared.place.Place.{Place}
 use Rattle.sol_model.specs.declared.system.CallSite.{CallSite}
@@ -16,6 +16,7 @@ use Rattle.serde_json.specs.View.{items_of}
 use Rattle.serde_json.specs.Written.{compact_text}
 use Rattle.unit_report.specs.report_json.Json.{name_value, names_value, set_value, sets_value, call_value, calls_value, edge_value, edges_value, report_of, report_value, IsJsonReport}
 use Rattle.call_graph.specs.Graph.{IsGraph}
+use Rattle.gen_summary.specs.Summary.{IsSummary, member_count, summary_text}
 use Rattle.twin_report_laws.specs.reports.Same.{Printed, IsSolved, ArePrintedAlike, OneReport}
 use Rattle.twin_report_laws.proofs.reports.Spots.{Entry, spot_of, Among}
 use Rattle.twin_report_laws.proofs.reports.Matched.{IsPair, lines_matched, matched}
@@ -37,6 +38,11 @@ mapped_same f g p q a (suc n) tests lines =
         → map g (cond b (a ∷ filter q (range_with_len (a + 1) n)) (filter q (range_with_len (a + 1) n))) ≡ map f (cond b (a ∷ filter p (range_with_len (a + 1) n)) (filter p (range_with_len (a + 1) n)))
     by true here rest = ap (λ l. l ∷ map g (filter q (range_with_len (a + 1) n))) here ∙ ap (λ ls. f a ∷ ls) rest
     by false here rest = rest
+
+-- a sum is that of the values
+sum_mapped : (f : ℕ → ℕ) (so_far : ℕ) (xs : List ℕ) → fold (λ a x. a + f x) so_far xs ≡ fold (λ a x. a + x) so_far (map f xs)
+sum_mapped f so_far [] = refl
+sum_mapped f so_far (x ∷ xs) = sum_mapped f (so_far + f x) xs
 
 -- the same value for each
 each_same : {X A : Type 0} (f g : X → A) → ((x : X) → g x ≡ f x) → (xs : List X) → map g xs ≡ map f xs
@@ -231,6 +237,24 @@ module _ (p q : Printed) (s : IsSolved p) (z : IsSolved q) (alike : ArePrintedAl
   json_report : (text other : List ℕ) → IsJsonReport p.space p.names p.system p.family text → IsJsonReport q.space q.names q.system q.family other → other ≡ text
   json_report text other r t =
       t.text_is ∙ (ap (λ (value : Data). compact_text value ++ codes "\n") (values_same r.edges t.edges (graph_same r.edges t.edges r.graph t.graph)) ∙ sym r.text_is)
+
+  -- ---- a summary
+  abbrev count_in : Printed → ℕ → ℕ
+  count_in r l = length (members_in r.system r.family l)
+
+  counts_same : member_count q.space q.system q.family ≡ member_count p.space p.system p.family
+  counts_same =
+      sum_mapped (count_in q) 0 (filter (has_set q.space) (range_with_len 0 (length q.space)))
+      ∙ (ap (λ (n : ℕ). fold (λ a x. a + x) 0 (map (count_in q) (filter (has_set q.space) (range_with_len 0 n)))) alike.spaces.many
+      ∙ (ap (λ (counts : List ℕ). fold (λ a x. a + x) 0 counts) (mapped_same (count_in p) (count_in q) (has_set p.space) (has_set q.space) 0 (length p.space) alike.spaces.sets (λ k lt. ap length (its_members k (omega (arith, lt)))))
+      ∙ sym (sum_mapped (count_in p) 0 (filter (has_set p.space) (range_with_len 0 (length p.space))))))
+
+  pub summary_same : (number : ℕ) (text other : List ℕ) → IsSummary number p.space p.system p.family text → IsSummary number q.space q.system q.family other → other ≡ text
+  summary_same number text other r t =
+      t.text_is
+      ∙ (ap (λ (n : ℕ). summary_text number n (member_count q.space q.system q.family) (length t.edges)) alike.spaces.many
+      ∙ (ap (λ (n : ℕ). summary_text number (length p.space) n (length t.edges)) counts_same
+      ∙ (ap (λ (pairs : List (ℕ × ℕ)). summary_text number (length p.space) (member_count p.space p.system p.family) (length pairs)) (graph_same r.edges t.edges r.graph t.graph) ∙ sym r.text_is)))
 
 pub one_report : OneReport
 one_report true p q text other s z alike r t = json_report p q s z alike text other r t

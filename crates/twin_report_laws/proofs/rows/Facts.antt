@@ -39,7 +39,7 @@ use Rattle.twin_report_laws.proofs.rows.Rows.{same_map, row_moved, row_location}
 use Rattle.twin_report_laws.proofs.rows.Nodes.{some_at}
 
 -- ---- the fact of a type
-plain_at : (n : ℕ) (ty : ℕ) (facts : List TypeFact) → ty < n → slice_get (replicate n plain_fact ++ facts) ty ≡ Some plain_fact
+pub plain_at : (n : ℕ) (ty : ℕ) (facts : List TypeFact) → ty < n → slice_get (replicate n plain_fact ++ facts) ty ≡ Some plain_fact
 plain_at zero ty facts lt = absurd (omega (arith, lt))
 plain_at (suc n) zero facts lt = refl
 plain_at (suc n) (suc ty) facts lt = plain_at n ty facts (omega (arith, lt))
@@ -86,17 +86,17 @@ tagged_structure table tag none = ap (λ (b : Bool). if b then UnionOf tag else 
 pub record ApartTags (p : Program) : Type 0 where
   pub each : (l tag : ℕ) → (view_of (locations_in p)).collapsed l ≡ false → (view_of (locations_in p)).node_type l ≡ 8 + tag → (i : ℕ) → slice_get p.types.terms i ≡ Some (Union tag) → ⊥
 
-small_moved : (f : ℕ → ℕ) (ty : ℕ) → ty < 8 → number_moved f ty ≡ ty
+pub small_moved : (f : ℕ → ℕ) (ty : ℕ) → ty < 8 → number_moved f ty ≡ ty
 small_moved f ty lt = ap (λ (b : Bool). if b then ty else 8 + f (ty - 8)) (lt-ltb ty 8 lt)
 
 module _ (p q : Program) (to back : Numbers) (h : ArePaired p q to back) (S T : System) (types : S.types ≡ type_facts p.types) (over_types : T.types ≡ type_facts q.types) where
   abbrev pub m_ty : ℕ → ℕ
   m_ty ty = number_moved to.tag ty
 
-  fact_of : (tag : ℕ) → tag < p.types.tags → slice_get S.types (8 + tag) ≡ Some (tag_fact p.types tag)
+  pub fact_of : (tag : ℕ) → tag < p.types.tags → slice_get S.types (8 + tag) ≡ Some (tag_fact p.types tag)
   fact_of tag lt = ap (λ (fs : List TypeFact). slice_get fs (8 + tag)) types ∙ tag_there p.types tag lt
 
-  fact_over : (tag : ℕ) → tag < p.types.tags → slice_get T.types (8 + to.tag tag) ≡ Some (tag_fact q.types (to.tag tag))
+  pub fact_over : (tag : ℕ) → tag < p.types.tags → slice_get T.types (8 + to.tag tag) ≡ Some (tag_fact q.types (to.tag tag))
   fact_over tag lt = ap (λ (fs : List TypeFact). slice_get fs (8 + to.tag tag)) over_types ∙ tag_there q.types (to.tag tag) (h.lead.tag_back tag lt).0
 
   -- as many members
@@ -141,16 +141,16 @@ module _ (p q : Program) (to back : Numbers) (h : ArePaired p q to back) (S T : 
   module _ (valid : IsValid S) (locations : S.locations ≡ location_facts (trees_in p) (here p q to back h)) (over_locations : T.locations ≡ location_facts (trees_in q) (over p q to back h))
       (tags_apart : ApartTags p) (over_apart : ApartTags q) where
     -- a location, and the one with its number
-    record AreLocations (l : ℕ) (a : LocationFact) : Type 0 where
-      within : l < length (locations_in p)
-      other : LocationFact
-      there : slice_get T.locations l ≡ Some other
-      collapsed : other.collapsed ≡ a.collapsed
-      ty : other.ty ≡ m_ty a.ty
-      own_collapsed : a.collapsed ≡ (view_of (locations_in p)).collapsed l
-      own_ty : a.ty ≡ (view_of (locations_in p)).node_type l
+    pub record AreLocations (l : ℕ) (a : LocationFact) : Type 0 where
+      pub within : l < length (locations_in p)
+      pub other : LocationFact
+      pub there : slice_get T.locations l ≡ Some other
+      pub collapsed : other.collapsed ≡ a.collapsed
+      pub ty : other.ty ≡ m_ty a.ty
+      pub own_collapsed : a.collapsed ≡ (view_of (locations_in p)).collapsed l
+      pub own_ty : a.ty ≡ (view_of (locations_in p)).node_type l
 
-    location_there : (l : ℕ) (a : LocationFact) → slice_get S.locations l ≡ Some a → AreLocations l a
+    pub location_there : (l : ℕ) (a : LocationFact) → slice_get S.locations l ≡ Some a → AreLocations l a
     location_there l a at =
         let (n, n_at, is) = unmapped_at (location_fact (trees_in p) (here p q to back h)) (range_with_len 0 (length (locations_in p))) l a (sym (ap (λ (fs : List LocationFact). slice_get fs l) locations) ∙ at) in
         let (lt, number) = at_range 0 (length (locations_in p)) l n n_at in
@@ -180,7 +180,7 @@ module _ (p q : Program) (to back : Numbers) (h : ArePaired p q to back) (S T : 
         structure_same tag lt one other
 
     -- its nodes
-    counts_same : (l : ℕ) (a : LocationFact) → slice_get S.locations l ≡ Some a → a.collapsed ≡ false → nodes_of T (m_ty a.ty) ≡ nodes_of S a.ty
+    pub counts_same : (l : ℕ) (a : LocationFact) → slice_get S.locations l ≡ Some a → a.collapsed ≡ false → nodes_of T (m_ty a.ty) ≡ nodes_of S a.ty
     counts_same l a at apart =
         let (fact, fact_at) = some_at S.types a.ty (valid.locations l a at).typed in
         by fact fact_at (type_at p.types a.ty fact (sym (ap (λ (fs : List TypeFact). slice_get fs a.ty) types) ∙ fact_at))
@@ -203,7 +203,7 @@ module _ (p q : Program) (to back : Numbers) (h : ArePaired p q to back) (S T : 
     led_there false k true u l d n e same f = ap (λ (b : Bool). cond b (Some l) (cond u (Some (l + d)) None)) e ∙ (ap (λ (b : Bool). cond b (Some (l + d)) None) (same refl) ∙ f)
     led_there false k false u l d n e same f = absurd (none_some f)
 
-    node_there : (o : Option LocationFact) (l ty d n : ℕ) → slice_get S.locations l ≡ o → node_from o l ty d ≡ Some n → (node_from (slice_get T.locations l) l (m_ty ty) d ≡ Some n) × (l < length (locations_in p))
+    pub node_there : (o : Option LocationFact) (l ty d n : ℕ) → slice_get S.locations l ≡ o → node_from o l ty d ≡ Some n → (node_from (slice_get T.locations l) l (m_ty ty) d ≡ Some n) × (l < length (locations_in p))
     node_there None l ty d n e f = absurd (none_some f)
     node_there (Some a) l ty d n e f =
         let o = location_there l a e in (

@@ -168,7 +168,7 @@ pub union_same : (f : ℕ → ℕ) (t : Ctype) → is_union_type (renamed f t) �
 union_same f (UnionOf tag) = refl
 union_same f t = refl
 
-library_fixed : (to : Numbers) (k : ℕ) → key_moved to (library_key k) ≡ library_key k
+pub library_fixed : (to : Numbers) (k : ℕ) → key_moved to (library_key k) ≡ library_key k
 library_fixed to k = by (nat_lt k 55)
   where
     by : (b : Bool) → key_moved to (if b then Function k else Library (k - 52)) ≡ (if b then Function k else Library (k - 52))

@@ -1,5 +1,5 @@
 -- What returns and initialisers demand, in two programs that are one, but for numbers.
-use Rattle.std.proofs.Common.{◌≡◌, ◌∙◌, ◌+◌, ◌<◌, ℕ, Bool, true, false, List, [], ◌∷◌, ◌++◌, map, length, Option, Some, None, refl, sym, ap, subst}
+use Rattle.std.proofs.Common.{◌≡◌, ◌∙◌, ◌+◌, ◌<◌, ℕ, Bool, true, false, List, [], ◌∷◌, ◌++◌, map, length, Option, Some, None, unwrap_or, refl, sym, ap, subst}
 use Rattle.std.specs.Prelude.{⊤, if◌then◌else◌}
 use Rattle.std.specs.List.{slice_get}
 use Rattle.std.specs.Option.{option_map, option_and_then, IfSome}
@@ -8,7 +8,8 @@ use Rattle.c_types.specs.declared.term.PathStep.{PathStep}
 use Rattle.c_types.specs.declared.term.PathStep.TheVariants.{Index, Member as MemberStep}
 use Rattle.c_types.specs.declared.term.TypeId.{TypeId}
 use Rattle.c_types.specs.Trees.{Ctype, VoidType, BoolType, IntegerType, FloatingType, VaListType, PointerTo, ArrayOf, FunctionFrom, StructureOf, UnionOf}
-use Rattle.c_types.specs.Table.{type_of, members_in}
+use Rattle.c_types.specs.Table.{Table, type_of, members_in}
+use Rattle.c_types.specs.Parts.{field_in}
 use Rattle.c_types.specs.Paths.{with_length, member_type, part_type}
 use Rattle.type_rules.specs.Conversions.{result_of}
 use Rattle.core_tree.specs.declared.node.Node.{Node}
@@ -22,10 +23,13 @@ use Rattle.core_tree.specs.Rows.{RowOf}
 use Rattle.link_model.specs.Renamed.{renamed}
 use Rattle.link_model.specs.Partition.{HasTags}
 use Rattle.unit_link.specs.Places.{kind_renamed}
+use Rattle.obj_space.specs.Parts.{is_collapsed}
 use Rattle.obj_space.specs.Space.{locations_in}
+use Rattle.obj_space.specs.Spots.{Reached, reached, member_reached, step_by, part_at}
 use Rattle.obj_space.specs.View.{collapsed_of}
+use Rattle.obj_space.proofs.Followed.{step_member}
 use Rattle.row_numbers.specs.Around.{AreOwners}
-use Rattle.row_numbers.specs.Kept.{nodes_of, member_node}
+use Rattle.row_numbers.specs.Kept.{nodes_of}
 use Rattle.row_numbers.specs.Functions.{number_of, type_or_void}
 use Rattle.row_numbers.specs.Objects.{location_of}
 use Rattle.row_numbers.specs.Setting.{result_row, Setting}
@@ -33,25 +37,59 @@ use Rattle.linked_laws.specs.initial_laws.Initials.{Fills, AllFill}
 use Rattle.system_laws.specs.item_laws.Items.{HasPlace, KindPlaced}
 use Rattle.system_laws.proofs.item_laws.Spots.{IsPut, item_put, entity_of}
 use Rattle.normal_form.specs.declared.normal.Assignment.{Assignment}
-use Rattle.normal_form.specs.Assignments.{copies, given_type, returned_by, return_row, is_structure_type, is_union_type, step_node, path_node, target_node, spot, put_at, item_row, initialise_row, place_of_kind, value_of_kind, statement_of_kind, row_of_kind, node_assignments}
+use Rattle.normal_form.specs.Assignments.{copies, given_type, returned_by, return_row, path_node, target_node, spot, put_at, item_row, initialise_row, place_of_kind, value_of_kind, statement_of_kind, row_of_kind, node_assignments}
 use Rattle.outcome_laws.specs.twin_programs.One.{Numbers, SameNode}
 use Rattle.outcome_laws.proofs.twin_words.Results.{result_renamed, result_tags}
 use Rattle.twin_report_laws.specs.rows.Paired.{ArePaired}
 use Rattle.twin_report_laws.specs.rows.Ready.{IsReady}
 use Rattle.twin_report_laws.proofs.rows.Views.{here, over, collapsed_same, number_same}
-use Rattle.twin_report_laws.proofs.rows.Types.{nodes_moved, own_tags, member_moved, part_moved}
+use Rattle.twin_report_laws.proofs.rows.Types.{nodes_moved, own_tags, field_moved, part_moved}
 use Rattle.twin_report_laws.proofs.rows.Rows.{row_moved, row_location, result_moved}
 use Rattle.twin_report_laws.proofs.rows.Owners.{owner_there}
 use Rattle.twin_report_laws.proofs.rows.Copies.{moved_append, copies_moved, put_moved}
-use Rattle.twin_report_laws.proofs.rows.Nodes.{is_value, union_same, w, x, own_row, row_over, Twins, value_row, tags_of, location_same, place_kind, value_kind}
-
-structure_same : (f : ℕ → ℕ) (t : Ctype) → is_structure_type (renamed f t) ≡ is_structure_type t
-structure_same f (StructureOf tag) = refl
-structure_same f t = refl
+use Rattle.twin_report_laws.proofs.rows.Nodes.{is_value, w, x, own_row, row_over, Twins, value_row, tags_of, location_same, place_kind, value_kind}
 
 abbrev TagsIf : ℕ → Option Ctype → Type 0
 TagsIf n None = ⊤
 TagsIf n (Some t) = HasTags n t
+
+abbrev ReachedTags : ℕ → Option Reached → Type 0
+ReachedTags n None = ⊤
+ReachedTags n (Some r) = HasTags n r.ty
+
+-- the same part, under other numbers of tags
+abbrev part_over : (ℕ → ℕ) → Reached → Reached
+part_over f r = reached (renamed f r.ty) r.node r.inside
+
+module _ (f : ℕ → ℕ) where
+  collapsed_over : (t : Ctype) → is_collapsed (renamed f t) ≡ is_collapsed t
+  collapsed_over (UnionOf tag) = refl
+  collapsed_over t = refl
+
+  member_over : (t : Ctype) (o : Option Ctype) (place : Option ℕ) (node : ℕ) (inside : Bool) → member_reached (renamed f t) (option_map (renamed f) o) place node inside ≡ option_map (part_over f) (member_reached t o place node inside)
+  member_over t None place node inside = refl
+  member_over t (Some ty) place node true = refl
+  member_over t (Some ty) None node false = refl
+  member_over t (Some ty) (Some p) node false = ap (λ (b : Bool). Some (reached (renamed f ty) (node + p) b)) (collapsed_over t)
+
+  element_over : (one other : Table) (t : Ctype) (node : ℕ) (inside : Bool) (i : ℕ) → step_by other (renamed f t) node inside (Index i) ≡ option_map (part_over f) (step_by one t node inside (Index i))
+  element_over one other (ArrayOf of length) node inside i = refl
+  element_over one other t node inside i = refl
+
+  node_over : (o : Option Reached) → option_map (λ (r : Reached). r.node) (option_map (part_over f) o) ≡ option_map (λ (r : Reached). r.node) o
+  node_over None = refl
+  node_over (Some r) = refl
+
+module _ (n : ℕ) where
+  element_tags : (table : Table) (t : Ctype) → HasTags n t → (node : ℕ) (inside : Bool) (i : ℕ) → ReachedTags n (step_by table t node inside (Index i))
+  element_tags table (ArrayOf of length) has node inside i = has
+  element_tags table t has node inside i = tt
+
+  reached_tags : (t : Ctype) (o : Option Ctype) (place : Option ℕ) (node : ℕ) (inside : Bool) → TagsIf n o → ReachedTags n (member_reached t o place node inside)
+  reached_tags t None place node inside has = tt
+  reached_tags t (Some ty) place node true has = has
+  reached_tags t (Some ty) None node false has = tt
+  reached_tags t (Some ty) (Some p) node false has = has
 
 module _ (p q : Program) (to back : Numbers) (h : ArePaired p q to back) where
   length_tags : (t : Ctype) → HasTags p.types.tags t → TagsIf p.types.tags (with_length t)
@@ -95,20 +133,33 @@ module _ (p q : Program) (to back : Numbers) (h : ArePaired p q to back) where
   part_tags (PointerTo to) has step = tt
   part_tags (FunctionFrom result parameters form) has step = tt
 
-  step_same : (t : Ctype) → HasTags p.types.tags t → (step : PathStep) → step_node q.types (renamed to.tag t) step ≡ step_node p.types t step
-  step_same t has (Index i) = refl
-  step_same t has (MemberStep k) =
-      ap (λ (b : Bool). if b then member_node q.types (renamed to.tag t) k else 0) (structure_same to.tag t)
-      ∙ ap (λ (n : ℕ). if is_structure_type t then n else 0) (member_moved p q to back h t has k)
+  step_over : (t : Ctype) → HasTags p.types.tags t → (node : ℕ) (inside : Bool) (step : PathStep) → step_by q.types (renamed to.tag t) node inside step ≡ option_map (part_over to.tag) (step_by p.types t node inside step)
+  step_over t has node inside (Index i) = element_over to.tag p.types q.types t node inside i
+  step_over t has node inside (MemberStep k) =
+      step_member q.types (renamed to.tag t) node inside k
+      ∙ (ap (λ (o : Option Ctype). member_reached (renamed to.tag t) o (field_in q.types (renamed to.tag t) k) node inside) (part_moved p q to back h t has (MemberStep k))
+      ∙ (ap (λ (o : Option ℕ). member_reached (renamed to.tag t) (option_map (renamed to.tag) (part_type p.types t (MemberStep k))) o node inside) (field_moved p q to back h t has k)
+      ∙ (member_over to.tag t (part_type p.types t (MemberStep k)) (field_in p.types t k) node inside
+      ∙ sym (ap (option_map (part_over to.tag)) (step_member p.types t node inside k)))))
 
-  path_same : (t : Option Ctype) → TagsIf p.types.tags t → (path : List PathStep) → path_node q.types (option_map (renamed to.tag) t) path ≡ path_node p.types t path
-  path_same None has path = refl
-  path_same (Some t) has [] = refl
-  path_same (Some t) has (step ∷ rest) =
-      ap (λ (b : Bool). if b then 0 else step_node q.types (renamed to.tag t) step + path_node q.types (part_type q.types (renamed to.tag t) step) rest) (union_same to.tag t)
-      ∙ (ap (λ (n : ℕ). if is_union_type t then 0 else n + path_node q.types (part_type q.types (renamed to.tag t) step) rest) (step_same t has step)
-      ∙ (ap (λ (o : Option Ctype). if is_union_type t then 0 else step_node p.types t step + path_node q.types o rest) (part_moved p q to back h t has step)
-      ∙ ap (λ (n : ℕ). if is_union_type t then 0 else step_node p.types t step + n) (path_same (part_type p.types t step) (part_tags t has step) rest)))
+  step_tags : (t : Ctype) → HasTags p.types.tags t → (node : ℕ) (inside : Bool) (step : PathStep) → ReachedTags p.types.tags (step_by p.types t node inside step)
+  step_tags t has node inside (Index i) = element_tags p.types.tags p.types t has node inside i
+  step_tags t has node inside (MemberStep k) =
+      subst (ReachedTags p.types.tags) (sym (step_member p.types t node inside k))
+      (reached_tags p.types.tags t (part_type p.types t (MemberStep k)) (field_in p.types t k) node inside (part_tags t has (MemberStep k)))
+
+  -- the end of a path is the same part
+  end_over : (path : List PathStep) (o : Option Reached) → ReachedTags p.types.tags o → part_at q.types (option_map (part_over to.tag) o) path ≡ option_map (part_over to.tag) (part_at p.types o path)
+  end_over [] o has = refl
+  end_over (step ∷ rest) None has = end_over rest None tt
+  end_over (step ∷ rest) (Some r) has =
+      ap (λ (o : Option Reached). part_at q.types o rest) (step_over r.ty has r.node r.inside step)
+      ∙ end_over rest (step_by p.types r.ty r.node r.inside step) (step_tags r.ty has r.node r.inside step)
+
+  path_same : (t : Ctype) → HasTags p.types.tags t → (path : List PathStep) → path_node q.types (Some (renamed to.tag t)) path ≡ path_node p.types (Some t) path
+  path_same t has path =
+      ap (λ (o : Option Reached). unwrap_or (option_map (λ (r : Reached). r.node) o) 0) (end_over path (Some (reached t 0 false)) has)
+      ∙ ap (λ (o : Option ℕ). unwrap_or o 0) (node_over to.tag (part_at p.types (Some (reached t 0 false)) path))
 
 module _ (p q : Program) (to back : Numbers) (h : ArePaired p q to back) (ready : IsReady p) (other_ready : IsReady q) (owners other_owners : List (Option ℕ)) (are : AreOwners (trees_in p) owners) (others : AreOwners (trees_in q) other_owners) where
   abbrev its_row : ℕ → ℕ
@@ -168,7 +219,7 @@ module _ (p q : Program) (to back : Numbers) (h : ArePaired p q to back) (ready 
         let (b, there, same) = h.lead.entities e a e_at in
         ap (λ (o : Option Entity). path_node q.types (option_map (λ (id : TypeId). type_of q.types id.0) (option_map (λ (k : Entity). k.ty) o)) path) there
         ∙ (ap (λ (t : Ctype). path_node q.types (Some t) path) same.type
-        ∙ (path_same p q to back h (Some (type_of p.types a.ty.0)) (own_tags p q to back h a.ty.0) path
+        ∙ (path_same p q to back h (type_of p.types a.ty.0) (own_tags p q to back h a.ty.0) path
         ∙ sym (ap (λ (o : Option Entity). path_node p.types (option_map (λ (id : TypeId). type_of p.types id.0) (option_map (λ (k : Entity). k.ty) o)) path) e_at)))
 
     spot_same : (path : List PathStep) → spot (trees_in q) (over p q to back h) (to.entity e) path ≡ spot (trees_in p) (here p q to back h) e path

@@ -38,6 +38,7 @@ use Rattle.call_sites.specs.Signatures.{called_type}
 use Rattle.normal_form.specs.declared.normal.Assignment.{Assignment}
 use Rattle.normal_form.specs.declared.normal.Assignment.TheVariants.{Address, Copy, Load, Store, Field}
 use Rattle.normal_form.specs.Assignments.{node_assignments, assignments_at, assignments_by, assignments_of}
+use Rattle.normal_form.proofs.Demanding.{demanded as each_demanded}
 use Rattle.normal_form.specs.SystemOf.{constraint_of, held_by, library_pair, library_constraints, second_of, argument_constraints, start_constraints, Demands, by_node, by_call, by_library, by_start, setting_of, SystemOf}
 use Rattle.unit_link.specs.Places.{kind_renamed}
 use Rattle.outcome_laws.specs.twin_programs.One.{Numbers, SameNode, LeadsTo}
@@ -59,10 +60,10 @@ use Rattle.twin_report_laws.proofs.rows.Functions.{parameters_same, parameter_in
 use Rattle.twin_report_laws.proofs.rows.Starts.{entries_moved}
 use Rattle.twin_report_laws.proofs.rows.Facts.{ApartTags, subs_there, fields_there, pairs_kept}
 
-contains_of : {X : Type 0} (xs : List X) (x : X) → Member xs x → Contains xs x
+pub contains_of : {X : Type 0} (xs : List X) (x : X) → Member xs x → Contains xs x
 contains_of xs x m = (let (i, at) = at_member xs x m in Contains-at xs i x at)
 
-member_of : {X : Type 0} (xs : List X) (x : X) → Contains xs x → Member xs x
+pub member_of : {X : Type 0} (xs : List X) (x : X) → Contains xs x → Member xs x
 member_of xs x c = (let (i, lt, at) = at_Contains xs x c in member_at xs i x at)
 
 module _ (p q : Program) (to back : Numbers) (h : ArePaired p q to back) where
@@ -346,7 +347,7 @@ module _ (p q : Program) (to back : Numbers) (h : ArePaired p q to back) (ready 
 
   pub leads : SystemLeads S T to_maps
   leads = record {
-    constraints = λ c has. (over_of.constraints (constraint_moved to_maps c)).1 (demanded p q to back h ready other_ready S T of over_of c ((of.constraints c).0 has));
+    constraints = λ c has. (each_demanded q (over p q to back h) T over_of (constraint_moved to_maps c)).1 (demanded p q to back h ready other_ready S T of over_of c ((each_demanded p (here p q to back h) S of c).0 has));
     functions = λ n f at. let (g, g_at, a) = function_over n f at in (g, g_at, a.same);
     calls = λ n c at. let t = twin_call n c at in (t.over, t.over_at, t.same.same_call);
     agree = agrees;

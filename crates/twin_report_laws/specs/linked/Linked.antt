@@ -1,21 +1,18 @@
 -- What is printed of programs that are linked from units which are alike.
-use Rattle.std.specs.Prelude.{ℕ, ◌≡◌, ⊤, Bool, List, Some, slice_get}
-use Rattle.c_types.specs.declared.term.Form.TheVariants.{Unspecified}
-use Rattle.c_types.specs.Trees.{Ctype, MoreTypes, FunctionFrom}
-use Rattle.c_types.specs.Table.{type_of}
-use Rattle.core_tree.specs.declared.node.Entity.{Entity}
-use Rattle.core_tree.specs.declared.node.Storage.TheVariants.{FunctionBody}
+use Rattle.std.specs.Prelude.{ℕ, ◌≡◌, Bool, List}
 use Rattle.core_tree.specs.declared.node.Unit.{Unit}
 use Rattle.core_tree.specs.declared.node.Program.{Program}
 use Rattle.sol_model.specs.declared.system.System.{System}
 use Rattle.link_merge.specs.Tags.{AreMade}
 use Rattle.link_model.specs.filled_units.Filled.{AreFilled}
 use Rattle.unit_link.specs.Needs.{AreLinkable}
+use Rattle.linked_laws.specs.alike_laws.Plain.{DefinePlain}
 use Rattle.obj_space.specs.declared.location.Location.{Location}
 use Rattle.location_laws.specs.named_laws.Units.{AreNamedUnits}
 use Rattle.unit_report.specs.unit_system.Of.{IsProgramOf, IsSystemOf}
 use Rattle.unit_report.specs.Reported.{IsProgramReport}
 use Rattle.unit_report.specs.unit_answers.Answered.{IsProgramAnswers}
+use Rattle.gen_summary.specs.Summary.{IsProgramSummary}
 use Rattle.outcome_laws.specs.twin_programs.One.{AreOne}
 use Rattle.twin_report_laws.specs.apart.Apart.{AreUnitsApart}
 
@@ -25,25 +22,13 @@ pub record AreKnown (units : List Unit) : Type 0 where
   pub tables : AreMade units
   pub filled : AreFilled units
   pub apart : AreUnitsApart units
-
--- a function type with () has no parameters
-abbrev pub IsPlain : Ctype → Type 0
-IsPlain (FunctionFrom result (MoreTypes first rest) Unspecified) = ⊥
-IsPlain t = ⊤
-
--- so it is with the functions that a program defines
-pub record HasPlain (p : Program) : Type 0 where
-  pub each : (e : ℕ) (entity : Entity)
-      → slice_get p.entities.items e ≡ Some entity
-      → entity.storage ≡ FunctionBody
-      → IsPlain (type_of p.types entity.ty.0)
+  pub plain : DefinePlain units
 
 -- a program of such units with entries of those names, its locations and its system
 pub record IsOf (entered : List (List ℕ)) (units : List Unit) (p : Program) (space : List Location)
     (system : System) : Type 0 where
   pub known : AreKnown units
   pub program : IsProgramOf entered units p
-  pub plain : HasPlain p
   pub system_of : IsSystemOf p space system
 
 -- programs of such units that are one, but for numbers, have one report, as lines and as JSON
@@ -68,3 +53,14 @@ OneText =
     → IsOf entered vs q more other
     → IsProgramAnswers p space one script text
     → IsProgramAnswers q more other script again → again ≡ text
+
+-- and one summary
+abbrev pub OneSummary : Type 0
+OneSummary =
+    (entered : List (List ℕ)) (number : ℕ) (us vs : List Unit) (p q : Program) (space more : List Location)
+    (one other : System) (text again : List ℕ)
+    → AreOne p q
+    → IsOf entered us p space one
+    → IsOf entered vs q more other
+    → IsProgramSummary number space one text
+    → IsProgramSummary number more other again → again ≡ text

@@ -15,7 +15,8 @@ use std::alloc::Global;
 
 // Where a node has been met as a child, for what isn't a function.
 fn met_as(met: &[Option<u32>], storage: Storage, body: u32) -> Option<u32>
-    ensures { MatchOption result ((storage ≡ FunctionBody → ⊥) → get_or met.now body None ≡ None) (λ at. (get_or met.now body None ≡ Some at) × (storage ≡ FunctionBody → ⊥)) }
+    ensures { MatchOption result ((storage ≡ FunctionBody → ⊥) → get_or met.now body None ≡ None)
+        (λ at. (get_or met.now body None ≡ Some at) × (storage ≡ FunctionBody → ⊥)) }
 {
     if matches!(storage, Storage::FunctionBody) {
         return None;

@@ -103,7 +103,9 @@ fn tag_leaf(syntax: &Syntax, node: u32) -> Option<u32>
 
 /// The node by which the tag of a specifier is known: that of its first declaration, or the specifier itself where it has none.
 pub(in crate::given_keys) fn tag_declared(syntax: &Syntax, declaring: &Declaring, node: u32) -> u32
-    ensures { (uses : List (ℕ × ℕ)) → Declares (source_in syntax.now uses) declaring.now → result ≡ spec.tag_declared (source_in syntax.now uses) node }
+    ensures { (uses : List (ℕ × ℕ))
+        → Declares (source_in syntax.now uses) declaring.now
+        → result ≡ spec.tag_declared (source_in syntax.now uses) node }
 {
     match tag_leaf(syntax, node) {
         Some(leaf) => tag_of_leaf(declaring, leaf),

@@ -1,6 +1,6 @@
 -- The report: the sets of locations, the targets of calls through pointers, and the edges of the call graph, as
 -- lines.
-use Rattle.std.specs.Prelude.{◌≡◌, ℕ, ◌+◌, ◌||◌, ◌==◌, Bool, false, if◌then◌else◌, List, [], ◌∷◌, ◌++◌, map}
+use Rattle.std.specs.Prelude.{◌≡◌, ℕ, ◌+◌, ◌==◌, Bool, false, if◌then◌else◌, List, [], ◌∷◌, ◌++◌, map}
 use Rattle.std.specs.Prelude.{flat_map, slice_get, length, codes, decimal, String, string_bytes}
 use Rattle.std.specs.List.{filter, filter_map, range_with_len}
 use Rattle.std.specs.Option.{option_map_or}
@@ -16,6 +16,7 @@ use Rattle.sol_model.specs.declared.system.Function.{Function}
 use Rattle.sol_model.specs.Families.{Family}
 use Rattle.call_graph.specs.Graph.{IsGraph}
 use Rattle.obj_space.specs.declared.location.Location.{Location}
+use Rattle.alias_query.specs.Asked.{has_line}
 pub use Rattle.call_graph.specs.row_members.Members.{members_in}
 
 -- ---- names
@@ -28,11 +29,9 @@ abbrev pub names_of : List Location → List ℕ → List ℕ
 names_of space locations = flat_map (λ location. codes " " ++ name_in space location) locations
 
 -- ---- sets
--- a location of pointer class, whose type is number 4, one of list class, whose type is number 7, or a collapsed one
+-- whether the set of a location has a line
 abbrev pub has_set : List Location → ℕ → Bool
-has_set space location =
-    option_map_or (λ (known : Location). known.collapsed || (known.ty == 4) || (known.ty == 7))
-    (slice_get space location) false
+has_set space location = option_map_or has_line (slice_get space location) false
 
 -- the line of a location's set
 abbrev pub set_line : List Location → System → Family → ℕ → List ℕ

@@ -85,7 +85,8 @@ fn add_call(
     requires valid { IsValid system.now }
     requires fits { Fits system.now rows.now }
     requires row { IsRow system.now call.now.callee }
-    ensures { OnOk result (text.new.items ≡ text.old.items ++ (call_line space.now names.now system.now (members rows.now) call.now ++ codes "\n")) }
+    ensures { OnOk result
+        (text.new.items ≡ text.old.items ++ (call_line space.now names.now system.now (members rows.now) call.now ++ codes "\n")) }
 {
     let list = targets_of(alloc, system, rows, call)?;
     text.extend_from_slice(b"call ")?;
@@ -108,7 +109,11 @@ fn add_numbered(
 ) -> Result<(), AllocError>
     requires valid { IsValid system.now }
     requires fits { Fits system.now rows.now }
-    ensures { OnOk result (text.new.items ≡ text.old.items ++ option_map_or (λ call. call_line space.now names.now system.now (members rows.now) call ++ codes "\n") (slice_get system.now.calls number) []) }
+    ensures { OnOk result
+        (text.new.items
+        ≡ text.old.items
+        ++ option_map_or (λ call. call_line space.now names.now system.now (members rows.now) call ++ codes "\n")
+        (slice_get system.now.calls number) []) }
 {
     if number >= system.calls.len() {
         return Ok(());
@@ -131,7 +136,11 @@ fn add_placed(
 ) -> Result<(), AllocError>
     requires valid { IsValid system.now }
     requires fits { Fits system.now rows.now }
-    ensures { OnOk result (text.new.items ≡ text.old.items ++ text_of (map (call_line space.now names.now system.now (members rows.now)) (calls_at system.now.calls placed.entries))) }
+    ensures { OnOk result
+        (text.new.items
+        ≡ text.old.items
+        ++ text_of
+        (map (call_line space.now names.now system.now (members rows.now)) (calls_at system.now.calls placed.entries))) }
 {
     while let Some((_, number)) = placed.pop_first() {
         add_numbered(alloc, text, space, names, system, rows, number)?;

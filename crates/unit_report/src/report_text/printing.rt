@@ -45,8 +45,12 @@ pub fn print<O: Sink>(
     requires valid { IsValid system.now }
     requires fits { Fits system.now rows.now }
     requires count { length space.now ≡ location_count system.now }
-    ensures printed { OnOk result (IsPrinted (IsReport space.now names.now system.now (members rows.now)) (O.written out.old) (O.written out.new) (O.faults out.old) (O.faults out.new)) }
-    ensures refused { IfErr result (Leaves (IsReport space.now names.now system.now (members rows.now)) (O.written out.old) (O.written out.new) (O.faults out.old) (O.faults out.new)) }
+    ensures printed { OnOk result
+        (IsPrinted (IsReport space.now names.now system.now (members rows.now)) (O.written out.old) (O.written out.new)
+        (O.faults out.old) (O.faults out.new)) }
+    ensures refused { IfErr result
+        (Leaves (IsReport space.now names.now system.now (members rows.now)) (O.written out.old) (O.written out.new)
+        (O.faults out.old) (O.faults out.new)) }
     ensures rises { O.faults out.old ≤ O.faults out.new }
 {
     let text = match report(alloc, space, names, system, rows) {

@@ -5,6 +5,7 @@ ghost use Rattle.sol_model.specs.Systems.{IsValid, Fits, IsRow, location_count};
 ghost use Rattle.unit_report.specs.report_text.Report.{has_set, set_line, set_lines, text_of};
 
 use crate::report_text::pieces::{add_names, name_in};
+use alias_query::has_line;
 use call_graph::row_members::members_of;
 use obj_space::Space;
 use sol_model::{Rows, System};
@@ -17,8 +18,7 @@ pub(crate) fn has_set(space: &Space, location: u32) -> bool
     if location >= space.count() {
         return false;
     }
-    let known = space.location(location);
-    known.collapsed || known.ty == 4 || known.ty == 7
+    has_line(space.location(location))
 }
 
 /// Adds the line of a location's set.

@@ -29,7 +29,8 @@ pub fn report(
     ensures report { IfOk result (λ text. IsReport space.now names.now system.now (members rows.now) text.items) }
 
     // There is no other report.
-    ensures only { IfOk result (λ text. (other : List ℕ) → IsReport space.now names.now system.now (members rows.now) other → other ≡ text.items) }
+    ensures only { IfOk result
+        (λ text. (other : List ℕ) → IsReport space.now names.now system.now (members rows.now) other → other ≡ text.items) }
 {
     let edges = graph(alloc, system, rows)?;
     let mut text = Vec::new(alloc);

@@ -1,6 +1,6 @@
 //! The system of a program.
 
-ghost use Rattle.std.specs.Prelude.{◌≡◌, ◌≤◌, ◌^◌, length, MatchResult};
+ghost use Rattle.std.specs.Prelude.{◌≡◌, ◌≤◌, ◌^◌, length, IfOk, MatchResult};
 ghost use Rattle.core_tree.specs.declared.node.Program.{Program as ProgramSpec};
 ghost use Rattle.core_tree.specs.Range.{InRange};
 ghost use Rattle.core_tree.specs.Typed.{trees_in};
@@ -9,6 +9,8 @@ ghost use Rattle.obj_space.specs.Space.{AreTyped, HasTrees, locations_in};
 ghost use Rattle.obj_space.specs.Spots.{HasWholes};
 ghost use Rattle.obj_space.specs.View.{view_of};
 ghost use Rattle.unit_link.specs.Needs.{AreLinkable};
+ghost use Rattle.location_laws.specs.named_laws.Units.{AreNamedUnits};
+ghost use Rattle.location_laws.specs.named_laws.Whole.{IsWhole};
 ghost use Rattle.system_laws.specs.filled_laws.PassedOn.{ArePlaced};
 ghost use Rattle.constraints.specs.System.{IsFaultOf as IsSystemFault};
 ghost use Rattle.unit_report.specs.unit_system.Of.{AreLinkedAs, IsSystemOf};
@@ -85,7 +87,9 @@ fn system_of(alloc: Global, program: &Program) -> Result<(Space, System), UnitFa
 
 /// The program that valid units of distinct names are, which initialise only objects that they define, its locations and its system over
 /// these, where it is within the limits; or the first fault of linking them, or the limit that their program passes first: 2^24 nodes,
-/// then 2^24 words of rows. It is entered at the functions of these names, or where there are none it begins at main.
+/// then 2^24 words of rows. It is entered at the functions of these names, or where there are none it begins at main. Where the parts of
+/// the units are told apart by name and place, the program is whole: no two of its external entities have one name, and no two of its
+/// locations, each entity that is used is defined or the library's, and without entries it has a main (C11 5.1.2.2.1, 6.9p5).
 pub fn linked_system(
     alloc: Global,
     units: Vec<Unit>,
@@ -93,8 +97,9 @@ pub fn linked_system(
 ) -> Result<UnitSystem, UnitFault>
     requires linkable { AreLinkable units.items }
     requires filled { AreFilled units.items }
-    ensures { MatchResult result (λ made. AreLinkedAs entries.now units.items made.program made.space made.system)
+    ensures linked { MatchResult result (λ made. AreLinkedAs entries.now units.items made.program made.space made.system)
         (IsFaultOf entries.now units.items) }
+    ensures whole { AreNamedUnits units.items → IfOk result (λ made. IsWhole made.program) }
 {
     let program = linked(alloc, units, entries)?;
     let _types = program.types.type_count();

@@ -12,14 +12,15 @@ use Rattle.c_senses.specs.World.{World, has_size}
 use Rattle.c_senses.specs.Conversions.{typed}
 use Rattle.c_senses.specs.Sense.{Sense, Nothing, IsCore, IsType, IsSpecified, IsDeclarator, IsDerivation, IsParameter, IsMembers, IsValue, IsRun, IsInitial, Derivation, fits}
 use Rattle.c_senses.specs.Declarators.{derived, adjusted, is_outermost, base_type, derivations, name_in, derives_well, plain_declarator_row}
-use Rattle.c_senses.specs.Entities.{by_place, named_row, parameter_named, definition_row, defined_parameter, is_parameter_complete, is_defined, is_void_type, result_of, has_function_word, has_storage, words_go, is_same_again, has_one_linkage, internal_fits, is_name_complete, initialiser_of, initialised_by, specified_of, derived_type, is_static_object, entity_of, with_length}
-use Rattle.c_senses.specs.Initialised.{init_row, init_in, initialised_object, object_initialiser, name_of_declarator, outcome_of, made_of, initialised_fits, most_elements, seen, Made, items_row, literal_in, literal_of, literal_type, opening}
+use Rattle.c_senses.specs.Entities.{by_place, named_row, parameter_named, definition_row, defined_parameter, is_parameter_complete, is_defined, is_void_type, result_of, has_function_word, has_storage, words_go, is_same_again, has_one_linkage, internal_fits, is_name_complete, initialiser_of, initialised_by, specified_of, derived_type, is_static_object, entity_of, with_length, length_seen}
+use Rattle.c_senses.specs.Initialised.{init_row, init_in, initialised_object, initialised_as, object_initialiser, name_of_declarator, outcome_of, made_of, initialised_fits, most_elements, seen, Made, items_row, literal_in, literal_of, literal_type, opening}
 use Rattle.c_inits.specs.Made.{shape_for}
 use Rattle.c_inits.specs.View as view
 use Rattle.c_senses.specs.Places.{own_place}
 use Rattle.c_senses.specs.Rows.{declarator_row, at_its_name}
 use Rattle.sense_laws.specs.Sound.{Gives}
 use Rattle.sense_laws.proofs.Giving.{if_given, some_given, then_gives, if_holds}
+use Rattle.sense_laws.proofs.Seen.{seen_gives}
 
 -- what holds of each declarator holds of what the row of a declarator gives
 module _ (K : Sense → Type 0) (each : (name : Option ℕ) (ds : List Derivation) → K (IsDeclarator name ds)) (w : World) (s : Source) (sense : ℕ → Sense) where
@@ -90,9 +91,14 @@ module _ (K : Sense → Type 0) (nothing : K Nothing) (core : (c : Core) → K (
       (λ outcome. made_of w s sense (is_static_object s sense leaf) (entity_of s sense leaf) (own_place s at) t outcome >>= made_initial leaf t)
       (λ outcome. chain_gives K (made_of w s sense (is_static_object s sense leaf) (entity_of s sense leaf) (own_place s at) t outcome) (made_initial leaf t) (made_gives leaf t))
 
+  as_gives : (at declarator leaf : ℕ) (t : Ctype) → Gives K (initialised_as w s sense at declarator leaf t)
+  as_gives at declarator leaf t =
+      let n : Option ℕ = length_seen s sense leaf in
+      seen_gives K (λ c m k h. initial c k) n (object_initialiser w s sense at declarator leaf (with_length n t)) (object_gives at declarator leaf (with_length n t))
+
   named_object_gives : (at declarator : ℕ) (o : Option ℕ) → Gives K (initialised_object w s sense at declarator o)
   named_object_gives at declarator None = tt
-  named_object_gives at declarator (Some leaf) = some_given K (derived_type s sense (specified_of s sense leaf) (Some declarator)) Operand at _ (λ t e. object_gives at declarator leaf t)
+  named_object_gives at declarator (Some leaf) = some_given K (derived_type s sense (specified_of s sense leaf) (Some declarator)) Operand at _ (λ t e. as_gives at declarator leaf t)
 
   init_by : (at : ℕ) (o : Option ℕ) → Gives K (init_in w s sense at o)
   init_by at None = tt

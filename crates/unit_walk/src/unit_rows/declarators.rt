@@ -51,7 +51,7 @@ fn said_in(
     ensures memory { IsOkUnless result CheckFault.OutOfMemory }
 {
     match name_in(syntax, results, children) {
-        Some(leaf) => said_of(alloc, names, lists, syntax, results, linkages, leaf),
+        Some(leaf) => said_of(alloc, names, lists, syntax, results, linkages, false, leaf),
         None => Ok(nothing_said(alloc)),
     }
 }

@@ -30,7 +30,8 @@ use std::alloc::Global;
 
 /// What is said of nothing.
 pub(in crate::unit_rows) fn nothing_said(alloc: Global) -> Said
-    ensures { (count : ℕ) → IsSaidIn count result }
+    ensures within { (count : ℕ) → IsSaidIn count result }
+    ensures typed { result.is_typed ≡ true }
 {
     Said {
         is_typedef: false,
@@ -40,6 +41,8 @@ pub(in crate::unit_rows) fn nothing_said(alloc: Global) -> Said
         one_linkage: true,
         in_scope: Vec::new(alloc),
         internal_before: Vec::new(alloc),
+        is_typed: true,
+        typing: Vec::new(alloc),
     }
 }
 
@@ -61,6 +64,7 @@ fn said_at(
         let sense = sense_in (senses_made u results.now) in
         object_at s sense at ≡ Some leaf → IsSaid w s sense leaf said) }
     ensures within { IfOk result (IsSaidIn (nodes_known known.now)) }
+    ensures typed { IfOk result (λ said. said.is_typed ≡ true) }
     ensures memory { IsOkUnless result CheckFault.OutOfMemory }
 {
     let syntax = &known.numbered.syntax;
@@ -72,6 +76,7 @@ fn said_at(
             syntax,
             results,
             linkages,
+            true,
             leaf,
         ),
         None => Ok(nothing_said(alloc)),

@@ -15,7 +15,8 @@ ghost use Rattle.unit_walk.specs.row_shapes.Kept.{Keeps};
 ghost use Rattle.struct_rows.specs.Built.{HasTagTypes};
 ghost use Rattle.unit_worlds.specs.unit_limits.Unions.{AreUnions};
 ghost use Rattle.unit_worlds.specs.Growing.{Grows, completed_at};
-ghost use Rattle.unit_walk.specs.unit_rows.Built.{lists_others, is_part, is_derivation, is_statement, is_plain, is_expression, is_member, is_declarator, is_limited};
+ghost use Rattle.unit_walk.specs.unit_rows.Built.{lists_others, is_part, is_derivation, is_statement, is_plain};
+ghost use Rattle.unit_walk.specs.unit_rows.Built.{is_expression, is_member, is_declarator, is_limited};
 ghost use Rattle.unit_walk.specs.unit_rows.Along.{AreAlong};
 ghost use Rattle.unit_walk.specs.unit_rows.Standing.{IsKnown, Stand, ChoicesFit, source_known, nodes_known, world_there, row_there};
 

@@ -1,6 +1,7 @@
 //! Laws of small tables: these functions do nothing, and their contracts are the laws.
 ghost use Rattle.unit_worlds.specs.unit_limits.Laws.{EmptyIsSmall, OpenIsSmall, OpenTagsAreSmall, TypesAreLimited};
-ghost use Rattle.unit_worlds.specs.unit_limits.Laws.{ResultsAreAround, UnionsAreFlexible, BuildingKeepsUnions, BuildingStaysSmall, CompletingStaysSmall};
+ghost use Rattle.unit_worlds.specs.unit_limits.Laws.{ResultsAreAround, UnionsAreFlexible, BuildingKeepsUnions};
+ghost use Rattle.unit_worlds.specs.unit_limits.Laws.{BuildingStaysSmall, CompletingStaysSmall};
 
 /// A table without types is small.
 pub fn empty_is_small()

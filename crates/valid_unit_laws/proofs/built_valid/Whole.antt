@@ -27,20 +27,8 @@ use Rattle.c_senses.specs.World.{World}
 use Rattle.c_senses.specs.Sense.{Sense, sense_in}
 use Rattle.c_senses.specs.Rows.{world_at}
 use Rattle.sense_laws.specs.Senses.{SoundSense}
-use Rattle.sense_laws.proofs.All.{asked_sound}
-use Rattle.built_unit_laws.specs.align_laws.Aligns.{AskedElseFit}
-use Rattle.built_unit_laws.proofs.align_laws.Fitting.{asked_aligns_fit}
-use Rattle.sense_laws.proofs.parsed_laws.InOrder.{children_first}
 use Rattle.sense_laws.proofs.parsed_laws.Constants.{constants_fit}
-use Rattle.sense_laws.proofs.statement_laws.Grammar.{statements_parsed}
-use Rattle.parsed_tree_laws.proofs.family_laws.Reading.{units_families}
-use Rattle.parsed_tree_laws.proofs.nesting_laws.Nesting.{units_nest}
 use Rattle.core_node_laws.specs.standing_laws.Standing.{IsGrown, IsMade, BodiesKnown, StatementStands}
-use Rattle.parsed_tree_laws.proofs.grown_parts.Reading.{units_bring}
-use Rattle.internal_name_laws.specs.text_rows.Texts.{TypesFit}
-use Rattle.internal_name_laws.proofs.text_rows.Fitting.{asked_fit}
-use Rattle.internal_name_laws.proofs.text_rows.Linked.{types_fit, tree_grown}
-use Rattle.declaration_laws.proofs.name_order.Ordered.{units_ordered}
 use Rattle.built_unit_laws.specs.built_units.Built.{IsBuilt}
 use Rattle.built_unit_laws.proofs.built_laws.Range.{in_range}
 use Rattle.built_unit_laws.proofs.built_laws.Keys.{keyed}
@@ -73,12 +61,8 @@ use Rattle.static_value_laws.proofs.static_literals.Whole.{literals_built}
 use Rattle.type_rules.specs.Sizes.{TagsHaveSizes}
 use Rattle.built_unit_laws.specs.tag_sizes.Sizes.{TagsSpecified}
 use Rattle.built_unit_laws.proofs.tag_sizes.Sizes.{tags_sized}
-use Rattle.owner_laws.proofs.passed.definition_laws.own_initialisers.Standing.{initialisers_stand}
 use Rattle.object_size_laws.specs.passed.object_initialiser_laws.bodies_fit.PassedOn.{InternalFit}
 use Rattle.object_size_laws.proofs.entity_sizes.Whole.{entities_sized}
-use Rattle.internal_name_laws.proofs.internal_names.Reading.{internals_fit}
-use Rattle.object_size_laws.proofs.passed.object_initialiser_laws.bodies_fit.PassedOn.{linked_fit}
-use Rattle.parsed_tree_laws.proofs.placed_laws.Climbing.{Grown}
 use Rattle.object_size_laws.proofs.passed.limit_laws.member_laws.Measured.{values_have_sizes}
 use Rattle.object_size_laws.proofs.passed.object_initialiser_laws.bodies_fit.Fitting.{bodies_fit}
 use Rattle.owner_laws.proofs.internal_laws.Reading as internal_laws
@@ -86,6 +70,7 @@ use Rattle.static_value_laws.proofs.built_filled.Filling.{built_are_filled}
 use Rattle.built_unit_laws.proofs.built_standing.Built.{parameters_built}
 use Rattle.link_model.proofs.calling_laws.Calls.{calls_stand}
 use Rattle.valid_unit_laws.specs.built_valid.Whole.{BuiltIsValid}
+use Rattle.valid_unit_laws.proofs.built_valid.Sound.{senses_grown, senses_internal, senses_asked, senses_sound}
 
 is_function : (s : Storage) → (s ≡ FunctionBody) ⊎ (s ≡ FunctionBody → ⊥)
 is_function Static = inr (λ e. cc)
@@ -130,32 +115,16 @@ module _ (tokens : Tokens) (unit : ℕ) (tree : Tree) (tag_number : ℕ → ℕ)
   w = world_at s senses (length senses)
 
   grown : IsGrown s
-  grown = record {
-    first = children_first tokens unit tree tag_number is;
-    families = units_families tokens unit tree tag_number cut is;
-    statements = statements_parsed tokens unit tree tag_number is;
-    nested = units_nest tokens unit tree tag_number is;
-  }
+  grown = senses_grown tokens unit tree tag_number senses cut is built.are_senses built.whole
 
   internals : InternalFit s senses
-  internals = internals_fit tokens unit tree tag_number senses cut is built.are_senses built.whole
-
-  fit : TypesFit s senses
-  fit =
-      let at : Grown s = tree_grown tokens unit tree tag_number is in
-      let linked = linked_fit s senses built.are_senses grown at (units_bring tokens unit tree tag_number is) (initialisers_stand tokens unit tree tag_number cut is) internals in
-      types_fit s senses built.are_senses grown at (units_bring tokens unit tree tag_number is) (units_ordered tokens unit tree tag_number cut is) linked
-
-  asked : AskedElseFit types s senses
-  asked = asked_fit s senses built.are_senses grown (units_bring tokens unit tree tag_number is) fit
+  internals = senses_internal tokens unit tree tag_number senses cut is built.are_senses built.whole
 
   rows : InRows (trees_of u)
-  rows = rows_asked s name u built grown.first (constants_fit tokens tree tag_number cut) grown.statements asked
+  rows = rows_asked s name u built grown.first (constants_fit tokens tree tag_number cut) grown.statements (senses_asked tokens unit tree tag_number senses cut is built.are_senses built.whole)
 
   sound : (i : ℕ) → SoundSense w types (sense_in senses i)
-  sound i =
-      let fit = asked_aligns_fit types s senses built.are_senses grown.first (constants_fit tokens tree tag_number cut) grown.statements asked in
-      let both = asked_sound types s senses built.are_senses grown.first (constants_fit tokens tree tag_number cut) grown.statements fit i in both.0
+  sound = senses_sound tokens unit tree tag_number senses cut is built.are_senses built.whole
 
   fixed : FixedStatics (trees_of u)
   fixed = fixed_whole tokens unit tree tag_number name u cut is built (literals_built tokens unit tree tag_number name u cut is built) rows

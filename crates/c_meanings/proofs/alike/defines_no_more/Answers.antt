@@ -12,12 +12,12 @@ or_false true b e = refl
 or_false false true e = sym e
 or_false false false e = refl
 
-pub returns-then-is_defined : goal.returns-then-is_defined
-returns-then-is_defined c = λ e sense.
+pub returns-then-defines : goal.returns-then-defines
+returns-then-defines c = λ e w sense.
     let s = source_read c.args.syntax.now in
-    or_true (spec.is_defined s sense c.args.one) (spec.is_defined s sense c.args.other) (sym (c.is_defined.ensures sense) ∙ e)
+    or_true (spec.defines w s sense c.args.one) (spec.defines w s sense c.args.other) (sym (c.defines.ensures w sense) ∙ e)
 
-pub returns-else-is_defined : goal.returns-else-is_defined
-returns-else-is_defined c = λ e sense.
+pub returns-else-defines : goal.returns-else-defines
+returns-else-defines c = λ e w sense.
     let s = source_read c.args.syntax.now in
-    or_false (spec.is_defined s sense c.args.one) (spec.is_defined s sense c.args.other) (sym (ap not (c.is_defined-else-is_defined.ensures sense)) ∙ e)
+    or_false (spec.defines w s sense c.args.one) (spec.defines w s sense c.args.other) (sym (ap not (c.defines-else-defines.ensures w sense)) ∙ e)

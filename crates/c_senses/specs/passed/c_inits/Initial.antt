@@ -1,1 +1,1 @@
-pub use Rattle.c_inits.specs.Initial.{Placed, Outcome, Places, NoPlace, lasting}
+pub use Rattle.c_inits.specs.Initial.{Action, Placed, Outcome, Places, NoPlace, lasting, length_given}

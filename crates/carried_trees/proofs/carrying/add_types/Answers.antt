@@ -10,11 +10,11 @@ returns-in-Ok-clause-builds c =
     let old = c.args.unit.now in
     let new : Unit = record old { types = c.carried_types.new.types } in
     let grown = c.carried_types.ensures.grown in
-    type_builds old new c.requires.ready refl grown.types grown.terms grown.tags c.type_count-count.ensures.made (λ tag. ap (λ (cs : List TagMembers). members_among cs tag) grown.completed) grown.extents refl
+    type_builds old new c.requires.ready refl grown.types grown.terms grown.tags c.type_count-count.ensures.made (λ tag. ap (λ (cs : List TagMembers). members_among cs tag) grown.completed) grown.extents refl grown.once
 
 pub returns-in-Err-clause-builds : goal.returns-in-Err-clause-builds
 returns-in-Err-clause-builds c =
     let old = c.args.unit.now in
     let new : Unit = record old { types = c.carried_types.new.types } in
     let grown = c.carried_types.ensures.grown in
-    type_builds old new c.requires.ready refl grown.types grown.terms grown.tags c.type_count-count.ensures.made (λ tag. ap (λ (cs : List TagMembers). members_among cs tag) grown.completed) grown.extents refl
+    type_builds old new c.requires.ready refl grown.types grown.terms grown.tags c.type_count-count.ensures.made (λ tag. ap (λ (cs : List TagMembers). members_among cs tag) grown.completed) grown.extents refl grown.once

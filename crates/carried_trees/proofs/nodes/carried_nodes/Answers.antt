@@ -66,3 +66,41 @@ returns-clause-carried c = λ old tag ready same types.
     let left = ap length c.loop-node.invariant.rest ∙ length-drop (length flags) nodes in
     let all : length flags ≡ length nodes = omega (arith, empty, left, c.loop-node.invariant.few) in
     subst (λ (n : ℕ). AreCarried (number_at c.args.entities.now) (number_at c.args.own.now) tag old c.args.from n flags c.loop-node.unit) all (c.loop-node.invariant.carried old tag ready same types)
+
+pub is_given-flag-requires-clause-ty : goal.is_given-flag-requires-clause-ty
+is_given-flag-requires-clause-ty c =
+    let nodes = c.args.nodes.items in
+    let k = length c.loop-node.flags.items in
+    let node : Node = c.in-Some.node in
+    let next = next_node nodes c.loop-node.rest.items c.pop_front.new.self.items k node c.loop-node.invariant.rest c.in-Some.ensures.items in
+    let typed : node.ty.0 < length c.args.types.now.ids.items = c.requires.typed k node next.0 in
+    let flags : length c.args.types.now.given.items ≡ length c.args.types.now.ids.items = c.requires.flags in
+    omega (arith, typed, flags)
+
+pub is_given-flag-requires-clause-children : goal.is_given-flag-requires-clause-children
+is_given-flag-requires-clause-children c = λ i d lt.
+    let nodes = c.args.nodes.items in
+    let k = length c.loop-node.flags.items in
+    let node : Node = c.in-Some.node in
+    let next = next_node nodes c.loop-node.rest.items c.pop_front.new.self.items k node c.loop-node.invariant.rest c.in-Some.ensures.items in
+    let below : get_or node.children i d < k = c.requires.order k node next.0 i d lt in
+    let long : length c.as_slice.result.now ≡ k = ap length c.as_slice.ensures.value in
+    omega (arith, below, long)
+
+pub push_carried-requires-clause-ty : goal.push_carried-requires-clause-ty
+push_carried-requires-clause-ty c =
+    let nodes = c.args.nodes.items in
+    let k = length c.loop-node.flags.items in
+    let node : Node = c.in-Some.node in
+    let next = next_node nodes c.loop-node.rest.items c.pop_front.new.self.items k node c.loop-node.invariant.rest c.in-Some.ensures.items in
+    c.requires.typed k node next.0
+
+pub push_carried-requires-clause-children : goal.push_carried-requires-clause-children
+push_carried-requires-clause-children c = λ i d lt.
+    let nodes = c.args.nodes.items in
+    let k = length c.loop-node.flags.items in
+    let node : Node = c.in-Some.node in
+    let next = next_node nodes c.loop-node.rest.items c.pop_front.new.self.items k node c.loop-node.invariant.rest c.in-Some.ensures.items in
+    let below : get_or node.children i d < k = c.requires.order k node next.0 i d lt in
+    let count : length c.loop-node.unit.nodes.items ≡ c.args.from + k = c.loop-node.invariant.count in
+    omega (arith, below, count)

@@ -1,7 +1,7 @@
 use Rattle.std.proofs.Common.{◌+◌, ℕ, ap}
 use Rattle.obj_space.specs.View.{view_of}
 use Rattle.constraints.proofs.CallLemmas.{calls_few}
-use Rattle.constraints.proofs.Demanded.{demanded}
+use Rattle.constraints.proofs.Demanded.{listed}
 use Rattle.constraints.proofs.whole.numbered.Goals as goal
 
 pub constraints-requires-clause-calls : goal.constraints-requires-clause-calls
@@ -17,7 +17,7 @@ returns c =
       rows = ap (λ (n : ℕ). n + 1) c.requires.results.none;
       locations = c.in_ok-location_facts.ensures;
       types = c.in_ok-type_facts.ensures;
-      constraints = λ k. rw (c.in_ok-constraints.ensures, c.in_ok-copy_calls.ensures) (demanded c.args.program.now s c.args.normal.now whole k);
+      constraints = rw (c.in_ok-constraints.ensures, c.in_ok-copy_calls.ensures) (listed c.args.program.now s c.args.normal.now whole);
       calls = rw c.in_ok-copy_calls.ensures whole.calls;
       functions = c.in_ok-function_facts.ensures;
     }

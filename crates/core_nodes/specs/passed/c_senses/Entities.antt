@@ -7,4 +7,4 @@ pub use Rattle.c_senses.specs.Entities.{is_parameter, declaration_of, storage_of
 pub use Rattle.c_senses.specs.Entities.{is_at_file, behind, in_rest, initialiser_in, without_asm, length_given_by}
 pub use Rattle.c_senses.specs.Entities.{own_type, parameter_type, agree, all_together, fuller, together}
 pub use Rattle.c_senses.specs.Entities.{has_function_words, is_without_storage, declared_meaning}
-pub use Rattle.c_senses.specs.Entities.{object_or_function, specified}
+pub use Rattle.c_senses.specs.Entities.{object_or_function, specified, length_in, length_seen}

@@ -14,7 +14,7 @@ use Rattle.init_rows.proofs.RowLaws.{no_type, of_type, rowed_same, row_moved}
 use Rattle.init_rows.proofs.rows.declared_row.Goals as goal
 
 pub returns-in-Some-clause-builds : goal.returns-in-Some-clause-builds
-returns-in-Some-clause-builds c = builds_on c.args.unit.now c.declared_type.new.unit c.object_row.new.unit c.in-Ok.ensures.builds c.object_row.ensures.builds
+returns-in-Some-clause-builds c = builds_on c.args.unit.now c.declared_type.new.unit c.object_as.new.unit c.in-Ok.ensures.builds c.object_as.ensures.builds
 
 pub returns-in-Some-clause-row : goal.returns-in-Some-clause-row
 returns-in-Some-clause-row c = λ w uses told said.
@@ -29,10 +29,10 @@ returns-in-Some-clause-row c = λ w uses told said.
     let leaf = c.args.leaf in
     let t = type_of mid.types c.in-Some.declared.ty.0 in
     let same = ap sense_in (mades_kept old mid builds results c.requires.results) in
-    rowed_same c.object_row.new.unit c.object_row.result _ _
+    rowed_same c.object_as.new.unit c.object_as.result _ _
     (of_type w s sense c.args.at d leaf t (subst (λ o. IsDeclaredIn mid.types o (derived_type s sense (specified_of s sense leaf) (Some d))) c.in-Some.is c.in-Ok.ensures.made))
-    (row_moved w s now sense t c.args.at d leaf c.object_row.new.unit c.object_row.result same
-    (c.object_row.ensures.row w uses d (told_on w old mid c.args.scope.now builds told.told) (fills_on w old mid builds c.type_count-count.ensures.made c.type_count-more.ensures.made told.fills)
+    (row_moved w s now sense t c.args.at d leaf c.object_as.new.unit c.object_as.result same
+    (c.object_as.ensures.row w uses d (told_on w old mid c.args.scope.now builds told.told) (fills_on w old mid builds c.type_count-count.ensures.made c.type_count-more.ensures.made told.fills)
     (subst (λ (f : ℕ → Sense). IsSaid w s f leaf c.args.said.now) (sym same) said)
     (subst (IsJudged w mid.types) c.in-Some.is (c.in-Ok.ensures.limited w told.told.knows told.limited))))
 

@@ -1,7 +1,8 @@
 use Rattle.std.proofs.Common.{arith, length, ap, sym, subst, ◌∙◌}
 use Rattle.core_tree.specs.Typed.{CoreTrees}
 use Rattle.ref_cells.specs.Places.{AreKnown}
-use Rattle.ref_state.specs.ref_types.Types.{library_ids}
+use Rattle.ref_start.specs.Handed.{AreRead}
+use Rattle.ref_state.specs.ref_types.Types.{types_with, library_ids}
 use Rattle.ref_blocks.specs.Plans.{IsPlan}
 use Rattle.ref_frames.specs.Running.{Running}
 use Rattle.ref_calls.specs.Outcomes.{Steps}
@@ -9,6 +10,7 @@ use Rattle.ref_machine.specs.Types.{running}
 use Rattle.ref_machine.specs.Step.{item_step, outside_step}
 use Rattle.ref_machine.proofs.KnownSteps.{later}
 use Rattle.ref_machine.proofs.FirstInstances.{standing_stays}
+use Rattle.ref_machine.proofs.HandedOnward.{read_after}
 use Rattle.ref_machine.proofs.Stepped.{framed, unframed}
 use Rattle.ref_machine.proofs.machine.stepped.Goals as goal
 
@@ -24,6 +26,10 @@ frame_step-requires-clause-memory c =
 pub outside_step-requires-clause-library : goal.outside_step-requires-clause-library
 outside_step-requires-clause-library c =
     c.requires.prepared.library ∙ ap (λ (w : Running). library_ids w.characters.0) (sym c.running-running.ensures.seen)
+
+pub outside_step-requires-clause-kept : goal.outside_step-requires-clause-kept
+outside_step-requires-clause-kept c =
+    subst (λ (w : Running). AreRead w.trees.types c.args.state.now.handed c.args.kept.now) (sym c.running-running.ensures.seen) c.requires.handed
 
 pub returns-then-depth-gt0-clause-step : goal.returns-then-depth-gt0-clause-step
 returns-then-depth-gt0-clause-step c =
@@ -45,12 +51,17 @@ returns-then-depth-gt0-clause-standing c =
     (returns-then-depth-gt0-clause-step c) c.requires.known).keys
     c.requires.standing
 
+pub returns-then-depth-gt0-clause-handed : goal.returns-then-depth-gt0-clause-handed
+returns-then-depth-gt0-clause-handed c =
+    read_after (running c.args.program.now) (types_with c.args.program.now.types) c.frame_step.result c.args.state.now c.frame_step.new.state c.args.word c.args.kept.now
+    (returns-then-depth-gt0-clause-step c) c.requires.handed
+
 pub returns-else-depth-gt0-clause-step : goal.returns-else-depth-gt0-clause-step
 returns-else-depth-gt0-clause-step c =
     let st = c.args.state.now in
     let new = c.outside_step.new.state in
     unframed c.outside_step.result st new (running c.args.program.now) c.args.word (omega (arith, c.if-depth-gt0.false, c.depth.ensures))
-    (subst (λ (w : Running). Steps c.outside_step.result st new (outside_step w st st.status c.args.word)) c.running-running.ensures.seen c.outside_step.ensures)
+    (subst (λ (w : Running). Steps c.outside_step.result st new (outside_step w st st.status c.args.word)) c.running-running.ensures.seen c.outside_step.ensures.step)
 
 pub returns-else-depth-gt0-clause-known : goal.returns-else-depth-gt0-clause-known
 returns-else-depth-gt0-clause-known c =
@@ -63,3 +74,9 @@ returns-else-depth-gt0-clause-standing c =
     (later (running c.args.program.now) c.running-running.ensures.grounded c.outside_step.result c.args.state.now c.outside_step.new.state c.args.word
     (returns-else-depth-gt0-clause-step c) c.requires.known).keys
     c.requires.standing
+
+pub returns-else-depth-gt0-clause-handed : goal.returns-else-depth-gt0-clause-handed
+returns-else-depth-gt0-clause-handed c =
+    read_after (running c.args.program.now) (types_with c.args.program.now.types) c.outside_step.result c.args.state.now c.outside_step.new.state c.args.word c.outside_step.new.kept
+    (returns-else-depth-gt0-clause-step c)
+    (subst (λ (w : Running). AreRead w.trees.types c.args.state.now.handed c.outside_step.new.kept) c.running-running.ensures.seen c.outside_step.ensures.kept)

@@ -19,7 +19,7 @@ returns-in_default-clause-row c =
     let w = seen c.args.running.now in
     let e = c.args.e in
     let past : length c.args.running.now.parameters.now ≤ e = first_of (search rules, grind (arith, common_steps, gets)) in
-    not_entered w c.args.state.now e c.args.h (slice_get_past w.trees.entities e (omega (arith, past, c.requires.parameters.many)))
+    not_entered w c.args.state.now e c.args.h (slice_get_past w.trees.entities e (omega (arith, past, c.requires.running.parameters.many)))
 
 pub returns-clause-row : goal.returns-clause-row
 returns-clause-row c =
@@ -38,6 +38,6 @@ returns-clause-row c =
     subst (λ (m : List Instance). Q st.handed (length m) list) c.instances-count.ensures
     (subst (λ (handed : List (TypeId × Cell)). Q handed (length c.instances-count.result.now) list) c.as_slice.ensures
     (subst (λ (xs : List ℕ). Q c.as_slice.result.now (length c.instances-count.result.now) xs) c.as_slice-2.ensures
-    c.in_ok-given.ensures)) in
+    c.in_ok-given.ensures.made)) in
     let P : Result State Reason → Type 0 = λ r. Gives (λ stores. record c.enter_given.new.state { notes = only stores }) c.enter_given.result r in
-    subst P (given_listed w st e h list (given_with st.handed given) (c.requires.parameters.each e list at) is) c.enter_given.ensures.row
+    subst P (given_listed w st e h list (given_with st.handed given) (c.requires.running.parameters.each e list at) is) c.enter_given.ensures.row

@@ -10,7 +10,7 @@ use Rattle.text_units.specs.Answers.{names_of, Answer, refusal}
 use Rattle.report_cli.specs.Words.{texts_of, AreUnitNames}
 use Rattle.report_cli.specs.Told.{form_for, names_for, told_as, told_for}
 use Rattle.report_cli.specs.Outside.{IsWritten, Receives, source_fault}
-use Rattle.report_cli.proofs.Lifted.{IsStatus, entry_asked, names_asked, run_asked, with_told_for, told_denotes, told_prints, told_refuses}
+use Rattle.report_cli.proofs.Lifted.{IsStatus, entry_asked, names_asked, run_asked, with_told_for, told_denotes, told_kind, told_prints, told_refuses}
 use Rattle.report_cli.proofs.Exclusion.{told_read}
 use Rattle.report_cli.proofs.OneOutcome.{told_right}
 use Rattle.report_cli.proofs.Together.{accepted_or_refused}
@@ -201,6 +201,10 @@ not_twelve : (status : ℕ) → status ≡ 12 → IsWritten status → ⊥
 not_twelve status twelve (inl zero) = omega arith
 not_twelve status twelve (inr eleven) = omega arith
 
+not_four : (status : ℕ) → status ≡ 4 → IsWritten status → ⊥
+not_four status four (inl zero) = omega arith
+not_four status four (inr eleven) = omega arith
+
 pub returns-clause-entry : goal.returns-clause-entry
 returns-clause-entry g c twelve =
     let given = c.answer_units.ensures.refused (not_twelve _ twelve) (λ eight. omega arith) (λ nine. omega arith) in
@@ -247,6 +251,16 @@ returns-clause-outcome g c not7 not8 not9 =
       | inr (inr (inl eight)) ↦ absurd (not8 eight)
       | inr (inr (inr nine)) ↦ absurd (not9 nine)
     ])
+
+pub returns-clause-built : goal.returns-clause-built
+returns-clause-built g c four =
+    with_told_for (g.U.Units.text c.args.units.now) (texts_of c.args.words.now) c.in-Ok.command _ _ c.as_slice.result.now _ c.in-Ok.ensures.ok.says
+    (ap names_of c.as_slice-all.ensures.value ∙ c.in-Ok-names_for.ensures) c.as_slice.ensures.value c.in-Ok-read_units.ensures.texts
+    (λ told read.
+    let given = c.answer_units.ensures.refused (not_four _ four) (λ eight. omega arith) (λ nine. omega arith) in
+    let answer : Answer = record { status = c.answer_units.result; out = []; err = given.0 } in
+    let refuses = told_refuses _ told answer read given.1 in
+    (answer, refuses, told_kind told answer refuses four, given.2))
 
 pub returns-clause-usage : goal.returns-clause-usage
 returns-clause-usage g c = (

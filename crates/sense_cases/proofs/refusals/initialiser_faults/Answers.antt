@@ -6,6 +6,7 @@ pub returns : goal.returns
 unfolding computing
 returns c = record {
   too_many = refl;
+  too_many_seen = refl;
   braces_in_scalar = refl;
   index_past = refl;
   no_member = refl;

@@ -12,7 +12,7 @@ use Rattle.unit_worlds.specs.Growing.{Grows, completed_at}
 use Rattle.c_declarators.specs.Limited.{AreLimited}
 use Rattle.unit_walk.specs.unit_rows.Along.{AreAlong}
 use Rattle.unit_walk.specs.unit_rows.Standing.{Stand, AreMade, source_known, nodes_known}
-use Rattle.unit_walk.proofs.Keeping.{entities_grown}
+use Rattle.unit_walk.proofs.Keeping.{entities_grown, once_grown}
 use Rattle.unit_walk.proofs.Walking.{stand_empty, made_empty, Whole, length_made, made_there, stand_more, along_more, senses_with, fills_more}
 use Rattle.unit_walk.proofs.Stopping.{refused_before}
 use Rattle.unit_walk.proofs.nodes.walk_nodes.Goals as goal
@@ -30,6 +30,7 @@ loop-at-init c =
       made = subst (AreMade s u) (sym none) (made_empty s u c.requires.open (c.requires.count ∙ c.requires.known.tags.count));
       fills = subst (λ (l : List Made). Fills (world_at s (senses_made u l) 0) u) (sym none) (fills_first s u 0 c.requires.open);
       types = c.requires.types;
+      once = c.requires.once;
       told =
           subst (λ (l : List Made). IsTold (world_at s (senses_made u l) 0) s (sense_in (senses_made u l)) 0 c.no_choices-choices.result) (sym none)
           (c.no_choices-choices.ensures (world_at s (senses_made u []) 0) s (sense_in (senses_made u [])) c.requires.known.spelled);
@@ -62,6 +63,7 @@ loop-at-preserved c =
       made = made_there s u v rs more m at inv.made c.requires.known.ordered items inv.long inv.stand.within (omega (arith, c.loop-at-test.true, c.requires.end)) ok.row grows;
       fills = fills_more s u v rs more m at c.requires.known.ordered items inv.long inv.stand.within inv.table table grows inv.fills;
       types = tag_types_grow s u v es grows inv.types;
+      once = once_grown u v es grows inv.once;
       told =
           subst (λ (t : List Sense). IsTold (world_at s t (at + 1)) s (sense_in t) (at + 1) c.note.new.choices) (sym pushed)
           (c.in_ok-note.ensures.told (world_at s senses at) (world_at s (senses ++ sense_made v m ∷ []) (at + 1)) k.bound.now.uses.items senses (sense_made v m)

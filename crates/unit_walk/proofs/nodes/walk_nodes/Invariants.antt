@@ -1,5 +1,6 @@
 use Rattle.std.proofs.Common.{◌≡◌, length}
 use Rattle.c_types.specs.Made.{IsMade}
+use Rattle.core_nodes.specs.Once.{HasOnce}
 use Rattle.c_senses.specs.Rows.{world_at}
 use Rattle.c_results.specs.Standing.{senses_made}
 use Rattle.c_initials.specs.Filling.{Fills}
@@ -17,6 +18,7 @@ invariant-loop-at l = record {
   made : AreMade (source_known l.known) l.unit l.results;
   fills : Fills (world_at (source_known l.known) (senses_made l.unit l.results) l.at) l.unit;
   types : HasTagTypes (source_known l.known) l.unit.types;
+  once : HasOnce l.unit.types;
   told : ChoicesFit l.known l.unit l.results l.at l.choices;
   along : AreAlong l.known.numbered.now.syntax l.known.names.now l.unit l.results l.along;
   table : IsMade l.unit.types;

@@ -47,5 +47,5 @@ returns c =
     let own = subst (λ (l : List Node). HaveOwnBodies l c.in_ok-list.list.items c.in_ok-list-2.list.items) c.as_slice.ensures.value c.in_ok-list-2.ensures.own in
     let walked = walked_so s u new rs g.numbered.tags c.in-Ok.keys.items c.in_ok-list.list.items c.in_ok-list-2.list.items c.requires.walked c.requires.ground.tags listed.builds listed.ready (c.in-Ok.ensures.right u) c.in-Ok.ensures.count (listed.names uses) own c.requires.initials in
     let types = tag_types_so s u new rs g.numbered.tags c.in-Ok.keys.items c.in_ok-list.list.items c.in_ok-list-2.list.items c.requires.walked c.requires.ground.tags listed.builds listed.ready (c.in-Ok.ensures.right u) c.in-Ok.ensures.count (listed.names uses) own c.requires.initials c.requires.types in
-    with_tags s c.args.name new.types types c.type_count-count.ensures.made c.type_count-count.ensures.named c.finished.result
+    with_tags s c.args.name new.types types c.type_count-count.ensures.made c.type_count-count.ensures.named (listed.builds.once c.requires.once) c.finished.result
     (c.finished.ensures.right u new uses c.in_ok-list-2.list.items listed.ready refl refl walked c.in_ok-kept.ensures.kept) c.finished.ensures.types

@@ -19,7 +19,8 @@ returns-clause-said c = λ u w uses.
       in_scope = λ typedef. c.in_ok-in_scope.ensures.same u w uses (c.is_typedef-typedef.ensures uses sense ∙ typedef);
       types = λ internal. (c.in_ok-earlier.ensures.gives u w uses (linkage ∙ internal)).types;
       defined = λ internal. (c.in_ok-earlier.ensures.gives u w uses (linkage ∙ internal)).defined;
+      typing = c.in_ok-typing.ensures.typing u w uses;
     }
 
 pub returns-clause-within : goal.returns-clause-within
-returns-clause-within c = record { in_scope = c.in_ok-in_scope.ensures.within; internal_before = c.in_ok-earlier.ensures.within }
+returns-clause-within c = record { in_scope = c.in_ok-in_scope.ensures.within; internal_before = c.in_ok-earlier.ensures.within; typing = c.in_ok-typing.ensures.within }

@@ -23,4 +23,4 @@ returns-in-None-clause-said c = λ u w uses leaf is.
     absurd (cc)
 
 pub returns-in-None-clause-within : goal.returns-in-None-clause-within
-returns-in-None-clause-within c = c.nothing_said.ensures (length c.args.syntax.now.tree.now.nodes.items)
+returns-in-None-clause-within c = c.nothing_said.ensures.within (length c.args.syntax.now.tree.now.nodes.items)

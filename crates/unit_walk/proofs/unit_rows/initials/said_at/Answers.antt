@@ -18,4 +18,4 @@ returns-in-None-clause-said c =
     said_none c.args.known.now.numbered.now.syntax c.args.known.now.bound.now.uses.items c.args.results.now c.args.at c.nothing_said.result (λ u. c.in-None.ensures.name u c.args.known.now.bound.now.uses.items)
 
 pub returns-in-None-clause-within : goal.returns-in-None-clause-within
-returns-in-None-clause-within c = c.nothing_said.ensures (nodes_known c.args.known.now)
+returns-in-None-clause-within c = c.nothing_said.ensures.within (nodes_known c.args.known.now)
