@@ -6,7 +6,7 @@ use core_tree::NodeKind;
 
 /// A read or a write.
 #[derive(Clone, Copy, Debug, PartialEq, Eq)]
-pub(crate) enum Access {
+pub enum Access {
     Read,
     Write,
 }

@@ -15,5 +15,6 @@ mod spreading;
 mod ways;
 mod whole;
 
+pub use access::Access;
 pub use effect_rows::Effects;
 pub use whole::effects;
