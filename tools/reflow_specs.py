@@ -1,7 +1,8 @@
 #!/usr/bin/env python3
-"""Breaks lines of definitions that are too long: a premise a line, long lists of names in several use lines, comments wrapped.
+"""Breaks lines that are too long: a premise a line, long lists of names in several use lines, comments wrapped.
 
-usage: reflow_specs.py FILE..       (files of specs/; then run rt fmt, which has the last word on layout)
+usage: reflow_specs.py FILE..       (files of specs/, and .rt: there lines of contracts, ghost uses and documents alone, over 140
+                                    characters; then run rt fmt, which has the last word on layout)
 """
 import re
 import sys
@@ -122,10 +123,44 @@ def comments(lines):
     return out
 
 
+def contract_lines(line):
+    """A line of a `.rt` file in several, where it is of a contract, a ghost use or a document and over 140 characters."""
+    if len(line) <= 140:
+        return [line]
+    use = re.match(r"^(\s*)(ghost use )([^{]*\{)(.*)\};\s*$", line)
+    if use:
+        made = use_lines(f"{use[1]}use {use[3]}{use[4]}}}")
+        return [it.replace("use ", use[2], 1) + ";" for it in made]
+    document = re.match(r"^(\s*//[/!] )(?=\S)", line)
+    if document:
+        return textwrap.wrap(line[len(document[1]) :], 138, initial_indent=document[1], subsequent_indent=document[1],
+                             break_long_words=False, break_on_hyphens=False)
+    clause = re.match(r"^(\s*)((?:ensures|requires|invariant)(?: \w+)? \{ )(.*) \}$", line)
+    if clause:
+        pieces = broken(clause[3], 128 - len(clause[1]))
+        more = clause[1] + "    "
+        if len(clause[1]) + len(clause[2]) + len(pieces[0]) > 136:
+            return [line]
+        made = [clause[1] + clause[2] + pieces[0], *[more + it for it in pieces[1:]]]
+        return [*made[:-1], made[-1] + " }"]
+    more = re.match(r"^(\s+)([≡×→(λ⊎\w].*?)((?: →)?(?: \})?)$", line)
+    if more and re.search(r"[≡×λ⊎]|\.now|\.new|\.items", line):
+        pieces = broken(more[2], 130 - len(more[1]))
+        made = [more[1] + pieces[0], *[more[1] + "    " + it for it in pieces[1:]]]
+        return [*made[:-1], made[-1] + more[3]]
+    return [line]
+
+
 def main(files):
     for file in files:
         with open(file, encoding="utf-8") as it:
             text = it.read()
+        if file.endswith(".rt"):
+            made = "\n".join(one for line in text.split("\n") for one in contract_lines(line))
+            if made != text:
+                with open(file, "w", encoding="utf-8") as it:
+                    it.write(made)
+            continue
         made = "\n".join(one for line in comments(text.split("\n")) for one in lines_of(line))
         if re.sub(r"\s+|^(pub )?use .*$", "", made) and made != text:
             with open(file, "w", encoding="utf-8") as it:

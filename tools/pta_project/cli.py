@@ -34,7 +34,8 @@ def _analyse(options):
             script = stream.read()
     outcome = analyse(_commands(options), Options(
         options.pta, options.cc, options.o, options.j, ("--json",) if options.json else (),
-        frozenset(filter(None, options.plain.split(","))), allocator_names(options.allocator), script), _tell)
+        frozenset(filter(None, options.plain.split(","))), allocator_names(options.allocator), script, options.entry),
+        _tell)
     _tell("")
     sys.stdout.write(outcome.report)
     sys.stdout.flush()
@@ -58,6 +59,8 @@ def _read(words):
     parser.add_argument("--commands", metavar="FILE", help="a compile_commands.json in place of files")
     parser.add_argument("--program", metavar="NAME", help="of several programs that `record` noted, this one")
     parser.add_argument("--ask", metavar="SCRIPT", help="answer the questions of a script")
+    parser.add_argument("--entry", metavar="NAMES", default="",
+                        help="of a library: the functions that its callers enter, with commas between them")
     parser.add_argument("--plain", metavar="NAMES", default="",
                         help="functions that neither keep nor give pointers, with commas between them")
     parser.add_argument("--allocator", metavar="NAMES", default="",

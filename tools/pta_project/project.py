@@ -35,7 +35,7 @@ class Outcome(NamedTuple):
 
 
 class Options(NamedTuple):
-    """How a program is analysed; the plain names neither keep nor give pointers."""
+    """How a program is analysed; the plain names neither keep nor give pointers, entries have commas between them."""
     pta: str = "pta"
     compiler: str = "gcc"
     folder: str = "pta-out"
@@ -44,6 +44,7 @@ class Options(NamedTuple):
     plain: frozenset = frozenset()
     allocators: dict = {}
     script: Optional[str] = None
+    entries: str = ""
 
 
 def analyse(commands, options, tell=lambda said: None):
@@ -112,7 +113,7 @@ class Program:
         self.units = loaded(_named(commands), options.compiler, options.workers, tell)
         self._own, self._names = list(self.units), set()
         self._reconciled, self._emptied = set(), set()
-        self.pta = Pta(options.pta, options.folder)
+        self.pta = Pta(options.pta, options.folder, options.entries)
         self.fitter = Fitter(self.pta, options.compiler, options.allocators)
 
     def run(self):

@@ -32,8 +32,9 @@ def read_refusal(said):
 class Pta:
     """The program, and the folder in which the units stand for it."""
 
-    def __init__(self, program, folder):
+    def __init__(self, program, folder, entries=""):
         self._program = os.path.abspath(program) if os.sep in program else program
+        self._entries = ("--entry", entries) if entries else ()
         self.folder = folder
 
     def write(self, name, text):
@@ -42,9 +43,12 @@ class Pta:
             stream.write(str(text))
 
     def run(self, names, options=()):
-        """Status, report and fault of a run over the named units."""
+        """Status, report and fault of a run over the named units, which is entered where the program is."""
+        return self._run((*self._entries, *options, *names))
+
+    def _run(self, words):
         try:
-            done = subprocess.run([self._program, *options, *names], cwd=self.folder, capture_output=True,
+            done = subprocess.run([self._program, *words], cwd=self.folder, capture_output=True,
                                   check=False, close_fds=False)
         except OSError as fault:
             raise Fault(f"{self._program}: {fault.strerror}") from fault
@@ -53,7 +57,7 @@ class Pta:
     def check(self, name, text):
         """The refusal of one unit; None where it has none but that it's no whole program."""
         self.write(name, text)
-        status, _, said = self.run([name])
+        status, _, said = self._run([name])
         if status in (0, 5):
             return None
         return read_refusal(said) or Refusal(name, 1, 1, said or f"status {status}", "fault")

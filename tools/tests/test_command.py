@@ -52,6 +52,14 @@ class Command(unittest.TestCase):
         self.assertEqual(self.run_command("--no-holes", "a.c").returncode, 1)
         self.assertEqual(self.run_command("--no-holes", "--plain", "f", "a.c").returncode, 0)
 
+    def test_entry(self):
+        self.write("a.c", "int *p; void put(int *q) { p = q; } int *get(void) { return p; }\n")
+        done = self.run_command("--entry", "put,get", "a.c")
+        self.assertEqual((done.returncode, done.stdout.splitlines()[1:3]), (0, ["set p: <outside>", "set put/q: <outside>"]))
+        self.write("ask.txt", "points p <outside>\n")
+        self.assertEqual(self.run_command("--entry", "put,get", "--ask", "ask.txt", "a.c").stdout, "ask 1\nyes\nend\n")
+        self.assertEqual(self.run_command("--entry", "other", "a.c").returncode, 12)
+
     def test_ask(self):
         self.write("a.c", "int *p, x; int main(void) { p = &x; return 0; }\n")
         self.write("ask.txt", "points p x\n")
