@@ -12,6 +12,8 @@ mod effects;
 #[cfg(test)]
 mod entries;
 #[cfg(test)]
+mod failing;
+#[cfg(test)]
 mod generated;
 #[cfg(test)]
 mod long;
