@@ -1,6 +1,7 @@
 """The forms of `hostile_growth.py`: their texts grow in proportion to their size, and small ones end as the manual says."""
 import os
 import shutil
+import subprocess
 import tempfile
 import unittest
 
@@ -9,6 +10,8 @@ from hostile_growth import Seen
 from hostile_judge import Case, Ended, Limits, faults, lay, lines_of, run
 
 from .test_rewrites import PTA
+
+CRATES = os.path.join(os.path.dirname(os.path.abspath(__file__)), "..", "..", "crates")
 
 
 class Forms(unittest.TestCase):
@@ -33,6 +36,26 @@ class Forms(unittest.TestCase):
             self.assertEqual(faults(case, seen), [], name)
             ended[name] = seen.status, seen.err
         self.assertEqual({name: seen for name, seen in ended.items() if seen[0]}, {})
+
+
+class Cut(unittest.TestCase):
+    """A program's text, cut."""
+
+    def test_behind_each_line(self):
+        folder = tempfile.mkdtemp()
+        self.addCleanup(shutil.rmtree, folder)
+        with open(os.path.join(CRATES, "pta", "data", "list.i"), encoding="ascii") as stream:
+            lines = stream.readlines()
+        ended = []
+        for count in range(len(lines)):
+            with open(os.path.join(folder, "list.i"), "w", encoding="ascii") as stream:
+                stream.writelines(lines[:count])
+            done = subprocess.run([PTA, "list.i"], cwd=folder, capture_output=True, text=True, check=False)
+            ended.append((done.returncode, done.stdout, done.stderr))
+        whole = {*range(12), 19}
+        self.assertEqual(len(lines), 27)
+        self.assertEqual(ended, [(5, "", "link no main\n") if count in whole
+                                 else (3, "", f"list.i:{count + 1}:1: malformed\n") for count in range(27)])
 
 
 class Growth(unittest.TestCase):
