@@ -13,11 +13,12 @@ import os
 import re
 import sys
 
-# Seconds of processor time, user and system, fitted on checks from nothing and on docs/PERFORMANCE.md: a crate, of which so
-# much for the second pass of --empty-contracts; each library below; a function, less where at most one library lies below (half of one
-# for each derive); a line of specs/ or proofs/. A crate of cases reads the code of all below, a line of which costs BELOW, and its functions
-# are dearer.
-CRATE, EMPTY, LIBRARY, LOW_FUNCTION, FUNCTION, TEXT = 10.5, 3.5, 0.06, 1.9, 3.2, 0.0077
+# Seconds of processor time, user and system, by a gate's own checks of 105 crates, four at a time on four processors: a crate, of which so
+# much for the second pass of --empty-contracts (the sum of both, and TEXT, by 20 crates of laws); each library below; a line of
+# code, its contracts among them; a line of specs/ or proofs/. Half of the crates lie within 31 s of it, but single functions can cost more than
+# all else of a crate (work_rounds::solve, c_lower), which no count of lines tells. A crate of cases reads the code of all below, a line
+# of which costs BELOW, and its functions are dearer; these three are older.
+CRATE, EMPTY, LIBRARY, CODE, TEXT = 17.0, 5.0, 0.0, 0.152, 0.0023
 TEST_CRATE, BELOW, TEST_FUNCTION = 18.0, 0.0003, 11.0
 OVER_SEED, LIMIT_FUNCTIONS, LIMIT_SECONDS = 10.0, 100, 240.0
 
@@ -106,9 +107,9 @@ class House:
         return self.sizes[it].tests > 0
 
     def own(self, it):
-        """Returns what a crate's functions and texts take."""
+        """Returns what a crate's code and texts take."""
         size = self.sizes[it]
-        return (FUNCTION if len(self.below(it)) > 1 else LOW_FUNCTION) * size.functions + TEXT * size.text
+        return CODE * size.code + TEXT * size.text
 
     def check(self, it):
         """Returns what its library takes. (A crate of cases has nothing to prove but its tests.)"""

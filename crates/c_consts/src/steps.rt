@@ -9,7 +9,8 @@ ghost use Rattle.c_consts.specs.Wrapped.{converted};
 ghost use Rattle.c_consts.specs.Operators.{Gives};
 ghost use Rattle.c_consts.specs.Answer.{unary_in, binary_in, is_zero};
 ghost use Rattle.c_consts.specs.Nodes.{AreRowsUnder};
-ghost use Rattle.c_consts.specs.Spine.{first_operand, head_of, Leads, HeldAt, last_in, asked_at, StartsWith, IsAnswer, IsRest, OperandIn, OperandsIn, HasOne, HasTwo, HasThree, IsOfKind};
+ghost use Rattle.c_consts.specs.Spine.{first_operand, head_of, Leads, HeldAt, last_in, asked_at, StartsWith, IsAnswer};
+ghost use Rattle.c_consts.specs.Spine.{IsRest, OperandIn, OperandsIn, HasOne, HasTwo, HasThree, IsOfKind};
 
 use crate::fault::ConstFault;
 use crate::numbers::{Numbers, converted};

@@ -24,7 +24,8 @@ use rows::{ITEMS, STARTS};
 pub use scopes::Scopes;
 pub use trees::{SyntaxNode, Tree};
 
-/// The item at a place of a production's row, or `None` past its end. No row is longer than 2^16. The rows are those of C11 Annex A.2 in a form in which
+/// The item at a place of a production's row, or `None` past its end. No row is longer than 2^16. The rows are those of C11 Annex A.2 in
+/// a form in which
 /// at most two tokens decide each choice.
 pub fn item(production: u32, at: u32) -> Option<Item>
     ensures is { result ≡ item_of production at }

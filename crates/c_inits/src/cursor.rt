@@ -1,12 +1,14 @@
 //! A place within an object, which goes on in order (C11 6.7.9p17, p20).
 
-ghost use Rattle.std.specs.Prelude.{◌≡◌, ◌<◌, ◌≤◌, ◌+◌, ◌∷◌, ◌++◌, ℕ, List, [], map, length, IfOk, IfSome, OnOk, MatchOption, IsSome, None, Some};
+ghost use Rattle.std.specs.Prelude.{◌≡◌, ◌<◌, ◌≤◌, ◌+◌, ◌∷◌, ◌++◌, ℕ, List, [], map, length, IfOk, IfSome, OnOk};
+ghost use Rattle.std.specs.Prelude.{MatchOption, IsSome, None, Some};
 ghost use Rattle.c_types.specs.Made.{IsMade};
 ghost use Rattle.c_types.specs.Table.{type_of};
 ghost use Rattle.c_inits.specs.Shapes.{Shape, Path, from, behind};
 ghost use Rattle.c_inits.specs.Initial.{is_character, same_tag, fits, first_fit};
 ghost use Rattle.c_inits.specs.Parts.{shape_at, first_part, first_field, next_part};
-ghost use Rattle.c_inits.specs.Tables.{HasShape, type_shape, fields_from, IsFilled, AreComplete, IsMemberType, fillable, lacks_length, elements_of, tag_fields, tagged};
+ghost use Rattle.c_inits.specs.Tables.{HasShape, type_shape, fields_from, IsFilled, AreComplete, IsMemberType, fillable};
+ghost use Rattle.c_inits.specs.Tables.{lacks_length, elements_of, tag_fields, tagged};
 ghost use Rattle.c_inits.specs.Cursor.{Stands, IsPart, IsAt, path_of, sub_object};
 
 use c_types::table::TypeTable;

@@ -1,6 +1,7 @@
 //! The sub-object that a designator names (C11 6.7.9p6, p7; 6.7.2.1p13).
 
-ghost use Rattle.std.specs.Prelude.{◌≡◌, ◌<◌, ◌^◌, ◌∷◌, ◌++◌, ℕ, List, [], length, IfOk, IfSome, IfNone, OnOk, MatchOption, MatchResult, None, Some, map};
+ghost use Rattle.std.specs.Prelude.{◌≡◌, ◌<◌, ◌^◌, ◌∷◌, ◌++◌, ℕ, List, [], length, IfOk, IfSome, IfNone, OnOk};
+ghost use Rattle.std.specs.Prelude.{MatchOption, MatchResult, None, Some, map};
 ghost use Rattle.c_inits.specs.Shapes.{Path};
 ghost use Rattle.c_inits.specs.Initial.{has_name, own, in_unnamed, named, element, designated, described, Found, Missing};
 ghost use Rattle.c_inits.specs.Tables.{type_shape, HasShape, fields_from, tag_fields, AreComplete};

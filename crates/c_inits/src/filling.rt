@@ -1,6 +1,7 @@
 //! What an initialiser initialises of an object, in order (C11 6.7.9).
 
-ghost use Rattle.std.specs.Prelude.{◌≡◌, ◌<◌, suc, min, nat_lt, ◌++◌, ◌∷◌, [], List, map, length, IfOk, IfSome, OnOk, MatchOption, All, None, Some};
+ghost use Rattle.std.specs.Prelude.{◌≡◌, ◌<◌, suc, min, nat_lt, ◌++◌, ◌∷◌, [], List, map, length, IfOk, IfSome, OnOk};
+ghost use Rattle.std.specs.Prelude.{MatchOption, All, None, Some};
 ghost use Rattle.c_types.specs.Table.{type_of};
 ghost use Rattle.c_inits.specs.Shapes.{Path};
 ghost use Rattle.c_inits.specs.Initial.{Action, acts_under, characters, filled, of_value, text_size, initial, listed, only_text};

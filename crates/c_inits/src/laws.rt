@@ -2,7 +2,8 @@
 //! (C11 6.7.9).
 
 ghost use Rattle.c_inits.specs.Laws.{GoesDown, GoesOver, GoesAcross, GoesUp};
-ghost use Rattle.c_inits.specs.Examples.{ScalarExamples, ArrayExamples, StructureExamples, ReplacementExamples, UnionExamples, TextExamples};
+ghost use Rattle.c_inits.specs.Examples.{ScalarExamples, ArrayExamples, StructureExamples, ReplacementExamples};
+ghost use Rattle.c_inits.specs.Examples.{UnionExamples, TextExamples};
 
 /// Where a sub-object has parts, the first of them follows it (C11 6.7.9p17, p20: the list begins with the sub-object itself, and
 /// then comes what is in it).

@@ -1,6 +1,7 @@
 //! The place of an item of a braced list (C11 6.7.9p17 to p20).
 
-ghost use Rattle.std.specs.Prelude.{◌≡◌, ◌<◌, ◌⊎◌, Bool, true, false, [], map, length, IfOk, IfSome, OnOk, MatchOption, MatchResult, None, Some};
+ghost use Rattle.std.specs.Prelude.{◌≡◌, ◌<◌, ◌⊎◌, Bool, true, false, [], map, length, IfOk, IfSome, OnOk, MatchOption};
+ghost use Rattle.std.specs.Prelude.{MatchResult, None, Some};
 ghost use Rattle.c_inits.specs.Shapes.{from};
 ghost use Rattle.c_inits.specs.Initial.{is_scalar, next, starts, At, Nothing};
 ghost use Rattle.c_inits.specs.Tables.{type_shape, HasShape};

@@ -65,7 +65,8 @@ pub fn prefix_at(text: &[u8], from: usize) -> Prefix
 /// The quote at a place, if one stands there.
 #[inline(always)]
 pub fn quote_at(text: &[u8], at: usize) -> Option<Quote>
-    ensures { MatchOption result ((q : Quote) → at < length text.now → slice_index text.now at ≡ spec.mark q → ⊥) (λ q. (at < length text.now) × (slice_index text.now at ≡ spec.mark q)) }
+    ensures { MatchOption result ((q : Quote) → at < length text.now → slice_index text.now at ≡ spec.mark q → ⊥)
+        (λ q. (at < length text.now) × (slice_index text.now at ≡ spec.mark q)) }
 {
     if text.len() <= at {
         return None;

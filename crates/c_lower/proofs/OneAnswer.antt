@@ -6,7 +6,7 @@ use Rattle.core_nodes.specs.declared.fault.CheckFault.TheVariants.{BadOperand, U
 use Rattle.c_senses.specs.Tree.{Source}
 use Rattle.c_senses.specs.Names.{numbered}
 use Rattle.c_senses.specs.Rows.{RefusedAt}
-use Rattle.reading_laws.proofs.source_laws.Reading.{one_refusal, not_right}
+use Rattle.parsed_tree_laws.proofs.reading_laws.source_laws.Reading.{one_refusal, not_right}
 use Rattle.c_tags.specs.tag_numbers.Ordered.{AreInOrder}
 use Rattle.c_lower.specs.unit_lowering.PassedOn.{RefusedIn}
 use Rattle.c_lower.specs.Laws.{IsRefusal, OneAnswer}

@@ -238,7 +238,9 @@ fn in_enum(nodes: &[SyntaxNode], node: u32) -> Role
 
 /// Whether a kind of token is a keyword with which a selection or an iteration begins (C11 6.8.4, 6.8.5).
 fn is_selection(kind: TokenKind) -> bool
-    ensures { result ≡ (is_keyword kind word_if || is_keyword kind word_switch || is_keyword kind word_while || is_keyword kind word_do || is_keyword kind word_for) }
+    ensures { result
+        ≡ (is_keyword kind word_if || is_keyword kind word_switch || is_keyword kind word_while || is_keyword kind word_do
+        || is_keyword kind word_for) }
 {
     match kind {
         TokenKind::Keyword(word) => match word {

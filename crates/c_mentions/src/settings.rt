@@ -5,7 +5,8 @@ ghost use Rattle.c_mentions.specs.declared.settings.Setting.{Setting};
 ghost use Rattle.c_mentions.specs.declared.roles.Role.TheVariants.{Elsewhere};
 ghost use Rattle.c_mentions.specs.Kept.{Keeps, kind_at, with_role};
 ghost use Rattle.c_mentions.specs.Syntax.{nodes_of};
-ghost use Rattle.std.specs.Prelude.{true, ◌≡◌, ◌==◌, ◌<◌, ◌≤◌, ◌^◌, ℕ, List, length, slice_get, slice_index_or, replicate, if◌then◌else◌, IfOk};
+ghost use Rattle.std.specs.Prelude.{true, ◌≡◌, ◌==◌, ◌<◌, ◌≤◌, ◌^◌, ℕ, List, length, slice_get, slice_index_or, replicate};
+ghost use Rattle.std.specs.Prelude.{if◌then◌else◌, IfOk};
 
 use crate::roles::{Handing, Role, handed, handing_of, is_body, opened};
 use c_grammar::SyntaxNode;
@@ -72,7 +73,9 @@ pub fn place_of(place: usize) -> Result<u32, OutOfMemory>
 fn hand_one(places: &mut Vec<u32>, child: usize, node: usize, place: u32)
     requires { node ≤ length places.old.items }
     ensures count { length places.new.items ≡ length places.old.items }
-    ensures before { (i d : ℕ) → i < node → slice_index_or places.new.items i d ≡ (if child == i then place else slice_index_or places.old.items i d) }
+    ensures before { (i d : ℕ)
+        → i < node
+        → slice_index_or places.new.items i d ≡ (if child == i then place else slice_index_or places.old.items i d) }
     ensures behind { (i d : ℕ) → node ≤ i → slice_index_or places.new.items i d ≡ slice_index_or places.old.items i d }
 {
     if child < node {
@@ -215,7 +218,9 @@ fn scope_within(
     opened: Option<u32>,
     outer: u32,
 ) -> Result<u32, OutOfMemory>
-    ensures chain { IfOk result (λ scope. (around : List ℕ) → IsChain scopes.old.items outer around → IsChain scopes.new.items scope (with_scope opened around)) }
+    ensures chain { IfOk result
+        (λ scope. (around : List ℕ) → IsChain scopes.old.items outer around
+        → IsChain scopes.new.items scope (with_scope opened around)) }
     ensures extends { IfOk result (λ scope. Extends scopes.old.items scopes.new.items) }
 {
     match opened {
@@ -236,7 +241,9 @@ fn setting_within(
     node: u32,
     setting: Setting,
 ) -> Result<Setting, OutOfMemory>
-    ensures stands { IfOk result (λ within. (s : Standing) → Stands scopes.old.items setting s → Stands scopes.new.items within (handed_down tokens.now (nodes_of nodes.now) node s)) }
+    ensures stands { IfOk result
+        (λ within. (s : Standing) → Stands scopes.old.items setting s
+        → Stands scopes.new.items within (handed_down tokens.now (nodes_of nodes.now) node s)) }
     ensures extends { IfOk result (λ within. Extends scopes.old.items scopes.new.items) }
 {
     let role = setting.role;
@@ -264,7 +271,10 @@ fn hand_within(
     node: u32,
 ) -> Result<(), OutOfMemory>
     requires { node < length list.old }
-    ensures { IfOk result (λ done. (d : Setting) → HandsDown tokens.now (nodes_of nodes.now) scopes.old.items scopes.new.items children.now node (slice_index_or list.old node d) list.old list.new) }
+    ensures { IfOk result
+        (λ done. (d : Setting)
+        → HandsDown tokens.now (nodes_of nodes.now) scopes.old.items scopes.new.items children.now node
+        (slice_index_or list.old node d) list.old list.new) }
 {
     let place = node as usize;
     let within = setting_within(tokens, nodes, scopes, node, list.at(place))?;
@@ -279,7 +289,8 @@ fn hand_role(
     role: Role,
 ) -> Result<(), OutOfMemory>
     requires { node < length list.old }
-    ensures { IfOk result (λ done. (d : Setting) → Hands children.now node (with_role (slice_index_or list.old node d) role) list.old list.new) }
+    ensures { IfOk result
+        (λ done. (d : Setting) → Hands children.now node (with_role (slice_index_or list.old node d) role) list.old list.new) }
 {
     let own = list.at(node);
     let within = Setting {
@@ -301,7 +312,10 @@ fn hand_down(
     node: u32,
 ) -> Result<(), OutOfMemory>
     requires { node < length list.old }
-    ensures { IfOk result (λ done. (d : Setting) → HandsDown tokens.now (nodes_of nodes.now) scopes.old.items scopes.new.items children.now node (slice_index_or list.old node d) list.old list.new) }
+    ensures { IfOk result
+        (λ done. (d : Setting)
+        → HandsDown tokens.now (nodes_of nodes.now) scopes.old.items scopes.new.items children.now node
+        (slice_index_or list.old node d) list.old list.new) }
 {
     let place = node as usize;
     match handing_of(nodes, node) {

@@ -70,7 +70,9 @@ fn recalled(
     name: &[u8],
 ) -> Option<u32>
     requires { place < length recent.now }
-    ensures { (firsts : List ℕ → Option ℕ) → Recalls text.now tokens.now firsts recent.now → IfSome result (λ symbol. firsts name.now ≡ Some symbol) }
+    ensures { (firsts : List ℕ → Option ℕ)
+        → Recalls text.now tokens.now firsts recent.now
+        → IfSome result (λ symbol. firsts name.now ≡ Some symbol) }
 {
     let (token, symbol) = recent[place];
     match tokens.get(token as usize) {
@@ -99,7 +101,9 @@ fn number_name(
     requires here { slice_get tokens.now token ≡ Some here }
     requires recent { Recent text.now tokens.now (spec.known firsts.old) recent.old.items }
     ensures symbol { IfOk result (λ symbol. symbol ≡ spec.first_or (spec.known firsts.old (spelled text.now here)) token) }
-    ensures known { OnOk result ((other : List ℕ) → spec.known firsts.new other ≡ spec.known_after (spec.known firsts.old) (spelled text.now here) token other) }
+    ensures known { OnOk result
+        ((other : List ℕ)
+        → spec.known firsts.new other ≡ spec.known_after (spec.known firsts.old) (spelled text.now here) token other) }
     ensures recent { OnOk result (Recent text.now tokens.now (spec.known firsts.new) recent.new.items) }
 {
     let name = spelled(text, here);
@@ -127,7 +131,8 @@ fn number_token(
     requires here { slice_get tokens.now token ≡ Some here }
     requires recent { Recent text.now tokens.now (spec.known firsts.old) recent.old.items }
     ensures symbol { IfOk result (λ symbol. symbol ≡ spec.numbered text.now (spec.known firsts.old) here token) }
-    ensures known { OnOk result ((other : List ℕ) → spec.known firsts.new other ≡ spec.known_with text.now (spec.known firsts.old) here token other) }
+    ensures known { OnOk result
+        ((other : List ℕ) → spec.known firsts.new other ≡ spec.known_with text.now (spec.known firsts.old) here token other) }
     ensures recent { OnOk result (Recent text.now tokens.now (spec.known firsts.new) recent.new.items) }
 {
     if is_identifier(here.kind) {

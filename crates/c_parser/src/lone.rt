@@ -64,7 +64,8 @@ fn add_over(
     child: u32,
 ) -> Result<u32, OutOfMemory>
     ensures { IfOk result (λ number. (number ≡ length nodes.old.items)
-        × (map node_of nodes.new.items ≡ map node_of nodes.old.items ++ (record { production = production; token = token; children = child ∷ [] }) ∷ [])) }
+        × (map node_of nodes.new.items
+        ≡ map node_of nodes.old.items ++ (record { production = production; token = token; children = child ∷ [] }) ∷ [])) }
 {
     let Ok(number) = u32::try_from(nodes.len()) else {
         return Err(OutOfMemory);
@@ -102,7 +103,9 @@ pub(crate) fn add_lone(
 ) -> Result<u32, OutOfMemory>
     requires from { p_expression ≤ production }
     requires to { production ≤ p_unary }
-    ensures { IfOk result (λ number. spec.IsGrown (spec.lone_nodes production token (map node_of nodes.old.items)) (map node_of nodes.new.items) number) }
+    ensures { IfOk result
+        (λ number. spec.IsGrown (spec.lone_nodes production token (map node_of nodes.old.items))
+        (map node_of nodes.new.items) number) }
 {
     let leaf = add_leaf(nodes, token)?;
     let mut last = add_over(nodes, PRIMARY, token, leaf)?;

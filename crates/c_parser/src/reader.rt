@@ -8,7 +8,8 @@ ghost use Rattle.c_parser.specs.Leads as leads;
 ghost use Rattle.c_parser.specs.Leads.{Leads, IsAdvanced, IsOpened, IsEntered, IsFaulty, IsTurned};
 ghost use Rattle.c_parser.specs.Lone.{lone_taken};
 ghost use Rattle.c_parser.specs.Parse.{state, Answers, Faults, Sees, fault_seen};
-ghost use Rattle.std.specs.Prelude.{◌≡◌, ℕ, List, ◌+◌, ◌<◌, ◌≤◌, ◌^◌, length, map, [], ◌∷◌, ◌++◌, false, IfOk, OnOk, Some, None, MatchResult, true};
+ghost use Rattle.std.specs.Prelude.{◌≡◌, ℕ, List, ◌+◌, ◌<◌, ◌≤◌, ◌^◌, length, map, [], ◌∷◌, ◌++◌, false, IfOk, OnOk, Some};
+ghost use Rattle.std.specs.Prelude.{None, MatchResult, true};
 
 use crate::ParseFault;
 use crate::lone::{add_lone, is_lone};
@@ -124,7 +125,8 @@ fn take_token(
     ensures place { OnOk result (progress.new.ahead.place ≡ progress.old.ahead.place + 1) }
     ensures sees { OnOk result (Sees input.entry.text.now input.entry.tokens.now scopes.now progress.new.ahead) }
     ensures takes { OnOk result (state (progress.old.ahead.place + 1) scopes.now nodes.new.items progress.new.own
-        ≡ taken input.entry.text.now input.entry.tokens.now progress.old.top.production (state progress.old.ahead.place scopes.now nodes.old.items progress.old.own)) }
+        ≡ taken input.entry.text.now input.entry.tokens.now progress.old.top.production
+        (state progress.old.ahead.place scopes.now nodes.old.items progress.old.own)) }
     ensures top { OnOk result (progress.new.top ≡ progress.old.top) }
     ensures users { OnOk result (progress.new.users ≡ progress.old.users) }
 {
@@ -210,7 +212,10 @@ fn finish(
     own: &mut Own,
     nodes: &mut Vec<SyntaxNode>,
 ) -> Result<(), OutOfMemory>
-    ensures { OnOk result ((place : ℕ) (scopes : leads.Names) → state place scopes nodes.new.items own.new ≡ leads.ended_by production token outer (state place scopes nodes.old.items own.old)) }
+    ensures { OnOk result
+        ((place : ℕ) (scopes : leads.Names)
+        → state place scopes nodes.new.items own.new
+        ≡ leads.ended_by production token outer (state place scopes nodes.old.items own.old)) }
 {
     let Some(outer) = outer else {
         return Ok(());
@@ -271,7 +276,8 @@ fn enter(input: Input, progress: &mut Progress, used: u32, on: u32) -> Result<()
     requires { progress.old.ahead.place < 2 ^ 32 }
     ensures { MatchResult result
         (λ done. IsEntered input.entry.text.now input.entry.tokens.now used on progress.old progress.new)
-        (λ fault. IsFaulty input.entry.text.now input.entry.tokens.now used progress.old.ahead progress.old.top.depth progress.old.own fault) }
+        (λ fault. IsFaulty input.entry.text.now input.entry.tokens.now used progress.old.ahead progress.old.top.depth
+        progress.old.own fault) }
 {
     let frame = match open(
         input,
@@ -305,8 +311,10 @@ fn advance(
     requires within { progress.old.ahead.place ≤ length input.tokens.now }
     requires sees { Sees input.text.now input.tokens.now scopes.now progress.old.ahead }
     ensures goes { MatchResult result
-        (λ done. IsAdvanced input.entry.text.now input.entry.tokens.now used on progress.old scopes.now nodes.old.items progress.new nodes.new.items)
-        (λ fault. IsFaulty input.entry.text.now input.entry.tokens.now used progress.old.ahead progress.old.top.depth progress.old.own fault) }
+        (λ done. IsAdvanced input.entry.text.now input.entry.tokens.now used on progress.old scopes.now nodes.old.items
+        progress.new nodes.new.items)
+        (λ fault. IsFaulty input.entry.text.now input.entry.tokens.now used progress.old.ahead progress.old.top.depth
+        progress.old.own fault) }
     ensures within { OnOk result (progress.new.ahead.place ≤ length input.entry.tokens.now) }
     ensures sees { OnOk result (Sees input.entry.text.now input.entry.tokens.now scopes.now progress.new.ahead) }
 {
@@ -324,7 +332,9 @@ fn advance(
 /// Ends the innermost production, whose row has been read, and answers whether one that uses it goes on.
 fn close(progress: &mut Progress, nodes: &mut Vec<SyntaxNode>) -> Result<bool, OutOfMemory>
     ensures place { OnOk result (progress.new.ahead ≡ progress.old.ahead) }
-    ensures turns { IfOk result (λ goes. (text : List ℕ) (tokens : List leads.Token) (scopes : leads.Names) → item_of progress.old.top.production progress.old.top.at ≡ None
+    ensures turns { IfOk result
+        (λ goes. (text : List ℕ) (tokens : List leads.Token) (scopes : leads.Names)
+        → item_of progress.old.top.production progress.old.top.at ≡ None
         → IsTurned text tokens goes progress.old scopes nodes.old.items progress.new scopes nodes.new.items) }
 {
     let outer = progress.top.outer.take();
@@ -358,7 +368,8 @@ fn step(
     requires low { progress.old.top.at < 2 ^ 16 }
     requires stands { item_of progress.old.top.production progress.old.top.at ≡ Some item }
     ensures steps { MatchResult result
-        (λ done. IsTurned input.entry.text.now input.entry.tokens.now true progress.old scopes.old nodes.old.items progress.new scopes.new nodes.new.items)
+        (λ done. IsTurned input.entry.text.now input.entry.tokens.now true progress.old scopes.old nodes.old.items progress.new
+        scopes.new nodes.new.items)
         (λ fault. Faults (Leads input.entry.text.now input.entry.tokens.now progress.old scopes.old nodes.old.items) fault) }
     ensures within { OnOk result (progress.new.ahead.place ≤ length input.entry.tokens.now) }
     ensures sees { OnOk result (Sees input.entry.text.now input.entry.tokens.now scopes.new progress.new.ahead) }
@@ -417,7 +428,8 @@ fn turn(
     requires within { progress.old.ahead.place ≤ length input.tokens.now }
     requires sees { Sees input.text.now input.tokens.now scopes.old progress.old.ahead }
     ensures turns { MatchResult result
-        (λ goes. IsTurned input.entry.text.now input.entry.tokens.now goes progress.old scopes.old nodes.old.items progress.new scopes.new nodes.new.items)
+        (λ goes. IsTurned input.entry.text.now input.entry.tokens.now goes progress.old scopes.old nodes.old.items progress.new
+        scopes.new nodes.new.items)
         (λ fault. Faults (Leads input.entry.text.now input.entry.tokens.now progress.old scopes.old nodes.old.items) fault) }
     ensures within { OnOk result (progress.new.ahead.place ≤ length input.entry.tokens.now) }
     ensures sees { OnOk result (Sees input.entry.text.now input.entry.tokens.now scopes.new progress.new.ahead) }

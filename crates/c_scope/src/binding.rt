@@ -1,7 +1,8 @@
 //! What is known of names while the nodes are gone through.
 ghost use Rattle.c_scope.specs.Binding as spec;
 ghost use Rattle.c_scope.specs.Binding.{Turns, label_at};
-ghost use Rattle.c_scope.specs.Known.{after, after_declaration, after_goto, after_label, after_tag, after_use, first_scope, tag_declared, with_fault};
+ghost use Rattle.c_scope.specs.Known.{after, after_declaration, after_goto, after_label, after_tag, after_use};
+ghost use Rattle.c_scope.specs.Known.{first_scope, tag_declared, with_fault};
 ghost use Rattle.c_scope.specs.Known as known;
 ghost use Rattle.c_scope.specs.Places.{declared_at, found_of};
 ghost use Rattle.c_mentions.specs.Settings.{IsChain};
@@ -50,7 +51,8 @@ fn label_at(labels: &Labels, body: u32, symbol: u32) -> Option<u32>
 
 /// Puts the first label of a symbol in a body.
 fn put_label(labels: &mut Labels, body: u32, symbol: u32, node: u32) -> Result<(), OutOfMemory>
-    ensures { IfOk result (λ done. (other sign : ℕ) → spec.label_at labels.new other sign ≡ spec.label_put labels.old body symbol node other sign) }
+    ensures { IfOk result
+        (λ done. (other sign : ℕ) → spec.label_at labels.new other sign ≡ spec.label_put labels.old body symbol node other sign) }
 {
     labels.insert((body, symbol), node)?;
     Ok(())
@@ -58,7 +60,8 @@ fn put_label(labels: &mut Labels, body: u32, symbol: u32, node: u32) -> Result<(
 
 /// Notes a label unless its symbol has one in the body.
 fn note_new_label(labels: &mut Labels, body: u32, symbol: u32, node: u32) -> Result<(), OutOfMemory>
-    ensures { IfOk result (λ done. (other sign : ℕ) → spec.label_at labels.new other sign ≡ spec.label_more labels.old body symbol node other sign) }
+    ensures { IfOk result
+        (λ done. (other sign : ℕ) → spec.label_at labels.new other sign ≡ spec.label_more labels.old body symbol node other sign) }
 {
     match label_at(labels, body, symbol) {
         Some(_) => Ok(()),
@@ -73,7 +76,9 @@ pub(crate) fn note_label(
     node: u32,
     mention: Mention,
 ) -> Result<(), OutOfMemory>
-    ensures { IfOk result (λ done. (other sign : ℕ) → spec.label_at labels.new other sign ≡ spec.label_after labels.old body node mention other sign) }
+    ensures { IfOk result
+        (λ done. (other sign : ℕ)
+        → spec.label_at labels.new other sign ≡ spec.label_after labels.old body node mention other sign) }
 {
     match mention {
         Mention::Label { symbol } => note_new_label(labels, body, symbol, node),
@@ -167,7 +172,8 @@ fn note_function(
     node: u32,
     is_function: bool,
 ) -> Result<(), OutOfMemory>
-    ensures { OnOk result ((list : List ℕ) → spec.HasAll functions.old list → spec.HasAll functions.new (spec.with_function node is_function list)) }
+    ensures { OnOk result
+        ((list : List ℕ) → spec.HasAll functions.old list → spec.HasAll functions.new (spec.with_function node is_function list)) }
 {
     if is_function {
         functions.insert(node)?;
@@ -241,7 +247,9 @@ fn take_tag_reference(
     scope: u32,
     found: Option<Found>,
 ) -> Result<(), OutOfMemory>
-    ensures { IfOk result (λ done. (d : Option Declared) → found ≡ found_of d → Turns binder.old binder.new (known.after_tag_reference node (tag_declared node symbol scope) d)) }
+    ensures { IfOk result
+        (λ done. (d : Option Declared) → found ≡ found_of d
+        → Turns binder.old binder.new (known.after_tag_reference node (tag_declared node symbol scope) d)) }
 {
     match found {
         None => declare_tag(binder, node, symbol, scope),
@@ -257,7 +265,9 @@ fn take_tag(
     symbol: u32,
     how: TagUse,
 ) -> Result<(), OutOfMemory>
-    ensures { IfOk result (λ done. (chain : List ℕ) → IsChain around.entry.scopes.now around.entry.place chain → Turns binder.old binder.new (after_tag around.entry.file node symbol chain how)) }
+    ensures { IfOk result
+        (λ done. (chain : List ℕ) → IsChain around.entry.scopes.now around.entry.place chain
+        → Turns binder.old binder.new (after_tag around.entry.file node symbol chain how)) }
 {
     match how {
         TagUse::Declares => declare_tag(binder, node, symbol, scope_number(around)),
@@ -324,7 +334,9 @@ fn take_name(
     derivation: Derivation,
     type_name: Option<u32>,
 ) -> Result<(), OutOfMemory>
-    ensures { IfOk result (λ done. (chain : List ℕ) → IsChain around.entry.scopes.now around.entry.place chain → Turns binder.old binder.new (known.after_name around.entry.file leaf symbol linkage derivation type_name chain)) }
+    ensures { IfOk result
+        (λ done. (chain : List ℕ) → IsChain around.entry.scopes.now around.entry.place chain
+        → Turns binder.old binder.new (known.after_name around.entry.file leaf symbol linkage derivation type_name chain)) }
 {
     let scope = scope_number(around);
     let is_function = declares_function(&binder.functions, derivation, type_name);

@@ -97,7 +97,9 @@ fn entry_at(places: &Places, scope: u32, symbol: u32) -> Option<Entry>
 
 /// Puts the declarations of a symbol in a scope.
 fn put(places: &mut Places, scope: u32, symbol: u32, entry: Entry) -> Result<(), OutOfMemory>
-    ensures { IfOk result (λ done. (other sign : ℕ) → spec.entry_at places.new other sign ≡ spec.entry_after places.old scope symbol entry other sign) }
+    ensures { IfOk result
+        (λ done. (other sign : ℕ)
+        → spec.entry_at places.new other sign ≡ spec.entry_after places.old scope symbol entry other sign) }
 {
     places.insert((scope, symbol), entry)?;
     Ok(())
@@ -123,8 +125,10 @@ pub(crate) fn declare(
     symbol: u32,
     entry: Entry,
 ) -> Result<bool, OutOfMemory>
-    ensures says { IfOk result (λ clash. (ds : List Declared) → Says places.old ds → Says places.new (ds ++ spec.declared_at scope symbol entry ∷ [])) }
-    ensures clash { IfOk result (λ clash. (ds : List Declared) → Says places.old ds → clash ≡ list_any (clashes entry.kind) (those_at scope symbol ds)) }
+    ensures says { IfOk result
+        (λ clash. (ds : List Declared) → Says places.old ds → Says places.new (ds ++ spec.declared_at scope symbol entry ∷ [])) }
+    ensures clash { IfOk result
+        (λ clash. (ds : List Declared) → Says places.old ds → clash ≡ list_any (clashes entry.kind) (those_at scope symbol ds)) }
 {
     let before = entry_at(places, scope, symbol);
     put(places, scope, symbol, joined(before, entry))?;
@@ -150,7 +154,10 @@ pub(crate) fn scope_at(scopes: &[Scope], place: u32) -> Option<Scope>
 
 /// The innermost declaration of a symbol, from a scope outwards.
 pub(crate) fn meaning(places: &Places, scopes: &[Scope], scope: u32, symbol: u32) -> Option<Found>
-    ensures { (chain : List ℕ) (ds : List Declared) → IsChain scopes.now scope chain → Says places.now ds → result ≡ found_of (innermost chain symbol ds) }
+    ensures { (chain : List ℕ) (ds : List Declared)
+        → IsChain scopes.now scope chain
+        → Says places.now ds
+        → result ≡ found_of (innermost chain symbol ds) }
 {
     let mut place = scope;
     while let Some(here) = scope_at(scopes, place) {

@@ -50,7 +50,9 @@ pub(crate) struct Unit<'a> {
 
 /// What a node of a unit does to names.
 fn mention_of(unit: Unit, node: u32, setting: Setting) -> Mention
-    ensures { result ≡ mentions.mention_at unit.entry.text.now unit.entry.tokens.now (symbol_at unit.entry.symbols.now) (nodes_of unit.entry.nodes.now) node (nat_lt setting.body unit.entry.file) setting.role }
+    ensures { result
+        ≡ mentions.mention_at unit.entry.text.now unit.entry.tokens.now (symbol_at unit.entry.symbols.now)
+        (nodes_of unit.entry.nodes.now) node (nat_lt setting.body unit.entry.file) setting.role }
 {
     let in_body = setting.body < unit.file;
     mention_at(
@@ -66,7 +68,9 @@ fn mention_of(unit: Unit, node: u32, setting: Setting) -> Mention
 
 /// What a node of a unit does to labels, as far as they ask for it: only what stands in a statement can be one.
 fn label_mention(unit: Unit, node: u32, setting: Setting) -> Mention
-    ensures { LeaveSameLabels node result (mentions.mention_at unit.entry.text.now unit.entry.tokens.now (symbol_at unit.entry.symbols.now) (nodes_of unit.entry.nodes.now) node (nat_lt setting.body unit.entry.file) setting.role) }
+    ensures { LeaveSameLabels node result
+        (mentions.mention_at unit.entry.text.now unit.entry.tokens.now (symbol_at unit.entry.symbols.now)
+        (nodes_of unit.entry.nodes.now) node (nat_lt setting.body unit.entry.file) setting.role) }
 {
     match setting.role {
         Role::Statement { .. } => mention_of(unit, node, setting),
@@ -88,7 +92,9 @@ fn note_node(labels: &mut Labels, unit: Unit, node: u32) -> Result<(), OutOfMemo
 /// The first label of each symbol in the body of each function, by the nodes that may do something to names.
 fn find_labels(alloc: Global, unit: Unit, speaking: &[u32]) -> Result<Labels, OutOfMemory>
     requires { Speak unit speaking.now }
-    ensures { IfOk result (λ labels. (all : List Happening) → AreHappenings unit.entry all → (body symbol : ℕ) → label_at labels body symbol ≡ first_label 0 all body symbol) }
+    ensures { IfOk result
+        (λ labels. (all : List Happening) → AreHappenings unit.entry all → (body symbol : ℕ)
+        → label_at labels body symbol ≡ first_label 0 all body symbol) }
 {
     let mut labels = BTreeMap::new(alloc);
     for node in speaking {
@@ -100,7 +106,9 @@ fn find_labels(alloc: Global, unit: Unit, speaking: &[u32]) -> Result<Labels, Ou
 /// What is known of names behind a node of a unit.
 fn take_node(binder: &mut Binder, labels: &Labels, unit: Unit, node: u32) -> Result<(), OutOfMemory>
     requires { node < length unit.settings.now }
-    ensures { IfOk result (λ done. (all : List Happening) → AreHappenings unit.entry all → Turns binder.old binder.new (known_with unit.entry.file (label_at labels.now) all node)) }
+    ensures { IfOk result
+        (λ done. (all : List Happening) → AreHappenings unit.entry all
+        → Turns binder.old binder.new (known_with unit.entry.file (label_at labels.now) all node)) }
 {
     let setting = unit.settings.at(node as usize);
     let mention = mention_of(unit, node, setting);
@@ -120,7 +128,9 @@ fn bind_all(
     speaking: &[u32],
 ) -> Result<Binder, OutOfMemory>
     requires { Speak unit speaking.now }
-    ensures { IfOk result (λ binder. (all : List Happening) → AreHappenings unit.entry all → Holds binder (known unit.entry.file (label_at labels.now) 0 nothing_known all)) }
+    ensures { IfOk result
+        (λ binder. (all : List Happening) → AreHappenings unit.entry all
+        → Holds binder (known unit.entry.file (label_at labels.now) 0 nothing_known all)) }
 {
     let mut binder = Binder {
         names: BTreeMap::new(alloc),

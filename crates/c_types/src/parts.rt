@@ -1,6 +1,7 @@
 // Members and nodes of a type.
 
-ghost use Rattle.std.specs.Prelude.{◌≡◌, ℕ, ◌-◌, ◌<◌, ◌≤◌, if◌then◌else◌, [], None, Some, IsTrue, List, Option, MatchOption, All, length, slice_get, slice_index};
+ghost use Rattle.std.specs.Prelude.{◌≡◌, ℕ, ◌-◌, ◌<◌, ◌≤◌, if◌then◌else◌, [], None, Some, IsTrue, List, Option};
+ghost use Rattle.std.specs.Prelude.{MatchOption, All, length, slice_get, slice_index};
 ghost use Rattle.std.specs.List.Sorted.{IsNonDecreasingBy};
 ghost use Rattle.c_types.specs.Trees.{Ctype, grow, tree_at, grown};
 ghost use Rattle.c_types.specs.Table.{extent_in, members_in, node_of};

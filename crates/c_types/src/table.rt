@@ -1,8 +1,11 @@
 // The table of a unit's types.
 
-ghost use Rattle.std.specs.Prelude.{◌≡◌, ℕ, ◌+◌, ◌-◌, ◌*◌, ◌^◌, ◌<◌, ◌≤◌, ◌↔◌, ◌⊎◌, ◌++◌, ◌∷◌, [], None, Some, IsTrue, IfOk, IfSome, IfNone, List, Option, OnErr, OnOk, MatchResult, MatchOption, All, length, map, slice_get, slice_index};
+ghost use Rattle.std.specs.Prelude.{◌≡◌, ℕ, ◌+◌, ◌-◌, ◌*◌, ◌^◌, ◌<◌, ◌≤◌, ◌↔◌, ◌⊎◌, ◌++◌, ◌∷◌, [], None, Some, IsTrue};
+ghost use Rattle.std.specs.Prelude.{IfOk, IfSome, IfNone, List, Option, OnErr, OnOk, MatchResult, MatchOption, All};
+ghost use Rattle.std.specs.Prelude.{length, map, slice_get, slice_index};
 ghost use Rattle.std.specs.Option.{option_map};
-ghost use Rattle.c_types.specs.Table.{types_of, type_of, IsAfter, HasTag, NotArray, IsFirstOf, IsNowhere, look_in, extent_in, align_within, size_below, nodes_within, node_of, extents_in, members_in};
+ghost use Rattle.c_types.specs.Table.{types_of, type_of, IsAfter, HasTag, NotArray, IsFirstOf, IsNowhere, look_in};
+ghost use Rattle.c_types.specs.Table.{extent_in, align_within, size_below, nodes_within, node_of, extents_in, members_in};
 ghost use Rattle.c_types.specs.Made.{AreNamed, IsFresh, IsMade, IsSized, KeepsApart, StandsAsStructure, StandsAsUnion, AreMembers};
 ghost use Rattle.c_types.specs.Parts.{class_of_type, head_type, first_member_of, field_in, within_32};
 ghost use Rattle.c_types.specs.declared.table.Entry.{Entry};
@@ -12,7 +15,8 @@ ghost use Rattle.c_types.specs.Layout.{Extent, extent_of, element_extent, member
 ghost use Rattle.c_types.specs.Bounds.{cap, bounds, bounds_or, bounds_times};
 ghost use Rattle.c_types.specs.Index.{number_at};
 ghost use Rattle.c_types.specs.Keys.{firsts_of, key_of, form_number, length_key, sign_number, IsIndex};
-ghost use Rattle.c_types.specs.Inside.{AreEntries, IsEntry, IsNext, AreRight, table_of, terms_of, element_of, count_of, capped, times, starts};
+ghost use Rattle.c_types.specs.Inside.{AreEntries, IsEntry, IsNext, AreRight, table_of, terms_of, element_of, count_of};
+ghost use Rattle.c_types.specs.Inside.{capped, times, starts};
 
 use crate::index::KeyIndex;
 use crate::layout::{Bounds, above, beside, capped_sum, padded};

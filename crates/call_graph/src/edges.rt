@@ -43,7 +43,9 @@ fn add_all_to(
 ) -> Result<(), OutOfMemory>
     requires valid { IsValid system.now }
     requires held { (location : ℕ) → Contains held.now location → IsLocation system.now location }
-    ensures { OnOk result (Gains edges.old.items edges.new.items (λ a b. (location : ℕ) × Contains held.now location × IsTo system.now signature caller location a b)) }
+    ensures { OnOk result
+        (Gains edges.old.items edges.new.items
+        (λ a b. (location : ℕ) × Contains held.now location × IsTo system.now signature caller location a b)) }
 {
     for i in 0..held.len() {
         add_to(system, signature, caller, held[i], edges)?;
@@ -169,7 +171,9 @@ fn add_backs(
     requires fits { Fits system.now rows.now }
     requires call { IsCallValid system.now call.now }
     requires held { (location : ℕ) → Contains held.now location ↔ Has (members rows.now) call.now.callee location }
-    ensures { OnOk result (Gains edges.old.items edges.new.items (λ a b. (target : ℕ) × IsBackEdge system.now (members rows.now) call.now target a b)) }
+    ensures { OnOk result
+        (Gains edges.old.items edges.new.items
+        (λ a b. (target : ℕ) × IsBackEdge system.now (members rows.now) call.now target a b)) }
 {
     for i in 0..held.len() {
         add_backs_at(alloc, system, rows, call, held[i], edges)?;

@@ -13,7 +13,8 @@ pub(crate) fn reaches(system: &System, rows: &Rows, call: &CallSite, function: &
     requires fits { Fits system.now rows.now }
     requires call { IsCallValid system.now call.now }
     requires function { IsFunctionValid system.now function.now }
-    ensures { IsTrue result ↔ (Has (members rows.now) call.now.callee function.now.location × (function.now.signature ≡ call.now.signature)) }
+    ensures { IsTrue result
+        ↔ (Has (members rows.now) call.now.callee function.now.location × (function.now.signature ≡ call.now.signature)) }
 {
     function.signature == call.signature && rows.has(call.callee, function.location)
 }

@@ -234,7 +234,8 @@ fn command_of<'a>(alloc: Global, matches: &ArgMatches<'a>) -> Result<Command<'a>
 /// `--workers`, `--ask`, `--desk`, `--json`, `--gen`, `--run`, `--effects`, `--stops` or `--entry`, one that stands twice or lacks its
 /// value, a value for `--desk`, `--json`, `--effects` or `--stops`, more than one of `--ask`, `--json`, `--gen`, `--run`, `--effects` and
 /// `--stops`, `--desk` without `--ask`, a number that isn't 1 to 10 digits or is out of 1 to 64, or behind `--gen` out of 1 to 1000, or
-/// behind `--run` over 1,000,000, `--entry` beside `--gen`, `--effects` or `--stops`, behind `--entry` more than 64 names with single commas
+/// behind `--run` over 1,000,000, `--entry` beside `--gen`, `--effects` or `--stops`, behind `--entry` more than 64 names with single
+/// commas
 /// between them, one that isn't the spelling of a C identifier, or one twice, a unit beside `--gen`, no unit or more than 256 without it, a
 /// name of a unit or of a script that isn't 1 to 255 bytes out of letters, digits, `.`, `_`, `-` and `/` or begins with `-`, and a unit
 /// twice. A script may have the name of a unit, and an entry that of a keyword. Any words may meet want of memory.

@@ -2,7 +2,10 @@
 
 ghost use Rattle.std.specs.Prelude.{◌≡◌, ℕ, ◌<◌, ◌↔◌, IsTrue, IfSome, All, length};
 ghost use Rattle.core_tree.specs.Seen.{core_of};
-ghost use Rattle.core_tree.specs.Valid.{InRange, ChildOnce, IsLocal, UnderBody, InBody, IsAround, InSomeBody, InOwnersBody, IsInOwner, InOwnerIn, entity_at, IsLoop, IsSwitch, Encloses, Within, MayStand, Under, named_by, IsLabel, IsLabelOf, OnlyLabel, LabelOnce, ReturnsRight, FitsBody, FitsFunction, FitsFunctions};
+ghost use Rattle.core_tree.specs.Valid.{InRange, ChildOnce, IsLocal, UnderBody, InBody, IsAround, InSomeBody};
+ghost use Rattle.core_tree.specs.Valid.{InOwnersBody, IsInOwner, InOwnerIn, entity_at, IsLoop, IsSwitch, Encloses, Within};
+ghost use Rattle.core_tree.specs.Valid.{MayStand, Under, named_by, IsLabel, IsLabelOf, OnlyLabel, LabelOnce, ReturnsRight};
+ghost use Rattle.core_tree.specs.Valid.{FitsBody, FitsFunction, FitsFunctions};
 
 use core_tree::node::{Entity, Node, NodeKind, Storage};
 use core_tree::trees::Trees;

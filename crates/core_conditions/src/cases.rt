@@ -2,7 +2,8 @@
 
 ghost use Rattle.std.specs.Prelude.{◌≡◌, ℕ, ◌↔◌, IsTrue};
 ghost use Rattle.core_tree.specs.Seen.{core_of};
-ghost use Rattle.core_tree.specs.Valid.{InRange, ChildOnce, IsInnermost, Innermost, IsCaseOf, DiffersIn, DiffersInAll, IsCase, OnlyCase, CaseDiffers};
+ghost use Rattle.core_tree.specs.Valid.{InRange, ChildOnce, IsInnermost, Innermost, IsCaseOf, DiffersIn, DiffersInAll};
+ghost use Rattle.core_tree.specs.Valid.{IsCase, OnlyCase, CaseDiffers};
 
 use core_tree::node::NodeKind;
 use core_tree::trees::Trees;

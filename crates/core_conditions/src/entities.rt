@@ -2,7 +2,11 @@
 
 ghost use Rattle.std.specs.Prelude.{◌≡◌, ℕ, ◌<◌, ◌↔◌, Option, Some, IsTrue, IfSome, All, length};
 ghost use Rattle.core_tree.specs.Seen.{core_of};
-ghost use Rattle.core_tree.specs.Valid.{InRange, ChildOnce, Has, IsOwned, OnlyBody, HasBody, IsFunctionBody, IsObjectBody, IsLasting, IsLiteralOf, OnlyLiteral, IsLiteral, NoLiteral, IsNamedOrMade, NamesUnder, IsLister, HasLister, Listed, IsListed, IsListable, listed_by, entity_at, named_by, Under, EachNode, IsUseOf, IsUseAt, UsedAt, UsedFrom, PlaceAtMost, IsUsed};
+ghost use Rattle.core_tree.specs.Valid.{InRange, ChildOnce, Has, IsOwned, OnlyBody, HasBody, IsFunctionBody, IsObjectBody};
+ghost use Rattle.core_tree.specs.Valid.{IsLasting, IsLiteralOf, OnlyLiteral, IsLiteral, NoLiteral, IsNamedOrMade};
+ghost use Rattle.core_tree.specs.Valid.{NamesUnder, IsLister, HasLister, Listed, IsListed, IsListable, listed_by};
+ghost use Rattle.core_tree.specs.Valid.{entity_at, named_by, Under, EachNode, IsUseOf, IsUseAt, UsedAt, UsedFrom};
+ghost use Rattle.core_tree.specs.Valid.{PlaceAtMost, IsUsed};
 
 use crate::bodies::{in_body, in_owners_body, is_local};
 use core_tree::kinds::initialises;

@@ -6,3 +6,4 @@ pub mod fetched_nodes
 pub mod standing_laws
 pub mod marked_trees
 pub mod passed
+pub mod count_laws

@@ -5,7 +5,9 @@ ghost use Rattle.c_types.specs.Table.{type_of};
 ghost use Rattle.c_types.specs.Paths.{type_at_path};
 ghost use Rattle.core_tree.specs.Seen.{core_of};
 ghost use Rattle.core_tree.specs.Typed.{sort_at, type_at, ValueNode};
-ghost use Rattle.core_tree.specs.Rows.{ExpressionRow, BlockRow, IfRow, WhileRow, DoWhileRow, ForRow, ForAfter, ForCondition, ForFirst, SwitchRow, LabelledRow, ReturnRow, InitialValues, IsFirstStatement, IsOneExpression};
+ghost use Rattle.core_tree.specs.Rows.{ExpressionRow, BlockRow, IfRow, WhileRow, DoWhileRow, ForRow, ForAfter};
+ghost use Rattle.core_tree.specs.Rows.{ForCondition, ForFirst, SwitchRow, LabelledRow, ReturnRow, InitialValues};
+ghost use Rattle.core_tree.specs.Rows.{IsFirstStatement, IsOneExpression};
 ghost use Rattle.core_tree.specs.Range.{InRange};
 
 use crate::kinds::{is_any_value, is_condition, is_numeral, is_statement, is_value_kind};

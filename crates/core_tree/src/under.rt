@@ -2,7 +2,8 @@
 
 ghost use Rattle.std.specs.Prelude.{◌≡◌, ◌≢◌, ℕ, ◌<◌, ◌↔◌, Some, None, IsTrue, IfSome, IsNone, length, slice_get};
 ghost use Rattle.core_tree.specs.Seen.{core_of};
-ghost use Rattle.core_tree.specs.Range.{InRange, ChildOnce, IsChild, Under, Has, OncePlaced, OnlyHolder, HoldsOnce, OnceHeld, listed_by, listed_in};
+ghost use Rattle.core_tree.specs.Range.{InRange, ChildOnce, IsChild, Under, Has, OncePlaced, OnlyHolder, HoldsOnce};
+ghost use Rattle.core_tree.specs.Range.{OnceHeld, listed_by, listed_in};
 ghost use Rattle.core_tree.specs.Groups.{group_of};
 
 use crate::node::{Node, NodeKind};

@@ -3,7 +3,9 @@
 ghost use Rattle.std.specs.Prelude.{◌≡◌, ℕ, ◌<◌, ◌↔◌, IsTrue, All, length};
 ghost use Rattle.c_types.specs.Table.{type_of};
 ghost use Rattle.core_tree.specs.Seen.{core_of};
-ghost use Rattle.core_tree.specs.Rows.{NumberRow, NullRow, FetchRow, AddressRow, DecayRow, PointerAddRow, ConvertRow, UpcastRow, AssignRow, UpdateRow, ChooseRow, SequenceRow, MemberOfValueRow, ArithRow, IsOverTwo, VarArgsRow, NextArgRow};
+ghost use Rattle.core_tree.specs.Rows.{NumberRow, NullRow, FetchRow, AddressRow, DecayRow, PointerAddRow, ConvertRow};
+ghost use Rattle.core_tree.specs.Rows.{UpcastRow, AssignRow, UpdateRow, ChooseRow, SequenceRow, MemberOfValueRow};
+ghost use Rattle.core_tree.specs.Rows.{ArithRow, IsOverTwo, VarArgsRow, NextArgRow};
 ghost use Rattle.core_tree.specs.Range.{InRange};
 
 use crate::kinds::{

@@ -4,7 +4,8 @@ ghost use Rattle.std.specs.Prelude.{◌≡◌, ℕ, ◌<◌, ◌↔◌, List, Is
 ghost use Rattle.c_types.specs.Table.{type_of};
 ghost use Rattle.core_tree.specs.Seen.{core_of};
 ghost use Rattle.core_tree.specs.Range.{EachNode, EachEntity, InRange, entity_at, named_by};
-ghost use Rattle.core_tree.specs.Linkages.{HasNoLinkage, MakesUnlinked, IsOfDeclared, DeclaresAs, IsDeclaredAs, IsUseIn, UsesDeclared, NodeLinkage, EntityLinkage, Linkages};
+ghost use Rattle.core_tree.specs.Linkages.{HasNoLinkage, MakesUnlinked, IsOfDeclared, DeclaresAs, IsDeclaredAs, IsUseIn};
+ghost use Rattle.core_tree.specs.Linkages.{UsesDeclared, NodeLinkage, EntityLinkage, Linkages};
 
 use c_types::table::TypeTable;
 use c_types::term::{Term, TypeId};

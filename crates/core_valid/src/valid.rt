@@ -7,7 +7,8 @@ ghost use Rattle.core_tree.specs.Range.{EachNode, EachEntity, node_at, entity_at
 ghost use Rattle.core_tree.specs.Groups.{group_of};
 ghost use Rattle.core_tree.specs.declared.under.Group.TheVariants.{Children};
 ghost use Rattle.core_tree.specs.Valid.{ValueSized, EntitySized, ResultSized, Sized};
-ghost use Rattle.core_valid.specs.Each.{NodeInRange, EntityInRange, NodeStands, NodeHolds, NodeRightIn, EntityRight, EntityRightIn, NodesRight, EntitiesRight, Checked};
+ghost use Rattle.core_valid.specs.Each.{NodeInRange, EntityInRange, NodeStands, NodeHolds, NodeRightIn, EntityRight};
+ghost use Rattle.core_valid.specs.Each.{EntityRightIn, NodesRight, EntitiesRight, Checked};
 
 use core_conditions::bodies::{fits_functions, is_in_owner, may_stand};
 use core_conditions::cases::case_differs;

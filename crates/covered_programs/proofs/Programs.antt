@@ -23,16 +23,16 @@ use Rattle.linked_laws.specs.link_laws.Whole.{DefinesMain}
 use Rattle.linked_laws.specs.merged_laws.Merged.{AreSizes, TagsFit}
 use Rattle.linked_laws.proofs.merged_laws.Fitting.{tags_fit}
 use Rattle.linked_laws.proofs.link_laws.Wholeness.{named_once, defines_main}
-use Rattle.library_names.proofs.Naming.{functions_defined}
+use Rattle.covered_programs.proofs.library_names.Naming.{functions_defined}
 use Rattle.ref_state.specs.ref_types.Types.{id}
 use Rattle.covered_steps.specs.Placed.{NamesDefined}
-use Rattle.covered_start.specs.Objects.{terms_behind}
-use Rattle.covered_start.specs.Start.{machine_world, StartsRight}
-use Rattle.covered_start.proofs.Types.{library_follow, character_type}
-use Rattle.covered_start.proofs.Mains.{IsStarting, starting}
-use Rattle.served_worlds.specs.Stored.{AreStored}
-use Rattle.served_worlds.proofs.Serving.{worlds_served}
-use Rattle.served_worlds.proofs.Stored.{functions_stored}
+use Rattle.machine_sound.specs.covered_start.Objects.{terms_behind}
+use Rattle.machine_sound.specs.covered_start.Start.{machine_world, StartsRight}
+use Rattle.machine_sound.proofs.covered_start.Types.{library_follow, character_type}
+use Rattle.machine_sound.proofs.covered_start.Mains.{IsStarting, starting}
+use Rattle.covered_programs.specs.served_worlds.Stored.{AreStored}
+use Rattle.covered_programs.proofs.served_worlds.Serving.{worlds_served}
+use Rattle.covered_programs.proofs.served_worlds.Stored.{functions_stored}
 use Rattle.machine_sound.specs.Scenes.{IsScene}
 use Rattle.machine_sound.proofs.Scenes.{every_run_is_covered}
 use Rattle.covered_programs.specs.Programs.{IsAnalysed, ProgramsCovered}

@@ -17,9 +17,9 @@ use Rattle.obj_space.specs.View.{view_of}
 use Rattle.normal_form.specs.SystemOf.{SystemOf}
 use Rattle.ref_machine.specs.Run.{run}
 use Rattle.covering_laws.specs.covered_state.State.{Covered}
-use Rattle.covered_start.specs.Objects.{IsSolved}
-use Rattle.covered_start.specs.Start.{machine_world}
-use Rattle.served_worlds.specs.Stored.{StoreFunctions}
+use Rattle.machine_sound.specs.covered_start.Objects.{IsSolved}
+use Rattle.machine_sound.specs.covered_start.Start.{machine_world}
+use Rattle.covered_programs.specs.served_worlds.Stored.{StoreFunctions}
 
 -- units that are read, the program that is linked from them, its system, and the least sets of that
 pub record IsAnalysed (units : List Unit) (p : Program) (system : System) (family : Family) : Type 0 where

@@ -11,13 +11,13 @@ use Rattle.command_line.specs.Distinct.{AreDistinct}
 use Rattle.link_model.specs.filled_units.Filled.{IsFilled, AreFilled}
 use Rattle.linked_laws.specs.merged_laws.Merged.{AreTables}
 use Rattle.parsed_tree_laws.proofs.placed_laws.Whole.{units_filled}
-use Rattle.object_size_laws.specs.function_storage.Stored.{StoresFunctions}
-use Rattle.object_size_laws.proofs.function_storage.Whole.{functions_stored}
+use Rattle.covered_programs.specs.passed.valid_unit_laws.object_size_laws.function_storage.Stored.{StoresFunctions}
+use Rattle.covered_programs.proofs.passed.valid_unit_laws.object_size_laws.function_storage.Whole.{functions_stored}
 use Rattle.unit_report.proofs.unit_system.Numbering.{right_numbered}
 use Rattle.text_units.specs.Answers.{NamedText}
 use Rattle.text_units.specs.Lowered.{IsRightText, AreRightTexts}
 use Rattle.text_units.proofs.Lowering.{cut_tokens}
-use Rattle.served_worlds.specs.Stored.{StoreFunctions}
+use Rattle.covered_programs.specs.served_worlds.Stored.{StoreFunctions}
 
 some_one : {X : Type 0} → {x y : X} → ◌≡◌ {A = Option X} (Some x) (Some y) → x ≡ y
 some_one h = cc

@@ -12,8 +12,8 @@ use Rattle.text_units.specs.Answers.{NamedText}
 use Rattle.text_units.specs.Lowered.{AreRightTexts}
 use Rattle.ref_machine.specs.Run.{run}
 use Rattle.covering_laws.specs.covered_state.State.{Covered}
-use Rattle.covered_start.specs.Objects.{IsSolved}
-use Rattle.covered_start.specs.Start.{machine_world}
+use Rattle.covered_programs.specs.passed.machine_sound.covered_start.Objects.{IsSolved}
+use Rattle.covered_programs.specs.passed.machine_sound.covered_start.Start.{machine_world}
 
 -- sets solve a program's system, and cover each state of each run of the program, whatever the words and however many
 -- steps

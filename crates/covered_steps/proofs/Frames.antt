@@ -19,9 +19,9 @@ use Rattle.covering_laws.specs.covered_state.Items.{Each}
 use Rattle.covering_laws.specs.covered_state.Awaited.{IsBare}
 use Rattle.covering_laws.specs.covered_state.State.{FrameIn, Covered}
 use Rattle.covering_laws.proofs.covered_state.Stays.{node_stays, frames_stay, handed_stay, settled_in}
-use Rattle.covered_values.specs.Values.{GoesBack}
-use Rattle.covered_values.proofs.Awaited.{top_one}
-use Rattle.covered_values.proofs.Operands.{same_back, set_back}
+use Rattle.covered_steps.specs.covered_values.Values.{GoesBack}
+use Rattle.covered_steps.proofs.covered_values.Awaited.{top_one}
+use Rattle.covered_steps.proofs.covered_values.Operands.{same_back, set_back}
 use Rattle.covered_steps.specs.Made.{HasPlace}
 use Rattle.covered_steps.specs.Steps.{NoneBare}
 use Rattle.covered_steps.specs.Frames.{BlocksLeft, BlocksEntered, StepsEntered, StepsLeft}

@@ -17,10 +17,10 @@ use Rattle.covering_laws.specs.covered_state.World.{World, trees_of, sets_of}
 use Rattle.covering_laws.specs.covered_state.Items.{Each, NodeIn, IsOwned, ItemIn}
 use Rattle.covering_laws.specs.covered_state.State.{FrameIn, NotesIn, Covered}
 use Rattle.covering_laws.proofs.covered_state.Stays.{each_append, items_stay, frames_stay, handed_stay, settled_in}
-use Rattle.covered_values.specs.Values.{MayType, IsComputed}
-use Rattle.covered_values.proofs.Awaited.{top_one, types_awaited}
-use Rattle.covered_values.proofs.Bare.{nothing_bare}
-use Rattle.covered_values.proofs.Computed.{values_covered}
+use Rattle.covered_steps.specs.covered_values.Values.{MayType, IsComputed}
+use Rattle.covered_steps.proofs.covered_values.Awaited.{top_one, types_awaited}
+use Rattle.covered_steps.proofs.covered_values.Bare.{nothing_bare}
+use Rattle.covered_steps.proofs.covered_values.Computed.{values_covered}
 use Rattle.covered_steps.specs.Steps.{moved, NoneBare, StepsMoved, StepsComputed}
 use Rattle.covered_steps.proofs.Placed.{none_some, some_one}
 

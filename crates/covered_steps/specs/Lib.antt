@@ -3,3 +3,7 @@ pub mod Owned
 pub mod Made
 pub mod Steps
 pub mod Frames
+pub mod covered_values
+pub mod covered_calls
+pub mod covered_statements
+pub mod covered_effects

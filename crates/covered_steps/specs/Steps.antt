@@ -16,8 +16,8 @@ use Rattle.covering_laws.specs.covered_state.World.{World, trees_of, sets_of}
 use Rattle.covering_laws.specs.covered_state.Items.{Each, ItemIn}
 use Rattle.covering_laws.specs.covered_state.Awaited.{IsBare}
 use Rattle.covering_laws.specs.covered_state.State.{NotesIn, Covered}
-use Rattle.covered_values.specs.Values.{Stands}
-use Rattle.covered_values.specs.Passed.{AreTypedAbove}
+use Rattle.covered_steps.specs.covered_values.Values.{Stands}
+use Rattle.covered_steps.specs.covered_values.Passed.{AreTypedAbove}
 
 -- the state with another memory, and other items and instances of the top frame
 abbrev pub moved : State → Frame → List Frame → List Instance → List ℕ → List Item → Notes → State

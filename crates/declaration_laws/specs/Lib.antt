@@ -4,3 +4,4 @@ pub mod joined_types
 pub mod whole_types
 pub mod agreed_types
 pub mod passed
+pub mod function_laws

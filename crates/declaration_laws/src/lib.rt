@@ -1,7 +1,9 @@
-//! In what order names are declared; labels; the types that declarations give together.
+//! In what order names are declared; labels; the types that declarations give together; what functions are defined and how they return
+//! (`function_laws`).
 #![tactic(auto)]
 
 pub mod agreed_types;
+pub mod function_laws;
 pub mod joined_types;
 pub mod label_names;
 pub mod name_order;

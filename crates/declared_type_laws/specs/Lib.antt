@@ -14,3 +14,4 @@ pub mod right_nodes
 pub mod owned_locals
 pub mod named_rest
 pub mod passed
+pub mod owner_laws

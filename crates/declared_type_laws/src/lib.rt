@@ -1,4 +1,4 @@
-//! Types and meanings of declared names.
+//! What owns locals and what stands and runs in bodies (`owner_laws`); types and meanings of declared names.
 #![tactic(auto)]
 
 pub mod agreed_internals;
@@ -12,6 +12,7 @@ pub mod linked_scopes;
 pub mod named_rest;
 pub mod object_types;
 pub mod owned_locals;
+pub mod owner_laws;
 pub mod plain_names;
 pub mod right_nodes;
 pub mod seen_onward;

@@ -9,10 +9,10 @@ use Rattle.c_senses.specs.Sense.{Sense, sense_in}
 use Rattle.c_senses.specs.Entities.{declaration_of}
 use Rattle.c_senses.specs.Right.{stands_in_declaration, is_defined_parameter}
 use Rattle.c_senses.specs.Rows.{world_at}
-use Rattle.count_laws.specs.passed.parsed_tree_laws.member_names.PassedOn.{Families}
-use Rattle.count_laws.proofs.passed.parsed_tree_laws.member_names.PassedOn.{units_families}
-use Rattle.count_laws.specs.passed.parsed_tree_laws.member_names.Differ.{InOrder}
-use Rattle.count_laws.proofs.passed.parsed_tree_laws.member_names.Order.{units_in_order}
+use Rattle.core_node_laws.specs.count_laws.passed.parsed_tree_laws.member_names.PassedOn.{Families}
+use Rattle.core_node_laws.proofs.count_laws.passed.parsed_tree_laws.member_names.PassedOn.{units_families}
+use Rattle.core_node_laws.specs.count_laws.passed.parsed_tree_laws.member_names.Differ.{InOrder}
+use Rattle.core_node_laws.proofs.count_laws.passed.parsed_tree_laws.member_names.Order.{units_in_order}
 use Rattle.definition_laws.specs.Definitions.{is_definition, InDefinition, itself, below, HasDefinition, LocalsAreDefined}
 use Rattle.definition_laws.proofs.Reading.{block_parts, child_of_parent, reach_down, has_definition}
 

@@ -9,10 +9,10 @@ use Rattle.c_grammar.specs.Reads.{Node, node_of}
 use Rattle.c_grammar.specs.Terminals.{contains}
 use Rattle.c_senses.specs.Names.{source_of, numbered}
 use Rattle.c_senses.specs.Tree.{Source, is_a, children_at, children_of, child_of, parent_of, nearest_above, above_within, first_where, numbers_from, production_at, production_of}
-use Rattle.count_laws.specs.passed.parsed_tree_laws.member_names.PassedOn.{IsChild, Families}
-use Rattle.count_laws.proofs.passed.parsed_tree_laws.member_names.PassedOn.{units_families}
-use Rattle.count_laws.specs.passed.parsed_tree_laws.member_names.Differ.{InOrder}
-use Rattle.count_laws.proofs.passed.parsed_tree_laws.member_names.Order.{units_in_order}
+use Rattle.core_node_laws.specs.count_laws.passed.parsed_tree_laws.member_names.PassedOn.{IsChild, Families}
+use Rattle.core_node_laws.proofs.count_laws.passed.parsed_tree_laws.member_names.PassedOn.{units_families}
+use Rattle.core_node_laws.specs.count_laws.passed.parsed_tree_laws.member_names.Differ.{InOrder}
+use Rattle.core_node_laws.proofs.count_laws.passed.parsed_tree_laws.member_names.Order.{units_in_order}
 use Rattle.definition_laws.specs.Definitions.{is_definition, InDefinition, itself, below, is_block_part, BlockPartsAreDefined, HasDefinition, DefinitionsAreFound}
 use Rattle.definition_laws.proofs.Covering.{Beneath, top, under, parts, all_beneath}
 

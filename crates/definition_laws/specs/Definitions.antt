@@ -10,7 +10,7 @@ use Rattle.c_senses.specs.Tree.{Source, is_a, child_of, nearest_above}
 use Rattle.c_senses.specs.Sense.{Sense, sense_in}
 use Rattle.c_senses.specs.Entities.{declaration_of}
 use Rattle.c_senses.specs.Right.{stands_in_declaration}
-use Rattle.count_laws.specs.passed.parsed_tree_laws.member_names.PassedOn.{IsChild}
+use Rattle.core_node_laws.specs.count_laws.passed.parsed_tree_laws.member_names.PassedOn.{IsChild}
 
 -- an external declaration with a block: the definition of a function
 abbrev pub is_definition : Source → ℕ → Bool

@@ -1,4 +1,5 @@
-//! Laws of linked programs whose units are valid: these functions do nothing, and their contracts are the laws.
+//! Laws of linked programs whose units are valid, and that two locations have two names (`location_laws`): these functions do nothing, and
+//! their contracts are the laws.
 #![tactic(auto)]
 
 pub mod alike_laws;
@@ -7,6 +8,7 @@ pub mod embedded_laws;
 pub mod initial_laws;
 pub mod laws;
 pub mod link_laws;
+pub mod location_laws;
 pub mod main_laws;
 pub mod merged_laws;
 pub mod node_laws;

@@ -4,6 +4,8 @@
 #[cfg(test)]
 mod beginnings;
 #[cfg(test)]
+mod fields;
+#[cfg(test)]
 mod locations;
 #[cfg(test)]
 mod numbering;

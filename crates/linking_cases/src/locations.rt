@@ -1,32 +1,33 @@
-// Programs of one unit that are built from plain data, and their locations.
+// Programs of one unit that are built from their texts, and their locations.
 
 ghost use Rattle.std.specs.Prelude.{◌≡◌, ◌<◌, ◌≤◌, None, IfOk, IsTrue, length};
 ghost use Rattle.c_types.specs.Table.{type_of};
 ghost use Rattle.c_types.specs.Made.{ArePlain, IsComplete};
 
-use crate::programs::{Case, EntityRow, First, Made, NodeRow, PROGRAMS, Sort, Spot, Wanted};
+use crate::fields::{number, word};
+use crate::programs::PROGRAMS;
+use c_types::key::ObjectKey;
 use c_types::table::TypeTable;
-use c_types::term::{Form, MemberTerm, Name, OutOfMemory, Term, TypeId, TypeList};
+use c_types::term::{Form, MemberTerm, Name, OutOfMemory, PathStep, Term, TypeId, TypeList};
 use core_tree::held::{Children, HeldList, Number};
 use core_tree::{Entity, Linkage, Node, NodeKind, Program, Storage};
 use obj_space::{Space, objects};
 use pta_base::{Place, Text};
 use std::alloc::Global;
-use std::process::Abort;
 use std::test::Fail;
 
-/// A program of one unit that is built piece by piece.
+/// A program of one unit that is built piece by piece, and its types in the order of its text.
 #[derive(Drop)]
 struct Draft {
     alloc: Global,
-    types: TypeTable,
-    nodes: Vec<Node>,
-    entities: Vec<Entity>,
+    ids: Vec<TypeId>,
+    program: Program,
 }
 
 // Whether a member's type is complete, and it is no bit-field.
 fn is_plain(table: &TypeTable, member: &MemberTerm) -> bool
-    ensures { IsTrue result → (member.now.ty.0 < length table.now.terms) × IsComplete table.now (type_of table.now member.now.ty.0) × (member.now.bits ≡ None) }
+    ensures { IsTrue result → (member.now.ty.0 < length table.now.terms)
+        × IsComplete table.now (type_of table.now member.now.ty.0) × (member.now.bits ≡ None) }
 {
     if table.type_count() <= member.ty.0 {
         return false;
@@ -89,15 +90,6 @@ fn member(alloc: Global, name: &str, ty: TypeId) -> Result<MemberTerm, OutOfMemo
     })
 }
 
-// A place in the first unit.
-fn at(line: u32, column: u32) -> Place {
-    Place {
-        unit: 0,
-        line,
-        column,
-    }
-}
-
 // The type with that number in a list.
 fn numbered(ids: &[TypeId], number: usize) -> Result<TypeId, OutOfMemory> {
     match ids.get(number) {
@@ -106,56 +98,101 @@ fn numbered(ids: &[TypeId], number: usize) -> Result<TypeId, OutOfMemory> {
     }
 }
 
-// Members of types of a list.
-fn member_list(
-    alloc: Global,
-    ids: &[TypeId],
-    parts: &[(&'static str, usize)],
-) -> Result<Vec<MemberTerm>, OutOfMemory> {
+// What stands for a name: a dash for the empty one.
+fn name_of<'a>(word: &'a str) -> &'a str {
+    if word == "-" { "" } else { word }
+}
+
+// The number of a word, and where it is none one that nothing has.
+fn count(word: &str) -> usize {
+    word.parse().unwrap_or(usize::MAX)
+}
+
+// The members of the structure or union of a line, of types of a list.
+fn member_list(alloc: Global, ids: &[TypeId], line: &str) -> Result<Vec<MemberTerm>, OutOfMemory> {
     let mut members = Vec::new(alloc);
-    for (name, ty) in parts {
-        let ty = numbered(ids, *ty)?;
-        push_to(&mut members, member(alloc, name, ty)?)?;
+    let mut name = "";
+    for (at, word) in line.split(' ').skip(2).enumerate() {
+        if at % 2 == 0 {
+            name = name_of(word);
+        } else {
+            let ty = numbered(ids, count(word))?;
+            push_to(&mut members, member(alloc, name, ty)?)?;
+        }
     }
     Ok(members)
 }
 
-// What a node of that sort is.
-fn kind_of(alloc: Global, sort: Sort) -> Result<NodeKind, OutOfMemory> {
-    Ok(match sort {
-        Sort::Text(text) => {
-            let bytes = Vec::from_slice(alloc, text.as_bytes())?;
+// What the node of a line is.
+fn kind_of(alloc: Global, line: &str) -> Result<NodeKind, OutOfMemory> {
+    Ok(match word(line, 1) {
+        "text" => {
+            let bytes = Vec::from_slice(alloc, word(line, 2).as_bytes())?;
             NodeKind::Text(HeldList::of(alloc, bytes)?)
         }
-        Sort::FunctionName(entity) => NodeKind::FunctionName(entity),
-        Sort::Literal(entity) => NodeKind::Literal(entity),
-        Sort::Number(value) => NodeKind::Number(Number::of(value)),
-        Sort::Decay => NodeKind::Decay,
-        Sort::Call => NodeKind::CallNode,
-        Sort::Convert => NodeKind::Convert,
+        "function" => NodeKind::FunctionName(number(line, 2)),
+        "literal" => NodeKind::Literal(number(line, 2)),
+        "number" => NodeKind::Number(Number::of(i128::from(number(line, 2)))),
+        "decay" => NodeKind::Decay,
+        "call" => NodeKind::CallNode,
+        _ => NodeKind::Convert,
     })
+}
+
+// The linkage that a word tells.
+fn linkage_of(word: &str) -> Linkage {
+    match word {
+        "external" => Linkage::External,
+        "internal" => Linkage::Internal,
+        _ => Linkage::Local,
+    }
+}
+
+// The storage that a word tells.
+fn storage_of(word: &str) -> Storage {
+    match word {
+        "declared" => Storage::Declared,
+        "body" => Storage::FunctionBody,
+        "static" => Storage::Static,
+        "parameter" => Storage::Parameter,
+        _ => Storage::Automatic,
+    }
+}
+
+// The place in the first unit that a line tells from a word on.
+fn place_at(line: &str, at: usize) -> Place {
+    Place {
+        unit: 0,
+        line: number(line, at),
+        column: number(line, at.saturating_add(1)),
+    }
 }
 
 impl Draft {
     fn new(alloc: Global) -> Draft {
         Draft {
             alloc,
-            types: TypeTable::new(alloc),
-            nodes: Vec::new(alloc),
-            entities: Vec::new(alloc),
+            ids: Vec::new(alloc),
+            program: Program {
+                names: Vec::new(alloc),
+                types: TypeTable::new(alloc),
+                nodes: Vec::new(alloc),
+                entities: Vec::new(alloc),
+                entries: Vec::new(alloc),
+            },
         }
     }
 
     // The type `char`, or `int`.
     fn integer(&mut self, character: bool) -> Result<TypeId, OutOfMemory> {
         if character {
-            self.types.add(Term::Integer {
+            self.program.types.add(Term::Integer {
                 size: 1,
                 rank: 1,
                 signed: true,
             })
         } else {
-            self.types.add(Term::Integer {
+            self.program.types.add(Term::Integer {
                 size: 4,
                 rank: 4,
                 signed: true,
@@ -165,8 +202,8 @@ impl Draft {
 
     // A pointer to a type.
     fn pointer(&mut self, to: TypeId) -> Result<TypeId, OutOfMemory> {
-        if to.0 < self.types.type_count() {
-            self.types.add(Term::Pointer(to))
+        if to.0 < self.program.types.type_count() {
+            self.program.types.add(Term::Pointer(to))
         } else {
             Err(OutOfMemory)
         }
@@ -174,8 +211,8 @@ impl Draft {
 
     // An array of so many.
     fn array(&mut self, of: TypeId, length: u64) -> Result<TypeId, OutOfMemory> {
-        if of.0 < self.types.type_count() {
-            self.types.add(Term::Array {
+        if of.0 < self.program.types.type_count() {
+            self.program.types.add(Term::Array {
                 of,
                 length: Some(length),
             })
@@ -186,18 +223,20 @@ impl Draft {
 
     // A function type with one parameter, or with none where that is its result's type.
     fn function(&mut self, given: TypeId, parameter: TypeId) -> Result<TypeId, OutOfMemory> {
-        if given.0 >= self.types.type_count() || parameter.0 >= self.types.type_count() {
+        if given.0 >= self.program.types.type_count()
+            || parameter.0 >= self.program.types.type_count()
+        {
             return Err(OutOfMemory);
         }
         if given == parameter {
-            return self.types.add(Term::Function {
+            return self.program.types.add(Term::Function {
                 result: given,
                 parameters: TypeList::from_items(Vec::new(self.alloc)),
                 form: Form::Fixed,
             });
         }
         let parameters = TypeList::from_items(Vec::from_slice(self.alloc, &[parameter])?);
-        self.types.add(Term::Function {
+        self.program.types.add(Term::Function {
             result: given,
             parameters,
             form: Form::Fixed,
@@ -206,189 +245,187 @@ impl Draft {
 
     // A structure or union.
     fn members(&mut self, union: bool, members: Vec<MemberTerm>) -> Result<TypeId, OutOfMemory> {
-        if !are_plain(&self.types, members.as_slice()) {
+        if !are_plain(&self.program.types, members.as_slice()) {
             return Err(OutOfMemory);
         }
         if union {
-            new_union(&mut self.types, members)
+            new_union(&mut self.program.types, members)
         } else {
-            new_structure(&mut self.types, members)
+            new_structure(&mut self.program.types, members)
         }
     }
 
-    // One entity more.
-    fn entity(
-        &mut self,
-        name: &str,
-        place: Place,
-        ty: TypeId,
-        linkage: Linkage,
-        storage: Storage,
-        owner: Option<u32>,
-    ) -> Result<(), OutOfMemory> {
+    // The entity of a line.
+    fn entity(&mut self, line: &str) -> Result<(), OutOfMemory> {
         let entity = Entity {
-            name: Text::copy_of(self.alloc, name)?,
+            name: Text::copy_of(self.alloc, name_of(word(line, 1)))?,
             unit: 0,
-            place,
-            ty,
-            linkage,
-            storage,
-            owner,
+            place: place_at(line, 2),
+            ty: numbered(self.ids.as_slice(), count(word(line, 4)))?,
+            linkage: linkage_of(word(line, 5)),
+            storage: storage_of(word(line, 6)),
+            owner: word(line, 7).parse().ok(),
             body: None,
             used: None,
         };
-        push_to(&mut self.entities, entity)
+        push_to(&mut self.program.entities, entity)
     }
 
-    // One node more.
-    fn node(
-        &mut self,
-        kind: NodeKind,
-        place: Place,
-        ty: TypeId,
-        children: &[u32],
-    ) -> Result<(), OutOfMemory> {
+    // The node of a line.
+    fn node(&mut self, line: &str) -> Result<(), OutOfMemory> {
+        let mut children = Vec::new(self.alloc);
+        for child in line.split(' ').skip(6) {
+            push_to(&mut children, child.parse().unwrap_or(u32::MAX))?;
+        }
         let node = Node {
-            kind,
-            place,
-            ty,
-            children: Children::of(self.alloc, Vec::from_slice(self.alloc, children)?)?,
+            kind: kind_of(self.alloc, line)?,
+            place: place_at(line, 3),
+            ty: numbered(self.ids.as_slice(), count(word(line, 5)))?,
+            children: Children::of(self.alloc, children)?,
         };
-        push_to(&mut self.nodes, node)
+        push_to(&mut self.program.nodes, node)
     }
 
-    // The type of a row, over the types of the rows before it.
-    fn made(&mut self, ids: &[TypeId], row: &Made) -> Result<TypeId, OutOfMemory> {
-        match *row {
-            Made::Character => self.integer(true),
-            Made::Int => self.integer(false),
-            Made::Pointer(to) => {
-                let to = numbered(ids, to)?;
-                self.pointer(to)
+    // The type of a line, over the types of the lines before it.
+    fn made(&mut self, line: &str) -> Result<TypeId, OutOfMemory> {
+        let first = numbered(self.ids.as_slice(), count(word(line, 2)));
+        match word(line, 1) {
+            "char" => self.integer(true),
+            "int" => self.integer(false),
+            "pointer" => self.pointer(first?),
+            "array" => self.array(first?, u64::from(number(line, 3))),
+            "function" => {
+                let parameter = numbered(self.ids.as_slice(), count(word(line, 3)))?;
+                self.function(first?, parameter)
             }
-            Made::Array(of, length) => {
-                let of = numbered(ids, of)?;
-                self.array(of, length)
-            }
-            Made::Function(given, parameter) => {
-                let given = numbered(ids, given)?;
-                let parameter = numbered(ids, parameter)?;
-                self.function(given, parameter)
-            }
-            Made::Members(is_union, parts) => {
-                let list = member_list(self.alloc, ids, parts)?;
-                self.members(is_union, list)
+            sort => {
+                let list = member_list(self.alloc, self.ids.as_slice(), line)?;
+                self.members(sort == "union", list)
             }
         }
     }
 
-    // The types of all rows.
-    fn add_types(&mut self, rows: &[Made]) -> Result<Vec<TypeId>, OutOfMemory> {
-        let mut ids = Vec::new(self.alloc);
-        for row in rows {
-            let id = self.made(ids.as_slice(), row)?;
-            push_to(&mut ids, id)?;
+    // What a line tells of the program.
+    fn read(&mut self, line: &str) -> Result<(), OutOfMemory> {
+        match word(line, 0) {
+            "unit" => {
+                let name = Text::copy_of(self.alloc, word(line, 1))?;
+                push_to(&mut self.program.names, name)
+            }
+            "type" => {
+                let id = self.made(line)?;
+                push_to(&mut self.ids, id)
+            }
+            "entity" => self.entity(line),
+            "node" => self.node(line),
+            "entry" => push_to(&mut self.program.entries, number(line, 1)),
+            _ => Ok(()),
         }
-        Ok(ids)
-    }
-
-    // The entities of all rows.
-    fn add_entities(&mut self, ids: &[TypeId], rows: &[EntityRow]) -> Result<(), OutOfMemory> {
-        for (name, (line, column), ty, linkage, storage, owner) in rows {
-            let ty = numbered(ids, *ty)?;
-            self.entity(name, at(*line, *column), ty, *linkage, *storage, *owner)?;
-        }
-        Ok(())
-    }
-
-    // The nodes of all rows.
-    fn add_nodes(&mut self, ids: &[TypeId], rows: &[NodeRow]) -> Result<(), OutOfMemory> {
-        for (sort, (line, column), ty, children) in rows {
-            let kind = kind_of(self.alloc, *sort)?;
-            let ty = numbered(ids, *ty)?;
-            self.node(kind, at(*line, *column), ty, children)?;
-        }
-        Ok(())
-    }
-
-    // The program of that unit, which is entered at these entities.
-    fn program(self, unit: &str, entries: &[u32]) -> Result<Program, OutOfMemory> {
-        let Draft {
-            alloc,
-            types,
-            nodes,
-            entities,
-        } = self;
-        let mut names = Vec::new(alloc);
-        push_to(&mut names, Text::copy_of(alloc, unit)?)?;
-        Ok(Program {
-            names,
-            types,
-            nodes,
-            entities,
-            entries: Vec::from_slice(alloc, entries)?,
-        })
     }
 }
 
-// The program of a case.
-fn built(alloc: Global, case: &Case) -> Result<Program, OutOfMemory> {
+// The program of a text, with its types.
+fn built(alloc: Global, text: &str) -> Result<Draft, OutOfMemory> {
     let mut draft = Draft::new(alloc);
-    let ids = draft.add_types(case.types)?;
-    draft.add_entities(ids.as_slice(), case.entities)?;
-    draft.add_nodes(ids.as_slice(), case.nodes)?;
-    draft.program(case.unit, case.entries)
+    for line in text.split('\n') {
+        draft.read(line)?;
+    }
+    Ok(draft)
 }
 
-// Whether a location is the one that is wanted, and is found by its name.
-fn is_wanted(space: &Space, l: usize, (name, ty, collapsed): Wanted) -> bool {
-    if l >= space.count() as usize {
+// Whether a location is the one of a line, and is found by its name.
+fn is_wanted(space: &Space, l: u32, line: &str) -> bool {
+    if l >= space.count() {
         return false;
     }
-    let l = l as u32;
+    let name = word(line, 1);
     space.name(l) == name
-        && space.node_type(l) == ty
-        && space.collapsed(l) == collapsed
+        && space.node_type(l) == number(line, 2)
+        && space.collapsed(l) == (word(line, 3) == "collapsed")
         && space.find(name) == Some(l)
 }
 
-// The locations are those that are wanted.
-fn expect_locations(rt: &impl Abort, space: &Space, wanted: &[Wanted]) {
-    assert!(rt; space.count() as usize == wanted.len());
-    for (l, row) in wanted.iter().enumerate() {
-        assert!(rt; is_wanted(space, l, *row), "{}", row.0);
+// The object that a line tells.
+fn key_of(line: &str) -> ObjectKey {
+    let number = number(line, 2);
+    match word(line, 1) {
+        "call" => ObjectKey::Call(number),
+        "entity" => ObjectKey::Entity(number),
+        "text" => ObjectKey::Text(number),
+        "library" => ObjectKey::Library(number),
+        "function" => ObjectKey::Function(number),
+        "star" => ObjectKey::Star(number),
+        _ => ObjectKey::Outside,
     }
 }
 
-// Each object has that first location, or none.
-fn expect_firsts(rt: &impl Abort, space: &Space, wanted: &[First]) {
-    for (key, first) in wanted {
-        assert!(rt; space.first(*key) == *first, "{key:?}");
+// Whether the path of a line leads to the line's location, or to none.
+fn leads(alloc: Global, space: &Space, types: &TypeTable, line: &str) -> Result<bool, OutOfMemory> {
+    let mut path = Vec::new(alloc);
+    for step in line.split(' ').skip(4) {
+        let step = match step.strip_prefix('.') {
+            Some(member) => PathStep::Member(member.parse().unwrap_or(u32::MAX)),
+            None => PathStep::Index(step.parse().unwrap_or(u64::MAX)),
+        };
+        push_to(&mut path, step)?;
+    }
+    let found = space.spot(types, key_of(line), path.as_slice());
+    Ok(found == word(line, 3).parse::<u32>().ok())
+}
+
+// Whether what a line wants of a program holds, where so many locations came before.
+fn holds(
+    alloc: Global,
+    space: &Space,
+    types: &TypeTable,
+    line: &str,
+    before: u32,
+) -> Result<bool, OutOfMemory> {
+    match word(line, 0) {
+        "location" => Ok(is_wanted(space, before, line)),
+        "lacking" => Ok(space.find(word(line, 1)).is_none()),
+        "first" => Ok(space.first(key_of(line)) == word(line, 3).parse::<u32>().ok()),
+        "spot" => leads(alloc, space, types, line),
+        "unit" | "#" | "type" | "entity" | "node" | "entry" => Ok(true),
+        _ => Ok(false),
     }
 }
 
-// Each path leads to that location, or to none.
-fn expect_spots(rt: &impl Abort, space: &Space, types: &TypeTable, wanted: &[Spot]) {
-    for (key, path, spot) in wanted {
-        assert!(rt; space.spot(types, *key, path) == *spot, "{key:?}");
+// The first line that doesn't hold of a text's locations; `none` where there are more of them than lines.
+fn first_wrong<'a>(
+    alloc: Global,
+    space: &Space,
+    types: &TypeTable,
+    text: &'a str,
+) -> Result<Option<&'a str>, OutOfMemory> {
+    let mut locations = 0u32;
+    for line in text.split('\n') {
+        if !holds(alloc, space, types, line, locations)? {
+            return Ok(Some(line));
+        }
+        if word(line, 0) == "location" {
+            locations = locations.saturating_add(1);
+        }
     }
+    Ok(if locations == space.count() {
+        None
+    } else {
+        Some("none")
+    })
 }
 
-// The locations of a program are those that are wanted.
-fn expect(rt: &impl Abort, alloc: Global, case: &Case) -> Result<(), Fail> {
-    let program = built(alloc, case)?;
-    let space = objects(alloc, &program)?;
-    expect_locations(rt, &space, case.locations);
-    assert!(rt; space.find(case.lacking).is_none());
-    expect_firsts(rt, &space, case.firsts);
-    expect_spots(rt, &space, &program.types, case.spots);
-    Ok(())
+// The same of a text.
+fn first_wrong_of<'a>(alloc: Global, text: &'a str) -> Result<Option<&'a str>, Fail> {
+    let draft = built(alloc, text)?;
+    let space = objects(alloc, &draft.program)?;
+    Ok(first_wrong(alloc, &space, &draft.program.types, text)?)
 }
 
 #[test]
 fn locations_of_programs(rt: HostRuntime) -> Result<(), Fail> {
-    for case in &PROGRAMS {
-        expect(&rt, rt.alloc(), case)?;
+    for text in PROGRAMS.split("\n\n") {
+        let wrong = first_wrong_of(rt.alloc(), text)?;
+        assert!(rt; wrong.is_none(), "{wrong:?}");
     }
     Ok(())
 }

@@ -1,5 +1,6 @@
 // What a text is answered: its unit, or its refusal by kind and column.
 
+use crate::page::Page;
 use crate::units::unit_text;
 use c_grammar::Tree;
 use c_lexer::Tokens;
@@ -18,7 +19,12 @@ use tree_reads::Syntax;
 
 // A kind of refusal and a column.
 fn refusal(alloc: Global, kind: &str, column: u32) -> Result<String, Fail> {
-    Ok(format!(in alloc; "\n{} {}", kind, column)?)
+    let mut out = Page::new(alloc);
+    out.say("\n");
+    out.say(kind);
+    out.say(" ");
+    out.number(i128::from(column));
+    out.whole()
 }
 
 // The column of a token.

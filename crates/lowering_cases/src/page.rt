@@ -1,10 +1,12 @@
 // A text that is written piece by piece.
 
 use std::alloc::Global;
+use std::test::Fail;
 
 /// The text, and whether something of it could not be written.
 #[derive(Drop)]
 pub(crate) struct Page {
+    alloc: Global,
     pub(crate) text: String,
     pub(crate) lacks: bool,
 }
@@ -13,6 +15,7 @@ impl Page {
     /// The empty text.
     pub(crate) fn new(alloc: Global) -> Page {
         Page {
+            alloc,
             text: String::new(alloc),
             lacks: false,
         }
@@ -26,10 +29,23 @@ impl Page {
     }
 
     /// Adds a number.
-    pub(crate) fn number(&mut self, alloc: Global, number: i128) {
-        match format!(in alloc; "{}", number) {
+    pub(crate) fn number(&mut self, number: i128) {
+        match format!(in self.alloc; "{}", number) {
             Ok(digits) => self.say(digits.as_str()),
             Err(_) => self.lacks = true,
         }
+    }
+
+    /// The whole text, where all of it could be written.
+    pub(crate) fn whole(self) -> Result<String, Fail> {
+        let Page {
+            alloc: _alloc,
+            text,
+            lacks,
+        } = self;
+        if lacks {
+            return Err(Fail::new("not all is written"));
+        }
+        Ok(text)
     }
 }

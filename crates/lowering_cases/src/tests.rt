@@ -7,7 +7,6 @@ use crate::page::Page;
 use crate::refusals::REFUSALS;
 use crate::statements::STATEMENTS;
 use std::alloc::Global;
-use std::process::Abort;
 use std::test::Fail;
 
 // Adds a line of a row, unless it only says what the row is about; one that begins with two spaces goes on with the line before.
@@ -69,30 +68,12 @@ fn holds(alloc: Global, row: &str) -> Result<bool, Fail> {
     is_answered(alloc, page.text.as_str())
 }
 
-// Asserts that each row of a table holds.
-fn expect_rows(rt: &impl Abort, alloc: Global, rows: &str) -> Result<(), Fail> {
-    for row in rows.split("\n\n") {
-        assert!(rt; holds(alloc, row)?, "{row}");
+#[test]
+fn units(rt: HostRuntime) -> Result<(), Fail> {
+    for rows in [DECLARATIONS, INITIALISERS, STATEMENTS, REFUSALS] {
+        for row in rows.split("\n\n") {
+            assert!(rt; holds(rt.alloc(), row)?, "{row}");
+        }
     }
     Ok(())
-}
-
-#[test]
-fn declarations(rt: HostRuntime) -> Result<(), Fail> {
-    expect_rows(&rt, rt.alloc(), DECLARATIONS)
-}
-
-#[test]
-fn initialisers(rt: HostRuntime) -> Result<(), Fail> {
-    expect_rows(&rt, rt.alloc(), INITIALISERS)
-}
-
-#[test]
-fn statements(rt: HostRuntime) -> Result<(), Fail> {
-    expect_rows(&rt, rt.alloc(), STATEMENTS)
-}
-
-#[test]
-fn refusals(rt: HostRuntime) -> Result<(), Fail> {
-    expect_rows(&rt, rt.alloc(), REFUSALS)
 }

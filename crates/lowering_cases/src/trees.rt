@@ -71,7 +71,7 @@ pub(crate) fn write_entity(shown: Shown<'_>, out: &mut Page, entity: u32) {
     out.say(this.name.as_str());
     if is_shared(shown.unit, entity) {
         out.say("#");
-        out.number(shown.alloc, i128::from(this.place.column));
+        out.number(i128::from(this.place.column));
     }
 }
 
@@ -102,24 +102,24 @@ fn write_bytes(out: &mut Page, bytes: &[u8]) {
 }
 
 // A step from an object to a part of it.
-fn write_step(alloc: Global, out: &mut Page, step: PathStep) {
+fn write_step(out: &mut Page, step: PathStep) {
     match step {
         PathStep::Index(index) => {
             out.say("[");
-            out.number(alloc, i128::from(index));
+            out.number(i128::from(index));
             out.say("]");
         }
         PathStep::Member(member) => {
             out.say(".");
-            out.number(alloc, i128::from(member));
+            out.number(i128::from(member));
         }
     }
 }
 
 // A path from an object to a part of it.
-fn write_path(alloc: Global, out: &mut Page, path: &[PathStep]) {
+fn write_path(out: &mut Page, path: &[PathStep]) {
     for step in path {
-        write_step(alloc, out, *step);
+        write_step(out, *step);
     }
     out.say("=");
 }
@@ -130,8 +130,15 @@ fn write_update(out: &mut Page, op: Op, post: bool) {
     out.say(op_name(op));
 }
 
-// The word of a node that is a place or a value.
-fn value_word(kind: &NodeKind) -> &'static str {
+// A `for` with its entities, and with letters for its condition and for what is done after its body.
+fn write_for(shown: Shown<'_>, out: &mut Page, entities: &[u32], condition: bool, after: bool) {
+    write_entities(shown, out, entities);
+    out.say(if condition { "c" } else { "" });
+    out.say(if after { "a" } else { "" });
+}
+
+// The word of a node.
+fn word_of(kind: &NodeKind) -> &'static str {
     match kind {
         NodeKind::Literal(_) => "lit ",
         NodeKind::Deref => "deref",
@@ -149,38 +156,6 @@ fn value_word(kind: &NodeKind) -> &'static str {
         NodeKind::MemberOfValue(_) => "!",
         NodeKind::VarArgs(_) => "further ",
         NodeKind::NextArg => "next",
-        _ => "",
-    }
-}
-
-// What belongs to a node that is a place or a value.
-fn write_value(shown: Shown<'_>, out: &mut Page, kind: &NodeKind) {
-    let alloc = shown.alloc;
-    match kind {
-        NodeKind::Named(entity) => write_entity(shown, out, *entity),
-        NodeKind::FunctionName(entity) => write_entity(shown, out, *entity),
-        NodeKind::Text(bytes) => write_bytes(out, bytes.as_slice()),
-        NodeKind::Literal(entity) | NodeKind::VarArgs(entity) => write_entity(shown, out, *entity),
-        NodeKind::Member(member) => out.number(alloc, i128::from(*member)),
-        NodeKind::Number(number) => out.number(alloc, number.get()),
-        NodeKind::PointerAdd { minus } => out.say(if *minus { "back" } else { "move" }),
-        NodeKind::Update { op, post } => write_update(out, *op, *post),
-        NodeKind::MemberOfValue(member) => out.number(alloc, i128::from(*member)),
-        NodeKind::Arith(op) => out.say(op_name(*op)),
-        _ => {}
-    }
-}
-
-// A `for` with its entities, and with letters for its condition and for what is done after its body.
-fn write_for(shown: Shown<'_>, out: &mut Page, entities: &[u32], condition: bool, after: bool) {
-    write_entities(shown, out, entities);
-    out.say(if condition { "c" } else { "" });
-    out.say(if after { "a" } else { "" });
-}
-
-// The word of a node that is a statement.
-fn statement_word(kind: &NodeKind) -> &'static str {
-    match kind {
         NodeKind::Expression => "expr",
         NodeKind::Block(_) => "block",
         NodeKind::If => "if",
@@ -201,19 +176,29 @@ fn statement_word(kind: &NodeKind) -> &'static str {
     }
 }
 
-// What belongs to a node that is a statement.
-fn write_statement(shown: Shown<'_>, out: &mut Page, kind: &NodeKind) {
+// What belongs to a node.
+fn write_own(shown: Shown<'_>, out: &mut Page, kind: &NodeKind) {
     match kind {
+        NodeKind::Named(entity)
+        | NodeKind::FunctionName(entity)
+        | NodeKind::Literal(entity)
+        | NodeKind::VarArgs(entity)
+        | NodeKind::Initialise { entity, .. } => write_entity(shown, out, *entity),
+        NodeKind::Text(bytes) => write_bytes(out, bytes.as_slice()),
+        NodeKind::Member(member) | NodeKind::MemberOfValue(member) => {
+            out.number(i128::from(*member));
+        }
+        NodeKind::Number(number) | NodeKind::Case(number) => out.number(number.get()),
+        NodeKind::PointerAdd { minus } => out.say(if *minus { "back" } else { "move" }),
+        NodeKind::Update { op, post } => write_update(out, *op, *post),
+        NodeKind::Arith(op) => out.say(op_name(*op)),
         NodeKind::Block(entities) => write_entities(shown, out, entities.as_slice()),
         NodeKind::For {
             entities,
             condition,
             after,
         } => write_for(shown, out, entities.as_slice(), *condition, *after),
-        NodeKind::Case(value) => out.number(shown.alloc, value.get()),
-        NodeKind::Label(name) => out.say(name.as_str()),
-        NodeKind::Goto(name) => out.say(name.as_str()),
-        NodeKind::Initialise { entity, .. } => write_entity(shown, out, *entity),
+        NodeKind::Label(name) | NodeKind::Goto(name) => out.say(name.as_str()),
         _ => {}
     }
 }
@@ -283,17 +268,15 @@ fn push_children<'a>(out: &mut Page, left: &mut Vec<Piece<'a>>, node: &'a Node) 
 
 // A node without what stands under it.
 fn write_head(shown: Shown<'_>, out: &mut Page, node: &Node) {
-    out.say(statement_word(&node.kind));
-    write_statement(shown, out, &node.kind);
-    out.say(value_word(&node.kind));
-    write_value(shown, out, &node.kind);
+    out.say(word_of(&node.kind));
+    write_own(shown, out, &node.kind);
     if is_typed(&node.kind) {
         out.say(":");
         write_type(shown.alloc, out, shown.unit, node.ty);
     }
     if shown.placed {
         out.say("@");
-        out.number(shown.alloc, i128::from(node.place.column));
+        out.number(i128::from(node.place.column));
     }
 }
 
@@ -315,7 +298,7 @@ pub(crate) fn write_tree(shown: Shown<'_>, out: &mut Page, root: u32) {
     for _piece in 0..PIECES {
         match left.pop() {
             Some(Piece::Words(words)) => out.say(words),
-            Some(Piece::Path(path)) => write_path(shown.alloc, out, path),
+            Some(Piece::Path(path)) => write_path(out, path),
             Some(Piece::Node(number)) => write_node(shown, out, &mut left, number),
             None => return,
         }

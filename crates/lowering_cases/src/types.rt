@@ -41,10 +41,10 @@ fn integer_name(size: u8, rank: u8, signed: bool) -> &'static str {
 }
 
 // An array, up to its element.
-fn write_array(alloc: Global, out: &mut Page, length: Option<u64>) {
+fn write_array(out: &mut Page, length: Option<u64>) {
     out.say("[");
     if let Some(count) = length {
-        out.number(alloc, i128::from(count));
+        out.number(i128::from(count));
     }
     out.say("]");
 }
@@ -82,13 +82,13 @@ fn push_function(
 }
 
 // A structure or union by the number of its tag.
-fn write_tag(alloc: Global, out: &mut Page, letter: &str, tag: u32) {
+fn write_tag(out: &mut Page, letter: &str, tag: u32) {
     out.say(letter);
-    out.number(alloc, i128::from(tag));
+    out.number(i128::from(tag));
 }
 
 // The head of a type; its parts are left.
-fn write_term(alloc: Global, out: &mut Page, unit: &Unit, left: &mut Vec<Piece>, ty: TypeId) {
+fn write_term(out: &mut Page, unit: &Unit, left: &mut Vec<Piece>, ty: TypeId) {
     if ty.0 >= unit.types.type_count() {
         out.lacks = true;
         return;
@@ -104,7 +104,7 @@ fn write_term(alloc: Global, out: &mut Page, unit: &Unit, left: &mut Vec<Piece>,
             leave(out, left, Piece::Type(*to));
         }
         Term::Array { of, length } => {
-            write_array(alloc, out, *length);
+            write_array(out, *length);
             leave(out, left, Piece::Type(*of));
         }
         Term::Function {
@@ -112,8 +112,8 @@ fn write_term(alloc: Global, out: &mut Page, unit: &Unit, left: &mut Vec<Piece>,
             parameters,
             form,
         } => push_function(out, left, *result, parameters.as_slice(), *form),
-        Term::Structure(tag) => write_tag(alloc, out, "S", *tag),
-        Term::Union(tag) => write_tag(alloc, out, "U", *tag),
+        Term::Structure(tag) => write_tag(out, "S", *tag),
+        Term::Union(tag) => write_tag(out, "U", *tag),
     }
 }
 
@@ -124,7 +124,7 @@ pub(crate) fn write_type(alloc: Global, out: &mut Page, unit: &Unit, ty: TypeId)
     for _piece in 0..PIECES {
         match left.pop() {
             Some(Piece::Words(words)) => out.say(words),
-            Some(Piece::Type(part)) => write_term(alloc, out, unit, &mut left, part),
+            Some(Piece::Type(part)) => write_term(out, unit, &mut left, part),
             None => return,
         }
     }

@@ -33,7 +33,7 @@ fn write_declared(shown: Shown<'_>, out: &mut Page, entity: &Entity) {
     out.say("\n");
     out.say(entity.name.as_str());
     out.say("#");
-    out.number(shown.alloc, i128::from(entity.place.column));
+    out.number(i128::from(entity.place.column));
     out.say(" ");
     out.say(linkage_letter(entity.linkage));
     out.say(storage_letter(entity.storage));
@@ -45,7 +45,7 @@ fn write_declared(shown: Shown<'_>, out: &mut Page, entity: &Entity) {
 fn write_used(shown: Shown<'_>, out: &mut Page, entity: &Entity) {
     if let Some(place) = entity.used {
         out.say(" used ");
-        out.number(shown.alloc, i128::from(place.column));
+        out.number(i128::from(place.column));
     }
 }
 
@@ -87,7 +87,7 @@ fn write_member(shown: Shown<'_>, out: &mut Page, member: &MemberTerm) {
     write_type(shown.alloc, out, shown.unit, member.ty);
     if let Some(bits) = member.bits {
         out.say(".");
-        out.number(shown.alloc, i128::from(bits));
+        out.number(i128::from(bits));
     }
 }
 
@@ -145,9 +145,5 @@ pub(crate) fn unit_text(
         write_at(shown, &mut out, column);
     }
     write_tags(shown, &mut out);
-    let Page { text, lacks } = out;
-    if lacks {
-        return Err(Fail::new("not all is written"));
-    }
-    Ok(text)
+    out.whole()
 }

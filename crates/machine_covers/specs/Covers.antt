@@ -1,5 +1,6 @@
--- What `covers` decides: that sets cover a state. It is what the invariant of steps says of memory, values, frames, kept
--- functions, notes and what was handed over, without what that carries beside: which function a node stands in, and which types values have.
+-- What `covers` decides: that sets cover a state. It is what the invariant of steps says of memory, values, frames,
+-- kept functions, notes and what was handed over, without what that carries beside: which function a node stands
+-- in, and which types values have.
 use Rattle.std.specs.Prelude.{◌≡◌, ◌⊎◌, ℕ, ◌≤◌, ⊤, List, Option, Some, None, length, slice_get}
 use Rattle.c_types.specs.declared.key.ObjectKey.{ObjectKey}
 use Rattle.c_types.specs.declared.key.ObjectKey.TheVariants.{Function as FunctionKey}

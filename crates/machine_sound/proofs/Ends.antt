@@ -27,14 +27,14 @@ use Rattle.ref_calls.specs.Ending.{entry_of, but_last, last_of, pending_frame, k
 use Rattle.ref_start.specs.Begin.{main_of, main_entry, main_made, begun, begins_at, begins_with, begins, begin}
 use Rattle.ref_start.specs.Entries.{given_to, with_given, enters_or_ends, starts_by, starts}
 use Rattle.covering_laws.specs.covered_state.World.{World, trees_of}
-use Rattle.covered_values.proofs.Operands.{went, ok_one, err_ok}
-use Rattle.covered_effects.specs.Served.{IsServed}
-use Rattle.covered_effects.specs.Steps.{StaysCovered}
-use Rattle.covered_effects.proofs.Ending.{kept_pended, steps_kept}
-use Rattle.covered_statements.specs.Stacked.{FramesStand}
-use Rattle.covered_statements.specs.Runnable.{IsRunnable}
-use Rattle.covered_statements.specs.Rows.{running_in}
-use Rattle.covered_statements.proofs.Leaving.{leaves_steady}
+use Rattle.covered_steps.proofs.covered_values.Operands.{went, ok_one, err_ok}
+use Rattle.covered_steps.specs.covered_effects.Served.{IsServed}
+use Rattle.covered_steps.specs.covered_effects.Steps.{StaysCovered}
+use Rattle.covered_steps.proofs.covered_effects.Ending.{kept_pended, steps_kept}
+use Rattle.covered_steps.specs.covered_statements.Stacked.{FramesStand}
+use Rattle.covered_steps.specs.covered_statements.Runnable.{IsRunnable}
+use Rattle.covered_steps.specs.covered_statements.Rows.{running_in}
+use Rattle.covered_steps.proofs.covered_statements.Leaving.{leaves_steady}
 use Rattle.machine_sound.specs.Carried.{Carried, BeginsSteady}
 use Rattle.machine_sound.proofs.Frames.{carries, stays, entered_stands}
 

@@ -17,14 +17,14 @@ use Rattle.ref_frames.specs.Frames.{entered}
 use Rattle.covering_laws.specs.covered_state.World.{World, trees_of, view_in}
 use Rattle.covering_laws.specs.covered_state.Items.{Each}
 use Rattle.covering_laws.specs.covered_state.State.{IsInGraph, BackIn, FrameIn}
-use Rattle.covered_calls.specs.Activations.{objects_entered}
-use Rattle.covered_effects.specs.Steps.{IsKeptFound, StaysCovered, IsNoWait}
-use Rattle.covered_statements.specs.Stacked.{waits_next, FramesStand}
-use Rattle.covered_statements.specs.Runnable.{IsRunnable, Steady}
-use Rattle.covered_statements.specs.Rows.{running_in}
-use Rattle.covered_statements.proofs.Keys.{HasBody, function_body}
-use Rattle.covered_statements.proofs.Pending.{frames_stacked}
-use Rattle.covered_statements.proofs.Calling.{more_extends, body_stands, IsEntered, entered_inv}
+use Rattle.covered_steps.specs.covered_calls.Activations.{objects_entered}
+use Rattle.covered_steps.specs.covered_effects.Steps.{IsKeptFound, StaysCovered, IsNoWait}
+use Rattle.covered_steps.specs.covered_statements.Stacked.{waits_next, FramesStand}
+use Rattle.covered_steps.specs.covered_statements.Runnable.{IsRunnable, Steady}
+use Rattle.covered_steps.specs.covered_statements.Rows.{running_in}
+use Rattle.covered_steps.proofs.covered_statements.Keys.{HasBody, function_body}
+use Rattle.covered_steps.proofs.covered_statements.Pending.{frames_stacked}
+use Rattle.covered_steps.proofs.covered_statements.Calling.{more_extends, body_stands, IsEntered, entered_inv}
 use Rattle.machine_sound.specs.Carried.{Carried}
 
 some_one : {X : Type 0} → {x y : X} → ◌≡◌ {A = Option X} (Some x) (Some y) → x ≡ y

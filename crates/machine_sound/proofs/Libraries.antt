@@ -24,16 +24,16 @@ use Rattle.ref_frames.specs.OnTop.{only, on_top}
 use Rattle.ref_calls.specs.Library.{performed, comparison_of, back_by, goes_by, library_row}
 use Rattle.covering_laws.specs.covered_state.World.{World, trees_of}
 use Rattle.covering_laws.specs.covered_state.Items.{IsPending}
-use Rattle.covered_values.proofs.Operands.{went, ok_one, err_ok}
-use Rattle.covered_effects.specs.Served.{IsServed}
-use Rattle.covered_effects.specs.Steps.{ConversionWaits, StaysCovered}
-use Rattle.covered_effects.proofs.Effects.{call_kind, EffectGoes, effect_goes, steps_effected}
-use Rattle.covered_effects.proofs.Backed.{backed_goes, steps_backed}
-use Rattle.covered_statements.specs.Stacked.{waits_next, PendingOn, Stacked, FramesStand}
-use Rattle.covered_statements.specs.Runnable.{IsRunnable}
-use Rattle.covered_statements.specs.Rows.{running_in}
-use Rattle.covered_statements.proofs.Stacking.{deliver_stacked, item_gives, conversion_below}
-use Rattle.covered_statements.proofs.Pending.{frames_stacked}
+use Rattle.covered_steps.proofs.covered_values.Operands.{went, ok_one, err_ok}
+use Rattle.covered_steps.specs.covered_effects.Served.{IsServed}
+use Rattle.covered_steps.specs.covered_effects.Steps.{ConversionWaits, StaysCovered}
+use Rattle.covered_steps.proofs.covered_effects.Effects.{call_kind, EffectGoes, effect_goes, steps_effected}
+use Rattle.covered_steps.proofs.covered_effects.Backed.{backed_goes, steps_backed}
+use Rattle.covered_steps.specs.covered_statements.Stacked.{waits_next, PendingOn, Stacked, FramesStand}
+use Rattle.covered_steps.specs.covered_statements.Runnable.{IsRunnable}
+use Rattle.covered_steps.specs.covered_statements.Rows.{running_in}
+use Rattle.covered_steps.proofs.covered_statements.Stacking.{deliver_stacked, item_gives, conversion_below}
+use Rattle.covered_steps.proofs.covered_statements.Pending.{frames_stacked}
 use Rattle.machine_sound.specs.Carried.{Carried}
 use Rattle.machine_sound.proofs.Frames.{stays, no_wait, entered_stands}
 

@@ -33,10 +33,10 @@ use Rattle.ref_calls.specs.Lists.{points, held_value, argument_node, is_argument
 use Rattle.covering_laws.specs.covered_memory.Covered.{MemoryIn}
 use Rattle.covering_laws.specs.covered_state.World.{World, trees_of, sets_of}
 use Rattle.covering_laws.specs.covered_state.Items.{Each, NodeIn}
-use Rattle.covered_values.specs.Values.{Stands, IsComputed, IsCellOf}
-use Rattle.covered_values.proofs.Operands.{place_held, went, ok_one, err_ok}
-use Rattle.covered_values.proofs.Nexts.{nexts_covered}
-use Rattle.covered_statements.specs.Rows.{running_in}
+use Rattle.covered_steps.specs.covered_values.Values.{Stands, IsComputed, IsCellOf}
+use Rattle.covered_steps.proofs.covered_values.Operands.{place_held, went, ok_one, err_ok}
+use Rattle.covered_steps.proofs.covered_values.Nexts.{nexts_covered}
+use Rattle.covered_steps.specs.covered_statements.Rows.{running_in}
 
 live_there : (o : Option Instance) (inst : Instance) → live_at o ≡ Ok inst → o ≡ Some inst
 live_there None inst h = absurd (err_ok h)

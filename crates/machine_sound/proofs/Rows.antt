@@ -34,20 +34,20 @@ use Rattle.covering_laws.specs.covered_memory.Covered.{MemoryIn}
 use Rattle.covering_laws.specs.covered_state.World.{World, trees_of, sets_of, IsTargetAt}
 use Rattle.covering_laws.specs.covered_state.Items.{IsPending}
 use Rattle.covering_laws.specs.covered_state.State.{TargetNoted}
-use Rattle.covered_values.proofs.Operands.{went, ok_one, err_ok}
+use Rattle.covered_steps.proofs.covered_values.Operands.{went, ok_one, err_ok}
 use Rattle.covered_steps.proofs.Steps.{own_items}
-use Rattle.covered_calls.specs.Activations.{Reaches}
-use Rattle.covered_effects.specs.Served.{IsServed}
-use Rattle.covered_effects.specs.Steps.{HasReached, NotesTarget}
-use Rattle.covered_effects.proofs.Reaching.{all_given, reached_covered, steps_pended}
+use Rattle.covered_steps.specs.covered_calls.Activations.{Reaches}
+use Rattle.covered_steps.specs.covered_effects.Served.{IsServed}
+use Rattle.covered_steps.specs.covered_effects.Steps.{HasReached, NotesTarget}
+use Rattle.covered_steps.proofs.covered_effects.Reaching.{all_given, reached_covered, steps_pended}
 use Rattle.call_sites.specs.Calls.{rest_of}
 use Rattle.ref_state.specs.Values.{value_in}
-use Rattle.covered_statements.specs.Stacked.{PendingOn, Stacked, FramesStand}
-use Rattle.covered_statements.specs.Runnable.{IsRunnable, Steady}
-use Rattle.covered_statements.specs.Rows.{running_in}
-use Rattle.covered_statements.proofs.Stacking.{pended_stacked}
-use Rattle.covered_statements.proofs.Nodes.{begun_steady, waits_steady, settles_steady}
-use Rattle.covered_statements.proofs.Calling.{calls_steady}
+use Rattle.covered_steps.specs.covered_statements.Stacked.{PendingOn, Stacked, FramesStand}
+use Rattle.covered_steps.specs.covered_statements.Runnable.{IsRunnable, Steady}
+use Rattle.covered_steps.specs.covered_statements.Rows.{running_in}
+use Rattle.covered_steps.proofs.covered_statements.Stacking.{pended_stacked}
+use Rattle.covered_steps.proofs.covered_statements.Nodes.{begun_steady, waits_steady, settles_steady}
+use Rattle.covered_steps.proofs.covered_statements.Calling.{calls_steady}
 use Rattle.machine_sound.specs.Carried.{Carried}
 use Rattle.machine_sound.proofs.Lists.{next_computed}
 use Rattle.machine_sound.proofs.Frames.{carries}
@@ -57,13 +57,13 @@ kind_call CallNode e = refl
 kind_call kind e = absurd (false≢true e)
 
 -- a call, all of whose operands are there
-record IsCall (u : CoreTrees) (n : ℕ) (left : List ℕ) : Type 0 where
-  none : left ≡ []
-  node : Node
-  there : slice_get u.nodes n ≡ Some node
-  kind : node.kind ≡ CallNode
+pub record IsCall (u : CoreTrees) (n : ℕ) (left : List ℕ) : Type 0 where
+  pub none : left ≡ []
+  pub node : Node
+  pub there : slice_get u.nodes n ≡ Some node
+  pub kind : node.kind ≡ CallNode
 
-call_here : (u : CoreTrees) (n : ℕ) (left : List ℕ) → calls u n left ≡ true → IsCall u n left
+pub call_here : (u : CoreTrees) (n : ℕ) (left : List ℕ) → calls u n left ≡ true → IsCall u n left
 call_here u n [] e = at (slice_get u.nodes n) refl e
   where
     at : (o : Option Node) → slice_get u.nodes n ≡ o → is_call_at o ≡ true → IsCall u n []

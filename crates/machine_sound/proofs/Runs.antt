@@ -6,7 +6,7 @@ use Rattle.ref_calls.specs.Outcomes.{Outcome, Goes, Ends, Stops}
 use Rattle.ref_machine.specs.Step.{chooses}
 use Rattle.ref_machine.specs.Run.{word_for, words_after, step_with, goes_on, run_from}
 use Rattle.covering_laws.specs.covered_state.World.{World}
-use Rattle.covered_statements.specs.Rows.{running_in}
+use Rattle.covered_steps.specs.covered_statements.Rows.{running_in}
 use Rattle.machine_sound.specs.Carried.{Carried, IsSteppable, RunSound}
 use Rattle.machine_sound.proofs.Steps.{step_sound}
 

@@ -16,16 +16,16 @@ use Rattle.covering_laws.proofs.covered_memory.Grounds.{grounds_of}
 use Rattle.covering_laws.proofs.grown_programs.Systems.{systems_grow}
 use Rattle.covering_laws.specs.covered_state.World.{World}
 use Rattle.covering_laws.specs.covered_state.State.{Covered}
-use Rattle.covered_values.specs.Values.{IsFound}
+use Rattle.covered_steps.specs.covered_values.Values.{IsFound}
 use Rattle.covered_steps.specs.Placed.{HasFirst}
 use Rattle.covered_steps.proofs.Named.{functions_found}
-use Rattle.covered_statements.specs.Runnable.{IsRunnable}
-use Rattle.covered_statements.proofs.Founded.{runnable_met}
-use Rattle.covered_start.specs.Objects.{terms_behind, IsSolved}
-use Rattle.covered_start.specs.Start.{machine_world}
-use Rattle.covered_start.proofs.Types.{library_follow}
-use Rattle.covered_start.proofs.Filled.{start_steady}
-use Rattle.covered_start.proofs.Begun.{begin_steady}
+use Rattle.covered_steps.specs.covered_statements.Runnable.{IsRunnable}
+use Rattle.covered_steps.proofs.covered_statements.Founded.{runnable_met}
+use Rattle.machine_sound.specs.covered_start.Objects.{terms_behind, IsSolved}
+use Rattle.machine_sound.specs.covered_start.Start.{machine_world}
+use Rattle.machine_sound.proofs.covered_start.Types.{library_follow}
+use Rattle.machine_sound.proofs.covered_start.Filled.{start_steady}
+use Rattle.machine_sound.proofs.covered_start.Begun.{begin_steady}
 use Rattle.machine_sound.specs.Carried.{Carried, IsSteppable}
 use Rattle.machine_sound.specs.Scenes.{IsScene, EveryRunIsCovered}
 use Rattle.machine_sound.proofs.Runs.{run_sound}
@@ -35,7 +35,7 @@ unfolding locations_in
 reaches_parts p made = all_reached p.types made (objects_of p)
 
 module _ (p : Program) (system : System) (family : Family) (scene : IsScene p system family) where
-  solved : IsSolved p system family
+  pub solved : IsSolved p system family
   solved = record {
     made = scene.made;
     named = scene.named;
@@ -56,7 +56,7 @@ module _ (p : Program) (system : System) (family : Family) (scene : IsScene p sy
       runnable_met p (terms_behind p) world scene.valid scene.made scene.named scene.fit (library_follow (length p.types.terms)) (record { program = refl; space = refl }) solved.grounds scene.closed
       (λ n node there. found_in node.kind (functions_found p scene.made scene.defined n node there)) scene.automatic
 
-  steppable : IsSteppable world (id (length p.types.terms))
+  pub steppable : IsSteppable world (id (length p.types.terms))
   steppable = record {
     runs = runs;
     served = scene.served solved runs;
@@ -66,9 +66,13 @@ module _ (p : Program) (system : System) (family : Family) (scene : IsScene p sy
   started : Carried world (start p)
   started = record { steady = start_steady p system family solved runs; found = record { each = tt } }
 
-  covered : (words : List ℕ) (n : ℕ) → Covered world (run p words n)
+  -- each state of each run
+  pub carried : (words : List ℕ) (n : ℕ) → Carried world (run p words n)
   unfolding run types_with
-  covered words n = (run_sound world (id (length p.types.terms)) steppable (start p) words n started).steady.covered
+  carried words n = run_sound world (id (length p.types.terms)) steppable (start p) words n started
+
+  covered : (words : List ℕ) (n : ℕ) → Covered world (run p words n)
+  covered words n = (carried words n).steady.covered
 
 pub every_run_is_covered : EveryRunIsCovered
 every_run_is_covered p system family scene = (solved p system family scene, covered p system family scene)

@@ -15,7 +15,7 @@ use Rattle.ref_calls.specs.Ending.{last_of, kept_called, end_step}
 use Rattle.ref_start.specs.Entries.{starts}
 use Rattle.ref_machine.specs.Step.{placed, waited, item_step, outside_step, frames_step, step}
 use Rattle.covering_laws.specs.covered_state.World.{World, trees_of}
-use Rattle.covered_statements.specs.Rows.{running_in}
+use Rattle.covered_steps.specs.covered_statements.Rows.{running_in}
 use Rattle.machine_sound.specs.Carried.{Carried, IsSteppable, StepSound}
 use Rattle.machine_sound.proofs.Rows.{begun, waits}
 use Rattle.machine_sound.proofs.Libraries.{library}

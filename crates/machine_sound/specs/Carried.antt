@@ -7,10 +7,10 @@ use Rattle.ref_start.specs.Entries.{starts}
 use Rattle.ref_machine.specs.Step.{step}
 use Rattle.ref_machine.specs.Run.{run_from}
 use Rattle.covering_laws.specs.covered_state.World.{World}
-use Rattle.covered_statements.specs.Runnable.{IsRunnable, Steady}
-use Rattle.covered_statements.specs.Rows.{running_in}
-use Rattle.covered_effects.specs.Served.{IsServed}
-use Rattle.covered_effects.specs.Steps.{KeptFound}
+use Rattle.covered_steps.specs.covered_statements.Runnable.{IsRunnable, Steady}
+use Rattle.covered_steps.specs.covered_statements.Rows.{running_in}
+use Rattle.covered_steps.specs.covered_effects.Served.{IsServed}
+use Rattle.covered_steps.specs.covered_effects.Steps.{KeptFound}
 
 -- The sets cover the state, its items and frames stand on one another, and the functions that it keeps for the end are
 -- called back by atexit.

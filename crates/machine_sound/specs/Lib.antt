@@ -1,2 +1,3 @@
 pub mod Carried
 pub mod Scenes
+pub mod covered_start

@@ -14,13 +14,13 @@ use Rattle.normal_form.specs.SystemOf.{SystemOf}
 use Rattle.ref_state.specs.ref_types.Types.{id}
 use Rattle.ref_machine.specs.Run.{run}
 use Rattle.covering_laws.specs.covered_state.State.{Covered}
-use Rattle.covered_values.specs.Met.{HasFit}
+use Rattle.covered_steps.specs.covered_values.Met.{HasFit}
 use Rattle.covered_steps.specs.Placed.{NamesDefined}
-use Rattle.covered_statements.specs.Founded.{AutomaticObjects}
-use Rattle.covered_statements.specs.Runnable.{IsRunnable}
-use Rattle.covered_effects.specs.Served.{IsServed}
-use Rattle.covered_start.specs.Objects.{IsSolved}
-use Rattle.covered_start.specs.Start.{machine_world, StartsRight}
+use Rattle.covered_steps.specs.covered_statements.Founded.{AutomaticObjects}
+use Rattle.covered_steps.specs.covered_statements.Runnable.{IsRunnable}
+use Rattle.covered_steps.specs.covered_effects.Served.{IsServed}
+use Rattle.machine_sound.specs.covered_start.Objects.{IsSolved}
+use Rattle.machine_sound.specs.covered_start.Start.{machine_world, StartsRight}
 
 -- A program with its system and a family that is closed for it. What each part says is for another crate to meet.
 pub record IsScene (p : Program) (system : System) (family : Family) : Type 0 where

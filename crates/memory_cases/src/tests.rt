@@ -1,8 +1,9 @@
 // Each script on a memory of its own.
+use crate::page::Page;
 use crate::scripts::SCRIPTS;
 use crate::words::{arg_of, args_from, count, numbers_from, type_of, word, words_of};
+use crate::world::World;
 use c_types::key::ObjectKey;
-use case_worlds::world::World;
 use std::alloc::Global;
 use std::test::Fail;
 
@@ -31,25 +32,23 @@ fn prepares(alloc: Global, world: &mut World, words: &[&str]) -> Result<bool, Fa
     Ok(true)
 }
 
-/// What another step answers.
-fn answer(alloc: Global, world: &mut World, words: &[&str]) -> Result<String, Fail> {
+/// Tells what another step answers.
+fn answer(alloc: Global, world: &mut World, out: &mut Page, words: &[&str]) -> Result<(), Fail> {
     let ty = type_of(word(words, 2));
+    let first = count(word(words, 1));
     match word(words, 0) {
-        "put" => world.put(arg_of(word(words, 1)), ty, arg_of(word(words, 3))),
-        "assign" => world.assign(arg_of(word(words, 1)), ty, arg_of(word(words, 3))),
-        "get" => world.get(arg_of(word(words, 1)), ty),
-        "elements" => {
-            let many = u64::from(count(word(words, 3)));
-            world.elements(count(word(words, 1)), ty, many)
-        }
-        "state" => world.state(count(word(words, 1))),
+        "put" => world.put(out, arg_of(word(words, 1)), ty, arg_of(word(words, 3)))?,
+        "assign" => world.assign(out, arg_of(word(words, 1)), ty, arg_of(word(words, 3)))?,
+        "get" => world.get(out, arg_of(word(words, 1)), ty)?,
+        "elements" => world.elements(out, first, ty, u64::from(count(word(words, 3))))?,
+        "state" => world.state(out, first),
         "call" => {
             let args = args_from(alloc, words, 3)?;
-            let input = u64::from(count(word(words, 1)));
-            world.call(word(words, 2), args.as_slice(), input)
+            world.call(out, word(words, 2), args.as_slice(), u64::from(first))?;
         }
-        _ => Err(Fail::new("no such step")),
+        _ => out.lacks = true,
     }
+    Ok(())
 }
 
 /// Whether a step answers what its line says.
@@ -59,8 +58,9 @@ fn holds(alloc: Global, world: &mut World, line: &str) -> Result<bool, Fail> {
     if prepares(alloc, world, words.as_slice())? {
         return Ok(true);
     }
-    let given = answer(alloc, world, words.as_slice())?;
-    Ok(given.as_str() == parts.next().unwrap_or(""))
+    let mut out = Page::new(alloc);
+    answer(alloc, world, &mut out, words.as_slice())?;
+    Ok(!out.lacks && out.text.as_str() == parts.next().unwrap_or(""))
 }
 
 /// The number of the first step that doesn't answer what its line says.

@@ -1,10 +1,10 @@
 // What the words of a step say.
-use c_types::term::TypeId;
-use case_worlds::case_types::types::{
+use crate::case_types::types::{
     BITS, BYTES, CHAR, EITHER, EMPTY, FIELDS, FOUR_CHARS, HOLLOW, INT, NESTED, POINTER, POINTERS,
     RECORD, SIX_CHARS, THREE_INTS, TWO_CHARS, UNION,
 };
-use case_worlds::world::Arg;
+use crate::world::Arg;
+use c_types::term::TypeId;
 use std::alloc::Global;
 use std::test::Fail;
 

@@ -13,3 +13,5 @@ pub mod owners_known
 pub mod owned_initialisers
 pub mod all_listed
 pub mod passed
+pub mod internal_name_laws
+pub mod static_value_laws

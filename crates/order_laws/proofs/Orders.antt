@@ -6,12 +6,12 @@ use Rattle.pta_base.specs.declared.place.Place.{Place}
 use Rattle.core_tree.specs.declared.node.Node.{Node}
 use Rattle.sol_model.specs.declared.system.CallSite.{CallSite}
 use Rattle.obj_made.specs.Made.{Spot, by_place, Made, in_order as made_put, made_in_order}
-use Rattle.outcome_laws.proofs.twin_locations.Made.{Rise, whole, whole_rises}
+use Rattle.twin_report_laws.proofs.outcome_laws.twin_locations.Made.{Rise, whole, whole_rises}
 use Rattle.unit_report.specs.report_text.Report.{Placed as PlacedCalls, placed as call_placed, all_placed, in_order as calls_put}
 use Rattle.stop_places.specs.declared.list.Stop.{Stop}
-use Rattle.stop_report.specs.Text.{Line, Placed as PlacedStops, rank, spot_of, placed_by, placed, in_order as stops_put, lines_of}
-use Rattle.walk_laws.specs.Ordered.{IsOrdered}
-use Rattle.walk_laws.proofs.Orders.{Member, IsKeyed, put_all, put_is}
+use Rattle.side_reports.specs.stop_report.Text.{Line, Placed as PlacedStops, rank, spot_of, placed_by, placed, in_order as stops_put, lines_of}
+use Rattle.order_laws.specs.walk_laws.Ordered.{IsOrdered}
+use Rattle.order_laws.proofs.walk_laws.Orders.{Member, IsKeyed, put_all, put_is}
 use Rattle.order_laws.specs.Orders.{all_made, MadeOrdered, CallsOrdered, StopsOrdered}
 use Rattle.order_laws.proofs.Spots.{by_place_total, by_place_exact, NumbersRise, rise_less, risen_keyed}
 

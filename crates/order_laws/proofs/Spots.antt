@@ -7,7 +7,7 @@ use Rattle.std.specs.declared.cmp.Ordering.{Ordering}
 use Rattle.std.specs.declared.cmp.Ordering.TheVariants.{Less, Equal, Greater}
 use Rattle.std.proofs.lemmas.Cmp.{ranked, nat_cmp_total, on_total, then_total}
 use Rattle.obj_made.specs.Made.{Spot, by_place}
-use Rattle.walk_laws.proofs.Orders.{Member, IsKeyed}
+use Rattle.order_laws.proofs.walk_laws.Orders.{Member, IsKeyed}
 
 pub by_place_total : IsTotalOrder by_place
 by_place_total =

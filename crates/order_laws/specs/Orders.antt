@@ -6,8 +6,8 @@ use Rattle.sol_model.specs.declared.system.CallSite.{CallSite}
 use Rattle.obj_made.specs.Made.{by_place, Made, entities_made, nodes_made, varargs_made, made_in_order}
 use Rattle.unit_report.specs.report_text.Report.{by_place as call_order, Placed as PlacedCalls, all_placed, in_order}
 use Rattle.stop_places.specs.declared.list.Stop.{Stop}
-use Rattle.stop_report.specs.Text.{Placed as PlacedStops, placed, lines_of}
-use Rattle.walk_laws.specs.Ordered.{IsOrdered}
+use Rattle.side_reports.specs.stop_report.Text.{Placed as PlacedStops, placed, lines_of}
+use Rattle.order_laws.specs.walk_laws.Ordered.{IsOrdered}
 
 -- what the entities of a program make, what its nodes do, and what its variadic functions are passed further
 abbrev pub all_made : Program → Made

@@ -9,3 +9,4 @@ pub mod nesting_laws
 pub mod grown_parts
 pub mod sign_parts
 pub mod passed
+pub mod reading_laws

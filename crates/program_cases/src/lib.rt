@@ -2,10 +2,6 @@
 #![tactic(auto)]
 
 #[cfg(test)]
-mod asker;
-#[cfg(test)]
-mod askers;
-#[cfg(test)]
 mod calls;
 #[cfg(test)]
 mod effects;
@@ -13,6 +9,8 @@ mod effects;
 mod entries;
 #[cfg(test)]
 mod failing;
+#[cfg(test)]
+mod gates;
 #[cfg(test)]
 mod generated;
 #[cfg(test)]
@@ -34,4 +32,4 @@ mod stops;
 #[cfg(test)]
 mod tests;
 #[cfg(test)]
-mod workers;
+mod together;

@@ -35,28 +35,33 @@ pub(crate) fn case_of(row: &str, step: usize) -> Case<'_> {
     }
 }
 
-/// The rows of that number.
-fn rows_of(number: u32) -> &'static str {
-    match number {
-        0 => ROWS,
-        1 => SEVERAL,
-        2 => SCRIPTS,
-        3 => OUTSIDE,
-        4 => RUNS,
-        5 => GENERATED,
-        6 => EFFECTS,
-        7 => STOPS,
-        8 => MACHINE_RUNS,
-        _ => ENTRIES,
+/// The rows of that name.
+fn rows_of(name: &str) -> &'static str {
+    match name {
+        "rows" => ROWS,
+        "several" => SEVERAL,
+        "scripts" => SCRIPTS,
+        "outside" => OUTSIDE,
+        "runs" => RUNS,
+        "generated" => GENERATED,
+        "effects" => EFFECTS,
+        "stops" => STOPS,
+        "machine" => MACHINE_RUNS,
+        "entries" => ENTRIES,
+        _ => "",
     }
 }
 
-/// The words with so many workers, where these aren't 0 and the words don't begin with others.
-fn with_workers(alloc: Global, words: &str, workers: u32) -> Result<String, OutOfMemory> {
-    if workers == 0 || words.starts_with("--workers") {
-        return Ok(words.to_string(alloc)?);
+/// The words with so many workers, where a number is given and the words don't begin with others.
+fn with_workers(alloc: Global, words: &str, workers: &str) -> Result<String, OutOfMemory> {
+    let mut text = String::new(alloc);
+    if !workers.is_empty() && !words.starts_with("--workers") {
+        text.push_str("--workers ")?;
+        text.push_str(workers)?;
+        text.push_str(" ")?;
     }
-    Ok(format!(in alloc; "--workers {workers} {words}")?)
+    text.push_str(words)?;
+    Ok(text)
 }
 
 /// The number of the first row, counted from 0, that a call with so many workers doesn't answer as the row says.
@@ -65,7 +70,7 @@ fn first_wrong<R: Threads + Wait + Sync>(
     alloc: Global,
     rows: &str,
     step: usize,
-    workers: u32,
+    workers: &str,
 ) -> Result<Option<usize>, OutOfMemory> {
     for (at, row) in rows.split("~\n").enumerate() {
         let said = case_of(row, step);
@@ -81,39 +86,41 @@ fn first_wrong<R: Threads + Wait + Sync>(
     Ok(None)
 }
 
+/// Rows by their name, how many bytes a read or a write takes at the most (0 for all), and the number of workers, where one is given.
+const PASSES: &str = "rows 0
+several 0
+scripts 0
+outside 0
+runs 0
+generated 0
+effects 0
+stops 0
+machine 0
+entries 0
+rows 1
+several 1
+scripts 1
+runs 1
+entries 1
+rows 0 2
+rows 0 64
+several 0 1
+several 0 2
+several 0 4
+several 0 64
+runs 0 4
+stops 0 4
+entries 0 4";
+
 #[test]
 fn worked_rows(rt: HostRuntime) -> Result<(), OutOfMemory> {
-    for (number, step, workers) in [
-        (0u32, 0usize, 0u32),
-        (1, 0, 0),
-        (2, 0, 0),
-        (3, 0, 0),
-        (4, 0, 0),
-        (5, 0, 0),
-        (6, 0, 0),
-        (7, 0, 0),
-        (8, 0, 0),
-        (9, 0, 0),
-        (0, 1, 0),
-        (1, 1, 0),
-        (2, 1, 0),
-        (4, 1, 0),
-        (9, 1, 0),
-        (0, 0, 2),
-        (0, 0, 64),
-        (1, 0, 1),
-        (1, 0, 2),
-        (1, 0, 4),
-        (1, 0, 64),
-        (4, 0, 4),
-        (7, 0, 4),
-        (9, 0, 4),
-    ] {
-        let wrong = first_wrong(&rt, rt.alloc(), rows_of(number), step, workers)?;
-        assert!(rt;
-            wrong.is_none(),
-            "rows {number}, step {step}, workers {workers}: {wrong:?}"
-        );
+    for pass in PASSES.split('\n') {
+        let mut fields = pass.split(' ');
+        let rows = rows_of(fields.next().unwrap_or(""));
+        let step = fields.next().unwrap_or("").parse().unwrap_or(0);
+        let workers = fields.next().unwrap_or("");
+        let wrong = first_wrong(&rt, rt.alloc(), rows, step, workers)?;
+        assert!(rt; wrong.is_none(), "{pass}: {wrong:?}");
     }
     Ok(())
 }

@@ -1,5 +1,6 @@
 // A sink in memory of a fixed room, which fails at chosen calls.
-ghost use Rattle.std.specs.Prelude.{◌≡◌, ◌⊎◌, ◌+◌, ◌-◌, ◌^◌, ◌<◌, ◌≤◌, [], ◌++◌, length, min, take, Some, None, option_map, IfOk, OnOk, OnErr};
+ghost use Rattle.std.specs.Prelude.{◌≡◌, ◌⊎◌, ◌+◌, ◌-◌, ◌^◌, ◌<◌, ◌≤◌, [], ◌++◌, length, min, take, Some, None};
+ghost use Rattle.std.specs.Prelude.{option_map, IfOk, OnOk, OnErr};
 ghost use Rattle.std.specs.Option.{ForSome};
 ghost use Rattle.pta_base.specs.Outside.{HasRisen};
 ghost use Rattle.pta_base.specs.Steps.{within};
@@ -105,7 +106,9 @@ impl Sink for MemorySink {
         requires { 0 < length piece.now }
         ensures some { IfOk result (λ count. 0 < count) }
         ensures within { IfOk result (λ count. count ≤ length piece.now) }
-        ensures taken { IfOk result (λ count. Some (take self.new.len self.new.room.items) ≡ option_map (λ before. before ++ take count piece.now) (Some (take self.old.len self.old.room.items))) }
+        ensures taken { IfOk result
+            (λ count. Some (take self.new.len self.new.room.items)
+            ≡ option_map (λ before. before ++ take count piece.now) (Some (take self.old.len self.old.room.items))) }
         ensures err { OnErr result (Some (take self.new.len self.new.room.items) ≡ Some (take self.old.len self.old.room.items)) }
         ensures cause { OnErr result (HasRisen self.old.faults self.new.faults) }
         ensures steady { OnOk result (self.new.faults ≡ self.old.faults) }

@@ -107,7 +107,9 @@ impl Units for MemoryUnits {
         ensures fails { OnErr result (IsListed self.old ⊎ IsUnknown self.old name.now) }
         ensures spared { OnOk result (¬ IsListed self.old) }
         ensures known { OnOk result (IsSome (text_of self.old.texts.items name.now)) }
-        ensures count { IfOk result (λ count. IfSome (text_of self.old.texts.items name.now) (λ told. count ≡ within (step_of self.old) (min (length told - at) (length buf.old)))) }
+        ensures count { IfOk result
+            (λ count. IfSome (text_of self.old.texts.items name.now)
+            (λ told. count ≡ within (step_of self.old) (min (length told - at) (length buf.old)))) }
         ensures stepped { step_of self.new ≡ step_of self.old }
         ensures counted { reads_of self.new ≡ min (reads_of self.old + 1) (2 ^ 64 - 1) }
         ensures listed { failing_of self.new ≡ failing_of self.old }

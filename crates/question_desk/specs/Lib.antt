@@ -3,3 +3,4 @@ pub mod Order
 pub mod Senders
 pub mod Calls
 pub mod Settled
+pub mod desk_rounds

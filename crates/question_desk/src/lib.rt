@@ -5,6 +5,7 @@
 mod ask;
 mod calls;
 mod desk;
+pub mod desk_rounds;
 mod rule;
 mod settling;
 mod view;

@@ -1,4 +1,5 @@
 //! Expressions with their trees, and texts that aren't read with their first faults.
+use crate::fields::sides;
 use c_grammar::terminals::spelled;
 use c_grammar::{Scopes, SyntaxNode, Tree};
 use c_lexer::lexer::tokens;
@@ -106,96 +107,78 @@ fn expression(alloc: Global, text: &[u8], depth: u32) -> Result<String, Fail> {
     parsed(alloc, &tokens, depth)
 }
 
-/// Whether a text prints so.
-fn is_shown(alloc: Global, text: &str, wanted: &str) -> Result<bool, Fail> {
+/// Whether the text of a row prints as the row says.
+fn is_shown(alloc: Global, row: &str) -> Result<bool, Fail> {
+    let (text, wanted) = sides(row);
     let found = expression(alloc, text.as_bytes(), 0)?;
     Ok(found.as_str() == wanted)
 }
 
 // The groups of C11 6.5, written by hand.
-static TREES: [(&str, &str); 27] = [
-    ("a-b-c", "(a - b - c)"),
-    ("-a*b+c", "(((- a) * b) + c)"),
-    ("a+b*c<<d", "((a + (b * c)) << d)"),
-    ("a<b==c", "((a < b) == c)"),
-    ("a&&b||c&&d", "((a && b) || (c && d))"),
-    ("a|b^c&d", "(a | (b ^ (c & d)))"),
-    ("a=b+=c", "(a = (b += c))"),
-    ("a?b:c=d", "((a ? b : c) = d)"),
-    ("a?b,c:d?e:f", "(a ? (b , c) : (d ? e : f))"),
-    ("a,b,c", "(a , b , c)"),
-    ("*p++=&q", "((* (p ++)) = (& q))"),
-    (
-        "f(a,b)[1].c->d--",
-        "(f (( a , b )) ([ 1 ]) (. c) (-> d) --)",
-    ),
-    ("f()", "(f (( )))"),
-    ("(T)-x", "(( (T ()) ) (- x))"),
-    ("(x)-y", "((( x )) - y)"),
-    ("sizeof(T)*x", "((sizeof ( (T ()) )) * x)"),
-    ("sizeof(x)", "(sizeof (( x )))"),
-    ("sizeof x+y", "((sizeof x) + y)"),
-    ("(T){1,2}.m", "(( (T ()) ) { (1 , 2) } (. m))"),
-    ("\"x\" \"y\"", "(\"x\" \"y\")"),
-    ("(__builtin_va_list)x", "(( (__builtin_va_list ()) ) x)"),
-    (
-        "__builtin_va_arg(a,int)+b",
-        "((__builtin_va_arg ( a , (int ()) )) + b)",
-    ),
-    (
-        "__builtin_va_start(a,(n))",
-        "(__builtin_va_start ( a , (( n )) ))",
-    ),
-    (
-        "__builtin_va_end(a[0])",
-        "(__builtin_va_end ( (a ([ 0 ])) ))",
-    ),
-    ("x.__builtin_va_end", "(x (. __builtin_va_end))"),
-    ("!~-+x", "(! (~ (- (+ x))))"),
-    (
-        "(unsigned long long int)x",
-        "(( ((unsigned long long int) ()) ) x)",
-    ),
-];
+const TREES: &str = "a-b-c => (a - b - c)
+-a*b+c => (((- a) * b) + c)
+a+b*c<<d => ((a + (b * c)) << d)
+a<b==c => ((a < b) == c)
+a&&b||c&&d => ((a && b) || (c && d))
+a|b^c&d => (a | (b ^ (c & d)))
+a=b+=c => (a = (b += c))
+a?b:c=d => ((a ? b : c) = d)
+a?b,c:d?e:f => (a ? (b , c) : (d ? e : f))
+a,b,c => (a , b , c)
+*p++=&q => ((* (p ++)) = (& q))
+f(a,b)[1].c->d-- => (f (( a , b )) ([ 1 ]) (. c) (-> d) --)
+f() => (f (( )))
+(T)-x => (( (T ()) ) (- x))
+(x)-y => ((( x )) - y)
+sizeof(T)*x => ((sizeof ( (T ()) )) * x)
+sizeof(x) => (sizeof (( x )))
+sizeof x+y => ((sizeof x) + y)
+(T){1,2}.m => (( (T ()) ) { (1 , 2) } (. m))
+\"x\" \"y\" => (\"x\" \"y\")
+(__builtin_va_list)x => (( (__builtin_va_list ()) ) x)
+__builtin_va_arg(a,int)+b => ((__builtin_va_arg ( a , (int ()) )) + b)
+__builtin_va_start(a,(n)) => (__builtin_va_start ( a , (( n )) ))
+__builtin_va_end(a[0]) => (__builtin_va_end ( (a ([ 0 ])) ))
+x.__builtin_va_end => (x (. __builtin_va_end))
+!~-+x => (! (~ (- (+ x))))
+(unsigned long long int)x => (( ((unsigned long long int) ()) ) x)";
 
 #[test]
 fn trees(rt: HostRuntime) -> Result<(), Fail> {
-    for (text, wanted) in &TREES {
-        assert!(rt; is_shown(rt.alloc(), text, wanted)?, "{text}");
+    for row in TREES.split('\n') {
+        assert!(rt; is_shown(rt.alloc(), row)?, "{row}");
     }
     Ok(())
 }
 
 // The first token that doesn't fit.
-static FAULTS: [(&str, &str); 22] = [
-    ("a+", "Malformed(2)"),
-    ("p=)", "Malformed(2)"),
-    ("sizeof )", "Malformed(1)"),
-    ("a+1.5", "Unsupported(Floating, 2)"),
-    ("&&a", "Unsupported(LabelAddress, 0)"),
-    ("a&&&&b", "Unsupported(LabelAddress, 2)"),
-    ("({1;})", "Unsupported(StatementExpression, 0)"),
-    ("__builtin_f(1)", "Unsupported(Builtin, 0)"),
-    ("__builtin_va_list", "Unsupported(Builtin, 0)"),
-    ("__builtin_va_start(a)", "Malformed(3)"),
-    ("__builtin_va_end", "Malformed(1)"),
-    ("__builtin_va_arg(a,b)", "Malformed(4)"),
-    ("_Generic(1)", "Unsupported(Generic, 0)"),
-    ("a=L'a'", "Unsupported(Wide, 2)"),
-    ("a='ab'", "Unsupported(Character, 2)"),
-    ("(unsigned __int128)a", "Unsupported(WideInteger, 2)"),
-    ("(const typeof(a))a", "Unsupported(Typeof, 2)"),
-    ("(long float)a", "Malformed(2)"),
-    ("(unsigned long double)a", "Malformed(3)"),
-    ("(unsigned long unsigned)a", "Malformed(3)"),
-    ("(int T)a", "Malformed(2)"),
-    ("(int(*)(a))b", "Unsupported(OldParameters, 6)"),
-];
+const FAULTS: &str = "a+ => Malformed(2)
+p=) => Malformed(2)
+sizeof ) => Malformed(1)
+a+1.5 => Unsupported(Floating, 2)
+&&a => Unsupported(LabelAddress, 0)
+a&&&&b => Unsupported(LabelAddress, 2)
+({1;}) => Unsupported(StatementExpression, 0)
+__builtin_f(1) => Unsupported(Builtin, 0)
+__builtin_va_list => Unsupported(Builtin, 0)
+__builtin_va_start(a) => Malformed(3)
+__builtin_va_end => Malformed(1)
+__builtin_va_arg(a,b) => Malformed(4)
+_Generic(1) => Unsupported(Generic, 0)
+a=L'a' => Unsupported(Wide, 2)
+a='ab' => Unsupported(Character, 2)
+(unsigned __int128)a => Unsupported(WideInteger, 2)
+(const typeof(a))a => Unsupported(Typeof, 2)
+(long float)a => Malformed(2)
+(unsigned long double)a => Malformed(3)
+(unsigned long unsigned)a => Malformed(3)
+(int T)a => Malformed(2)
+(int(*)(a))b => Unsupported(OldParameters, 6)";
 
 #[test]
 fn faults(rt: HostRuntime) -> Result<(), Fail> {
-    for (text, wanted) in &FAULTS {
-        assert!(rt; is_shown(rt.alloc(), text, wanted)?, "{text}");
+    for row in FAULTS.split('\n') {
+        assert!(rt; is_shown(rt.alloc(), row)?, "{row}");
     }
     Ok(())
 }

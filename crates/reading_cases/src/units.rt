@@ -1,4 +1,5 @@
 //! Whole units and their first faults.
+use crate::fields::{number, word};
 use crate::parsing::nested;
 use c_grammar::Tree;
 use c_grammar::productions::STATEMENT;
@@ -48,85 +49,56 @@ fn come_of(alloc: Global, tokens: &Tokens) -> Outcome {
     }
 }
 
-/// Whether an outcome is the one that is wanted.
-fn is_same(found: Outcome, wanted: Outcome) -> bool {
-    found.0 == wanted.0 && found.1 == wanted.1 && found.2 == wanted.2
-}
-
-/// Whether that comes of a text.
-fn comes_to(alloc: Global, text: &[u8], wanted: Outcome) -> bool {
+/// Whether a text comes to the outcome that these words tell: `read`, or a fault's kind, its line and its column.
+fn comes_to(alloc: Global, text: &[u8], wanted: &str) -> bool {
     match tokens(alloc, text) {
-        Ok(found) => is_same(come_of(alloc, &found), wanted),
+        Ok(found) => {
+            let (kind, line, column) = come_of(alloc, &found);
+            kind == word(wanted, 0) && line == number(wanted, 1) && column == number(wanted, 2)
+        }
         Err(_) => false,
     }
 }
 
-static UNITS: [(&str, Outcome); 32] = [
-    ("", ("read", 0, 0)),
-    ("int main(void){return 0;}", ("read", 0, 0)),
-    ("int main(void){return 0}", ("malformed", 1, 24)),
-    ("int main(void){", ("malformed", 1, 16)),
-    ("int f(a) int a; {return 0;}", ("old-parameters", 1, 7)),
-    (
-        "int n;int main(void){\n1.5;\nreturn 0;}\n",
-        ("floating", 2, 1),
-    ),
-    ("asm(\"x\");", ("asm", 1, 1)),
-    ("int x asm(\"y\");", ("read", 0, 0)),
-    ("_Thread_local int x;", ("thread-local", 1, 1)),
-    ("double _Complex z;", ("complex", 1, 8)),
-    ("int typeof;", ("typeof", 1, 5)),
-    ("void f(void){typeof(int) x;}", ("typeof", 1, 14)),
-    ("int a[]={[1 ... 2]=3};", ("range", 1, 13)),
-    (
-        "_Float32 x; float f(double); int __builtin_f(int);",
-        ("read", 0, 0),
-    ),
-    ("typedef int T; T T;", ("read", 0, 0)),
-    ("typedef int T; T (x); void f(T T){T=1;}", ("read", 0, 0)),
-    ("typedef int T; int T; T x;", ("malformed", 1, 23)),
-    (
-        "typedef int T; void f(void){{int T;T=1;}T x;T:;}",
-        ("read", 0, 0),
-    ),
-    ("enum{A}; void f(int A){A=1;}", ("read", 0, 0)),
-    (
-        "typedef int T;int f(enum{T}x){T*x;return 0;}",
-        ("read", 0, 0),
-    ),
-    (
-        "typedef int T;int g();int f(enum{T}x){return g(T,(T));}",
-        ("read", 0, 0),
-    ),
-    (
-        "typedef int T;int f(int g(enum{T}x)){T*y;return 0;}",
-        ("read", 0, 0),
-    ),
-    (
-        "typedef int T;int f(int g(enum{T}x)){return g((T));}",
-        ("malformed", 1, 50),
-    ),
-    ("int struct s y;", ("malformed", 1, 5)),
-    ("static x;", ("malformed", 1, 8)),
-    ("int (*f(void))(int){return 0;}", ("read", 0, 0)),
-    ("int (*k(void))[2][3]{return 0;}", ("read", 0, 0)),
-    ("int f(void)[3]{", ("malformed", 1, 15)),
-    ("int *f{", ("malformed", 1, 7)),
-    ("int x=)", ("malformed", 1, 7)),
-    (
-        "int f(int a,int b,...){for(int i=0;i<a;i++)b+=i;do;while(0);goto l;l:return b;}",
-        ("read", 0, 0),
-    ),
-    (
-        "struct s{int a:3,:2;struct s*n;}v={.a=1};union{int i;}u;_Static_assert(1,\"\");",
-        ("read", 0, 0),
-    ),
-];
+/// Units, and what comes of them: `read`, or why it isn't read, with line and column.
+const UNITS: &str = "`read~
+int main(void){return 0;}`read~
+int main(void){return 0}`malformed 1 24~
+int main(void){`malformed 1 16~
+int f(a) int a; {return 0;}`old-parameters 1 7~
+int n;int main(void){\n1.5;\nreturn 0;}\n`floating 2 1~
+asm(\"x\");`asm 1 1~
+int x asm(\"y\");`read~
+_Thread_local int x;`thread-local 1 1~
+double _Complex z;`complex 1 8~
+int typeof;`typeof 1 5~
+void f(void){typeof(int) x;}`typeof 1 14~
+int a[]={[1 ... 2]=3};`range 1 13~
+_Float32 x; float f(double); int __builtin_f(int);`read~
+typedef int T; T T;`read~
+typedef int T; T (x); void f(T T){T=1;}`read~
+typedef int T; int T; T x;`malformed 1 23~
+typedef int T; void f(void){{int T;T=1;}T x;T:;}`read~
+enum{A}; void f(int A){A=1;}`read~
+typedef int T;int f(enum{T}x){T*x;return 0;}`read~
+typedef int T;int g();int f(enum{T}x){return g(T,(T));}`read~
+typedef int T;int f(int g(enum{T}x)){T*y;return 0;}`read~
+typedef int T;int f(int g(enum{T}x)){return g((T));}`malformed 1 50~
+int struct s y;`malformed 1 5~
+static x;`malformed 1 8~
+int (*f(void))(int){return 0;}`read~
+int (*k(void))[2][3]{return 0;}`read~
+int f(void)[3]{`malformed 1 15~
+int *f{`malformed 1 7~
+int x=)`malformed 1 7~
+int f(int a,int b,...){for(int i=0;i<a;i++)b+=i;do;while(0);goto l;l:return b;}`read~
+struct s{int a:3,:2;struct s*n;}v={.a=1};union{int i;}u;_Static_assert(1,\"\");`read";
 
 #[test]
 fn units(rt: HostRuntime) {
-    for (text, wanted) in &UNITS {
-        assert!(rt; comes_to(rt.alloc(), text.as_bytes(), *wanted), "{text}");
+    for row in UNITS.split("~\n") {
+        let (text, wanted) = row.split_once('`').unwrap_or((row, ""));
+        assert!(rt; comes_to(rt.alloc(), text.as_bytes(), wanted), "{row}");
     }
 }
 
@@ -143,9 +115,9 @@ fn blocks(alloc: Global, depth: usize) -> Result<Vec<u8>, Fail> {
 #[test]
 fn nested_blocks(rt: HostRuntime) -> Result<(), Fail> {
     let near = blocks(rt.alloc(), 255)?;
-    assert!(rt; comes_to(rt.alloc(), near.as_slice(), ("read", 0, 0)));
+    assert!(rt; comes_to(rt.alloc(), near.as_slice(), "read"));
     let deep = blocks(rt.alloc(), 256)?;
-    assert!(rt; comes_to(rt.alloc(), deep.as_slice(), ("too-deep", 1, 272)));
+    assert!(rt; comes_to(rt.alloc(), deep.as_slice(), "too-deep 1 272"));
     Ok(())
 }
 

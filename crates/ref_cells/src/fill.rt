@@ -6,7 +6,8 @@ ghost use Rattle.c_types.specs.Table.{type_of};
 ghost use Rattle.c_types.specs.Trees.{Ctype, grow};
 ghost use Rattle.ref_cells.specs.Cells.{CellList, seen, joined, under};
 ghost use Rattle.ref_cells.specs.Order.{IsOrdered};
-ghost use Rattle.ref_cells.specs.Values.{zero_cell, listed, member_step, blank, cell_in, active, elements, members_from, one_member, filled_by, filled_to, filled};
+ghost use Rattle.ref_cells.specs.Values.{zero_cell, listed, member_step, blank, cell_in, active, elements, members_from};
+ghost use Rattle.ref_cells.specs.Values.{one_member, filled_by, filled_to, filled};
 
 use crate::cells::{Cell, Path, copy_path, push_entry};
 use crate::order::under;

@@ -5,7 +5,8 @@ ghost use Rattle.c_types.specs.Trees.{Ctype, grow};
 ghost use Rattle.std.specs.Option.{option_map};
 ghost use Rattle.c_types.specs.Table.{Table, type_of, extent_in, size_below};
 ghost use Rattle.c_types.specs.Paths.{part_type, part_below};
-ghost use Rattle.ref_cells.specs.Wholes.{is_heap, is_allocated, elements_in, elements_of, typed_whole, whole_of, shape_of, shape_in, IsOver};
+ghost use Rattle.ref_cells.specs.Wholes.{is_heap, is_allocated, elements_in, elements_of, typed_whole, whole_of, shape_of};
+ghost use Rattle.ref_cells.specs.Wholes.{shape_in, IsOver};
 ghost use Rattle.ref_cells.specs.Places.{is_out, IsKnown};
 
 use crate::instance::Instance;

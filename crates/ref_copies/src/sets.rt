@@ -8,7 +8,8 @@ ghost use Rattle.c_types.specs.Paths.{part_below, type_at_path};
 ghost use Rattle.ref_cells.specs.Answers.{Gives};
 ghost use Rattle.ref_cells.specs.Places.{IsKnown, AreKnown};
 ghost use Rattle.ref_elements.specs.Arguments.{argument, count_of};
-ghost use Rattle.ref_copies.specs.Copies.{is_byte, is_union, is_free_byte, goes_through_union, is_all_bytes, byte_at, set_cells, set_parts, set_run, set_target, aimed_as, set_whole, set_at, set_row};
+ghost use Rattle.ref_copies.specs.Copies.{is_byte, is_union, is_free_byte, goes_through_union, is_all_bytes, byte_at};
+ghost use Rattle.ref_copies.specs.Copies.{set_cells, set_parts, set_run, set_target, aimed_as, set_whole, set_at, set_row};
 
 use c_types::table::TypeTable;
 use c_types::term::{OutOfMemory, PathStep, Term, TypeId};

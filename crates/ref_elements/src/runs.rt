@@ -5,7 +5,8 @@ ghost use Rattle.std.specs.Option.{option_map};
 ghost use Rattle.ref_cells.specs.Answers.{Gives};
 ghost use Rattle.ref_cells.specs.Wholes.{IsOver};
 ghost use Rattle.ref_cells.specs.Places.{IsKnown, AreKnown};
-ghost use Rattle.ref_elements.specs.Runs.{whole_id, part_id, count_in, alone, indexed, behind_step, last_index, run_from, element_path, element_at, found_as, found_at};
+ghost use Rattle.ref_elements.specs.Runs.{whole_id, part_id, count_in, alone, indexed, behind_step, last_index, run_from};
+ghost use Rattle.ref_elements.specs.Runs.{element_path, element_at, found_as, found_at};
 
 use c_types::table::TypeTable;
 use c_types::term::{OutOfMemory, PathStep, Term, TypeId};

@@ -6,7 +6,9 @@ ghost use Rattle.c_types.specs.Trees.{PointerTo, VoidType};
 ghost use Rattle.ref_cells.specs.Answers.{Gives};
 ghost use Rattle.ref_cells.specs.Wholes.{shape_in, IsOver};
 ghost use Rattle.ref_cells.specs.Places.{IsKnown, AreKnown};
-ghost use Rattle.ref_mem.specs.Writes.{width_at, width_along, kept_cell, kept, put_all, with_parts, with_value, type_or, typed_as, write_found, write, part_in, part_found, character_part, kept_parts, initialised};
+ghost use Rattle.ref_mem.specs.Writes.{width_at, width_along, kept_cell, kept, put_all, with_parts, with_value, type_or};
+ghost use Rattle.ref_mem.specs.Writes.{typed_as, write_found, write, part_in, part_found, character_part, kept_parts};
+ghost use Rattle.ref_mem.specs.Writes.{initialised};
 
 use c_types::table::TypeTable;
 use c_types::term::{OutOfMemory, PathStep, Term, TypeId};

@@ -3,7 +3,8 @@
 ghost use Rattle.std.specs.Prelude.{◌≡◌, ◌-◌, ◌++◌, [], ◌∷◌, take, slice_get, IfOk, length};
 ghost use Rattle.ref_cells.specs.Answers.{Gives};
 ghost use Rattle.ref_cells.specs.Places.{AreKnown};
-ghost use Rattle.ref_texts.specs.Reading.{later_as, later, later_place, place_at, char_at, unless_zero, next_at, text_at, part_at, order_of, decided, decided_at, compared_at, compared_part};
+ghost use Rattle.ref_texts.specs.Reading.{later_as, later, later_place, place_at, char_at, unless_zero, next_at, text_at};
+ghost use Rattle.ref_texts.specs.Reading.{part_at, order_of, decided, decided_at, compared_at, compared_part};
 
 use c_types::table::TypeTable;
 use c_types::term::{OutOfMemory, PathStep};

@@ -7,7 +7,9 @@ ghost use Rattle.ref_cells.specs.Places.{AreKnown};
 ghost use Rattle.ref_elements.specs.Arguments.{argument};
 ghost use Rattle.ref_elements.specs.Outcomes.{gives, start_value};
 ghost use Rattle.ref_elements.specs.Objects.{with_new};
-ghost use Rattle.ref_texts.specs.Texts.{length_row, compare_row, compare_part_row, copy_text_row, add_text_row, copy_part_row, duplicated, duplicate_row, print_row, print_part_row, line_row, block_row, block_of, blocks_in};
+ghost use Rattle.ref_texts.specs.Texts.{length_row, compare_row, compare_part_row, copy_text_row, add_text_row};
+ghost use Rattle.ref_texts.specs.Texts.{copy_part_row, duplicated, duplicate_row, print_row, print_part_row, line_row};
+ghost use Rattle.ref_texts.specs.Texts.{block_row, block_of, blocks_in};
 
 use crate::reading::{compared_at, compared_part, part_at, text_at};
 use crate::writing::{close, text_cells, text_of, text_part, writes, writes_padded};

@@ -13,8 +13,8 @@ use Rattle.unit_report.specs.unit_system.Faults as core
 use Rattle.unit_report.specs.unit_system.Of.{AreLinkedAs, IsSystemOf}
 use Rattle.unit_report.specs.Reported.{IsProgramReport}
 use Rattle.gen_summary.specs.Summary.{IsProgramSummary}
-use Rattle.effects_text.specs.Effects.{IsProgramEffects}
-use Rattle.stop_report.specs.Text.{IsProgramStops}
+use Rattle.side_reports.specs.effects_text.Effects.{IsProgramEffects}
+use Rattle.side_reports.specs.stop_report.Text.{IsProgramStops}
 use Rattle.text_units.specs.declared.fault.UnitsFault.{UnitsFault}
 use Rattle.report_cli.specs.declared.form.Form.{Form}
 use Rattle.report_cli.specs.declared.form.Form.TheVariants.{Report, Summary, Effects, Stops}

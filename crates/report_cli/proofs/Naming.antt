@@ -10,10 +10,10 @@ use Rattle.sol_model.specs.declared.system.System.{System}
 use Rattle.obj_space.specs.declared.location.Location.{Location}
 use Rattle.obj_space.specs.Space.{DistinctNames}
 use Rattle.unit_report.specs.unit_system.Of.{IsSystemOf}
-use Rattle.location_laws.specs.name_shapes.Bytes.{is_unit_byte, IsMadeOf}
-use Rattle.location_laws.proofs.name_shapes.Cutting.{and}
-use Rattle.location_laws.specs.named_laws.Units.{IsNamedUnit, AreNamedUnits}
-use Rattle.location_laws.specs.named_laws.Whole.{IsWhole}
+use Rattle.linked_laws.specs.location_laws.name_shapes.Bytes.{is_unit_byte, IsMadeOf}
+use Rattle.linked_laws.proofs.location_laws.name_shapes.Cutting.{and}
+use Rattle.linked_laws.specs.location_laws.named_laws.Units.{IsNamedUnit, AreNamedUnits}
+use Rattle.linked_laws.specs.location_laws.named_laws.Whole.{IsWhole}
 use Rattle.declared_type_laws.proofs.named_rest.Whole.{named_whole}
 use Rattle.command_line.specs.Distinct.{AreDistinct}
 use Rattle.command_line.specs.Rules.{HasUnits, IsUnitWord}

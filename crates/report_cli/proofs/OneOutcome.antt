@@ -10,11 +10,11 @@ use Rattle.c_senses.specs.Tree.{Source}
 use Rattle.c_senses.specs.Names.{source_of, numbered}
 use Rattle.c_senses.specs.Places.{own_place}
 use Rattle.c_senses.specs.Rows.{RefusedAt}
-use Rattle.reading_laws.proofs.source_laws.Reading.{one_refusal, not_right}
+use Rattle.parsed_tree_laws.proofs.reading_laws.source_laws.Reading.{one_refusal, not_right}
 use Rattle.c_tags.specs.tag_numbers.Ordered.{AreInOrder}
-use Rattle.c_lower.specs.passed.unit_walk.Walked.{AreDense}
-use Rattle.reading_laws.specs.Reading.{IsRead, AreOne}
-use Rattle.reading_laws.proofs.Reading.{one_tree}
+use Rattle.text_units.specs.passed.c_lower.passed.unit_walk.Walked.{AreDense}
+use Rattle.parsed_tree_laws.specs.reading_laws.Reading.{IsRead, AreOne}
+use Rattle.parsed_tree_laws.proofs.reading_laws.Reading.{one_tree}
 use Rattle.text_units.specs.Answers.{NamedText, Answer, refusal, place_text}
 use Rattle.text_units.specs.Alone.{IsReadAs}
 use Rattle.text_units.specs.Lowered.{IsParsed, IsRightText, AreRightTexts, IsRefusedRow, kind_refusal}

@@ -5,8 +5,8 @@ use Rattle.core_tree.specs.declared.node.Unit.{Unit}
 use Rattle.core_tree.specs.declared.node.Program.{Program}
 use Rattle.c_senses.specs.Names.{source_of, numbered}
 use Rattle.unit_link.specs.Linked.{LinkedAt}
-use Rattle.reading_laws.specs.right_laws.Alike.{AreAlike}
-use Rattle.reading_laws.proofs.right_laws.RightAlike.{right_alike}
+use Rattle.parsed_tree_laws.specs.reading_laws.right_laws.Alike.{AreAlike}
+use Rattle.parsed_tree_laws.proofs.reading_laws.right_laws.RightAlike.{right_alike}
 use Rattle.text_units.specs.Answers.{NamedText, Answer}
 use Rattle.text_units.specs.Lowered.{IsRightText, AreRightTexts}
 use Rattle.report_cli.specs.Linking.{HaveManyNodes, HaveManyWords, nodes_refusal, words_refusal}
@@ -16,10 +16,10 @@ use Rattle.obj_space.specs.Space.{locations_in}
 use Rattle.obj_space.specs.View.{view_of}
 use Rattle.constraints.specs.System.{IsWithin, word_total}
 use Rattle.unit_report.specs.unit_system.Of.{IsProgramOf}
-use Rattle.outcome_laws.specs.text_faults.Texts.{AreOfOneText}
-use Rattle.outcome_laws.proofs.text_faults.Texts.{right_twins}
-use Rattle.outcome_laws.specs.twin_programs.One.{AreAllRooted}
-use Rattle.outcome_laws.proofs.twin_words.Whole.{one_word_total}
+use Rattle.twin_report_laws.specs.outcome_laws.text_faults.Texts.{AreOfOneText}
+use Rattle.twin_report_laws.proofs.outcome_laws.text_faults.Texts.{right_twins}
+use Rattle.twin_report_laws.specs.outcome_laws.twin_programs.One.{AreAllRooted}
+use Rattle.twin_report_laws.proofs.outcome_laws.twin_words.Whole.{one_word_total}
 use Rattle.report_cli.proofs.Twins.{one_text_units, same_texts}
 use Rattle.covered_reports.proofs.Linkable.{IsUnitOf, unit_of}
 

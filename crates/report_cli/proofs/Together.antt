@@ -6,7 +6,7 @@ use Rattle.unit_link.specs.Linked.{LinkedAt}
 use Rattle.obj_space.specs.Space.{locations_in}
 use Rattle.obj_space.specs.View.{view_of}
 use Rattle.constraints.specs.System.{IsWithin}
-use Rattle.outcome_laws.proofs.text_faults.Texts.{one_text_fault}
+use Rattle.twin_report_laws.proofs.outcome_laws.text_faults.Texts.{one_text_fault}
 use Rattle.text_units.specs.Answers.{NamedText, Answer}
 use Rattle.report_cli.specs.Told.{Side, no_side, with_questions, with_words, Told}
 use Rattle.text_units.specs.Lowered.{AreRightTexts}

@@ -4,8 +4,8 @@ use Rattle.core_tree.specs.declared.node.Unit.{Unit}
 use Rattle.c_senses.specs.Tree.{Source}
 use Rattle.c_senses.specs.Names.{source_of, numbered}
 use Rattle.c_senses.specs.Right.{Right}
-use Rattle.c_lower.specs.PassedOn.{HasTags}
-use Rattle.outcome_laws.specs.text_faults.Texts.{AreOfOneText, AreOfOneTexts}
+use Rattle.text_units.specs.passed.c_lower.PassedOn.{HasTags}
+use Rattle.twin_report_laws.specs.outcome_laws.text_faults.Texts.{AreOfOneText, AreOfOneTexts}
 use Rattle.text_units.specs.Answers.{NamedText}
 use Rattle.text_units.specs.Lowered.{IsRightText, AreRightTexts}
 use Rattle.report_cli.proofs.OneOutcome.{same_numbered}

@@ -4,7 +4,7 @@ use Rattle.core_tree.specs.declared.node.Unit.{Unit}
 use Rattle.core_tree.specs.declared.node.Program.{Program}
 use Rattle.text_units.specs.Answers.{NamedText, Answer}
 use Rattle.text_units.specs.Alone.{IsRefusedAlone, AreReadAlone}
-use Rattle.reading_laws.specs.right_laws.Alike.{AreAlike}
+use Rattle.parsed_tree_laws.specs.reading_laws.right_laws.Alike.{AreAlike}
 use Rattle.obj_space.specs.Space.{locations_in}
 use Rattle.obj_space.specs.View.{view_of}
 use Rattle.constraints.specs.System.{IsWithin, word_total}

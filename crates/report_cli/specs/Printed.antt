@@ -8,8 +8,8 @@ use Rattle.obj_space.specs.declared.location.Location.{Location}
 use Rattle.unit_report.specs.unit_system.Of.{IsSystemOf}
 use Rattle.unit_report.specs.Reported.{IsProgramReport}
 use Rattle.gen_summary.specs.Summary.{IsProgramSummary}
-use Rattle.effects_text.specs.Effects.{IsProgramEffects}
-use Rattle.stop_report.specs.Text.{IsProgramStops}
+use Rattle.side_reports.specs.effects_text.Effects.{IsProgramEffects}
+use Rattle.side_reports.specs.stop_report.Text.{IsProgramStops}
 use Rattle.unit_report.specs.unit_answers.Answered.{IsProgramAnswers, IsRefusedLine}
 use Rattle.report_cli.specs.declared.form.Form.{Form}
 use Rattle.report_cli.specs.declared.form.Form.TheVariants.{Report, Summary, Effects, Stops}

@@ -2,7 +2,7 @@
 use Rattle.std.specs.Prelude.{ℕ, Bool, List, [], ◌∷◌, ◌++◌, map, string_bytes, String, codes, Option, Some, None}
 use Rattle.std.specs.List.{All}
 use Rattle.std.specs.declared.alloc.Global.{Global}
-use Rattle.location_laws.specs.name_shapes.Bytes.{is_unit_byte, IsMadeOf}
+use Rattle.linked_laws.specs.location_laws.name_shapes.Bytes.{is_unit_byte, IsMadeOf}
 use Rattle.command_line.specs.Language.{found_in}
 use Rattle.command_line.specs.Rules.{asks_effects, asks_json, asks_stops, entry_names, script_word, unit_words}
 use Rattle.command_line.specs.Meaning.{number_of}

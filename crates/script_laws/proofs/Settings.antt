@@ -14,11 +14,11 @@ use Rattle.constraints.specs.System.{word_total, IsWithin}
 use Rattle.alias_query.specs.Asked.{made_setting}
 use Rattle.unit_report.specs.unit_system.Of.{IsProgramOf, IsSystemOf}
 use Rattle.unit_report.specs.unit_answers.Answered.{setting_of}
-use Rattle.outcome_laws.specs.twin_programs.One.{AreAllRooted, AreOne}
-use Rattle.outcome_laws.proofs.twin_programs.Whole.{twin_programs}
-use Rattle.outcome_laws.proofs.text_faults.Texts.{right_twins}
-use Rattle.outcome_laws.specs.twin_scripts.Scripts.{SameScripts, read_with}
-use Rattle.outcome_laws.proofs.twin_scripts.Whole.{twin_scripts}
+use Rattle.twin_report_laws.specs.outcome_laws.twin_programs.One.{AreAllRooted, AreOne}
+use Rattle.twin_report_laws.proofs.outcome_laws.twin_programs.Whole.{twin_programs}
+use Rattle.twin_report_laws.proofs.outcome_laws.text_faults.Texts.{right_twins}
+use Rattle.twin_report_laws.specs.outcome_laws.twin_scripts.Scripts.{SameScripts, read_with}
+use Rattle.twin_report_laws.proofs.outcome_laws.twin_scripts.Whole.{twin_scripts}
 use Rattle.text_units.specs.Answers.{NamedText}
 use Rattle.text_units.specs.Lowered.{AreRightTexts}
 use Rattle.report_cli.specs.Outcome.{Denotes}

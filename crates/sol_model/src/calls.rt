@@ -1,7 +1,8 @@
 // The first fact that the rule of a Call demands and the rows lack.
 ghost use Rattle.std.specs.Prelude.{◌≡◌, ℕ, ◌<◌, All, Some, None, length, IfSome, IfNone, Contains, zip};
 ghost use Rattle.sol_model.specs.Families.{Has, members};
-ghost use Rattle.sol_model.specs.Rules.{Satisfies, Misses, IsMet, IsMissing, Nowhere, AreJoined, IntoArgumentEdge, EffectEdge, EffectFact, TargetEdge, TargetFact, PassesBack};
+ghost use Rattle.sol_model.specs.Rules.{Satisfies, Misses, IsMet, IsMissing, Nowhere, AreJoined, IntoArgumentEdge};
+ghost use Rattle.sol_model.specs.Rules.{EffectEdge, EffectFact, TargetEdge, TargetFact, PassesBack};
 ghost use Rattle.sol_model.specs.Systems.{IsValid, Fits, IsRow, IsLocation, IsCallValid, IsFunctionValid};
 
 use crate::rows::Fact;
@@ -18,7 +19,8 @@ fn missing_row_pairs(system: &System, rows: &Rows, from: &[u32], to: &[u32]) -> 
     requires fits { Fits system.now rows.now }
     requires from { All (IsRow system.now) from.now }
     requires to { All (IsRow system.now) to.now }
-    ensures found { IfSome result (λ fact. IsMissing (λ a b. Contains (zip from.now to.now) (a, b)) Nowhere (members rows.now) fact.row fact.location) }
+    ensures found { IfSome result
+        (λ fact. IsMissing (λ a b. Contains (zip from.now to.now) (a, b)) Nowhere (members rows.now) fact.row fact.location) }
     ensures none { IfNone result (IsMet (λ a b. Contains (zip from.now to.now) (a, b)) Nowhere (members rows.now)) }
 {
     for i in 0..from.len().min(to.len()) {
@@ -84,8 +86,11 @@ fn missing_stores(
     requires fits { Fits system.now rows.now }
     requires into { IfSome into (IsRow system.now) }
     requires from { IfSome from (IsRow system.now) }
-    ensures found { IfSome result (λ fact. IsMissing (λ a b. (row : ℕ) × (into ≡ Some row) × Has (members rows.now) row b × (from ≡ Some a)) Nowhere (members rows.now) fact.row fact.location) }
-    ensures none { IfNone result (IsMet (λ a b. (row : ℕ) × (into ≡ Some row) × Has (members rows.now) row b × (from ≡ Some a)) Nowhere (members rows.now)) }
+    ensures found { IfSome result
+        (λ fact. IsMissing (λ a b. (row : ℕ) × (into ≡ Some row) × Has (members rows.now) row b × (from ≡ Some a)) Nowhere
+        (members rows.now) fact.row fact.location) }
+    ensures none { IfNone result
+        (IsMet (λ a b. (row : ℕ) × (into ≡ Some row) × Has (members rows.now) row b × (from ≡ Some a)) Nowhere (members rows.now)) }
 {
     let (Some(row), Some(source)) = (into, from) else {
         return None;
@@ -105,7 +110,8 @@ fn missing_fresh(system: &System, rows: &Rows, call: &CallSite, number: usize) -
     requires valid { IsValid system.now }
     requires fits { Fits system.now rows.now }
     requires call { IsCallValid system.now call.now }
-    ensures found { IfSome result (λ fact. IsMissing Nowhere (EffectFact call.now number Effect.GivesNew) (members rows.now) fact.row fact.location) }
+    ensures found { IfSome result
+        (λ fact. IsMissing Nowhere (EffectFact call.now number Effect.GivesNew) (members rows.now) fact.row fact.location) }
     ensures none { IfNone result (IsMet Nowhere (EffectFact call.now number Effect.GivesNew) (members rows.now)) }
 {
     let row = first_row(system, call.result.as_slice())?;
@@ -130,7 +136,9 @@ fn missing_into_argument(
     requires fits { Fits system.now rows.now }
     requires call { IsCallValid system.now call.now }
     requires to { IsLocation system.now to }
-    ensures found { IfSome result (λ fact. IsMissing (IntoArgumentEdge system.now (members rows.now) call.now number to k) Nowhere (members rows.now) fact.row fact.location) }
+    ensures found { IfSome result
+        (λ fact. IsMissing (IntoArgumentEdge system.now (members rows.now) call.now number to k) Nowhere
+        (members rows.now) fact.row fact.location) }
     ensures none { IfNone result (IsMet (IntoArgumentEdge system.now (members rows.now) call.now number to k) Nowhere (members rows.now)) }
 {
     for from in 0..system.locations.len() as u32 {
@@ -155,8 +163,11 @@ fn missing_copies(
     requires valid { IsValid system.now }
     requires fits { Fits system.now rows.now }
     requires call { IsCallValid system.now call.now }
-    ensures found { IfSome result (λ fact. IsMissing (EffectEdge system.now (members rows.now) call.now number (Effect.Copies i j)) Nowhere (members rows.now) fact.row fact.location) }
-    ensures none { IfNone result (IsMet (EffectEdge system.now (members rows.now) call.now number (Effect.Copies i j)) Nowhere (members rows.now)) }
+    ensures found { IfSome result
+        (λ fact. IsMissing (EffectEdge system.now (members rows.now) call.now number (Effect.Copies i j)) Nowhere
+        (members rows.now) fact.row fact.location) }
+    ensures none { IfNone result
+        (IsMet (EffectEdge system.now (members rows.now) call.now number (Effect.Copies i j)) Nowhere (members rows.now)) }
 {
     for target in 0..system.locations.len() as u32 {
         if is_in_argument(system, rows, call, number, i, target)
@@ -180,7 +191,8 @@ fn missing_passed(
     requires fits { Fits system.now rows.now }
     requires call { IsCallValid system.now call.now }
     requires function { IsFunctionValid system.now function.now }
-    ensures found { IfSome result (λ fact. IsMissing (PassesBack call.now passed function.now) Nowhere (members rows.now) fact.row fact.location) }
+    ensures found { IfSome result
+        (λ fact. IsMissing (PassesBack call.now passed function.now) Nowhere (members rows.now) fact.row fact.location) }
     ensures none { IfNone result (IsMet (PassesBack call.now passed function.now) Nowhere (members rows.now)) }
 {
     let (first, second) = passed?;
@@ -216,8 +228,11 @@ fn missing_backs(
     requires valid { IsValid system.now }
     requires fits { Fits system.now rows.now }
     requires call { IsCallValid system.now call.now }
-    ensures found { IfSome result (λ fact. IsMissing (EffectEdge system.now (members rows.now) call.now number (Effect.CallsBack k passed)) Nowhere (members rows.now) fact.row fact.location) }
-    ensures none { IfNone result (IsMet (EffectEdge system.now (members rows.now) call.now number (Effect.CallsBack k passed)) Nowhere (members rows.now)) }
+    ensures found { IfSome result
+        (λ fact. IsMissing (EffectEdge system.now (members rows.now) call.now number (Effect.CallsBack k passed)) Nowhere
+        (members rows.now) fact.row fact.location) }
+    ensures none { IfNone result
+        (IsMet (EffectEdge system.now (members rows.now) call.now number (Effect.CallsBack k passed)) Nowhere (members rows.now)) }
 {
     let row = argument_row(system, call, k)?;
     for back in 0..system.functions.len() {
@@ -243,8 +258,12 @@ fn missing_effect(
     requires valid { IsValid system.now }
     requires fits { Fits system.now rows.now }
     requires call { IsCallValid system.now call.now }
-    ensures found { IfSome result (λ fact. IsMissing (EffectEdge system.now (members rows.now) call.now number effect) (EffectFact call.now number effect) (members rows.now) fact.row fact.location) }
-    ensures none { IfNone result (IsMet (EffectEdge system.now (members rows.now) call.now number effect) (EffectFact call.now number effect) (members rows.now)) }
+    ensures found { IfSome result
+        (λ fact. IsMissing (EffectEdge system.now (members rows.now) call.now number effect) (EffectFact call.now number effect)
+        (members rows.now) fact.row fact.location) }
+    ensures none { IfNone result
+        (IsMet (EffectEdge system.now (members rows.now) call.now number effect) (EffectFact call.now number effect)
+        (members rows.now)) }
 {
     match effect {
         Effect::Nothing => None,
@@ -278,7 +297,9 @@ fn missing_results(
     requires fits { Fits system.now rows.now }
     requires call { IsCallValid system.now call.now }
     requires function { IsFunctionValid system.now function.now }
-    ensures found { IfSome result (λ fact. IsMissing (λ a b. Contains (zip function.now.result call.now.result) (a, b)) Nowhere (members rows.now) fact.row fact.location) }
+    ensures found { IfSome result
+        (λ fact. IsMissing (λ a b. Contains (zip function.now.result call.now.result) (a, b)) Nowhere
+        (members rows.now) fact.row fact.location) }
     ensures none { IfNone result (IsMet (λ a b. Contains (zip function.now.result call.now.result) (a, b)) Nowhere (members rows.now)) }
 {
     missing_row_pairs(
@@ -301,8 +322,11 @@ fn missing_plain(
     requires fits { Fits system.now rows.now }
     requires call { IsCallValid system.now call.now }
     requires function { IsFunctionValid system.now function.now }
-    ensures found { IfSome result (λ fact. IsMissing (TargetEdge system.now (members rows.now) call.now number function.now None) Nowhere (members rows.now) fact.row fact.location) }
-    ensures none { IfNone result (IsMet (TargetEdge system.now (members rows.now) call.now number function.now None) Nowhere (members rows.now)) }
+    ensures found { IfSome result
+        (λ fact. IsMissing (TargetEdge system.now (members rows.now) call.now number function.now None) Nowhere
+        (members rows.now) fact.row fact.location) }
+    ensures none { IfNone result
+        (IsMet (TargetEdge system.now (members rows.now) call.now number function.now None) Nowhere (members rows.now)) }
 {
     if let Some(fact) = missing_joined(
         system,
@@ -330,8 +354,12 @@ fn missing_effects(
     requires valid { IsValid system.now }
     requires fits { Fits system.now rows.now }
     requires call { IsCallValid system.now call.now }
-    ensures found { IfSome result (λ fact. IsMissing (TargetEdge system.now (members rows.now) call.now number function.now (Some library)) (TargetFact call.now number function.now (Some library)) (members rows.now) fact.row fact.location) }
-    ensures none { IfNone result (IsMet (TargetEdge system.now (members rows.now) call.now number function.now (Some library)) (TargetFact call.now number function.now (Some library)) (members rows.now)) }
+    ensures found { IfSome result
+        (λ fact. IsMissing (TargetEdge system.now (members rows.now) call.now number function.now (Some library))
+        (TargetFact call.now number function.now (Some library)) (members rows.now) fact.row fact.location) }
+    ensures none { IfNone result
+        (IsMet (TargetEdge system.now (members rows.now) call.now number function.now (Some library))
+        (TargetFact call.now number function.now (Some library)) (members rows.now)) }
 {
     for i in 0..function.effects.len() {
         let effect = effect_at(function, i);
@@ -354,8 +382,12 @@ fn missing_target(
     requires fits { Fits system.now rows.now }
     requires call { IsCallValid system.now call.now }
     requires function { IsFunctionValid system.now function.now }
-    ensures found { IfSome result (λ fact. IsMissing (TargetEdge system.now (members rows.now) call.now number function.now function.now.library) (TargetFact call.now number function.now function.now.library) (members rows.now) fact.row fact.location) }
-    ensures none { IfNone result (IsMet (TargetEdge system.now (members rows.now) call.now number function.now function.now.library) (TargetFact call.now number function.now function.now.library) (members rows.now)) }
+    ensures found { IfSome result
+        (λ fact. IsMissing (TargetEdge system.now (members rows.now) call.now number function.now function.now.library)
+        (TargetFact call.now number function.now function.now.library) (members rows.now) fact.row fact.location) }
+    ensures none { IfNone result
+        (IsMet (TargetEdge system.now (members rows.now) call.now number function.now function.now.library)
+        (TargetFact call.now number function.now function.now.library) (members rows.now)) }
 {
     match function.library {
         None => missing_plain(system, rows, call, number, function),

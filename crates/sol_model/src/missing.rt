@@ -147,7 +147,8 @@ pub(crate) fn missing_into(system: &System, rows: &Rows, to: u32, row: u32) -> O
     requires fits { Fits system.now rows.now }
     requires to { IsLocation system.now to }
     requires row { IsRow system.now row }
-    ensures found { IfSome result (λ fact. IsMissing (IntoEdge system.now (members rows.now) to row) Nowhere (members rows.now) fact.row fact.location) }
+    ensures found { IfSome result
+        (λ fact. IsMissing (IntoEdge system.now (members rows.now) to row) Nowhere (members rows.now) fact.row fact.location) }
     ensures none { IfNone result (IsMet (IntoEdge system.now (members rows.now) to row) Nowhere (members rows.now)) }
 {
     for from in 0..system.locations.len() as u32 {

@@ -1,3 +1,0 @@
-pub mod row_cases
-pub mod solve_cases
-pub mod round_cases

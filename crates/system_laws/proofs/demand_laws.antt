@@ -1,5 +1,5 @@
 mod Parts
 pub mod Fitting
-mod Numbered
+pub mod Numbered
 pub mod Nodes
 pub mod Demands

@@ -4,3 +4,4 @@ pub mod Lowered
 pub mod Refused
 pub mod Faults
 pub mod Kinds
+pub mod passed

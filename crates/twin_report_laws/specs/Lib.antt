@@ -6,3 +6,4 @@ pub mod orders
 pub mod apart
 pub mod rows
 pub mod linked
+pub mod outcome_laws

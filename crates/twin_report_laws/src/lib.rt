@@ -1,10 +1,12 @@
-//! That two runs on the same texts print the same bytes: these functions do nothing, and their contracts are the laws.
+//! That two runs on the same texts have one outcome (`outcome_laws`) and print the same bytes: these functions do nothing, and their
+//! contracts are the laws.
 #![tactic(auto)]
 
 pub mod answers;
 pub mod apart;
 pub mod linked;
 pub mod orders;
+pub mod outcome_laws;
 pub mod prints;
 pub mod reports;
 pub mod rows;

@@ -3,7 +3,9 @@
 ghost use Rattle.std.specs.Prelude.{◌≡◌, ℕ, ◌+◌, ◌<◌, ◌↔◌, Some, true, IsTrue, All, length};
 ghost use Rattle.c_types.specs.Trees.{VoidType, IntegerType, PointerTo, ArrayOf, trees_at};
 ghost use Rattle.c_types.specs.Table.{type_of, types_of};
-ghost use Rattle.type_rules.specs.Kinds.{IsInteger, IsPointer, IsScalar, IsAggregate, IsArray, IsFunction, IsStored, IsPromoted, IsPassed, IsComparable, IsList, IsVariadic, AreScalars, IsEntryType, LacksLength, character};
+ghost use Rattle.type_rules.specs.Kinds.{IsInteger, IsPointer, IsScalar, IsAggregate, IsArray, IsFunction, IsStored};
+ghost use Rattle.type_rules.specs.Kinds.{IsPromoted, IsPassed, IsComparable, IsList, IsVariadic, AreScalars, IsEntryType};
+ghost use Rattle.type_rules.specs.Kinds.{LacksLength, character};
 
 use c_types::table::TypeTable;
 use c_types::term::{Form, Term, TypeId};

@@ -4,7 +4,8 @@ ghost use Rattle.std.specs.Prelude.{◌≡◌, ℕ, ◌<◌, ◌↔◌, IsTrue, 
 ghost use Rattle.c_types.specs.Trees.{NoTypes, FunctionFrom};
 ghost use Rattle.c_types.specs.declared.term.Form.TheVariants.{Fixed};
 ghost use Rattle.c_types.specs.Table.{type_of};
-ghost use Rattle.type_rules.specs.Sizes.{IsObject, PointsToObject, HasSize, with_one, IsOpenIn, TagHasSize, TagsHaveSizes, ResultHasSize, HasSignature};
+ghost use Rattle.type_rules.specs.Sizes.{IsObject, PointsToObject, HasSize, with_one, IsOpenIn, TagHasSize, TagsHaveSizes};
+ghost use Rattle.type_rules.specs.Sizes.{ResultHasSize, HasSignature};
 
 use crate::kinds::{is_aggregate, is_void};
 use c_types::table::TypeTable;

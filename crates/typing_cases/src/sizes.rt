@@ -6,6 +6,7 @@ ghost use Rattle.c_types.specs.declared.term.Term.{Term};
 ghost use Rattle.c_types.specs.Table.{IsAfter, HasTag};
 ghost use Rattle.c_types.specs.Made.{IsSized, KeepsApart, ArePlain};
 
+use crate::fields::{sides, word};
 use crate::tagged::{new_structure, new_union};
 use c_types::table::TypeTable;
 use c_types::term::{MemberTerm, OutOfMemory, Term, TypeId};
@@ -187,41 +188,43 @@ fn push_member(members: &mut Vec<MemberTerm>, ty: TypeId) -> Result<(), OutOfMem
     }
 }
 
-// Whether a text spells a type of that size with so many nodes.
-fn measures(alloc: Global, text: &[u8], size: u64, nodes: u32) -> bool {
+// Whether the text of a row spells a type of the row's size with so many nodes.
+fn measures(alloc: Global, row: &str) -> bool {
+    let (text, wanted) = sides(row);
+    let size = word(wanted, 0).parse::<u64>().ok();
+    let nodes = word(wanted, 1).parse::<u32>().ok();
     let mut builder = Builder::new(alloc);
-    match spelled(&mut builder, text) {
+    match spelled(&mut builder, text.as_bytes()) {
         Ok(Some(id)) => {
-            builder.table.size_of(id) == Some(size) && builder.table.nodes(id) == Some(nodes)
+            size.is_some()
+                && builder.table.size_of(id) == size
+                && nodes.is_some()
+                && builder.table.nodes(id) == nodes
         }
         _ => false,
     }
 }
 
-static SIZES: [(&str, u64, u32); 15] = [
-    ("{cc*}", 16, 3),
-    ("{csc}", 6, 4),
-    ("{ic}", 8, 3),
-    ("{clc}", 24, 4),
-    ("{{csc}c}", 8, 6),
-    ("{c{cc*}s}", 32, 6),
-    ("{c5i}", 12, 3),
-    ("{{csc}3l}", 32, 6),
-    ("[c9i]", 12, 1),
-    ("{c[c9i]}", 16, 3),
-    ("{sdc}", 48, 4),
-    ("{bli}", 24, 4),
-    ("{c{c{cc*}s}2c}", 80, 9),
-    ("{c*i23c}", 40, 4),
-    ("i23", 24, 1),
-];
+// Types, their sizes and how many nodes they have.
+const SIZES: &str = "{cc*} => 16 3
+{csc} => 6 4
+{ic} => 8 3
+{clc} => 24 4
+{{csc}c} => 8 6
+{c{cc*}s} => 32 6
+{c5i} => 12 3
+{{csc}3l} => 32 6
+[c9i] => 12 1
+{c[c9i]} => 16 3
+{sdc} => 48 4
+{bli} => 24 4
+{c{c{cc*}s}2c} => 80 9
+{c*i23c} => 40 4
+i23 => 24 1";
 
 #[test]
 fn sizes_and_nodes(rt: HostRuntime) {
-    for (text, size, nodes) in &SIZES {
-        assert!(rt;
-            measures(rt.alloc(), text.as_bytes(), *size, *nodes),
-            "{text}"
-        );
+    for row in SIZES.split('\n') {
+        assert!(rt; measures(rt.alloc(), row), "{row}");
     }
 }

@@ -1,5 +1,6 @@
 // A unit and a program built by hand, and with one fault each: `int x; int f(void) { while (x) { break; } return x; }`.
 
+use crate::fields::push_to;
 use c_types::table::TypeTable;
 use c_types::term::{Form, OutOfMemory, Term, TypeId, TypeList};
 use core_tree::held::{Children, HeldList, HeldText};
@@ -41,9 +42,8 @@ const FUNCTION: u32 = 3;
 
 const OPEN_FUNCTION: u32 = 4;
 
-// The types of the unit in order: void, int, long, and the function's.
-fn types_of(alloc: Global, fault: Fault) -> Result<TypeTable, OutOfMemory> {
-    let mut types = TypeTable::new(alloc);
+// Adds the types of the unit in order: void, int, long, and the function's.
+fn add_types(alloc: Global, types: &mut TypeTable, fault: Fault) -> Result<(), OutOfMemory> {
     types.add(Term::Void)?;
     let int = types.add(Term::Integer {
         size: 4,
@@ -55,8 +55,7 @@ fn types_of(alloc: Global, fault: Fault) -> Result<TypeTable, OutOfMemory> {
         rank: 5,
         signed: true,
     })?;
-    add_function(alloc, &mut types, int, form_of(fault))?;
-    Ok(types)
+    add_function(alloc, types, int, form_of(fault))
 }
 
 // The form of the function's list of parameters.
@@ -102,14 +101,6 @@ fn push_node(
     push_to(nodes, node)
 }
 
-// One item more.
-fn push_to<T: Drop>(list: &mut Vec<T>, item: T) -> Result<(), OutOfMemory> {
-    match list.push(item) {
-        Ok(()) => Ok(()),
-        Err(_) => Err(OutOfMemory),
-    }
-}
-
 // A place in the first line.
 fn place_at(column: u32) -> Place {
     Place {
@@ -149,14 +140,6 @@ fn repeats(fault: Fault) -> NodeKind {
         Fault::BreakOutsideLoop => NodeKind::If,
         _ => NodeKind::While,
     }
-}
-
-// The nodes of the unit.
-fn nodes_of(alloc: Global, fault: Fault) -> Result<Vec<Node>, OutOfMemory> {
-    let mut nodes = Vec::new(alloc);
-    first_nodes(alloc, &mut nodes, fault)?;
-    last_nodes(alloc, &mut nodes, fault)?;
-    Ok(nodes)
 }
 
 // The loop, and what is returned.
@@ -265,52 +248,78 @@ fn function(alloc: Global, fault: Fault) -> Result<Entity, OutOfMemory> {
     })
 }
 
-// The entities of the unit: `x` and `f`.
-fn entities_of(alloc: Global, fault: Fault) -> Result<Vec<Entity>, OutOfMemory> {
-    let mut entities = Vec::new(alloc);
-    push_to(&mut entities, object(alloc, fault)?)?;
-    push_to(&mut entities, function(alloc, fault)?)?;
-    Ok(entities)
+// Adds the entities of the unit: `x` and `f`.
+fn add_entities(
+    alloc: Global,
+    entities: &mut Vec<Entity>,
+    fault: Fault,
+) -> Result<(), OutOfMemory> {
+    push_to(entities, object(alloc, fault)?)?;
+    push_to(entities, function(alloc, fault)?)
 }
 
-// The keys of the tags, of which there are none.
-fn tags_of(alloc: Global, fault: Fault) -> Result<Vec<Option<Text>>, OutOfMemory> {
-    let mut tags = Vec::new(alloc);
+// Adds the keys of the tags, of which there are none.
+fn add_tags(alloc: Global, tags: &mut Vec<Option<Text>>, fault: Fault) -> Result<(), OutOfMemory> {
     if matches!(fault, Fault::KeyWithoutTag) {
-        push_to(&mut tags, Some(Text::copy_of(alloc, "struct s")?))?;
+        push_to(tags, Some(Text::copy_of(alloc, "struct s")?))?;
     }
-    Ok(tags)
+    Ok(())
 }
 
-// The unit with a fault.
-fn unit_with(alloc: Global, fault: Fault) -> Result<Unit, OutOfMemory> {
+// Adds all parts of the unit.
+fn fill(alloc: Global, unit: &mut Unit, fault: Fault) -> Result<(), OutOfMemory> {
+    add_types(alloc, &mut unit.types, fault)?;
+    add_tags(alloc, &mut unit.tags, fault)?;
+    first_nodes(alloc, &mut unit.nodes, fault)?;
+    last_nodes(alloc, &mut unit.nodes, fault)?;
+    add_entities(alloc, &mut unit.entities, fault)
+}
+
+// A unit without parts.
+fn empty_unit(alloc: Global) -> Result<Unit, OutOfMemory> {
+    let name = Text::copy_of(alloc, "a.i")?;
     Ok(Unit {
-        name: Text::copy_of(alloc, "a.i")?,
-        types: types_of(alloc, fault)?,
-        tags: tags_of(alloc, fault)?,
-        nodes: nodes_of(alloc, fault)?,
-        entities: entities_of(alloc, fault)?,
+        name,
+        types: TypeTable::new(alloc),
+        tags: Vec::new(alloc),
+        nodes: Vec::new(alloc),
+        entities: Vec::new(alloc),
     })
+}
+
+// Adds all parts of the program of that unit alone, with so many names.
+fn fill_program(
+    alloc: Global,
+    program: &mut Program,
+    fault: Fault,
+    names: u32,
+) -> Result<(), OutOfMemory> {
+    for _ in 0..names {
+        push_to(&mut program.names, Text::copy_of(alloc, "a.i")?)?;
+    }
+    add_types(alloc, &mut program.types, fault)?;
+    first_nodes(alloc, &mut program.nodes, fault)?;
+    last_nodes(alloc, &mut program.nodes, fault)?;
+    add_entities(alloc, &mut program.entities, fault)
 }
 
 // The program of that unit alone, with so many names.
 fn program_with(alloc: Global, fault: Fault, names: u32) -> Result<Program, OutOfMemory> {
-    let mut list = Vec::new(alloc);
-    for _ in 0..names {
-        push_to(&mut list, Text::copy_of(alloc, "a.i")?)?;
-    }
-    Ok(Program {
-        names: list,
-        types: types_of(alloc, fault)?,
-        nodes: nodes_of(alloc, fault)?,
-        entities: entities_of(alloc, fault)?,
+    let mut program = Program {
+        names: Vec::new(alloc),
+        types: TypeTable::new(alloc),
+        nodes: Vec::new(alloc),
+        entities: Vec::new(alloc),
         entries: Vec::new(alloc),
-    })
+    };
+    fill_program(alloc, &mut program, fault, names)?;
+    Ok(program)
 }
 
 // Whether the unit with a fault is valid.
 fn is_valid(alloc: Global, fault: Fault) -> Result<bool, Fail> {
-    let unit = unit_with(alloc, fault)?;
+    let mut unit = empty_unit(alloc)?;
+    fill(alloc, &mut unit, fault)?;
     Ok(valid_unit(&unit))
 }
 
@@ -373,39 +382,24 @@ fn declaration(
     })
 }
 
-// The unit `int f();`, with `int f(void);` behind it or not, in which a use of the first one has the type `int (void)`.
-fn unit_with_use(alloc: Global, second: bool) -> Result<Unit, OutOfMemory> {
-    let mut types = types_of(alloc, Fault::Nothing)?;
-    add_function(alloc, &mut types, TypeId(INT), Form::Unspecified)?;
-    let mut nodes = Vec::new(alloc);
-    push_node(
-        alloc,
-        &mut nodes,
-        30,
-        NodeKind::FunctionName(0),
-        FUNCTION,
-        &[],
-    )?;
-    let mut entities = Vec::new(alloc);
-    push_to(
-        &mut entities,
-        declaration(alloc, 5, OPEN_FUNCTION, Some(place_at(30)))?,
-    )?;
+// Adds what the unit `int f();` has, with `int f(void);` behind it or not, in which a use of the first one has the type `int (void)`.
+fn fill_with_use(alloc: Global, unit: &mut Unit, second: bool) -> Result<(), OutOfMemory> {
+    add_types(alloc, &mut unit.types, Fault::Nothing)?;
+    add_function(alloc, &mut unit.types, TypeId(INT), Form::Unspecified)?;
+    let name = NodeKind::FunctionName(0);
+    push_node(alloc, &mut unit.nodes, 30, name, FUNCTION, &[])?;
+    let first = declaration(alloc, 5, OPEN_FUNCTION, Some(place_at(30)))?;
+    push_to(&mut unit.entities, first)?;
     if second {
-        push_to(&mut entities, declaration(alloc, 15, FUNCTION, None)?)?;
+        push_to(&mut unit.entities, declaration(alloc, 15, FUNCTION, None)?)?;
     }
-    Ok(Unit {
-        name: Text::copy_of(alloc, "a.i")?,
-        types,
-        tags: Vec::new(alloc),
-        nodes,
-        entities,
-    })
+    Ok(())
 }
 
 // Whether that unit is valid.
 fn is_valid_with_use(alloc: Global, second: bool) -> Result<bool, Fail> {
-    let unit = unit_with_use(alloc, second)?;
+    let mut unit = empty_unit(alloc)?;
+    fill_with_use(alloc, &mut unit, second)?;
     Ok(valid_unit(&unit))
 }
 

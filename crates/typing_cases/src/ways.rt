@@ -4,11 +4,11 @@ ghost use Rattle.std.specs.Prelude.{◌≡◌, ◌<◌, None, IsTrue, length};
 ghost use Rattle.c_types.specs.Table.{type_of};
 ghost use Rattle.c_types.specs.Made.{ArePlain, IsComplete};
 
+use crate::fields::{sides, word};
 use crate::tagged::{new_structure, new_union};
 use c_operators::c_members::{has_members, member_of, member_refusal, way_to};
 use c_types::table::TypeTable;
 use c_types::term::{MemberTerm, Name, OutOfMemory, Term, TypeId};
-use pta_base::Kind;
 use std::alloc::Global;
 
 /// A table, with the members of each structure and union that isn't closed yet.
@@ -21,7 +21,8 @@ struct Builder {
 
 // Whether a member's type is complete, and it is no bit-field.
 fn is_plain(table: &TypeTable, member: &MemberTerm) -> bool
-    ensures { IsTrue result → (member.now.ty.0 < length table.now.terms) × IsComplete table.now (type_of table.now member.now.ty.0) × (member.now.bits ≡ None) }
+    ensures { IsTrue result → (member.now.ty.0 < length table.now.terms)
+        × IsComplete table.now (type_of table.now member.now.ty.0) × (member.now.bits ≡ None) }
 {
     if table.type_count() <= member.ty.0 {
         return false;
@@ -115,33 +116,29 @@ impl Builder {
 }
 
 // The type that a text spells: letters are members of type int, and braces and brackets are unnamed structures and unions.
-fn spelled(builder: &mut Builder, text: &[u8]) -> Result<Option<TypeId>, OutOfMemory> {
+fn spelled(builder: &mut Builder, text: &str) -> Result<Option<TypeId>, OutOfMemory> {
     let mut last = None;
-    for letter in text {
-        last = builder.read(*letter)?;
+    for letter in text.bytes() {
+        last = builder.read(letter)?;
     }
     Ok(last)
 }
 
-// Whether a way is the one that is wanted.
-fn is_way(found: &Option<Vec<u32>>, wanted: Option<&[u32]>) -> bool {
-    match found {
-        Some(way) => match wanted {
-            Some(steps) => way.as_slice() == steps,
-            None => false,
-        },
-        None => wanted.is_none(),
+// Whether a way has the steps of a text, or there is none where the text says so.
+fn is_way(found: &Option<Vec<u32>>, wanted: &str) -> bool {
+    let Some(way) = found else {
+        return wanted == "none";
+    };
+    for (at, step) in wanted.split(' ').enumerate() {
+        if step.parse::<u32>().ok() != way.get(at).copied() {
+            return false;
+        }
     }
+    way.len() == wanted.split(' ').count()
 }
 
 // Whether the way to a name in a type is this one.
-fn way_is(
-    alloc: Global,
-    table: &TypeTable,
-    whole: TypeId,
-    name: &[u8],
-    wanted: Option<&[u32]>,
-) -> bool {
+fn way_is(alloc: Global, table: &TypeTable, whole: TypeId, name: &[u8], wanted: &str) -> bool {
     if table.type_count() <= whole.0 {
         return false;
     }
@@ -154,73 +151,98 @@ fn way_is(
     }
 }
 
-// Whether the way to a name in the type that a text spells is this one.
-fn has_way(alloc: Global, text: &[u8], name: &[u8], wanted: Option<&[u32]>) -> bool {
+// Whether the way to the name of a row in the type that its text spells is the row's.
+fn has_way(alloc: Global, row: &str) -> bool {
+    let (spelling, wanted) = sides(row);
+    let name = word(spelling, 1).as_bytes();
     let mut builder = Builder::new(alloc);
-    match spelled(&mut builder, text) {
+    match spelled(&mut builder, word(spelling, 0)) {
         Ok(Some(whole)) => way_is(alloc, &builder.table, whole, name, wanted),
         _ => false,
     }
 }
 
-#[test]
-fn ways(rt: HostRuntime) {
-    let alloc = rt.alloc();
-    assert!(rt; has_way(alloc, b"{abc}", b"a", Some(&[0])));
-    assert!(rt; has_way(alloc, b"{abc}", b"c", Some(&[2])));
-    assert!(rt; has_way(alloc, b"{abc}", b"d", None));
-    assert!(rt; has_way(alloc, b"{abc}", b"ab", None));
-    assert!(rt; has_way(alloc, b"{abc}", b"", None));
-    assert!(rt; has_way(alloc, b"{a{bc}d}", b"c", Some(&[1, 1])));
-    assert!(rt; has_way(alloc, b"{a{bc}d}", b"d", Some(&[2])));
-    assert!(rt; has_way(alloc, b"{a[b{cd}]}", b"d", Some(&[1, 1, 1])));
-    assert!(rt; has_way(alloc, b"{{{{{x}}}}}", b"x", Some(&[0, 0, 0, 0, 0])));
-    assert!(rt; has_way(alloc, b"[{ab}{cd}]", b"d", Some(&[1, 1])));
-    assert!(rt; has_way(alloc, b"{{ab}{cd}{ef}}", b"e", Some(&[2, 0])));
-}
+// Types, names, and the steps to them.
+const WAYS: &str = "{abc} a => 0
+{abc} c => 2
+{abc} d => none
+{abc} ab => none
+{abc}  => none
+{a{bc}d} c => 1 1
+{a{bc}d} d => 2
+{a[b{cd}]} d => 1 1 1
+{{{{{x}}}}} x => 0 0 0 0 0
+[{ab}{cd}] d => 1 1
+{{ab}{cd}{ef}} e => 2 0";
 
 // gcc refuses two members of one name; the search goes on as the definition says.
-#[test]
-fn ways_of_names_that_stand_twice(rt: HostRuntime) {
-    let alloc = rt.alloc();
-    assert!(rt; has_way(alloc, b"{{ab}b}", b"b", Some(&[1])));
-    assert!(rt; has_way(alloc, b"{{a}{{b}}{b}}", b"b", Some(&[1, 0, 0])));
-    assert!(rt; has_way(alloc, b"{{{x}x}}", b"x", Some(&[0, 1])));
-    assert!(rt; has_way(alloc, b"{{{b}a}{b}}", b"b", Some(&[0, 0, 0])));
-}
+const TWICE: &str = "{{ab}b} b => 1
+{{a}{{b}}{b}} b => 1 0 0
+{{{x}x}} x => 0 1
+{{{b}a}{b}} b => 0 0 0";
 
 #[test]
-fn members_and_refusals(rt: HostRuntime) {
-    let alloc = rt.alloc();
-    let mut table = TypeTable::new(alloc);
-    let Ok(int) = table.add(Term::Integer {
+fn ways(rt: HostRuntime) {
+    for rows in [WAYS, TWICE] {
+        for row in rows.split('\n') {
+            assert!(rt; has_way(rt.alloc(), row), "{row}");
+        }
+    }
+}
+
+// The type that a name tells, new in a table.
+fn made(table: &mut TypeTable, name: &str) -> Result<TypeId, OutOfMemory> {
+    let int = table.add(Term::Integer {
         size: 4,
         rank: 4,
         signed: true,
-    }) else {
-        panic!(&rt; "no memory");
-    };
-    let Ok(open) = table.add(Term::Array {
-        of: int,
-        length: None,
-    }) else {
-        panic!(&rt; "no memory");
-    };
-    let Ok(row) = table.add(Term::Array {
-        of: int,
-        length: Some(3),
-    }) else {
-        panic!(&rt; "no memory");
-    };
-    let Ok(real) = table.add(Term::Floating) else {
-        panic!(&rt; "no memory");
-    };
-    assert!(&rt; !has_members(&table, int));
-    assert!(&rt; member_of(&table, row, 0).is_none());
-    assert!(&rt; member_refusal(&table, int, false) == None);
-    assert!(&rt; member_refusal(&table, open, true) == Some(Kind::FlexibleMember));
-    assert!(&rt; member_refusal(&table, open, false) == Some(Kind::FlexibleMember));
-    assert!(&rt; member_refusal(&table, row, true) == None);
-    assert!(&rt; member_refusal(&table, row, false) == Some(Kind::ArrayOfValue));
-    assert!(&rt; member_refusal(&table, real, true) == Some(Kind::Floating));
+    })?;
+    match name {
+        "int[]" => table.add(Term::Array {
+            of: int,
+            length: None,
+        }),
+        "int[3]" => table.add(Term::Array {
+            of: int,
+            length: Some(3),
+        }),
+        "float" => table.add(Term::Floating),
+        _ => Ok(int),
+    }
+}
+
+// Types, whether a place of them or a value is taken, and how it is refused.
+const REFUSALS: &str = "int value => none
+int[] place => flexible-member
+int[] value => flexible-member
+int[3] place => none
+int[3] value => array-of-value
+float place => floating";
+
+// Whether a member of the type of a row is refused as the row says.
+fn is_refused_so(alloc: Global, row: &str) -> Result<bool, OutOfMemory> {
+    let (left, wanted) = sides(row);
+    let mut table = TypeTable::new(alloc);
+    let ty = made(&mut table, word(left, 0))?;
+    if table.type_count() <= ty.0 {
+        return Ok(false);
+    }
+    match member_refusal(&table, ty, word(left, 1) == "place") {
+        Some(kind) => Ok(kind.name() == wanted),
+        None => Ok(wanted == "none"),
+    }
+}
+
+#[test]
+fn members_and_refusals(rt: HostRuntime) -> Result<(), OutOfMemory> {
+    for row in REFUSALS.split('\n') {
+        assert!(rt; is_refused_so(rt.alloc(), row)?, "{row}");
+    }
+    let mut table = TypeTable::new(rt.alloc());
+    let int = made(&mut table, "int")?;
+    let row = made(&mut table, "int[3]")?;
+    assert!(rt; int.0 < table.type_count() && row.0 < table.type_count());
+    assert!(rt; !has_members(&table, int));
+    assert!(rt; member_of(&table, row, 0).is_none());
+    Ok(())
 }

@@ -15,9 +15,9 @@ use Rattle.name_uses.specs.name_sayings.Listed.{AreListed}
 use Rattle.name_uses.specs.name_sayings.Opening.{IsNotOpened}
 use Rattle.name_chains.specs.declared.symbol_lists.lists.SymbolLists.{SymbolLists}
 use Rattle.sense_laws.specs.Senses.{ChildrenFirst}
-use Rattle.reading_laws.specs.source_laws.Bound.{AreBefore}
-use Rattle.reading_laws.proofs.source_laws.Bound.{bound_stand}
-use Rattle.reading_laws.proofs.source_laws.Spelled.{names_spelled}
+use Rattle.parsed_tree_laws.specs.reading_laws.source_laws.Bound.{AreBefore}
+use Rattle.parsed_tree_laws.proofs.reading_laws.source_laws.Bound.{bound_stand}
+use Rattle.parsed_tree_laws.proofs.reading_laws.source_laws.Spelled.{names_spelled}
 use Rattle.statement_rows.specs.Told.{AreSpelled}
 use Rattle.core_nodes.specs.declared.fault.CheckFault.{CheckFault}
 use Rattle.core_nodes.specs.declared.fault.CheckFault.TheVariants.{BadOperand, Unsupported, OutOfMemory}

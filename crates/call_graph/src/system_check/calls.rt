@@ -18,7 +18,9 @@ fn are_fresh_known(system: &System, fresh: &[(u32, u32)]) -> bool
 /// Whether no later pair names the same function.
 fn is_last_of_its_name(fresh: &[(u32, u32)], i: usize) -> bool
     requires { i < length fresh.now }
-    ensures { IsTrue result ↔ ((j : ℕ) (d : ℕ × ℕ) → i < j → j < length fresh.now → (slice_index_or fresh.now i d).0 ≢ (slice_index_or fresh.now j d).0) }
+    ensures { IsTrue result
+        ↔ ((j : ℕ) (d : ℕ × ℕ) → i < j → j < length fresh.now
+        → (slice_index_or fresh.now i d).0 ≢ (slice_index_or fresh.now j d).0) }
 {
     for j in i + 1..fresh.len() {
         if fresh[i].0 == fresh[j].0 {
@@ -42,7 +44,9 @@ fn are_fresh_once(fresh: &[(u32, u32)]) -> bool
 
 /// Whether the new objects of a call are known, and belong to distinct functions.
 fn are_fresh_valid(system: &System, fresh: &[(u32, u32)]) -> bool
-    ensures { IsTrue result ↔ (All (λ pair. (pair.0 < length system.now.functions) × IsLocation system.now pair.1) fresh.now × AllPairs (λ one other. one.0 ≢ other.0) fresh.now) }
+    ensures { IsTrue result
+        ↔ (All (λ pair. (pair.0 < length system.now.functions) × IsLocation system.now pair.1) fresh.now
+        × AllPairs (λ one other. one.0 ≢ other.0) fresh.now) }
 {
     if !are_fresh_known(system, fresh) {
         return false;

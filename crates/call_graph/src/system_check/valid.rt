@@ -24,7 +24,9 @@ fn is_at(system: &System, number: u32, location: usize) -> bool
 /// Whether the nodes under a location are locations.
 fn has_nodes(system: &System, location: usize, fact: LocationFact) -> bool
     requires { location < length system.now.locations }
-    ensures { IsTrue result ↔ ((fact.ty < length system.now.types) × (IsFalse fact.collapsed → location + nodes_of system.now fact.ty ≤ location_count system.now)) }
+    ensures { IsTrue result
+        ↔ ((fact.ty < length system.now.types)
+        × (IsFalse fact.collapsed → location + nodes_of system.now fact.ty ≤ location_count system.now)) }
 {
     match system.types.as_slice().get(fact.ty as usize) {
         Some(ty) => fact.collapsed || ty.nodes as usize <= system.locations.len() - location,
@@ -54,7 +56,9 @@ fn fact_at(system: &System, location: usize) -> LocationFact
 
 /// Whether what each location is said to be fits it.
 fn are_placed(system: &System) -> bool
-    ensures { IsTrue result ↔ ((location : ℕ) (fact : LocationFact) → slice_get system.now.locations location ≡ Some fact → IsPlaced system.now location fact) }
+    ensures { IsTrue result
+        ↔ ((location : ℕ) (fact : LocationFact) → slice_get system.now.locations location ≡ Some fact
+        → IsPlaced system.now location fact) }
 {
     for location in 0..system.locations.len() {
         let fact = fact_at(system, location);
@@ -80,7 +84,9 @@ fn is_owned(system: &System, number: usize, function: &Function) -> bool
 
 /// Whether the location of each function knows it.
 fn are_owned(system: &System) -> bool
-    ensures { IsTrue result ↔ ((number : ℕ) (function : Function) → slice_get system.now.functions number ≡ Some function → IsOwned system.now number function) }
+    ensures { IsTrue result
+        ↔ ((number : ℕ) (function : Function) → slice_get system.now.functions number ≡ Some function
+        → IsOwned system.now number function) }
 {
     for (number, function) in system.functions.as_slice().iter().enumerate() {
         if !is_owned(system, number, function) {
@@ -100,7 +106,9 @@ fn is_small(system: &System) -> bool
 
 /// Whether the types, calls and functions are valid.
 fn are_parts_valid(system: &System) -> bool
-    ensures { IsTrue result ↔ (All (λ fact. All (λ position. position < fact.nodes) fact.members) system.now.types × All (IsCallValid system.now) system.now.calls × All (IsFunctionValid system.now) system.now.functions) }
+    ensures { IsTrue result
+        ↔ (All (λ fact. All (λ position. position < fact.nodes) fact.members) system.now.types
+        × All (IsCallValid system.now) system.now.calls × All (IsFunctionValid system.now) system.now.functions) }
 {
     if !are_types_valid(system.types.as_slice()) {
         return false;

@@ -15,22 +15,22 @@ use Rattle.c_senses.specs.Declarators.{is_outermost, derived}
 use Rattle.c_senses.specs.Entities.{with_length, length_given_by, initialiser_of, is_linked, is_internal, is_internal_of, internal_among, keep, own_type, types_of, all_together, agrees_with, internal_agrees}
 use Rattle.c_senses.specs.Sense.{Sense, IsInitial, sense_in}
 use Rattle.c_senses.specs.Rows.{AreSenses}
-use Rattle.count_laws.specs.passed.parsed_tree_laws.family_laws.Families.{Families}
-use Rattle.count_laws.proofs.passed.parsed_tree_laws.family_laws.Reading.{units_families}
-use Rattle.count_laws.specs.passed.parsed_tree_laws.nesting_laws.Nested.{Nested}
-use Rattle.count_laws.proofs.passed.parsed_tree_laws.nesting_laws.Nesting.{units_nest}
-use Rattle.count_laws.proofs.passed.parsed_tree_laws.placed_laws.Climbing.{Grown}
-use Rattle.owner_laws.proofs.passed.definition_laws.linkage_laws.Seen.{parent_is}
-use Rattle.owner_laws.proofs.passed.definition_laws.linkage_laws.Linked.{Tree}
-use Rattle.owner_laws.proofs.passed.definition_laws.linkage_laws.Reading.{tree_is}
-use Rattle.count_laws.specs.passed.parsed_tree_laws.sign_parts.Parts.{IsBrought}
-use Rattle.count_laws.proofs.passed.parsed_tree_laws.sign_parts.Reading.{units_bring}
+use Rattle.core_node_laws.specs.count_laws.passed.parsed_tree_laws.family_laws.Families.{Families}
+use Rattle.core_node_laws.proofs.count_laws.passed.parsed_tree_laws.family_laws.Reading.{units_families}
+use Rattle.core_node_laws.specs.count_laws.passed.parsed_tree_laws.nesting_laws.Nested.{Nested}
+use Rattle.core_node_laws.proofs.count_laws.passed.parsed_tree_laws.nesting_laws.Nesting.{units_nest}
+use Rattle.core_node_laws.proofs.count_laws.passed.parsed_tree_laws.placed_laws.Climbing.{Grown}
+use Rattle.declared_type_laws.proofs.owner_laws.passed.definition_laws.linkage_laws.Seen.{parent_is}
+use Rattle.declared_type_laws.proofs.owner_laws.passed.definition_laws.linkage_laws.Linked.{Tree}
+use Rattle.declared_type_laws.proofs.owner_laws.passed.definition_laws.linkage_laws.Reading.{tree_is}
+use Rattle.core_node_laws.specs.count_laws.passed.parsed_tree_laws.sign_parts.Parts.{IsBrought}
+use Rattle.core_node_laws.proofs.count_laws.passed.parsed_tree_laws.sign_parts.Reading.{units_bring}
 use Rattle.built_unit_laws.proofs.run_laws.Times.{known_at, world_of}
 use Rattle.declared_type_laws.proofs.plain_names.Later.{initialiser_same}
-use Rattle.owner_laws.specs.passed.definition_laws.initialiser_laws.Initialisers.{InitialisersAreOf}
-use Rattle.owner_laws.proofs.passed.definition_laws.initialiser_laws.Found.{initialisers_found}
+use Rattle.declared_type_laws.specs.owner_laws.passed.definition_laws.initialiser_laws.Initialisers.{InitialisersAreOf}
+use Rattle.declared_type_laws.proofs.owner_laws.passed.definition_laws.initialiser_laws.Found.{initialisers_found}
 use Rattle.declared_type_laws.specs.declared_leaves.Leaves.{IsDeclaredBy}
-use Rattle.owner_laws.specs.passed.definition_laws.earlier_initialisers.Earlier.{StandsDeclaring}
+use Rattle.declared_type_laws.specs.owner_laws.passed.definition_laws.earlier_initialisers.Earlier.{StandsDeclaring}
 use Rattle.declaration_laws.specs.joined_types.Joined.{AllAgree}
 use Rattle.declaration_laws.proofs.agreed_types.Agreeing.{types_agreed}
 use Rattle.declared_type_laws.specs.declared_once.Once.{IsDeclaredOnce}

@@ -10,15 +10,15 @@ use Rattle.c_grammar.specs.Terminals.{contains}
 use Rattle.c_senses.specs.Tree.{Source, production_at, children_at, is_a}
 use Rattle.c_senses.specs.Entities.{behind, without_asm, in_rest, initialiser_in, initialiser_of}
 use Rattle.c_senses.specs.Sense.{Sense}
-use Rattle.count_laws.specs.passed.parsed_tree_laws.family_laws.Families.{Families}
-use Rattle.count_laws.specs.passed.parsed_tree_laws.nesting_laws.Nested.{Nested}
-use Rattle.count_laws.proofs.passed.parsed_tree_laws.placed_laws.Climbing.{Grown}
-use Rattle.owner_laws.proofs.passed.definition_laws.linkage_laws.Seen.{parent_is}
-use Rattle.count_laws.specs.passed.parsed_tree_laws.sign_parts.Parts.{Mark, mark_at, Brings, Takes, IsBrought}
-use Rattle.owner_laws.proofs.passed.definition_laws.earlier_initialisers.PassedOn.{IsRestList, Begins, rest_list}
-use Rattle.owner_laws.proofs.passed.definition_laws.earlier_initialisers.PassedOn.{apart, Reads}
-use Rattle.owner_laws.proofs.passed.definition_laws.earlier_initialisers.PassedOn.{parts}
-use Rattle.owner_laws.specs.passed.definition_laws.earlier_initialisers.Earlier.{StandsDeclaring}
+use Rattle.core_node_laws.specs.count_laws.passed.parsed_tree_laws.family_laws.Families.{Families}
+use Rattle.core_node_laws.specs.count_laws.passed.parsed_tree_laws.nesting_laws.Nested.{Nested}
+use Rattle.core_node_laws.proofs.count_laws.passed.parsed_tree_laws.placed_laws.Climbing.{Grown}
+use Rattle.declared_type_laws.proofs.owner_laws.passed.definition_laws.linkage_laws.Seen.{parent_is}
+use Rattle.core_node_laws.specs.count_laws.passed.parsed_tree_laws.sign_parts.Parts.{Mark, mark_at, Brings, Takes, IsBrought}
+use Rattle.declared_type_laws.proofs.owner_laws.passed.definition_laws.earlier_initialisers.PassedOn.{IsRestList, Begins, rest_list}
+use Rattle.declared_type_laws.proofs.owner_laws.passed.definition_laws.earlier_initialisers.PassedOn.{apart, Reads}
+use Rattle.declared_type_laws.proofs.owner_laws.passed.definition_laws.earlier_initialisers.PassedOn.{parts}
+use Rattle.declared_type_laws.specs.owner_laws.passed.definition_laws.earlier_initialisers.Earlier.{StandsDeclaring}
 use Rattle.declared_type_laws.proofs.declared_once.PassedOn.{plain_list, rest_init}
 
 module _ (s : Source) (tree : Grown s) (nested : Nested s) (families : Families s) (standing : (k : ℕ) (t : Token) → slice_get s.tokens k ≡ Some t → Stands s.text t) (brought : IsBrought s) (sense : ℕ → Sense) where

@@ -24,13 +24,13 @@ use Rattle.sense_laws.specs.Sound.{Gives}
 use Rattle.sense_laws.proofs.Giving.{then_gives, if_given, and_left, and_right}
 use Rattle.sense_laws.proofs.Types.{anything}
 use Rattle.sense_laws.proofs.Seen.{initial_length, seen_is, seen_length}
-use Rattle.count_laws.proofs.passed.parsed_tree_laws.placed_laws.Climbing.{Grown}
-use Rattle.owner_laws.proofs.passed.definition_laws.linkage_laws.Seen.{parent_is}
-use Rattle.owner_laws.proofs.passed.definition_laws.function_definitions.Whole as whole_of
+use Rattle.core_node_laws.proofs.count_laws.passed.parsed_tree_laws.placed_laws.Climbing.{Grown}
+use Rattle.declared_type_laws.proofs.owner_laws.passed.definition_laws.linkage_laws.Seen.{parent_is}
+use Rattle.declared_type_laws.proofs.owner_laws.passed.definition_laws.function_definitions.Whole as whole_of
 use Rattle.built_unit_laws.proofs.run_laws.Times.{known_at, world_of, known, told_before, row_as, fitted}
 use Rattle.built_unit_laws.proofs.run_laws.Automatic.{specified_later}
 use Rattle.declared_type_laws.specs.declared_leaves.Leaves.{IsDeclaredBy}
-use Rattle.owner_laws.specs.passed.definition_laws.earlier_initialisers.Earlier.{StandsDeclaring}
+use Rattle.declared_type_laws.specs.owner_laws.passed.definition_laws.earlier_initialisers.Earlier.{StandsDeclaring}
 
 some_one : {X : Type 0} → {x y : X} → ◌≡◌ {A = Option X} (Some x) (Some y) → x ≡ y
 some_one h = cc

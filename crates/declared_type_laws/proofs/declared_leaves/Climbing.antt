@@ -14,7 +14,7 @@ use Rattle.c_senses.specs.Sense.{Sense, IsDeclarator, IsSpecified, Derivation, S
 use Rattle.c_senses.specs.Rows.{AreSenses, declarator_row, at_its_name}
 use Rattle.sense_laws.specs.Sound.{Gives}
 use Rattle.sense_laws.proofs.Giving.{then_gives, if_given, and_left}
-use Rattle.count_laws.proofs.passed.parsed_tree_laws.placed_laws.Climbing.{Grown}
+use Rattle.core_node_laws.proofs.count_laws.passed.parsed_tree_laws.placed_laws.Climbing.{Grown}
 use Rattle.built_unit_laws.specs.run_laws.PassedOn.{IsBrought}
 use Rattle.built_unit_laws.proofs.run_laws.Times.{known_at, world_of, fitted}
 use Rattle.declared_type_laws.specs.declared_leaves.Leaves.{IsNamed, Own, Inner, IsDeclaredBy, LeavesDeclared}

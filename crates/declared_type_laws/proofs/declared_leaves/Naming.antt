@@ -16,8 +16,8 @@ use Rattle.c_senses.specs.Rows.{AreSenses, row_of, declarator_row}
 use Rattle.sense_laws.specs.Sound.{Gives}
 use Rattle.sense_laws.proofs.Giving.{then_gives, if_holds, and_left}
 use Rattle.sense_laws.proofs.Types.{anything}
-use Rattle.count_laws.proofs.passed.parsed_tree_laws.placed_laws.Rows.{declarators}
-use Rattle.count_laws.proofs.passed.parsed_tree_laws.placed_laws.Climbing.{Grown, is_other_in, is_other, AllOther, AtMostOne}
+use Rattle.core_node_laws.proofs.count_laws.passed.parsed_tree_laws.placed_laws.Rows.{declarators}
+use Rattle.core_node_laws.proofs.count_laws.passed.parsed_tree_laws.placed_laws.Climbing.{Grown, is_other_in, is_other, AllOther, AtMostOne}
 use Rattle.built_unit_laws.specs.run_laws.PassedOn.{IsBrought, Brings}
 use Rattle.built_unit_laws.proofs.run_laws.PassedOn.{AllIn}
 use Rattle.built_unit_laws.proofs.run_laws.PassedOn.{declarator_parts, declarator_list, abstract_list, either_list}

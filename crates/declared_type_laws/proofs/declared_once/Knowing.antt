@@ -18,28 +18,28 @@ use Rattle.c_senses.specs.Declarators.{is_outermost, outermost_of, specs_of, der
 use Rattle.c_senses.specs.Entities.{with_length, is_linked, is_parameter, is_internal, is_internal_of, internal_among, keep, types_of, own_type, parameter_type, declaration_of, specified_of, derived_type, length_given_by, initialiser_of, initialiser_for}
 use Rattle.c_senses.specs.Sense.{Sense, IsDeclarator, Specified, sense_in}
 use Rattle.c_senses.specs.Rows.{AreSenses}
-use Rattle.count_laws.specs.passed.parsed_tree_laws.family_laws.Families.{Families}
-use Rattle.count_laws.proofs.passed.parsed_tree_laws.family_laws.Reading.{units_families}
-use Rattle.count_laws.specs.passed.parsed_tree_laws.member_names.Differ.{InOrder}
-use Rattle.count_laws.proofs.passed.parsed_tree_laws.member_names.Order.{units_in_order}
-use Rattle.count_laws.specs.passed.parsed_tree_laws.grown_parts.Parts.{IsBrought}
-use Rattle.count_laws.proofs.passed.parsed_tree_laws.grown_parts.Reading.{units_bring}
+use Rattle.core_node_laws.specs.count_laws.passed.parsed_tree_laws.family_laws.Families.{Families}
+use Rattle.core_node_laws.proofs.count_laws.passed.parsed_tree_laws.family_laws.Reading.{units_families}
+use Rattle.core_node_laws.specs.count_laws.passed.parsed_tree_laws.member_names.Differ.{InOrder}
+use Rattle.core_node_laws.proofs.count_laws.passed.parsed_tree_laws.member_names.Order.{units_in_order}
+use Rattle.core_node_laws.specs.count_laws.passed.parsed_tree_laws.grown_parts.Parts.{IsBrought}
+use Rattle.core_node_laws.proofs.count_laws.passed.parsed_tree_laws.grown_parts.Reading.{units_bring}
 use Rattle.built_unit_laws.proofs.run_laws.Times.{known_at, known}
 use Rattle.built_unit_laws.proofs.run_laws.Automatic.{specified_later}
 use Rattle.declared_type_laws.proofs.settled_types.PassedOn.{known_later, told}
 use Rattle.declaration_laws.specs.name_order.Order.{Declares, Rises, IsOrdered}
 use Rattle.declaration_laws.proofs.name_order.Ordered.{units_ordered}
-use Rattle.owner_laws.proofs.passed.definition_laws.linkage_laws.Origins.{HasOrigin, origin}
-use Rattle.owner_laws.proofs.passed.definition_laws.linkage_laws.Seen.{nodes, some_same, node_within}
-use Rattle.owner_laws.proofs.passed.definition_laws.linkage_laws.Roles as roles
-use Rattle.owner_laws.proofs.passed.definition_laws.linkage_laws.Chains.{Reached, either_is, declaring, name_reached}
-use Rattle.owner_laws.proofs.passed.definition_laws.linkage_laws.Linked.{Tree, stands_linked}
-use Rattle.owner_laws.proofs.passed.definition_laws.linkage_laws.Reading.{tree_is}
-use Rattle.owner_laws.proofs.internal_laws.PassedOn.{outer_is, declared_by_outermost, Declares as declares_role}
-use Rattle.owner_laws.proofs.internal_laws.Sorted as sorted
-use Rattle.owner_laws.proofs.internal_laws.Settled.{specs_settled}
-use Rattle.owner_laws.proofs.internal_laws.Same as same
-use Rattle.owner_laws.proofs.internal_laws.Reading.{only}
+use Rattle.declared_type_laws.proofs.owner_laws.passed.definition_laws.linkage_laws.Origins.{HasOrigin, origin}
+use Rattle.declared_type_laws.proofs.owner_laws.passed.definition_laws.linkage_laws.Seen.{nodes, some_same, node_within}
+use Rattle.declared_type_laws.proofs.owner_laws.passed.definition_laws.linkage_laws.Roles as roles
+use Rattle.declared_type_laws.proofs.owner_laws.passed.definition_laws.linkage_laws.Chains.{Reached, either_is, declaring, name_reached}
+use Rattle.declared_type_laws.proofs.owner_laws.passed.definition_laws.linkage_laws.Linked.{Tree, stands_linked}
+use Rattle.declared_type_laws.proofs.owner_laws.passed.definition_laws.linkage_laws.Reading.{tree_is}
+use Rattle.declared_type_laws.proofs.owner_laws.internal_laws.PassedOn.{outer_is, declared_by_outermost, Declares as declares_role}
+use Rattle.declared_type_laws.proofs.owner_laws.internal_laws.Sorted as sorted
+use Rattle.declared_type_laws.proofs.owner_laws.internal_laws.Settled.{specs_settled}
+use Rattle.declared_type_laws.proofs.owner_laws.internal_laws.Same as same
+use Rattle.declared_type_laws.proofs.owner_laws.internal_laws.Reading.{only}
 use Rattle.declared_type_laws.specs.declared_leaves.Leaves.{IsDeclaredBy}
 use Rattle.declared_type_laws.proofs.declared_leaves.Climbing.{leaves_declared}
 use Rattle.declared_type_laws.specs.settled_types.PassedOn.{StandsDeclaring}

@@ -10,11 +10,11 @@ use Rattle.c_scope.specs.declared.kinds.Declared.{Declared}
 use Rattle.c_senses.specs.Tree.{Source, production_at, children_at, is_a, parent_of}
 use Rattle.c_senses.specs.Names.{has_linkage, ordinary_at}
 use Rattle.c_senses.specs.Declarators.{is_declarator, is_outermost, outermost_of}
-use Rattle.count_laws.proofs.passed.parsed_tree_laws.placed_laws.Climbing.{Grown}
-use Rattle.owner_laws.proofs.passed.definition_laws.linkage_laws.Seen.{parent_is}
-use Rattle.count_laws.specs.passed.parsed_tree_laws.grown_parts.Parts.{Brings, IsBrought}
-use Rattle.count_laws.proofs.passed.parsed_tree_laws.grown_parts.Declaring.{AllIn, rest_list, rest_parts}
-use Rattle.count_laws.proofs.passed.parsed_tree_laws.grown_parts.Allowed.{rows_in, brings_in}
+use Rattle.core_node_laws.proofs.count_laws.passed.parsed_tree_laws.placed_laws.Climbing.{Grown}
+use Rattle.declared_type_laws.proofs.owner_laws.passed.definition_laws.linkage_laws.Seen.{parent_is}
+use Rattle.core_node_laws.specs.count_laws.passed.parsed_tree_laws.grown_parts.Parts.{Brings, IsBrought}
+use Rattle.core_node_laws.proofs.count_laws.passed.parsed_tree_laws.grown_parts.Declaring.{AllIn, rest_list, rest_parts}
+use Rattle.core_node_laws.proofs.count_laws.passed.parsed_tree_laws.grown_parts.Allowed.{rows_in, brings_in}
 use Rattle.declaration_laws.specs.name_order.Order.{declaring, linking, IsNameOf, Declares, Enumerates, Names, Links, IsOrdered}
 use Rattle.declaration_laws.specs.name_order.Order as order
 use Rattle.declared_type_laws.specs.declared_leaves.Leaves.{IsNamed, Own, Inner}

@@ -15,18 +15,18 @@ use Rattle.c_senses.specs.Declarators.{is_declarator, is_outermost, outermost_of
 use Rattle.c_senses.specs.Entities.{initialiser_of, words_go, has_one_linkage, named_row, parameter_named, by_place}
 use Rattle.c_senses.specs.Rows.{AreSenses, declarator_row}
 use Rattle.c_senses.specs.Sense.{Sense, IsDeclarator, Derivation, sense_in}
-use Rattle.owner_laws.specs.passed.definition_laws.scope_laws.Scoped.{DeclaredOnce}
-use Rattle.count_laws.specs.passed.parsed_tree_laws.grown_parts.Parts.{IsBrought}
+use Rattle.declared_type_laws.specs.owner_laws.passed.definition_laws.scope_laws.Scoped.{DeclaredOnce}
+use Rattle.core_node_laws.specs.count_laws.passed.parsed_tree_laws.grown_parts.Parts.{IsBrought}
 use Rattle.built_unit_laws.proofs.run_laws.Times.{known_at, world_of}
 use Rattle.declared_type_laws.specs.declared_leaves.Leaves.{IsNamed, Own, Inner, IsDeclaredBy}
 use Rattle.declared_type_laws.proofs.declared_leaves.Climbing.{leaves_declared}
 use Rattle.declared_type_laws.proofs.declared_leaves.Naming.{row_is}
-use Rattle.owner_laws.proofs.passed.definition_laws.function_definitions.Whole.{declarator_gives, declarator_asks}
+use Rattle.declared_type_laws.proofs.owner_laws.passed.definition_laws.function_definitions.Whole.{declarator_gives, declarator_asks}
 use Rattle.declaration_laws.specs.name_order.Order.{linking, IsNameOf, Links, IsOrdered}
 use Rattle.declaration_laws.specs.name_order.Order as order
-use Rattle.owner_laws.proofs.passed.definition_laws.linkage_laws.Origins.{HasOrigin}
-use Rattle.owner_laws.proofs.passed.definition_laws.linkage_laws.Seen.{nodes, parent_is}
-use Rattle.owner_laws.proofs.passed.definition_laws.linkage_laws.Linked.{Tree}
+use Rattle.declared_type_laws.proofs.owner_laws.passed.definition_laws.linkage_laws.Origins.{HasOrigin}
+use Rattle.declared_type_laws.proofs.owner_laws.passed.definition_laws.linkage_laws.Seen.{nodes, parent_is}
+use Rattle.declared_type_laws.proofs.owner_laws.passed.definition_laws.linkage_laws.Linked.{Tree}
 use Rattle.declared_type_laws.specs.known_entities.Entities.{IsKnownAt}
 use Rattle.declared_type_laws.specs.seen_onward.Seen.{In, SeesOn}
 use Rattle.declared_type_laws.proofs.seen_onward.Openers.{Shaped}

@@ -21,12 +21,12 @@ use Rattle.c_senses.specs.Entities.{is_linked, is_at_file, is_typedef, has_stora
 use Rattle.c_senses.specs.Sense.{Sense, Specified, sense_in}
 use Rattle.built_unit_laws.proofs.run_laws.Times.{known_at, world_of}
 use Rattle.declared_type_laws.proofs.plain_names.Later.{known_later, told, initialiser_same}
-use Rattle.owner_laws.proofs.passed.definition_laws.scope_laws.Scopes.{IsOf}
-use Rattle.owner_laws.specs.passed.definition_laws.linkage_laws.Linked.{StandsLinked}
-use Rattle.owner_laws.proofs.passed.definition_laws.linkage_laws.Origins.{HasOrigin, origin}
-use Rattle.owner_laws.proofs.passed.definition_laws.linkage_laws.Seen.{nodes, production_same}
-use Rattle.owner_laws.proofs.passed.definition_laws.linkage_laws.Linked.{Named, named, declaration_is, stands_linked}
-use Rattle.owner_laws.proofs.internal_laws.Sorted as sorted
+use Rattle.declared_type_laws.proofs.owner_laws.passed.definition_laws.scope_laws.Scopes.{IsOf}
+use Rattle.declared_type_laws.specs.owner_laws.passed.definition_laws.linkage_laws.Linked.{StandsLinked}
+use Rattle.declared_type_laws.proofs.owner_laws.passed.definition_laws.linkage_laws.Origins.{HasOrigin, origin}
+use Rattle.declared_type_laws.proofs.owner_laws.passed.definition_laws.linkage_laws.Seen.{nodes, production_same}
+use Rattle.declared_type_laws.proofs.owner_laws.passed.definition_laws.linkage_laws.Linked.{Named, named, declaration_is, stands_linked}
+use Rattle.declared_type_laws.proofs.owner_laws.internal_laws.Sorted as sorted
 use Rattle.declared_type_laws.specs.seen_onward.Seen.{In}
 use Rattle.declared_type_laws.proofs.seen_onward.Lists.{IsSeen, seen, in_those, all_have}
 use Rattle.declared_type_laws.proofs.seen_onward.Made.{of_all}

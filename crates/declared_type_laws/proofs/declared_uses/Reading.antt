@@ -24,16 +24,16 @@ use Rattle.c_senses.specs.Right.{SameKind, StandsBy, IsDeclaredAt, declared_name
 use Rattle.c_senses.specs.Right as right
 use Rattle.built_unit_laws.specs.passed.core_node_laws.literal_nodes.Holding.{Holds, OfSense, RowGives}
 use Rattle.built_unit_laws.proofs.passed.core_node_laws.literal_nodes.All.{all_kept}
-use Rattle.count_laws.proofs.passed.parsed_tree_laws.family_laws.Reading.{units_families}
-use Rattle.count_laws.proofs.passed.parsed_tree_laws.member_names.Order.{units_in_order}
-use Rattle.owner_laws.specs.passed.definition_laws.scope_laws.Scoped.{Rooted}
-use Rattle.owner_laws.proofs.passed.definition_laws.scope_laws.Whole.{names_declared_once}
-use Rattle.count_laws.proofs.passed.parsed_tree_laws.grown_parts.Reading.{units_bring}
-use Rattle.count_laws.proofs.passed.parsed_tree_laws.sign_parts.Reading as sign_parts
-use Rattle.count_laws.proofs.passed.parsed_tree_laws.span_laws.Whole.{units_are_spanned}
+use Rattle.core_node_laws.proofs.count_laws.passed.parsed_tree_laws.family_laws.Reading.{units_families}
+use Rattle.core_node_laws.proofs.count_laws.passed.parsed_tree_laws.member_names.Order.{units_in_order}
+use Rattle.declared_type_laws.specs.owner_laws.passed.definition_laws.scope_laws.Scoped.{Rooted}
+use Rattle.declared_type_laws.proofs.owner_laws.passed.definition_laws.scope_laws.Whole.{names_declared_once}
+use Rattle.core_node_laws.proofs.count_laws.passed.parsed_tree_laws.grown_parts.Reading.{units_bring}
+use Rattle.core_node_laws.proofs.count_laws.passed.parsed_tree_laws.sign_parts.Reading as sign_parts
+use Rattle.core_node_laws.proofs.count_laws.passed.parsed_tree_laws.span_laws.Whole.{units_are_spanned}
 use Rattle.declaration_laws.proofs.name_order.Ordered.{units_ordered}
-use Rattle.owner_laws.proofs.passed.definition_laws.linkage_laws.Reading.{tree_is}
-use Rattle.owner_laws.proofs.internal_laws.Reading.{only}
+use Rattle.declared_type_laws.proofs.owner_laws.passed.definition_laws.linkage_laws.Reading.{tree_is}
+use Rattle.declared_type_laws.proofs.owner_laws.internal_laws.Reading.{only}
 use Rattle.declared_type_laws.proofs.known_entities.Known.{declared_at, entities_known}
 use Rattle.declared_type_laws.proofs.seen_onward.Reading.{shape, seen_onward}
 use Rattle.built_unit_laws.specs.built_units.Built.{IsBuilt}

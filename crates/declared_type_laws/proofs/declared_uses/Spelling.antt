@@ -14,7 +14,7 @@ use Rattle.c_grammar.specs.Terminals.{spelled}
 use Rattle.c_mentions.specs.Syntax as syntax
 use Rattle.c_mentions.specs.Symbols.{spells, first_token, symbol_of}
 use Rattle.c_senses.specs.Tree.{Source, production_of, token_of, spelling_of, spelling_at, is_name, is_identifier, kind_of_token}
-use Rattle.owner_laws.proofs.passed.definition_laws.linkage_laws.Seen.{nodes}
+use Rattle.declared_type_laws.proofs.owner_laws.passed.definition_laws.linkage_laws.Seen.{nodes}
 
 both : (a b : Bool) → (a && b) ≡ true → (a ≡ true) × (b ≡ true)
 both true true e = (refl, refl)

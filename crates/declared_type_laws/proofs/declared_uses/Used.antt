@@ -28,10 +28,10 @@ use Rattle.built_unit_laws.proofs.run_laws.Times.{known_at}
 use Rattle.declared_type_laws.proofs.plain_names.Later.{Grown, known_later, own_later, initialiser_for_same}
 use Rattle.declared_type_laws.proofs.plain_names.Fitting.{found_node, own_entity, own_named}
 use Rattle.declared_type_laws.specs.declared_leaves.Leaves.{IsNamed, Own, Inner}
-use Rattle.owner_laws.proofs.passed.definition_laws.function_definitions.Declaring.{sign_is}
-use Rattle.owner_laws.proofs.passed.definition_laws.linkage_laws.Origins.{origin}
-use Rattle.owner_laws.proofs.passed.definition_laws.linkage_laws.Seen.{nodes}
-use Rattle.owner_laws.proofs.passed.definition_laws.linkage_laws.Linked as linked
+use Rattle.declared_type_laws.proofs.owner_laws.passed.definition_laws.function_definitions.Declaring.{sign_is}
+use Rattle.declared_type_laws.proofs.owner_laws.passed.definition_laws.linkage_laws.Origins.{origin}
+use Rattle.declared_type_laws.proofs.owner_laws.passed.definition_laws.linkage_laws.Seen.{nodes}
+use Rattle.declared_type_laws.proofs.owner_laws.passed.definition_laws.linkage_laws.Linked as linked
 use Rattle.declared_type_laws.specs.seen_onward.Seen.{In}
 use Rattle.declared_type_laws.proofs.declared_uses.Spelling.{symbol_at, one_spelling}
 use Rattle.declared_type_laws.proofs.declared_uses.Asked.{Text, IsLinked, entry, site}

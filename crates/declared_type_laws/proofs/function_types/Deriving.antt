@@ -19,11 +19,11 @@ use Rattle.c_senses.specs.World.{World}
 use Rattle.c_senses.specs.Declarators.{is_declarator, stars, suffixes, inner_derivations, derivations, name_in, suffix_row, array_suffix, list_of, parameters_in}
 use Rattle.c_senses.specs.Rows.{AreSenses}
 use Rattle.c_senses.specs.Sense.{Sense, Nothing, IsDeclarator, IsDerivation, Parameter, Derivation, Pointing, Returning, sense_in}
-use Rattle.count_laws.proofs.passed.parsed_tree_laws.placed_laws.Climbing.{Grown, IsDeclaring, is_other, is_other_in, AllOther, AtMostOne}
-use Rattle.owner_laws.proofs.passed.definition_laws.linkage_laws.Seen.{nodes, children_are}
+use Rattle.core_node_laws.proofs.count_laws.passed.parsed_tree_laws.placed_laws.Climbing.{Grown, IsDeclaring, is_other, is_other_in, AllOther, AtMostOne}
+use Rattle.declared_type_laws.proofs.owner_laws.passed.definition_laws.linkage_laws.Seen.{nodes, children_are}
 use Rattle.built_unit_laws.proofs.run_laws.Times.{known_at, world_of, known, row_as}
-use Rattle.owner_laws.proofs.passed.definition_laws.function_definitions.Sensed.{Ends, ends_more, list_returns}
-use Rattle.owner_laws.proofs.passed.definition_laws.function_definitions.Whole.{declarator_gives}
+use Rattle.declared_type_laws.proofs.owner_laws.passed.definition_laws.function_definitions.Sensed.{Ends, ends_more, list_returns}
+use Rattle.declared_type_laws.proofs.owner_laws.passed.definition_laws.function_definitions.Whole.{declarator_gives}
 use Rattle.declared_type_laws.specs.declared_leaves.Leaves.{IsNamed, Own, Inner}
 use Rattle.declared_type_laws.proofs.function_types.Views.{sign_same, name_same, part_same}
 

@@ -5,10 +5,10 @@ use Rattle.c_grammar.specs.declared.trees.Tree.{Tree}
 use Rattle.c_scope.specs.Resolves.{bindings}
 use Rattle.c_senses.specs.Names.{source_of, numbered}
 use Rattle.c_senses.specs.Tree.{Source, paired}
-use Rattle.owner_laws.proofs.passed.definition_laws.linkage_laws.Seen.{nodes}
-use Rattle.owner_laws.proofs.passed.definition_laws.linkage_laws.Reading.{tree_is}
-use Rattle.count_laws.proofs.passed.parsed_tree_laws.grown_parts.Reading.{units_bring}
-use Rattle.owner_laws.proofs.internal_laws.Reading.{only}
+use Rattle.declared_type_laws.proofs.owner_laws.passed.definition_laws.linkage_laws.Seen.{nodes}
+use Rattle.declared_type_laws.proofs.owner_laws.passed.definition_laws.linkage_laws.Reading.{tree_is}
+use Rattle.core_node_laws.proofs.count_laws.passed.parsed_tree_laws.grown_parts.Reading.{units_bring}
+use Rattle.declared_type_laws.proofs.owner_laws.internal_laws.Reading.{only}
 use Rattle.declared_type_laws.specs.function_types.Typed.{FunctionsGiven}
 use Rattle.declared_type_laws.proofs.function_types.Uses.{uses_named}
 use Rattle.declared_type_laws.proofs.function_types.Typing.{functions_given as given}

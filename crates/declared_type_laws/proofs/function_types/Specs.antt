@@ -25,11 +25,11 @@ use Rattle.c_senses.specs.Specifiers as specifiers
 use Rattle.c_senses.specs.Entities.{meaning_of}
 use Rattle.c_senses.specs.Rows.{AreSenses}
 use Rattle.c_senses.specs.Sense.{Sense, Nothing, IsType, IsSpecified, Specified, sense_in}
-use Rattle.count_laws.proofs.passed.parsed_tree_laws.placed_laws.Climbing.{Grown}
-use Rattle.count_laws.specs.passed.parsed_tree_laws.grown_parts.Parts.{Brings, IsBrought}
-use Rattle.count_laws.proofs.passed.parsed_tree_laws.grown_parts.Declaring.{AllIn}
-use Rattle.count_laws.proofs.passed.parsed_tree_laws.grown_parts.Allowed.{rows_in, brings_in}
-use Rattle.owner_laws.proofs.passed.definition_laws.linkage_laws.Seen.{nodes, children_are}
+use Rattle.core_node_laws.proofs.count_laws.passed.parsed_tree_laws.placed_laws.Climbing.{Grown}
+use Rattle.core_node_laws.specs.count_laws.passed.parsed_tree_laws.grown_parts.Parts.{Brings, IsBrought}
+use Rattle.core_node_laws.proofs.count_laws.passed.parsed_tree_laws.grown_parts.Declaring.{AllIn}
+use Rattle.core_node_laws.proofs.count_laws.passed.parsed_tree_laws.grown_parts.Allowed.{rows_in, brings_in}
+use Rattle.declared_type_laws.proofs.owner_laws.passed.definition_laws.linkage_laws.Seen.{nodes, children_are}
 use Rattle.built_unit_laws.proofs.run_laws.Times.{known_at, world_of, known, row_as}
 use Rattle.declared_type_laws.specs.function_types.Typed.{IsNamedType}
 use Rattle.declared_type_laws.proofs.function_types.Views.{name_same, part_same}

@@ -24,22 +24,22 @@ use Rattle.c_senses.specs.Specifiers as specifiers
 use Rattle.c_senses.specs.Entities.{with_length, length_given_by, initialiser_for, is_parameter, is_typedef, declares_function, parameter_type, declaration_of, derived_type, specified, specified_of, own_type, meaning_of, enumerated, declared_meaning, type_behind, object_or_function, entity_of, named_by}
 use Rattle.c_senses.specs.Rows.{AreSenses}
 use Rattle.c_senses.specs.Sense.{Sense, Nothing, IsType, IsSpecified, IsDeclarator, Specified, Derivation, sense_in}
-use Rattle.count_laws.specs.passed.parsed_tree_laws.grown_parts.Parts.{IsBrought}
-use Rattle.owner_laws.proofs.passed.definition_laws.linkage_laws.Origins.{HasOrigin}
-use Rattle.owner_laws.proofs.passed.definition_laws.linkage_laws.Roles.{ByDeclarator}
-use Rattle.owner_laws.proofs.passed.definition_laws.linkage_laws.Seen.{nodes, children_are, parent_is, apart, node_within}
-use Rattle.owner_laws.proofs.passed.definition_laws.linkage_laws.Chains.{Declares, declares, either_is, declaring, Reached, name_reached}
-use Rattle.owner_laws.proofs.passed.definition_laws.linkage_laws.Scopes.{rests_nest}
-use Rattle.owner_laws.proofs.passed.definition_laws.linkage_laws.Linked.{Tree}
-use Rattle.owner_laws.proofs.passed.definition_laws.function_definitions.Declaring.{outer_is, declared_by_outermost, Declares as declares_role}
-use Rattle.owner_laws.proofs.passed.definition_laws.function_definitions.Sensed.{Ends, derives_function}
+use Rattle.core_node_laws.specs.count_laws.passed.parsed_tree_laws.grown_parts.Parts.{IsBrought}
+use Rattle.declared_type_laws.proofs.owner_laws.passed.definition_laws.linkage_laws.Origins.{HasOrigin}
+use Rattle.declared_type_laws.proofs.owner_laws.passed.definition_laws.linkage_laws.Roles.{ByDeclarator}
+use Rattle.declared_type_laws.proofs.owner_laws.passed.definition_laws.linkage_laws.Seen.{nodes, children_are, parent_is, apart, node_within}
+use Rattle.declared_type_laws.proofs.owner_laws.passed.definition_laws.linkage_laws.Chains.{Declares, declares, either_is, declaring, Reached, name_reached}
+use Rattle.declared_type_laws.proofs.owner_laws.passed.definition_laws.linkage_laws.Scopes.{rests_nest}
+use Rattle.declared_type_laws.proofs.owner_laws.passed.definition_laws.linkage_laws.Linked.{Tree}
+use Rattle.declared_type_laws.proofs.owner_laws.passed.definition_laws.function_definitions.Declaring.{outer_is, declared_by_outermost, Declares as declares_role}
+use Rattle.declared_type_laws.proofs.owner_laws.passed.definition_laws.function_definitions.Sensed.{Ends, derives_function}
 use Rattle.built_unit_laws.proofs.run_laws.Times.{known_at, world_of, known, told_before, told_later}
 use Rattle.declared_type_laws.proofs.plain_names.Later as later
 use Rattle.declared_type_laws.specs.declared_leaves.Leaves.{IsDeclaredBy}
 use Rattle.declared_type_laws.proofs.declared_leaves.Climbing.{leaves_declared}
-use Rattle.owner_laws.specs.passed.definition_laws.function_origins.Origins.{In, IsFunctionBy, Listed, Typed}
-use Rattle.owner_laws.proofs.passed.definition_laws.function_origins.Declaring as origins
-use Rattle.owner_laws.proofs.passed.definition_laws.function_origins.Coming.{functions_come}
+use Rattle.declared_type_laws.specs.owner_laws.passed.definition_laws.function_origins.Origins.{In, IsFunctionBy, Listed, Typed}
+use Rattle.declared_type_laws.proofs.owner_laws.passed.definition_laws.function_origins.Declaring as origins
+use Rattle.declared_type_laws.proofs.owner_laws.passed.definition_laws.function_origins.Coming.{functions_come}
 use Rattle.declared_type_laws.specs.function_types.Typed.{IsNamedType}
 use Rattle.declared_type_laws.proofs.function_types.Views.{part_same}
 use Rattle.declared_type_laws.proofs.function_types.Deriving.{found_in, Says, says}

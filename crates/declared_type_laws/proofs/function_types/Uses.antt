@@ -22,7 +22,7 @@ use Rattle.c_scope.specs.declared.kinds.NameFault.TheVariants as fault
 use Rattle.c_scope.specs.Known.{Happening, Known, known, nothing_known, after, after_use, after_tag, after_tag_use, after_tag_reference, after_label, after_goto, innermost, tag_declared, first_scope, first_label, is_first, with_fault}
 use Rattle.c_scope.specs.Resolves.{bindings, happenings, happenings_from}
 use Rattle.c_senses.specs.Tree.{paired}
-use Rattle.owner_laws.proofs.passed.definition_laws.linkage_laws.Origins.{mentioned}
+use Rattle.declared_type_laws.proofs.owner_laws.passed.definition_laws.linkage_laws.Origins.{mentioned}
 
 abbrev Using : Mention → Type 0
 Using (mention.Use symbol exempt) = ⊤

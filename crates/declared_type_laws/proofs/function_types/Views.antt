@@ -9,7 +9,7 @@ use Rattle.c_grammar.specs.declared.trees.SyntaxNode.{SyntaxNode}
 use Rattle.c_grammar.specs.Reads.{Node, node_of, leaf}
 use Rattle.c_mentions.specs.Syntax as syntax
 use Rattle.c_senses.specs.Tree.{Source, production_of, is_a, is_name, has_sign, is_identifier, is_number, sign_of_kind, kind_of_token, token_of}
-use Rattle.owner_laws.proofs.passed.definition_laws.linkage_laws.Seen.{nodes}
+use Rattle.declared_type_laws.proofs.owner_laws.passed.definition_laws.linkage_laws.Seen.{nodes}
 
 kind_same : (o : Option Token) → syntax.kind_of o ≡ kind_of_token o
 kind_same None = refl

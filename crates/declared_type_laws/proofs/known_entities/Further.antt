@@ -14,14 +14,14 @@ use Rattle.c_senses.specs.Sense.{Sense, Derivation, IsDeclarator, sense_in}
 use Rattle.c_senses.specs.Rows.{AreSenses, names_over}
 use Rattle.c_senses.specs.Tags.{completed_from}
 use Rattle.built_unit_laws.proofs.run_laws.Times.{known, told_before}
-use Rattle.owner_laws.specs.Owners.{FurtherKnown}
-use Rattle.owner_laws.specs.passed.definition_laws.Definitions.{is_definition}
-use Rattle.owner_laws.specs.passed.definition_laws.function_definitions.Defined.{Defines}
-use Rattle.owner_laws.proofs.internal_laws.Reading.{definitions_known}
-use Rattle.owner_laws.proofs.passed.definition_laws.function_definitions.Reading.{definitions_declare}
-use Rattle.owner_laws.proofs.passed.definition_laws.linkage_laws.Linked.{stands_linked}
-use Rattle.owner_laws.proofs.passed.definition_laws.linkage_laws.Reading.{tree_is}
-use Rattle.owner_laws.proofs.passed.definition_laws.linkage_laws.Seen.{some_same, no_both}
+use Rattle.declared_type_laws.specs.owner_laws.Owners.{FurtherKnown}
+use Rattle.declared_type_laws.specs.owner_laws.passed.definition_laws.Definitions.{is_definition}
+use Rattle.declared_type_laws.specs.owner_laws.passed.definition_laws.function_definitions.Defined.{Defines}
+use Rattle.declared_type_laws.proofs.owner_laws.internal_laws.Reading.{definitions_known}
+use Rattle.declared_type_laws.proofs.owner_laws.passed.definition_laws.function_definitions.Reading.{definitions_declare}
+use Rattle.declared_type_laws.proofs.owner_laws.passed.definition_laws.linkage_laws.Linked.{stands_linked}
+use Rattle.declared_type_laws.proofs.owner_laws.passed.definition_laws.linkage_laws.Reading.{tree_is}
+use Rattle.declared_type_laws.proofs.owner_laws.passed.definition_laws.linkage_laws.Seen.{some_same, no_both}
 use Rattle.declared_type_laws.specs.known_entities.Further.{IsFurther, FurtherFound}
 use Rattle.declared_type_laws.proofs.known_entities.Known.{entities_known}
 

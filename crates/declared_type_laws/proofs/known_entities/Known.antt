@@ -15,21 +15,21 @@ use Rattle.c_senses.specs.Names.{source_of, numbered, ordinary_at, is_linked_kin
 use Rattle.c_senses.specs.Declarators.{outermost_of, specs_of}
 use Rattle.c_senses.specs.Entities.{is_linked, is_internal, is_internal_of, internal_among, keep, first_of, entity_of}
 use Rattle.c_senses.specs.Sense.{Sense, sense_in}
-use Rattle.count_laws.specs.passed.parsed_tree_laws.family_laws.Families.{Families}
-use Rattle.count_laws.proofs.passed.parsed_tree_laws.family_laws.Reading.{units_families}
-use Rattle.count_laws.specs.passed.parsed_tree_laws.member_names.Differ.{InOrder}
-use Rattle.count_laws.proofs.passed.parsed_tree_laws.member_names.Order.{units_in_order}
-use Rattle.owner_laws.proofs.passed.definition_laws.linkage_laws.Origins.{HasOrigin, origin}
-use Rattle.owner_laws.proofs.passed.definition_laws.linkage_laws.Seen.{nodes, some_same, node_within}
-use Rattle.owner_laws.proofs.passed.definition_laws.linkage_laws.Roles as roles
-use Rattle.owner_laws.proofs.passed.definition_laws.linkage_laws.Chains.{either_is, declaring, name_reached}
-use Rattle.owner_laws.proofs.passed.definition_laws.linkage_laws.Linked.{Tree}
-use Rattle.owner_laws.proofs.passed.definition_laws.linkage_laws.Reading.{tree_is}
-use Rattle.owner_laws.proofs.internal_laws.PassedOn.{outer_is, Declares as declares_role}
-use Rattle.owner_laws.proofs.internal_laws.Sorted as sorted
-use Rattle.owner_laws.proofs.internal_laws.Settled.{specs_settled}
-use Rattle.owner_laws.proofs.internal_laws.Same as same
-use Rattle.owner_laws.proofs.internal_laws.Reading.{only}
+use Rattle.core_node_laws.specs.count_laws.passed.parsed_tree_laws.family_laws.Families.{Families}
+use Rattle.core_node_laws.proofs.count_laws.passed.parsed_tree_laws.family_laws.Reading.{units_families}
+use Rattle.core_node_laws.specs.count_laws.passed.parsed_tree_laws.member_names.Differ.{InOrder}
+use Rattle.core_node_laws.proofs.count_laws.passed.parsed_tree_laws.member_names.Order.{units_in_order}
+use Rattle.declared_type_laws.proofs.owner_laws.passed.definition_laws.linkage_laws.Origins.{HasOrigin, origin}
+use Rattle.declared_type_laws.proofs.owner_laws.passed.definition_laws.linkage_laws.Seen.{nodes, some_same, node_within}
+use Rattle.declared_type_laws.proofs.owner_laws.passed.definition_laws.linkage_laws.Roles as roles
+use Rattle.declared_type_laws.proofs.owner_laws.passed.definition_laws.linkage_laws.Chains.{either_is, declaring, name_reached}
+use Rattle.declared_type_laws.proofs.owner_laws.passed.definition_laws.linkage_laws.Linked.{Tree}
+use Rattle.declared_type_laws.proofs.owner_laws.passed.definition_laws.linkage_laws.Reading.{tree_is}
+use Rattle.declared_type_laws.proofs.owner_laws.internal_laws.PassedOn.{outer_is, Declares as declares_role}
+use Rattle.declared_type_laws.proofs.owner_laws.internal_laws.Sorted as sorted
+use Rattle.declared_type_laws.proofs.owner_laws.internal_laws.Settled.{specs_settled}
+use Rattle.declared_type_laws.proofs.owner_laws.internal_laws.Same as same
+use Rattle.declared_type_laws.proofs.owner_laws.internal_laws.Reading.{only}
 use Rattle.declared_type_laws.specs.known_entities.Entities.{IsKnownAt, EntitiesKnown}
 
 -- the first of those that pass is the same for two tests that say the same of one that passes and of all before it

@@ -15,10 +15,10 @@ use Rattle.c_senses.specs.Entities.{with_length, is_linked, is_internal, is_open
 use Rattle.c_senses.specs.Sense.{Sense, IsDeclarator, Specified, sense_in}
 use Rattle.c_senses.specs.Rows.{AreSenses}
 use Rattle.sense_laws.specs.Sound.{AgreesWith, MeaningFits}
-use Rattle.count_laws.proofs.passed.parsed_tree_laws.placed_laws.Climbing.{Grown}
+use Rattle.core_node_laws.proofs.count_laws.passed.parsed_tree_laws.placed_laws.Climbing.{Grown}
 use Rattle.built_unit_laws.specs.run_laws.PassedOn.{IsGrown}
 use Rattle.built_unit_laws.proofs.run_laws.PassedOn.{in_list, parent_is}
-use Rattle.count_laws.specs.passed.parsed_tree_laws.grown_parts.Parts.{IsBrought}
+use Rattle.core_node_laws.specs.count_laws.passed.parsed_tree_laws.grown_parts.Parts.{IsBrought}
 use Rattle.built_unit_laws.proofs.run_laws.Times.{known_at, known}
 use Rattle.built_unit_laws.proofs.run_laws.Automatic.{specified_later}
 use Rattle.declaration_laws.specs.name_order.Order.{declaring, linking, IsNameOf, Declares, Enumerates, Names, Links, IsOrdered}

@@ -11,9 +11,9 @@ use Rattle.c_mentions.specs.Settings.{Standing, outermost, handed_down, with_sco
 use Rattle.c_scope.specs.declared.kinds.Declared.{Declared}
 use Rattle.c_scope.specs.Known.{those_at}
 use Rattle.c_senses.specs.Names.{has_linkage, all_linked, linked_along}
-use Rattle.owner_laws.specs.passed.definition_laws.scope_laws.Beneath.{part, deeper}
-use Rattle.owner_laws.proofs.passed.definition_laws.scope_laws.Scopes.{Part, Below, IsOf}
-use Rattle.owner_laws.proofs.passed.definition_laws.linkage_laws.Roles.{opens}
+use Rattle.declared_type_laws.specs.owner_laws.passed.definition_laws.scope_laws.Beneath.{part, deeper}
+use Rattle.declared_type_laws.proofs.owner_laws.passed.definition_laws.scope_laws.Scopes.{Part, Below, IsOf}
+use Rattle.declared_type_laws.proofs.owner_laws.passed.definition_laws.linkage_laws.Roles.{opens}
 use Rattle.declared_type_laws.specs.seen_onward.Seen.{In}
 use Rattle.declared_type_laws.proofs.seen_onward.Lists.{in_those, seen_first}
 use Rattle.declared_type_laws.proofs.seen_onward.Descent.{StandsAt, each}

@@ -1,10 +1,10 @@
 -- What is seen in the units that are read.
 use Rattle.std.proofs.Common.{refl}
 use Rattle.c_senses.specs.Names.{source_of, names_of, numbered}
-use Rattle.count_laws.proofs.passed.parsed_tree_laws.span_laws.Whole.{units_are_spanned}
-use Rattle.owner_laws.proofs.passed.definition_laws.scope_laws.Whole.{names_declared_once}
-use Rattle.count_laws.proofs.passed.parsed_tree_laws.sign_parts.Reading.{units_bring}
-use Rattle.owner_laws.proofs.passed.definition_laws.linkage_laws.Reading.{tree_is}
+use Rattle.core_node_laws.proofs.count_laws.passed.parsed_tree_laws.span_laws.Whole.{units_are_spanned}
+use Rattle.declared_type_laws.proofs.owner_laws.passed.definition_laws.scope_laws.Whole.{names_declared_once}
+use Rattle.core_node_laws.proofs.count_laws.passed.parsed_tree_laws.sign_parts.Reading.{units_bring}
+use Rattle.declared_type_laws.proofs.owner_laws.passed.definition_laws.linkage_laws.Reading.{tree_is}
 use Rattle.declared_type_laws.proofs.seen_onward.Reading.{shape}
 use Rattle.declared_type_laws.specs.linked_scopes.Scoped.{LinkedScoped}
 use Rattle.declared_type_laws.proofs.linked_scopes.Whole.{scoped}

@@ -22,20 +22,20 @@ use Rattle.c_senses.specs.Names.{has_linkage, is_linked_kind, all_linked, scopes
 use Rattle.c_senses.specs.Declarators.{is_outermost, outermost_of, declaration_around}
 use Rattle.c_senses.specs.Entities.{declaration_of, is_at_file}
 use Rattle.c_senses.specs.Sense.{Sense}
-use Rattle.owner_laws.specs.passed.definition_laws.scope_laws.Beneath.{part, deeper}
-use Rattle.owner_laws.specs.passed.definition_laws.scope_laws.Scoped.{DeclaredOnce}
-use Rattle.owner_laws.proofs.passed.definition_laws.scope_laws.Tree.{further}
-use Rattle.owner_laws.proofs.passed.definition_laws.scope_laws.Scopes.{Part, Below, IsOf}
-use Rattle.owner_laws.proofs.passed.definition_laws.scope_laws.Knowing.{one_maker, made_below}
-use Rattle.owner_laws.proofs.passed.definition_laws.linkage_laws.Origins.{HasOrigin}
-use Rattle.owner_laws.proofs.passed.definition_laws.linkage_laws.Seen.{nodes, production_same, children_are, node_within, parent_is}
-use Rattle.owner_laws.proofs.passed.definition_laws.linkage_laws.Seen.{apart as differ}
-use Rattle.owner_laws.proofs.passed.definition_laws.linkage_laws.Roles as roles
-use Rattle.owner_laws.proofs.passed.definition_laws.linkage_laws.Chains.{Declares, Reached, declares, either_is, declaring, name_reached}
-use Rattle.owner_laws.proofs.passed.definition_laws.linkage_laws.Scopes.{rests_nest, inner}
-use Rattle.owner_laws.proofs.passed.definition_laws.linkage_laws.Linked.{Tree}
-use Rattle.owner_laws.proofs.passed.definition_laws.function_definitions.Declaring.{outer_is, Declares as declares_role}
-use Rattle.owner_laws.proofs.internal_laws.Sorted as sorted
+use Rattle.declared_type_laws.specs.owner_laws.passed.definition_laws.scope_laws.Beneath.{part, deeper}
+use Rattle.declared_type_laws.specs.owner_laws.passed.definition_laws.scope_laws.Scoped.{DeclaredOnce}
+use Rattle.declared_type_laws.proofs.owner_laws.passed.definition_laws.scope_laws.Tree.{further}
+use Rattle.declared_type_laws.proofs.owner_laws.passed.definition_laws.scope_laws.Scopes.{Part, Below, IsOf}
+use Rattle.declared_type_laws.proofs.owner_laws.passed.definition_laws.scope_laws.Knowing.{one_maker, made_below}
+use Rattle.declared_type_laws.proofs.owner_laws.passed.definition_laws.linkage_laws.Origins.{HasOrigin}
+use Rattle.declared_type_laws.proofs.owner_laws.passed.definition_laws.linkage_laws.Seen.{nodes, production_same, children_are, node_within, parent_is}
+use Rattle.declared_type_laws.proofs.owner_laws.passed.definition_laws.linkage_laws.Seen.{apart as differ}
+use Rattle.declared_type_laws.proofs.owner_laws.passed.definition_laws.linkage_laws.Roles as roles
+use Rattle.declared_type_laws.proofs.owner_laws.passed.definition_laws.linkage_laws.Chains.{Declares, Reached, declares, either_is, declaring, name_reached}
+use Rattle.declared_type_laws.proofs.owner_laws.passed.definition_laws.linkage_laws.Scopes.{rests_nest, inner}
+use Rattle.declared_type_laws.proofs.owner_laws.passed.definition_laws.linkage_laws.Linked.{Tree}
+use Rattle.declared_type_laws.proofs.owner_laws.passed.definition_laws.function_definitions.Declaring.{outer_is, Declares as declares_role}
+use Rattle.declared_type_laws.proofs.owner_laws.internal_laws.Sorted as sorted
 use Rattle.declared_type_laws.specs.seen_onward.Seen.{In}
 use Rattle.declared_type_laws.proofs.seen_onward.Lists.{in_those, to_those, all_have, IsSeen, seen, seen_on, seen_first, SameAt, same_along}
 use Rattle.declared_type_laws.proofs.seen_onward.Descent.{StandsAt, stands_within, stands_once, stands}

@@ -6,11 +6,11 @@ use Rattle.core_tree.specs.declared.node.Entity.{Entity}
 use Rattle.core_tree.specs.declared.node.NodeKind.{NodeKind}
 use Rattle.core_tree.specs.declared.node.NodeKind.TheVariants.{Text}
 use Rattle.c_types.specs.declared.term.MemberTerm.{MemberTerm}
-use Rattle.count_laws.specs.passed.location_laws.name_laws.Named.{AreMembers, IsText}
-use Rattle.count_laws.specs.passed.location_laws.named_laws.Units.{IsNarrow, IsLocalOf, SamePlace}
-use Rattle.count_laws.specs.named_units.Named.{HaveNames}
-use Rattle.count_laws.specs.named_units.Named as own
-use Rattle.count_laws.proofs.named_units.Reading.{units_named, tags_known}
+use Rattle.core_node_laws.specs.count_laws.passed.location_laws.name_laws.Named.{AreMembers, IsText}
+use Rattle.core_node_laws.specs.count_laws.passed.location_laws.named_laws.Units.{IsNarrow, IsLocalOf, SamePlace}
+use Rattle.core_node_laws.specs.count_laws.named_units.Named.{HaveNames}
+use Rattle.core_node_laws.specs.count_laws.named_units.Named as own
+use Rattle.core_node_laws.proofs.count_laws.named_units.Reading.{units_named, tags_known}
 use Rattle.declared_type_laws.proofs.right_nodes.Whole.{right_nodes_once}
 use Rattle.declared_type_laws.proofs.owned_locals.Reading.{right_owned, right_linked}
 use Rattle.declared_type_laws.specs.named_rest.Rest.{NamedWithRest}

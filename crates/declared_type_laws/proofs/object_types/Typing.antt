@@ -30,10 +30,10 @@ use Rattle.sense_laws.specs.Sound.{Gives}
 use Rattle.sense_laws.proofs.Giving.{then_gives, if_given, and_left}
 use Rattle.sense_laws.proofs.Types.{anything}
 use Rattle.sense_laws.proofs.Seen.{seen_whole}
-use Rattle.count_laws.proofs.passed.parsed_tree_laws.placed_laws.Climbing.{Grown}
+use Rattle.core_node_laws.proofs.count_laws.passed.parsed_tree_laws.placed_laws.Climbing.{Grown}
 use Rattle.built_unit_laws.specs.passed.core_node_laws.standing_laws.Standing.{IsGrown}
 use Rattle.built_unit_laws.proofs.passed.core_node_laws.standing_laws.Climbing.{in_list, found_where, parent_is, parent_holds}
-use Rattle.count_laws.specs.passed.parsed_tree_laws.grown_parts.Parts.{IsBrought}
+use Rattle.core_node_laws.specs.count_laws.passed.parsed_tree_laws.grown_parts.Parts.{IsBrought}
 use Rattle.declared_type_laws.proofs.declared_leaves.PassedOn.{known_at, world_of, told_before, row_as, fitted}
 use Rattle.declared_type_laws.proofs.declared_leaves.PassedOn.{first_in, last_found}
 use Rattle.declared_type_laws.specs.plain_names.PassedOn.{types_declared, literal_type}

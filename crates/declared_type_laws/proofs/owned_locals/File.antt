@@ -34,18 +34,18 @@ use Rattle.c_senses.specs.Entities.{declaration_of, is_linked, is_typedef}
 use Rattle.c_senses.specs.Right.{is_declaring}
 use Rattle.c_senses.specs.Rows.{AreSenses}
 use Rattle.c_senses.specs.Sense.{Sense, IsDeclarator, sense_in}
-use Rattle.owner_laws.proofs.passed.definition_laws.scope_laws.Scopes.{Part}
-use Rattle.count_laws.specs.passed.parsed_tree_laws.grown_parts.Parts.{IsBrought}
+use Rattle.declared_type_laws.proofs.owner_laws.passed.definition_laws.scope_laws.Scopes.{Part}
+use Rattle.core_node_laws.specs.count_laws.passed.parsed_tree_laws.grown_parts.Parts.{IsBrought}
 use Rattle.declared_type_laws.specs.declared_leaves.Leaves.{IsDeclaredBy}
 use Rattle.declared_type_laws.proofs.declared_leaves.Climbing.{leaves_declared}
-use Rattle.owner_laws.proofs.passed.definition_laws.linkage_laws.Origins.{HasOrigin, origin, mentioned}
-use Rattle.owner_laws.proofs.passed.definition_laws.linkage_laws.Seen.{nodes, production_same, children_are, node_within, parent_holds}
-use Rattle.owner_laws.proofs.passed.definition_laws.linkage_laws.Roles.{opens}
-use Rattle.owner_laws.proofs.passed.definition_laws.linkage_laws.Standings.{HasParent, parents}
-use Rattle.owner_laws.proofs.passed.definition_laws.linkage_laws.Chains.{name_reached}
-use Rattle.owner_laws.proofs.passed.definition_laws.linkage_laws.Linked.{Tree}
-use Rattle.owner_laws.proofs.passed.definition_laws.function_definitions.Found.{comes_out, external_hands, declarator_declares}
-use Rattle.owner_laws.proofs.passed.definition_laws.function_definitions.Declaring.{declared_by_outermost}
+use Rattle.declared_type_laws.proofs.owner_laws.passed.definition_laws.linkage_laws.Origins.{HasOrigin, origin, mentioned}
+use Rattle.declared_type_laws.proofs.owner_laws.passed.definition_laws.linkage_laws.Seen.{nodes, production_same, children_are, node_within, parent_holds}
+use Rattle.declared_type_laws.proofs.owner_laws.passed.definition_laws.linkage_laws.Roles.{opens}
+use Rattle.declared_type_laws.proofs.owner_laws.passed.definition_laws.linkage_laws.Standings.{HasParent, parents}
+use Rattle.declared_type_laws.proofs.owner_laws.passed.definition_laws.linkage_laws.Chains.{name_reached}
+use Rattle.declared_type_laws.proofs.owner_laws.passed.definition_laws.linkage_laws.Linked.{Tree}
+use Rattle.declared_type_laws.proofs.owner_laws.passed.definition_laws.function_definitions.Found.{comes_out, external_hands, declarator_declares}
+use Rattle.declared_type_laws.proofs.owner_laws.passed.definition_laws.function_definitions.Declaring.{declared_by_outermost}
 use Rattle.declared_type_laws.proofs.seen_onward.Descent.{StandsAt, stands, stands_once, part_node, part_within}
 use Rattle.declared_type_laws.proofs.seen_onward.Openers.{Shaped}
 use Rattle.declared_type_laws.proofs.seen_onward.Around.{placed}

@@ -8,9 +8,9 @@ use Rattle.c_grammar.specs.Reads.{leaf}
 use Rattle.c_grammar.specs.Productions.{p_external, p_rest, p_declarator, p_abstract, p_either}
 use Rattle.c_senses.specs.Tree.{Source, production_at, children_at, is_a}
 use Rattle.c_senses.specs.Declarators.{is_declarator}
-use Rattle.count_laws.specs.passed.parsed_tree_laws.grown_parts.Parts.{IsBrought, Brings}
-use Rattle.count_laws.proofs.passed.parsed_tree_laws.grown_parts.Declaring.{AllIn, rest_parts, rest_list}
-use Rattle.count_laws.proofs.passed.parsed_tree_laws.grown_parts.Allowed.{rows_in, brings_in}
+use Rattle.core_node_laws.specs.count_laws.passed.parsed_tree_laws.grown_parts.Parts.{IsBrought, Brings}
+use Rattle.core_node_laws.proofs.count_laws.passed.parsed_tree_laws.grown_parts.Declaring.{AllIn, rest_parts, rest_list}
+use Rattle.core_node_laws.proofs.count_laws.passed.parsed_tree_laws.grown_parts.Allowed.{rows_in, brings_in}
 
 abbrev external_parts : List ℕ
 external_parts = leaf ∷ 6 ∷ 19 ∷ 5 ∷ 2 ∷ 29 ∷ []

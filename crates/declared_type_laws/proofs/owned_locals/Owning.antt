@@ -21,16 +21,16 @@ use Rattle.c_senses.specs.Names.{ordinary_at}
 use Rattle.c_senses.specs.Sense.{Sense, sense_in}
 use Rattle.c_senses.specs.Entities.{is_parameter, is_defined, is_linked, is_internal, is_static_object, has_storage, initialiser_for, declares_function, storage_of, linkage_of, entity_of, first_of, internal_among, function_around, defined_name}
 use Rattle.c_senses.specs.Right.{Numbering, Declared as Declares, IsDeclaredAt, IsEntityOf, declares_entity, declared_as, declared_name, entity_type, representative, storage_at, of_internal}
-use Rattle.owner_laws.specs.passed.definition_laws.Definitions.{is_definition}
+use Rattle.declared_type_laws.specs.owner_laws.passed.definition_laws.Definitions.{is_definition}
 use Rattle.built_unit_laws.specs.passed.core_node_laws.literal_nodes.Holding.{Holds}
 use Rattle.built_unit_laws.specs.passed.core_node_laws.literal_nodes.Unnamed.{IsUnnamed}
 use Rattle.built_unit_laws.proofs.passed.core_node_laws.literal_nodes.Unnamed.{unnamed}
 use Rattle.built_unit_laws.proofs.unlinked_laws.Inside.{in_body_holds}
-use Rattle.owner_laws.specs.passed.definition_laws.linkage_laws.Linked.{StandsLinked}
-use Rattle.owner_laws.proofs.passed.definition_laws.linkage_laws.Seen.{some_same, none_some, no_both, apart}
-use Rattle.owner_laws.proofs.passed.definition_laws.linkage_laws.Unlinked.{all_internal}
-use Rattle.owner_laws.specs.passed.definition_laws.function_definitions.Defined.{Defines}
-use Rattle.owner_laws.specs.owned_laws.Owned.{InternalsDefined}
+use Rattle.declared_type_laws.specs.owner_laws.passed.definition_laws.linkage_laws.Linked.{StandsLinked}
+use Rattle.declared_type_laws.proofs.owner_laws.passed.definition_laws.linkage_laws.Seen.{some_same, none_some, no_both, apart}
+use Rattle.declared_type_laws.proofs.owner_laws.passed.definition_laws.linkage_laws.Unlinked.{all_internal}
+use Rattle.declared_type_laws.specs.owner_laws.passed.definition_laws.function_definitions.Defined.{Defines}
+use Rattle.declared_type_laws.specs.owner_laws.owned_laws.Owned.{InternalsDefined}
 use Rattle.declared_type_laws.specs.owned_locals.Numbers.{AreNumbered}
 
 and_then_some : {A B : Type 0} → (o : Option A) (k : A → Option B) (y : B) → option_and_then k o ≡ Some y → (x : A) × (o ≡ Some x) × (k x ≡ Some y)

@@ -21,21 +21,21 @@ use Rattle.c_senses.specs.Names.{source_of, numbered}
 use Rattle.c_senses.specs.Sense.{Sense, sense_in}
 use Rattle.c_senses.specs.Entities.{declaration_of, is_linked, is_internal, is_typedef, is_parameter, is_defined, is_static_object, has_storage, initialiser_for, declares_function, storage_of, linkage_of, entity_of, function_around, defined_name}
 use Rattle.c_senses.specs.Right.{Numbering, Right, SameOwner, Declared as Declares, IsDeclaredAt, is_declaring, stands_in_declaration, is_defined_parameter, declares_entity, declared_as, entity_type, storage_at, representative}
-use Rattle.count_laws.proofs.passed.parsed_tree_laws.span_laws.Whole.{units_are_spanned}
-use Rattle.count_laws.proofs.passed.parsed_tree_laws.sign_parts.Reading as sign_parts
-use Rattle.count_laws.proofs.passed.parsed_tree_laws.grown_parts.Reading.{units_bring}
-use Rattle.owner_laws.specs.passed.definition_laws.Definitions.{is_definition, HasDefinition}
-use Rattle.owner_laws.proofs.passed.definition_laws.Locals.{locals}
-use Rattle.owner_laws.specs.passed.definition_laws.linkage_laws.Linked.{StandsLinked}
-use Rattle.owner_laws.proofs.passed.definition_laws.linkage_laws.Linked as linked
-use Rattle.owner_laws.proofs.passed.definition_laws.linkage_laws.Reading.{tree_is}
+use Rattle.core_node_laws.proofs.count_laws.passed.parsed_tree_laws.span_laws.Whole.{units_are_spanned}
+use Rattle.core_node_laws.proofs.count_laws.passed.parsed_tree_laws.sign_parts.Reading as sign_parts
+use Rattle.core_node_laws.proofs.count_laws.passed.parsed_tree_laws.grown_parts.Reading.{units_bring}
+use Rattle.declared_type_laws.specs.owner_laws.passed.definition_laws.Definitions.{is_definition, HasDefinition}
+use Rattle.declared_type_laws.proofs.owner_laws.passed.definition_laws.Locals.{locals}
+use Rattle.declared_type_laws.specs.owner_laws.passed.definition_laws.linkage_laws.Linked.{StandsLinked}
+use Rattle.declared_type_laws.proofs.owner_laws.passed.definition_laws.linkage_laws.Linked as linked
+use Rattle.declared_type_laws.proofs.owner_laws.passed.definition_laws.linkage_laws.Reading.{tree_is}
 use Rattle.built_unit_laws.proofs.built_laws.Placed.{made as built_made}
-use Rattle.owner_laws.specs.passed.definition_laws.function_definitions.Defined.{Defines}
-use Rattle.owner_laws.proofs.passed.definition_laws.function_definitions.Reading.{definitions_declare}
-use Rattle.owner_laws.specs.owned_laws.Owned.{InternalsDefined}
-use Rattle.owner_laws.proofs.internal_laws.Reading.{definitions_known}
+use Rattle.declared_type_laws.specs.owner_laws.passed.definition_laws.function_definitions.Defined.{Defines}
+use Rattle.declared_type_laws.proofs.owner_laws.passed.definition_laws.function_definitions.Reading.{definitions_declare}
+use Rattle.declared_type_laws.specs.owner_laws.owned_laws.Owned.{InternalsDefined}
+use Rattle.declared_type_laws.proofs.owner_laws.internal_laws.Reading.{definitions_known}
 use Rattle.declared_type_laws.proofs.seen_onward.Reading.{shape}
-use Rattle.count_laws.specs.passed.location_laws.named_laws.Units.{IsLocalOf, HasFunction}
+use Rattle.core_node_laws.specs.count_laws.passed.location_laws.named_laws.Units.{IsLocalOf, HasFunction}
 use Rattle.declared_type_laws.specs.owned_locals.Locals.{FileNamesLinked, LocalsOwned, RightLocalsOwned, RightBodiesLinked}
 use Rattle.declared_type_laws.specs.owned_locals.Numbers.{AreNumbered}
 use Rattle.declared_type_laws.proofs.owned_locals.Owning.{IsMade, made, around_defines, owner_is}

@@ -14,10 +14,10 @@ use Rattle.c_grammar.specs.Productions.{p_declarator, p_either}
 use Rattle.c_mentions.specs.Syntax as syntax
 use Rattle.c_mentions.specs.Declarators.{declarator, within, level, inner_of, name_of, is_inner}
 use Rattle.c_senses.specs.Tree.{Source, production_of, production_at, children_at, is_a, is_name, is_identifier, kind_of_token, token_of}
-use Rattle.count_laws.proofs.passed.parsed_tree_laws.placed_laws.Climbing.{Grown, AtMostOne, AllOther, is_other, is_other_in, IsDeclaring}
-use Rattle.count_laws.specs.passed.parsed_tree_laws.grown_parts.Parts.{IsBrought}
+use Rattle.core_node_laws.proofs.count_laws.passed.parsed_tree_laws.placed_laws.Climbing.{Grown, AtMostOne, AllOther, is_other, is_other_in, IsDeclaring}
+use Rattle.core_node_laws.specs.count_laws.passed.parsed_tree_laws.grown_parts.Parts.{IsBrought}
 use Rattle.declared_type_laws.specs.declared_leaves.Leaves.{IsNamed, Own, Inner}
-use Rattle.owner_laws.proofs.passed.definition_laws.linkage_laws.Seen.{nodes, production_is, production_same, children_are, name_is}
+use Rattle.declared_type_laws.proofs.owner_laws.passed.definition_laws.linkage_laws.Seen.{nodes, production_is, production_same, children_are, name_is}
 use Rattle.declared_type_laws.proofs.owned_locals.Forms.{in_declarator}
 
 no_both : (b : Bool) → b ≡ true → b ≡ false → ⊥

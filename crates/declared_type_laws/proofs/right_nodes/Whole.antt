@@ -13,9 +13,9 @@ use Rattle.core_tree.specs.Valid.{HasBody, IsFunctionBody, IsObjectBody}
 use Rattle.c_senses.specs.Names.{source_of, numbered}
 use Rattle.c_senses.specs.Tree.{Source}
 use Rattle.c_senses.specs.Right.{Right}
-use Rattle.count_laws.specs.once_nodes.Once.{BlocksDiffer, IsLaid}
-use Rattle.count_laws.proofs.single_nodes.Whole.{texts_once, calls_once, literals_once}
-use Rattle.owner_laws.proofs.passed.definition_laws.block_laws.Whole.{blocks_differ}
+use Rattle.core_node_laws.specs.count_laws.once_nodes.Once.{BlocksDiffer, IsLaid}
+use Rattle.core_node_laws.proofs.count_laws.single_nodes.Whole.{texts_once, calls_once, literals_once}
+use Rattle.declared_type_laws.proofs.owner_laws.passed.definition_laws.block_laws.Whole.{blocks_differ}
 use Rattle.declared_type_laws.specs.right_nodes.Once.{RightNodesOnce}
 
 module _ (s : Source) (name : List ℕ) (u : Unit) (r : Right s name u) where

@@ -3,10 +3,10 @@ use Rattle.std.proofs.Common.{arith, ◌≡◌, ◌<◌, ◌≤◌, ℕ, suc, na
 use Rattle.std.proofs.lemmas.Bool.{eqb-true, eqb-false, ltb-true, ltb-false}
 use Rattle.c_grammar.specs.Terminals.{contains}
 use Rattle.c_senses.specs.Tree.{Source, children_at}
-use Rattle.count_laws.specs.passed.parsed_tree_laws.span_laws.Spans.{Spans, Runs, over, no_more, one_more, Spanned}
-use Rattle.owner_laws.specs.passed.definition_laws.scope_laws.Beneath.{Beneath, part, deeper}
-use Rattle.owner_laws.proofs.passed.definition_laws.scope_laws.Tree.{further}
-use Rattle.owner_laws.proofs.passed.definition_laws.scope_laws.Scopes.{equal}
+use Rattle.core_node_laws.specs.count_laws.passed.parsed_tree_laws.span_laws.Spans.{Spans, Runs, over, no_more, one_more, Spanned}
+use Rattle.declared_type_laws.specs.owner_laws.passed.definition_laws.scope_laws.Beneath.{Beneath, part, deeper}
+use Rattle.declared_type_laws.proofs.owner_laws.passed.definition_laws.scope_laws.Tree.{further}
+use Rattle.declared_type_laws.proofs.owner_laws.passed.definition_laws.scope_laws.Scopes.{equal}
 
 abbrev pub IsPart : Source → ℕ → ℕ → Type 0
 IsPart s i c = contains (children_at s i) c ≡ true

@@ -8,8 +8,8 @@ use Rattle.c_grammar.specs.declared.trees.SyntaxNode.{SyntaxNode}
 use Rattle.c_grammar.specs.Productions.{p_external, p_block}
 use Rattle.c_grammar.specs.Terminals.{contains}
 use Rattle.c_senses.specs.Tree.{Source, production_of, production_at, children_at, is_a}
-use Rattle.count_laws.specs.passed.parsed_tree_laws.sign_parts.Parts.{Mark, Takes, mark_of, mark_at, IsBrought, Brings}
-use Rattle.owner_laws.proofs.passed.definition_laws.own_initialisers.Parts.{mark, NoAsm, Asm, IsNaming, Naming, IsOther, Assert, Alone, Body, external_list}
+use Rattle.core_node_laws.specs.count_laws.passed.parsed_tree_laws.sign_parts.Parts.{Mark, Takes, mark_of, mark_at, IsBrought, Brings}
+use Rattle.declared_type_laws.proofs.owner_laws.passed.definition_laws.own_initialisers.Parts.{mark, NoAsm, Asm, IsNaming, Naming, IsOther, Assert, Alone, Body, external_list}
 
 -- none is a block, and only the last one is
 abbrev NoBlocks : List Mark → Type 0

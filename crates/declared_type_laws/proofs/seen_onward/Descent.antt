@@ -6,8 +6,8 @@ use Rattle.c_grammar.specs.Reads.{Node}
 use Rattle.c_grammar.specs.Terminals.{contains}
 use Rattle.c_mentions.specs.Syntax as syntax
 use Rattle.c_mentions.specs.Settings.{Standing, outermost, handed_down, standings}
-use Rattle.owner_laws.proofs.passed.definition_laws.scope_laws.Scopes.{Part, children_are}
-use Rattle.owner_laws.proofs.passed.definition_laws.linkage_laws.Standings.{HasParent, parents}
+use Rattle.declared_type_laws.proofs.owner_laws.passed.definition_laws.scope_laws.Scopes.{Part, children_are}
+use Rattle.declared_type_laws.proofs.owner_laws.passed.definition_laws.linkage_laws.Standings.{HasParent, parents}
 
 count : (tokens : List Token) (nodes : List Node) (i : ℕ) (ns : List Node) → length (standings tokens nodes i ns) ≡ length ns
 count tokens nodes i [] = refl

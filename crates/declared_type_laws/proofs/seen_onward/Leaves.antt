@@ -12,9 +12,9 @@ use Rattle.c_mentions.specs.Syntax as syntax
 use Rattle.c_mentions.specs.Declarators.{declarator, within, level, inner_of, name_of, is_inner}
 use Rattle.c_mentions.specs.Roles.{opened}
 use Rattle.c_mentions.specs.Settings.{Standing, outermost, with_scope}
-use Rattle.owner_laws.proofs.passed.definition_laws.scope_laws.Scopes.{Part, found_in, children_are}
-use Rattle.owner_laws.proofs.passed.definition_laws.linkage_laws.Standings.{HasParent, parents}
-use Rattle.owner_laws.proofs.passed.definition_laws.linkage_laws.Roles.{opens}
+use Rattle.declared_type_laws.proofs.owner_laws.passed.definition_laws.scope_laws.Scopes.{Part, found_in, children_are}
+use Rattle.declared_type_laws.proofs.owner_laws.passed.definition_laws.linkage_laws.Standings.{HasParent, parents}
+use Rattle.declared_type_laws.proofs.owner_laws.passed.definition_laws.linkage_laws.Roles.{opens}
 use Rattle.declared_type_laws.proofs.seen_onward.Descent.{StandsAt, stands, stands_once, part_node, part_within}
 
 no_both : (b : Bool) → b ≡ true → b ≡ false → ⊥

@@ -8,8 +8,8 @@ use Rattle.c_grammar.specs.Reads.{Node}
 use Rattle.c_scope.specs.declared.kinds.Declared.{Declared}
 use Rattle.c_scope.specs.Known.{is_at, those_at}
 use Rattle.c_senses.specs.Names.{made_before}
-use Rattle.owner_laws.proofs.passed.definition_laws.linkage_laws.Origins.{HasOrigin}
-use Rattle.owner_laws.proofs.internal_laws.Sorted.{Sorted}
+use Rattle.declared_type_laws.proofs.owner_laws.passed.definition_laws.linkage_laws.Origins.{HasOrigin}
+use Rattle.declared_type_laws.proofs.owner_laws.internal_laws.Sorted.{Sorted}
 use Rattle.declared_type_laws.specs.seen_onward.Seen.{In}
 use Rattle.declared_type_laws.proofs.seen_onward.Lists.{none_at}
 

@@ -7,7 +7,7 @@ use Rattle.c_mentions.specs.Settings.{Standing}
 use Rattle.c_scope.specs.declared.kinds.Declared.{Declared}
 use Rattle.c_scope.specs.Known.{first_scope, those_at}
 use Rattle.c_senses.specs.Names.{all_linked, linked_along}
-use Rattle.owner_laws.proofs.passed.definition_laws.scope_laws.Scopes.{Below, IsOf}
+use Rattle.declared_type_laws.proofs.owner_laws.passed.definition_laws.scope_laws.Scopes.{Below, IsOf}
 use Rattle.declared_type_laws.specs.seen_onward.Seen.{In}
 use Rattle.declared_type_laws.proofs.seen_onward.Lists.{in_those, seen, seen_on, seen_first, SameAt, same_along}
 use Rattle.declared_type_laws.proofs.seen_onward.Descent.{StandsAt, stands_once}

@@ -14,12 +14,12 @@ use Rattle.c_mentions.specs.Syntax as syntax
 use Rattle.c_mentions.specs.Declarators.{declarator, within, level, inner_of, is_inner, is_list}
 use Rattle.c_mentions.specs.Roles.{opened, in_declaration, specified, list_of, suffix_of, block_scope, list_or, is_selected, selects}
 use Rattle.c_mentions.specs.Settings.{Standing, outermost}
-use Rattle.owner_laws.specs.passed.definition_laws.scope_laws.Beneath.{part, deeper}
-use Rattle.owner_laws.proofs.passed.definition_laws.scope_laws.Tree.{further, compare, Order}
-use Rattle.owner_laws.proofs.passed.definition_laws.scope_laws.Scopes.{Part, Below, IsOf, IsNot, apart, found_in, children_are}
-use Rattle.owner_laws.proofs.passed.definition_laws.scope_laws.Around.{above_external}
-use Rattle.owner_laws.proofs.passed.definition_laws.linkage_laws.Standings.{HasParent, parents}
-use Rattle.owner_laws.proofs.passed.definition_laws.linkage_laws.Roles.{role_handed, declared_specs, list_is}
+use Rattle.declared_type_laws.specs.owner_laws.passed.definition_laws.scope_laws.Beneath.{part, deeper}
+use Rattle.declared_type_laws.proofs.owner_laws.passed.definition_laws.scope_laws.Tree.{further, compare, Order}
+use Rattle.declared_type_laws.proofs.owner_laws.passed.definition_laws.scope_laws.Scopes.{Part, Below, IsOf, IsNot, apart, found_in, children_are}
+use Rattle.declared_type_laws.proofs.owner_laws.passed.definition_laws.scope_laws.Around.{above_external}
+use Rattle.declared_type_laws.proofs.owner_laws.passed.definition_laws.linkage_laws.Standings.{HasParent, parents}
+use Rattle.declared_type_laws.proofs.owner_laws.passed.definition_laws.linkage_laws.Roles.{role_handed, declared_specs, list_is}
 use Rattle.declared_type_laws.proofs.seen_onward.Descent.{StandsAt, stands_within, part_within}
 
 no_both : (b : Bool) → b ≡ true → b ≡ false → ⊥

@@ -6,18 +6,18 @@ use Rattle.c_grammar.specs.Terminals.{contains}
 use Rattle.c_mentions.specs.Syntax as syntax
 use Rattle.c_senses.specs.Names.{source_of, names_of, numbered}
 use Rattle.c_senses.specs.Tree.{Source, children_at, is_a}
-use Rattle.count_laws.specs.passed.parsed_tree_laws.span_laws.Spans.{Spanned}
-use Rattle.count_laws.proofs.passed.parsed_tree_laws.span_laws.Whole.{units_are_spanned}
-use Rattle.owner_laws.specs.passed.definition_laws.scope_laws.Beneath.{part, deeper}
-use Rattle.owner_laws.specs.passed.definition_laws.scope_laws.Scoped.{Rooted}
-use Rattle.owner_laws.proofs.passed.definition_laws.scope_laws.Tree.{beneath_by}
-use Rattle.owner_laws.proofs.passed.definition_laws.scope_laws.Scopes.{Part, Below, IsOf, IsNot}
-use Rattle.owner_laws.proofs.passed.definition_laws.scope_laws.Whole.{names_declared_once}
-use Rattle.count_laws.specs.passed.parsed_tree_laws.sign_parts.Parts.{IsBrought}
-use Rattle.count_laws.proofs.passed.parsed_tree_laws.sign_parts.Reading.{units_bring}
-use Rattle.owner_laws.proofs.passed.definition_laws.linkage_laws.Seen.{nodes, production_is, production_same, children_are}
-use Rattle.owner_laws.proofs.passed.definition_laws.linkage_laws.Linked.{Tree}
-use Rattle.owner_laws.proofs.passed.definition_laws.linkage_laws.Reading.{tree_is}
+use Rattle.core_node_laws.specs.count_laws.passed.parsed_tree_laws.span_laws.Spans.{Spanned}
+use Rattle.core_node_laws.proofs.count_laws.passed.parsed_tree_laws.span_laws.Whole.{units_are_spanned}
+use Rattle.declared_type_laws.specs.owner_laws.passed.definition_laws.scope_laws.Beneath.{part, deeper}
+use Rattle.declared_type_laws.specs.owner_laws.passed.definition_laws.scope_laws.Scoped.{Rooted}
+use Rattle.declared_type_laws.proofs.owner_laws.passed.definition_laws.scope_laws.Tree.{beneath_by}
+use Rattle.declared_type_laws.proofs.owner_laws.passed.definition_laws.scope_laws.Scopes.{Part, Below, IsOf, IsNot}
+use Rattle.declared_type_laws.proofs.owner_laws.passed.definition_laws.scope_laws.Whole.{names_declared_once}
+use Rattle.core_node_laws.specs.count_laws.passed.parsed_tree_laws.sign_parts.Parts.{IsBrought}
+use Rattle.core_node_laws.proofs.count_laws.passed.parsed_tree_laws.sign_parts.Reading.{units_bring}
+use Rattle.declared_type_laws.proofs.owner_laws.passed.definition_laws.linkage_laws.Seen.{nodes, production_is, production_same, children_are}
+use Rattle.declared_type_laws.proofs.owner_laws.passed.definition_laws.linkage_laws.Linked.{Tree}
+use Rattle.declared_type_laws.proofs.owner_laws.passed.definition_laws.linkage_laws.Reading.{tree_is}
 use Rattle.declared_type_laws.specs.seen_onward.Seen.{SeenOnward}
 use Rattle.declared_type_laws.proofs.seen_onward.Between.{IsPart, between}
 use Rattle.declared_type_laws.proofs.seen_onward.Blocks.{one_block}

@@ -17,18 +17,18 @@ use Rattle.c_scope.specs.declared.kinds.Declared.{Declared}
 use Rattle.c_scope.specs.Known.{first_scope, kind_of, is_function, those_at}
 use Rattle.c_senses.specs.Tree.{Source, children_at, is_a}
 use Rattle.c_senses.specs.Names.{has_linkage, is_linked_kind, scopes_at, made_before, linked_along, linked_before}
-use Rattle.owner_laws.specs.passed.definition_laws.scope_laws.Beneath.{part, deeper}
-use Rattle.owner_laws.specs.passed.definition_laws.scope_laws.Scoped.{DeclaredOnce}
-use Rattle.owner_laws.proofs.passed.definition_laws.scope_laws.Tree.{further}
-use Rattle.owner_laws.proofs.passed.definition_laws.scope_laws.Scopes.{Part, Below, IsOf}
-use Rattle.owner_laws.proofs.passed.definition_laws.scope_laws.Knowing.{one_maker, made_below}
-use Rattle.owner_laws.proofs.passed.definition_laws.linkage_laws.Origins.{HasOrigin}
-use Rattle.owner_laws.proofs.passed.definition_laws.linkage_laws.Seen.{nodes, production_same, children_are}
-use Rattle.owner_laws.proofs.passed.definition_laws.linkage_laws.Roles as roles
-use Rattle.owner_laws.proofs.passed.definition_laws.linkage_laws.Chains.{Declares, declares}
-use Rattle.owner_laws.proofs.passed.definition_laws.linkage_laws.Scopes.{rests_nest}
-use Rattle.owner_laws.proofs.passed.definition_laws.linkage_laws.Linked.{Tree}
-use Rattle.owner_laws.proofs.internal_laws.Sorted as sorted
+use Rattle.declared_type_laws.specs.owner_laws.passed.definition_laws.scope_laws.Beneath.{part, deeper}
+use Rattle.declared_type_laws.specs.owner_laws.passed.definition_laws.scope_laws.Scoped.{DeclaredOnce}
+use Rattle.declared_type_laws.proofs.owner_laws.passed.definition_laws.scope_laws.Tree.{further}
+use Rattle.declared_type_laws.proofs.owner_laws.passed.definition_laws.scope_laws.Scopes.{Part, Below, IsOf}
+use Rattle.declared_type_laws.proofs.owner_laws.passed.definition_laws.scope_laws.Knowing.{one_maker, made_below}
+use Rattle.declared_type_laws.proofs.owner_laws.passed.definition_laws.linkage_laws.Origins.{HasOrigin}
+use Rattle.declared_type_laws.proofs.owner_laws.passed.definition_laws.linkage_laws.Seen.{nodes, production_same, children_are}
+use Rattle.declared_type_laws.proofs.owner_laws.passed.definition_laws.linkage_laws.Roles as roles
+use Rattle.declared_type_laws.proofs.owner_laws.passed.definition_laws.linkage_laws.Chains.{Declares, declares}
+use Rattle.declared_type_laws.proofs.owner_laws.passed.definition_laws.linkage_laws.Scopes.{rests_nest}
+use Rattle.declared_type_laws.proofs.owner_laws.passed.definition_laws.linkage_laws.Linked.{Tree}
+use Rattle.declared_type_laws.proofs.owner_laws.internal_laws.Sorted as sorted
 use Rattle.declared_type_laws.specs.seen_onward.Seen.{In, SeesOn}
 use Rattle.declared_type_laws.proofs.seen_onward.Lists.{in_those, to_those, all_have, IsSeen, seen, SameAt}
 use Rattle.declared_type_laws.proofs.seen_onward.Descent.{StandsAt, stands_within, stands}

@@ -14,10 +14,10 @@ use Rattle.c_grammar.specs.Reads.{leaf}
 use Rattle.c_senses.specs.Tree.{Source, is_a, is_number, sign_of_kind, kind_of_token, token_of, has_sign}
 use Rattle.c_senses.specs.Entities.{behind, without_asm, initialiser_in}
 use Rattle.c_senses.specs.Sense.{Sense}
-use Rattle.owner_laws.proofs.passed.definition_laws.own_initialisers.PassedOn.{sign_taken}
-use Rattle.count_laws.specs.passed.parsed_tree_laws.sign_parts.Parts.{Mark, leaf_mark, Takes}
-use Rattle.owner_laws.proofs.passed.definition_laws.own_initialisers.Parts.{MaybeInit, Absent, Present, MaybeAsm, NoAsm, Asm, Further, Over, Next, IsRestList, Begins}
-use Rattle.owner_laws.proofs.passed.definition_laws.own_initialisers.Searching.{head_in, next_in, apart, Reads, StandsAs, is_as, sign_is}
+use Rattle.declared_type_laws.proofs.owner_laws.passed.definition_laws.own_initialisers.PassedOn.{sign_taken}
+use Rattle.core_node_laws.specs.count_laws.passed.parsed_tree_laws.sign_parts.Parts.{Mark, leaf_mark, Takes}
+use Rattle.declared_type_laws.proofs.owner_laws.passed.definition_laws.own_initialisers.Parts.{MaybeInit, Absent, Present, MaybeAsm, NoAsm, Asm, Further, Over, Next, IsRestList, Begins}
+use Rattle.declared_type_laws.proofs.owner_laws.passed.definition_laws.own_initialisers.Searching.{head_in, next_in, apart, Reads, StandsAs, is_as, sign_is}
 
 module _ (s : Source) (sense : ℕ → Sense) (standing : (k : ℕ) (t : Token) → slice_get s.tokens k ≡ Some t → Stands s.text t) where
   abbrev T : ℕ → TokenKind → ℕ → Type 0

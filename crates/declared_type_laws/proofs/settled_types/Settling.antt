@@ -16,24 +16,24 @@ use Rattle.c_senses.specs.Tree.{Source, production_at, children_at, is_a}
 use Rattle.c_senses.specs.Declarators.{outermost_of}
 use Rattle.c_senses.specs.Entities.{with_length, behind, specified_of, derived_type, parameter_type, is_parameter, declaration_of, length_given_by, without_asm, in_rest, initialiser_in, initialiser_of, initialiser_for, own_type}
 use Rattle.c_senses.specs.Sense.{Sense, IsParameter, IsInitial, sense_in}
-use Rattle.count_laws.specs.passed.parsed_tree_laws.family_laws.Families.{Families}
-use Rattle.count_laws.proofs.passed.parsed_tree_laws.family_laws.Reading.{units_families}
-use Rattle.count_laws.specs.passed.parsed_tree_laws.nesting_laws.Nested.{Nested}
-use Rattle.count_laws.proofs.passed.parsed_tree_laws.nesting_laws.Nesting.{units_nest}
-use Rattle.count_laws.proofs.passed.parsed_tree_laws.placed_laws.Climbing.{Grown}
-use Rattle.count_laws.proofs.passed.parsed_tree_laws.placed_laws.Growing.{grown_read}
-use Rattle.owner_laws.proofs.passed.definition_laws.linkage_laws.Seen.{parent_is}
+use Rattle.core_node_laws.specs.count_laws.passed.parsed_tree_laws.family_laws.Families.{Families}
+use Rattle.core_node_laws.proofs.count_laws.passed.parsed_tree_laws.family_laws.Reading.{units_families}
+use Rattle.core_node_laws.specs.count_laws.passed.parsed_tree_laws.nesting_laws.Nested.{Nested}
+use Rattle.core_node_laws.proofs.count_laws.passed.parsed_tree_laws.nesting_laws.Nesting.{units_nest}
+use Rattle.core_node_laws.proofs.count_laws.passed.parsed_tree_laws.placed_laws.Climbing.{Grown}
+use Rattle.core_node_laws.proofs.count_laws.passed.parsed_tree_laws.placed_laws.Growing.{grown_read}
+use Rattle.declared_type_laws.proofs.owner_laws.passed.definition_laws.linkage_laws.Seen.{parent_is}
 use Rattle.built_unit_laws.proofs.run_laws.Times.{known_at, known}
 use Rattle.declared_type_laws.proofs.plain_names.Later.{known_later, initialiser_for_same, derived_later}
-use Rattle.count_laws.specs.passed.parsed_tree_laws.sign_parts.Parts.{Mark, mark_at, Brings, Takes, IsBrought}
-use Rattle.count_laws.proofs.passed.parsed_tree_laws.sign_parts.Reading.{units_bring}
-use Rattle.owner_laws.proofs.passed.definition_laws.own_initialisers.Parts.{IsRestList, Begins, rest_list}
-use Rattle.owner_laws.proofs.passed.definition_laws.own_initialisers.Searching.{apart, Reads}
-use Rattle.owner_laws.proofs.passed.definition_laws.own_initialisers.Standing.{parts}
-use Rattle.owner_laws.specs.passed.definition_laws.initialiser_laws.Initialisers.{InitialisersAreOf}
-use Rattle.owner_laws.proofs.passed.definition_laws.initialiser_laws.Found.{initialisers_found}
-use Rattle.owner_laws.specs.passed.definition_laws.earlier_initialisers.Earlier.{StandsDeclaring, InitialisersComeFirst}
-use Rattle.owner_laws.proofs.passed.definition_laws.earlier_initialisers.Coming.{initialisers_earlier}
+use Rattle.core_node_laws.specs.count_laws.passed.parsed_tree_laws.sign_parts.Parts.{Mark, mark_at, Brings, Takes, IsBrought}
+use Rattle.core_node_laws.proofs.count_laws.passed.parsed_tree_laws.sign_parts.Reading.{units_bring}
+use Rattle.declared_type_laws.proofs.owner_laws.passed.definition_laws.own_initialisers.Parts.{IsRestList, Begins, rest_list}
+use Rattle.declared_type_laws.proofs.owner_laws.passed.definition_laws.own_initialisers.Searching.{apart, Reads}
+use Rattle.declared_type_laws.proofs.owner_laws.passed.definition_laws.own_initialisers.Standing.{parts}
+use Rattle.declared_type_laws.specs.owner_laws.passed.definition_laws.initialiser_laws.Initialisers.{InitialisersAreOf}
+use Rattle.declared_type_laws.proofs.owner_laws.passed.definition_laws.initialiser_laws.Found.{initialisers_found}
+use Rattle.declared_type_laws.specs.owner_laws.passed.definition_laws.earlier_initialisers.Earlier.{StandsDeclaring, InitialisersComeFirst}
+use Rattle.declared_type_laws.proofs.owner_laws.passed.definition_laws.earlier_initialisers.Coming.{initialisers_earlier}
 use Rattle.declared_type_laws.specs.settled_types.Settled.{TypesSettled}
 use Rattle.declared_type_laws.proofs.settled_types.Initial.{IsIn, plain_list, rest_init}
 

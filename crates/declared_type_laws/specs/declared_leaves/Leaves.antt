@@ -6,7 +6,7 @@ use Rattle.c_senses.specs.Declarators.{is_declarator, is_outermost, outermost_of
 use Rattle.c_senses.specs.Entities.{specified_of}
 use Rattle.c_senses.specs.Sense.{Sense, IsDeclarator, Derivation, Specified, sense_in}
 use Rattle.c_senses.specs.Rows.{AreSenses}
-use Rattle.count_laws.proofs.passed.parsed_tree_laws.placed_laws.Climbing.{Grown}
+use Rattle.core_node_laws.proofs.count_laws.passed.parsed_tree_laws.placed_laws.Climbing.{Grown}
 use Rattle.built_unit_laws.specs.run_laws.PassedOn.{IsBrought}
 
 -- the name of a declarator of any form: a part of it, or the name of a declarator within its parentheses

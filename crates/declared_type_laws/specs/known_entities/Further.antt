@@ -11,8 +11,8 @@ use Rattle.c_senses.specs.Entities.{entity_of, function_around, is_linked, is_in
 use Rattle.c_senses.specs.Right.{representative}
 use Rattle.c_senses.specs.Sense.{Sense, sense_in}
 use Rattle.c_senses.specs.Rows.{AreSenses, world_at}
-use Rattle.owner_laws.specs.passed.definition_laws.Definitions.{is_definition}
-use Rattle.owner_laws.specs.passed.definition_laws.function_definitions.Defined.{Defines}
+use Rattle.declared_type_laws.specs.owner_laws.passed.definition_laws.Definitions.{is_definition}
+use Rattle.declared_type_laws.specs.owner_laws.passed.definition_laws.function_definitions.Defined.{Defines}
 
 -- a function that is found at a node for the name of its last parameter is the one in whose definition that name
 -- stands, which has no linkage; it is variadic, and its declarator stands before the node. Where its name is internal,

@@ -8,9 +8,9 @@ use Rattle.c_senses.specs.Entities.{is_linked, is_internal, has_earlier_length}
 use Rattle.c_senses.specs.Sense.{Sense, sense_in}
 use Rattle.c_senses.specs.Rows.{AreSenses, world_at}
 use Rattle.sense_laws.specs.Sound.{MeaningFits}
-use Rattle.count_laws.proofs.passed.parsed_tree_laws.placed_laws.Climbing.{Grown}
+use Rattle.core_node_laws.proofs.count_laws.passed.parsed_tree_laws.placed_laws.Climbing.{Grown}
 use Rattle.built_unit_laws.specs.run_laws.PassedOn.{IsGrown}
-use Rattle.count_laws.specs.passed.parsed_tree_laws.grown_parts.Parts.{IsBrought}
+use Rattle.core_node_laws.specs.count_laws.passed.parsed_tree_laws.grown_parts.Parts.{IsBrought}
 use Rattle.declaration_laws.specs.name_order.Order.{IsOrdered}
 use Rattle.built_unit_laws.specs.built_rows.Rows.{types_declared}
 

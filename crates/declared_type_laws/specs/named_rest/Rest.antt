@@ -6,8 +6,8 @@ use Rattle.c_grammar.specs.declared.trees.Tree.{Tree}
 use Rattle.c_parser.specs.c_units.Units.{IsUnit}
 use Rattle.c_types.specs.Made.{IsMade, AreNamed}
 use Rattle.core_tree.specs.declared.node.Unit.{Unit}
-use Rattle.count_laws.specs.passed.location_laws.name_shapes.Bytes.{is_unit_byte, IsMadeOf}
-use Rattle.count_laws.specs.passed.location_laws.named_laws.Units.{IsNamedUnit}
+use Rattle.core_node_laws.specs.count_laws.passed.location_laws.name_shapes.Bytes.{is_unit_byte, IsMadeOf}
+use Rattle.core_node_laws.specs.count_laws.passed.location_laws.named_laws.Units.{IsNamedUnit}
 use Rattle.c_senses.specs.Names.{source_of, numbered}
 use Rattle.c_senses.specs.Right.{Right}
 

@@ -14,9 +14,9 @@ use Rattle.c_senses.specs.Entities.{initialised_by, initialiser_for, is_internal
 use Rattle.c_senses.specs.Initialised.{new_length, most_elements, seen, outcome_of, name_of_declarator}
 use Rattle.c_senses.specs.Sense.{Sense, sense_in}
 use Rattle.c_senses.specs.Rows.{AreSenses, world_at}
-use Rattle.count_laws.proofs.passed.parsed_tree_laws.placed_laws.Climbing.{Grown}
+use Rattle.core_node_laws.proofs.count_laws.passed.parsed_tree_laws.placed_laws.Climbing.{Grown}
 use Rattle.built_unit_laws.specs.passed.core_node_laws.standing_laws.Standing.{IsGrown}
-use Rattle.count_laws.specs.passed.parsed_tree_laws.grown_parts.Parts.{IsBrought}
+use Rattle.core_node_laws.specs.count_laws.passed.parsed_tree_laws.grown_parts.Parts.{IsBrought}
 use Rattle.declared_type_laws.specs.plain_names.PassedOn.{types_declared}
 
 abbrev pub ObjectsTyped : Type 0

@@ -16,7 +16,7 @@ use Rattle.c_senses.specs.Right.{Right, is_declaring}
 use Rattle.c_senses.specs.Rows.{AreSenses}
 use Rattle.c_senses.specs.Sense.{Sense, sense_in}
 use Rattle.built_unit_laws.specs.built_units.Built.{IsBuilt}
-use Rattle.count_laws.specs.passed.location_laws.named_laws.Units.{IsLocalOf, HasFunction}
+use Rattle.core_node_laws.specs.count_laws.passed.location_laws.named_laws.Units.{IsLocalOf, HasFunction}
 
 -- a name that an external declaration declares has linkage, unless it is a type's
 abbrev pub FileNamesLinked : Type 0

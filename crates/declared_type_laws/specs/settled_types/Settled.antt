@@ -10,7 +10,7 @@ use Rattle.c_senses.specs.Declarators.{outermost_of}
 use Rattle.c_senses.specs.Entities.{own_type}
 use Rattle.c_senses.specs.Sense.{Sense, sense_in}
 use Rattle.c_types.specs.Trees.{Ctype}
-use Rattle.owner_laws.specs.passed.definition_laws.earlier_initialisers.Earlier.{StandsDeclaring}
+use Rattle.declared_type_laws.specs.owner_laws.passed.definition_laws.earlier_initialisers.Earlier.{StandsDeclaring}
 
 -- what a declaration says of its type once a later declarator is known, it says in the end
 abbrev pub AreSettled : Source → Type 0

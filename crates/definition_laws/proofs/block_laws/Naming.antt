@@ -18,8 +18,8 @@ use Rattle.c_senses.specs.Declarators.{is_declarator, is_outermost, outermost_of
 use Rattle.c_senses.specs.Entities.{initialiser_of, is_defined, words_go, is_same_again, has_one_linkage, internal_fits, is_name_complete, definition_row, result_of, is_void_type, has_function_word, has_storage, named_row, parameter_named, defined_parameter, is_parameter_complete, by_place}
 use Rattle.c_senses.specs.Sense.{Sense, Nothing, IsDeclarator, IsDerivation, Derivation, sense_in}
 use Rattle.c_senses.specs.Rows.{row_of, world_at, AreSenses, at_its_name, declarator_row}
-use Rattle.count_laws.proofs.passed.parsed_tree_laws.placed_laws.Rows.{declarators}
-use Rattle.count_laws.proofs.passed.parsed_tree_laws.placed_laws.Climbing.{equal, no_both, exists_at, found_where, is_other_in, is_other, AllOther, AtMostOne, IsDeclaring, IsNamedPart, Grown, row_at}
+use Rattle.core_node_laws.proofs.count_laws.passed.parsed_tree_laws.placed_laws.Rows.{declarators}
+use Rattle.core_node_laws.proofs.count_laws.passed.parsed_tree_laws.placed_laws.Climbing.{equal, no_both, exists_at, found_where, is_other_in, is_other, AllOther, AtMostOne, IsDeclaring, IsNamedPart, Grown, row_at}
 
 three_of : (p : ℕ) → contains declarators p ≡ true → (p ≡ 19) ⊎ ((p ≡ 20) ⊎ (p ≡ 21))
 three_of p h = by (nat_eq 19 p) (nat_eq 20 p) (nat_eq 21 p) refl refl refl h

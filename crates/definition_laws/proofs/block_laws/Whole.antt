@@ -20,15 +20,15 @@ use Rattle.c_senses.specs.Rows.{AreSenses}
 use Rattle.c_senses.specs.Declarators.{outermost_of, is_outermost, is_declarator, declaration_around}
 use Rattle.c_senses.specs.Entities.{keep, first_of, is_internal, is_internal_of, internal_among, is_linked, entity_of, linkage_of, storage_of, is_parameter, is_static_object, has_storage, initialiser_for, declares_function, is_defined, is_typedef, declaration_of}
 use Rattle.c_senses.specs.Right.{Declared, declared_name, declares_entity, is_declaring, stands_in_declaration, declared_as, entity_type, representative, of_internal, is_tentative, is_definition_at, storage_at, block_for}
-use Rattle.count_laws.proofs.passed.parsed_tree_laws.placed_laws.Climbing.{Grown, IsNamedPart}
-use Rattle.count_laws.proofs.passed.parsed_tree_laws.placed_laws.Growing.{grown_read}
-use Rattle.count_laws.specs.passed.parsed_tree_laws.nesting_laws.Nested.{Nested}
-use Rattle.count_laws.proofs.passed.parsed_tree_laws.nesting_laws.Nesting.{units_nest}
-use Rattle.count_laws.specs.passed.parsed_tree_laws.counted_parts.Counted.{is_ending, is_inner, CountedParts}
-use Rattle.count_laws.proofs.passed.parsed_tree_laws.counted_parts.Read.{parts_are_counted}
+use Rattle.core_node_laws.proofs.count_laws.passed.parsed_tree_laws.placed_laws.Climbing.{Grown, IsNamedPart}
+use Rattle.core_node_laws.proofs.count_laws.passed.parsed_tree_laws.placed_laws.Growing.{grown_read}
+use Rattle.core_node_laws.specs.count_laws.passed.parsed_tree_laws.nesting_laws.Nested.{Nested}
+use Rattle.core_node_laws.proofs.count_laws.passed.parsed_tree_laws.nesting_laws.Nesting.{units_nest}
+use Rattle.core_node_laws.specs.count_laws.passed.parsed_tree_laws.counted_parts.Counted.{is_ending, is_inner, CountedParts}
+use Rattle.core_node_laws.proofs.count_laws.passed.parsed_tree_laws.counted_parts.Read.{parts_are_counted}
 use Rattle.definition_laws.specs.scope_laws.Scoped.{Rooted, DeclaredOnce}
 use Rattle.definition_laws.proofs.scope_laws.Whole.{names_declared_once}
-use Rattle.count_laws.specs.once_nodes.Once.{BlocksDiffer}
+use Rattle.core_node_laws.specs.count_laws.once_nodes.Once.{BlocksDiffer}
 use Rattle.definition_laws.specs.block_laws.Blocks.{UnitsBlocksDiffer}
 use Rattle.definition_laws.proofs.block_laws.Naming.{declares, outermost_declares}
 

@@ -13,20 +13,20 @@ use Rattle.c_senses.specs.Names.{source_of, numbered}
 use Rattle.c_senses.specs.Tree.{Source, production_at, children_at, is_a, is_leaf, first_where, last_where, last_or, child_of, parent_of}
 use Rattle.c_senses.specs.Entities.{initialised_by}
 use Rattle.c_senses.specs.Sense.{Sense}
-use Rattle.count_laws.specs.passed.parsed_tree_laws.family_laws.Families.{Families, Ascend}
-use Rattle.count_laws.proofs.passed.parsed_tree_laws.family_laws.Reading.{units_families}
-use Rattle.count_laws.specs.passed.parsed_tree_laws.nesting_laws.Nested.{Nested}
-use Rattle.count_laws.proofs.passed.parsed_tree_laws.nesting_laws.Nesting.{units_nest}
-use Rattle.count_laws.proofs.passed.parsed_tree_laws.placed_laws.Climbing.{Grown, exists_at}
-use Rattle.count_laws.proofs.passed.parsed_tree_laws.placed_laws.Growing.{grown_read}
-use Rattle.count_laws.specs.passed.parsed_tree_laws.span_laws.Spans.{Spanned}
-use Rattle.count_laws.proofs.passed.parsed_tree_laws.span_laws.Whole.{units_are_spanned}
+use Rattle.core_node_laws.specs.count_laws.passed.parsed_tree_laws.family_laws.Families.{Families, Ascend}
+use Rattle.core_node_laws.proofs.count_laws.passed.parsed_tree_laws.family_laws.Reading.{units_families}
+use Rattle.core_node_laws.specs.count_laws.passed.parsed_tree_laws.nesting_laws.Nested.{Nested}
+use Rattle.core_node_laws.proofs.count_laws.passed.parsed_tree_laws.nesting_laws.Nesting.{units_nest}
+use Rattle.core_node_laws.proofs.count_laws.passed.parsed_tree_laws.placed_laws.Climbing.{Grown, exists_at}
+use Rattle.core_node_laws.proofs.count_laws.passed.parsed_tree_laws.placed_laws.Growing.{grown_read}
+use Rattle.core_node_laws.specs.count_laws.passed.parsed_tree_laws.span_laws.Spans.{Spanned}
+use Rattle.core_node_laws.proofs.count_laws.passed.parsed_tree_laws.span_laws.Whole.{units_are_spanned}
 use Rattle.built_unit_laws.proofs.passed.core_node_laws.standing_laws.Climbing.{in_list, list_in, found_where}
 use Rattle.definition_laws.proofs.linkage_laws.Seen.{parent_holds}
-use Rattle.count_laws.specs.passed.parsed_tree_laws.ordered_parts.Ordered.{IsPart, Beneath, itself, under, Follows}
-use Rattle.count_laws.proofs.passed.parsed_tree_laws.ordered_parts.Read.{parts_follow}
-use Rattle.count_laws.specs.passed.parsed_tree_laws.sign_parts.Parts.{Mark, mark_of, mark_at, Brings, Takes, IsBrought}
-use Rattle.count_laws.proofs.passed.parsed_tree_laws.sign_parts.Reading.{units_bring}
+use Rattle.core_node_laws.specs.count_laws.passed.parsed_tree_laws.ordered_parts.Ordered.{IsPart, Beneath, itself, under, Follows}
+use Rattle.core_node_laws.proofs.count_laws.passed.parsed_tree_laws.ordered_parts.Read.{parts_follow}
+use Rattle.core_node_laws.specs.count_laws.passed.parsed_tree_laws.sign_parts.Parts.{Mark, mark_of, mark_at, Brings, Takes, IsBrought}
+use Rattle.core_node_laws.proofs.count_laws.passed.parsed_tree_laws.sign_parts.Reading.{units_bring}
 use Rattle.definition_laws.proofs.own_initialisers.Parts.{mark, MaybeAsm, NoAsm, Asm, IsNaming, Naming, IsOther, Assert, Alone, Body, external_list, declaration_list}
 use Rattle.definition_laws.proofs.own_initialisers.Searching.{member, head_in, next_in, ascend_in, apart, Reads, is_as}
 use Rattle.definition_laws.specs.earlier_initialisers.Earlier.{StandsDeclaring, InitialisersEarlier}

@@ -5,8 +5,8 @@ use Rattle.std.proofs.lemmas.Bool.Decides.{nat_tests}
 use Rattle.c_grammar.specs.Terminals.{contains}
 use Rattle.c_senses.specs.Tree.{Source, children_at}
 use Rattle.built_unit_laws.proofs.passed.core_node_laws.standing_laws.Climbing.{in_list}
-use Rattle.count_laws.specs.passed.parsed_tree_laws.span_laws.Spans.{Spans, over, Runs, no_more, one_more}
-use Rattle.count_laws.specs.passed.parsed_tree_laws.ordered_parts.Ordered.{IsPart, Beneath, itself, under}
+use Rattle.core_node_laws.specs.count_laws.passed.parsed_tree_laws.span_laws.Spans.{Spans, over, Runs, no_more, one_more}
+use Rattle.core_node_laws.specs.count_laws.passed.parsed_tree_laws.ordered_parts.Ordered.{IsPart, Beneath, itself, under}
 use Rattle.definition_laws.proofs.own_initialisers.Searching.{member, head_in, next_in}
 
 not_before : (x y : ℕ) → nat_lt x y ≡ false → y ≤ x

@@ -20,7 +20,7 @@ use Rattle.c_mentions.specs.Symbols.{symbol_of}
 use Rattle.c_scope.specs.declared.kinds.Declared.{Declared}
 use Rattle.c_senses.specs.Tree.{Source, children_at, is_a, parent_of}
 use Rattle.c_senses.specs.Declarators.{is_declarator, is_outermost}
-use Rattle.count_laws.proofs.passed.parsed_tree_laws.placed_laws.Climbing.{Grown}
+use Rattle.core_node_laws.proofs.count_laws.passed.parsed_tree_laws.placed_laws.Climbing.{Grown}
 use Rattle.definition_laws.proofs.linkage_laws.Origins.{HasOrigin}
 use Rattle.definition_laws.proofs.linkage_laws.Standings.{HasParent, parents}
 use Rattle.definition_laws.proofs.linkage_laws.Seen.{nodes, some_same, none_some, no_both, production_is, production_same, children_are, child_is, node_within, apart, parent_is}

@@ -36,7 +36,7 @@ use Rattle.c_senses.specs.Rows.{AreSenses, world_at}
 use Rattle.c_senses.specs.Right.{is_declaring}
 use Rattle.c_senses.specs.Sense.{Sense, IsSpecified, IsDeclarator, Specified, Derivation, sense_in}
 use Rattle.definition_laws.specs.linkage_laws.PassedOn.{is_definition}
-use Rattle.count_laws.proofs.passed.parsed_tree_laws.placed_laws.Climbing.{Grown}
+use Rattle.core_node_laws.proofs.count_laws.passed.parsed_tree_laws.placed_laws.Climbing.{Grown}
 use Rattle.definition_laws.proofs.linkage_laws.Origins.{HasOrigin, origin, mentioned}
 use Rattle.definition_laws.proofs.linkage_laws.Standings.{HasParent, parents}
 use Rattle.definition_laws.proofs.linkage_laws.Seen.{nodes, some_same, no_both, production_is, production_same, children_are, child_is, node_has, node_within, apart, parent_is}

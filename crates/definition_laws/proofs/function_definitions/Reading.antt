@@ -19,8 +19,8 @@ use Rattle.c_parser.specs.Parse.{begin}
 use Rattle.c_parser.specs.c_units.Units.{IsUnit}
 use Rattle.c_senses.specs.Names.{source_of, numbered}
 use Rattle.c_senses.specs.Tree.{production_of, children_of, first_where}
-use Rattle.count_laws.proofs.passed.parsed_tree_laws.placed_laws.Once.{Extends}
-use Rattle.count_laws.proofs.passed.parsed_tree_laws.placed_laws.Adding.{All}
+use Rattle.core_node_laws.proofs.count_laws.passed.parsed_tree_laws.placed_laws.Once.{Extends}
+use Rattle.core_node_laws.proofs.count_laws.passed.parsed_tree_laws.placed_laws.Adding.{All}
 use Rattle.definition_laws.proofs.linkage_laws.Every.{every}
 use Rattle.definition_laws.proofs.linkage_laws.Inverting.{node_opened}
 use Rattle.definition_laws.proofs.linkage_laws.Seen.{no_both}

@@ -16,7 +16,7 @@ use Rattle.c_senses.specs.Sense.{Sense, Nothing, IsDeclarator, IsDerivation, Par
 use Rattle.c_senses.specs.Entities.{takes_further, ends_further}
 use Rattle.c_senses.specs.Declarators.{suffixes, inner_derivations, inner_name, name_in, stars, derivations, derived, derived_once, list_of, is_void_alone}
 use Rattle.c_senses.specs.Rows.{AreSenses, row_of, world_at}
-use Rattle.count_laws.proofs.passed.parsed_tree_laws.placed_laws.Climbing.{Grown, row_at}
+use Rattle.core_node_laws.proofs.count_laws.passed.parsed_tree_laws.placed_laws.Climbing.{Grown, row_at}
 use Rattle.definition_laws.proofs.linkage_laws.Seen.{nodes}
 
 pub node_at : (items : List SyntaxNode) (k : ℕ) (n : Node) → slice_get (map node_of items) k ≡ Some n → (m : SyntaxNode) × (slice_get items k ≡ Some m) × (node_of m ≡ n)

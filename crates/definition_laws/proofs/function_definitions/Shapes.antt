@@ -15,9 +15,9 @@ use Rattle.c_grammar.specs.Reads as reader
 use Rattle.c_grammar.specs.Fits.{fits, chosen, is_function}
 use Rattle.c_grammar.specs.First.{can_be_empty}
 use Rattle.c_mentions.specs.Syntax as syntax
-use Rattle.count_laws.proofs.passed.parsed_tree_laws.placed_laws.Rows.{one_chosen, all_bring, rows_bring, row_brings}
-use Rattle.count_laws.proofs.passed.parsed_tree_laws.placed_laws.Adding.{All, all_on, all_both, row_adds, part_adds}
-use Rattle.count_laws.proofs.passed.parsed_tree_laws.placed_laws.Once.{Extends, walks_extend, opens_extend}
+use Rattle.core_node_laws.proofs.count_laws.passed.parsed_tree_laws.placed_laws.Rows.{one_chosen, all_bring, rows_bring, row_brings}
+use Rattle.core_node_laws.proofs.count_laws.passed.parsed_tree_laws.placed_laws.Adding.{All, all_on, all_both, row_adds, part_adds}
+use Rattle.core_node_laws.proofs.count_laws.passed.parsed_tree_laws.placed_laws.Once.{Extends, walks_extend, opens_extend}
 use Rattle.definition_laws.proofs.linkage_laws.Inverting.{tokened, used, chose, stepped_on, ended, repeated, read, plain_opened, plain_closed, node_opened, node_closed}
 use Rattle.definition_laws.proofs.function_definitions.Tokens.{name_taken, sign_taken}
 

@@ -20,7 +20,7 @@ use Rattle.c_senses.specs.Sense.{Sense, Nothing, IsDeclarator, IsDerivation, Der
 use Rattle.c_senses.specs.Declarators.{name_in, derivations, derives_well, type_fits, is_outermost, base_type, derived, adjusted, suffix_row, list_of, parameters_in, array_suffix}
 use Rattle.c_senses.specs.Entities.{by_place, named_row, definition_row, parameter_named, is_defined, words_go, is_same_again, has_one_linkage, internal_fits, is_name_complete, initialiser_of}
 use Rattle.c_senses.specs.Rows.{AreSenses, world_at, declarator_row, at_its_name}
-use Rattle.count_laws.proofs.passed.parsed_tree_laws.placed_laws.Climbing.{Grown}
+use Rattle.core_node_laws.proofs.count_laws.passed.parsed_tree_laws.placed_laws.Climbing.{Grown}
 use Rattle.definition_laws.proofs.linkage_laws.Seen.{nodes, child_is}
 use Rattle.definition_laws.proofs.function_definitions.Shapes.{IsIdent, IsSign, IsQuiet, star, qualifier, IsSuffix, IsListed, AllQuiet, AllSuffixes, IsBare, bare, HasBare, ident, inner, IsFunction, own, deep}
 use Rattle.definition_laws.proofs.function_definitions.Mentioned as says

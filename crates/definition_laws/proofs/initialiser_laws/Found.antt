@@ -18,10 +18,10 @@ use Rattle.c_senses.specs.Names.{source_of, numbered}
 use Rattle.c_senses.specs.Tree.{Source, production_of, children_of, children_at, is_a, is_leaf, has_sign, is_number, sign_at, first_where, last_where, last_or, child_of, parent_of}
 use Rattle.c_senses.specs.Entities.{behind, without_asm, in_rest, initialiser_in, initialiser_of, initialised_by}
 use Rattle.c_senses.specs.Sense.{Sense}
-use Rattle.count_laws.specs.passed.parsed_tree_laws.family_laws.Families.{Families, Ascend}
-use Rattle.count_laws.proofs.passed.parsed_tree_laws.family_laws.Reading.{units_families}
-use Rattle.count_laws.proofs.passed.parsed_tree_laws.placed_laws.Once.{Extends}
-use Rattle.count_laws.proofs.passed.parsed_tree_laws.placed_laws.Adding.{All}
+use Rattle.core_node_laws.specs.count_laws.passed.parsed_tree_laws.family_laws.Families.{Families, Ascend}
+use Rattle.core_node_laws.proofs.count_laws.passed.parsed_tree_laws.family_laws.Reading.{units_families}
+use Rattle.core_node_laws.proofs.count_laws.passed.parsed_tree_laws.placed_laws.Once.{Extends}
+use Rattle.core_node_laws.proofs.count_laws.passed.parsed_tree_laws.placed_laws.Adding.{All}
 use Rattle.definition_laws.proofs.linkage_laws.Every.{every}
 use Rattle.definition_laws.proofs.linkage_laws.Inverting.{node_opened}
 use Rattle.definition_laws.proofs.linkage_laws.Seen.{some_same, none_some, no_both, apart, parent_is, parent_holds}

@@ -6,9 +6,9 @@ use Rattle.c_grammar.specs.declared.rows.Item.TheVariants as item
 use Rattle.c_grammar.specs.Table.{table, row, item_of}
 use Rattle.c_grammar.specs.Tree.{makes_node, nests}
 use Rattle.c_grammar.specs.Reads.{State, Node, first, second, Walks, Opens}
-use Rattle.count_laws.proofs.passed.parsed_tree_laws.placed_laws.Rows.{one_chosen, all_bring, rows_bring, row_brings}
-use Rattle.count_laws.proofs.passed.parsed_tree_laws.placed_laws.Once.{Extends, opens_extend}
-use Rattle.count_laws.proofs.passed.parsed_tree_laws.placed_laws.Adding.{All, all_on, row_adds}
+use Rattle.core_node_laws.proofs.count_laws.passed.parsed_tree_laws.placed_laws.Rows.{one_chosen, all_bring, rows_bring, row_brings}
+use Rattle.core_node_laws.proofs.count_laws.passed.parsed_tree_laws.placed_laws.Once.{Extends, opens_extend}
+use Rattle.core_node_laws.proofs.count_laws.passed.parsed_tree_laws.placed_laws.Adding.{All, all_on, row_adds}
 use Rattle.definition_laws.proofs.linkage_laws.Inverting.{tokened, used, chose, ended, read, plain_opened, plain_closed, node_closed}
 
 abbrev pub no_declarator : Node → Bool

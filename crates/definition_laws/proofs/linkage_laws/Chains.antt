@@ -14,8 +14,8 @@ use Rattle.c_mentions.specs.Roles.{in_declaration, specified, opened}
 use Rattle.c_mentions.specs.Settings.{Standing, standings, with_scope, handed_down, outermost}
 use Rattle.c_senses.specs.Tree.{Source, children_at, is_a, is_name, parent_of, above_within}
 use Rattle.c_senses.specs.Declarators.{is_declarator, is_outermost, outermost_of}
-use Rattle.count_laws.proofs.passed.parsed_tree_laws.nesting_laws.PassedOn.{Grown}
-use Rattle.count_laws.proofs.passed.parsed_tree_laws.nesting_laws.PassedOn.{found}
+use Rattle.core_node_laws.proofs.count_laws.passed.parsed_tree_laws.nesting_laws.PassedOn.{Grown}
+use Rattle.core_node_laws.proofs.count_laws.passed.parsed_tree_laws.nesting_laws.PassedOn.{found}
 use Rattle.definition_laws.proofs.linkage_laws.Standings.{HasParent, parents}
 use Rattle.definition_laws.proofs.linkage_laws.Seen.{nodes, none_some, no_both, production_is, production_same, children_are, child_is, name_is, parent_is}
 use Rattle.definition_laws.proofs.linkage_laws.Roles.{role_handed, declared_specs, open_by, opens}

@@ -19,7 +19,7 @@ use Rattle.c_senses.specs.World.{World}
 use Rattle.c_senses.specs.Sense.{Sense, IsSpecified, Specified, sense_in}
 use Rattle.c_senses.specs.Specifiers.{words_at, with_word, storage_words, specs_row, words_fit, function_words, specified_type, first_type}
 use Rattle.c_senses.specs.Rows.{AreSenses, row_of, world_at}
-use Rattle.count_laws.proofs.passed.parsed_tree_laws.nesting_laws.PassedOn.{Grown, row_at}
+use Rattle.core_node_laws.proofs.count_laws.passed.parsed_tree_laws.nesting_laws.PassedOn.{Grown, row_at}
 use Rattle.definition_laws.proofs.linkage_laws.Seen.{nodes, some_same, none_some, production_is, children_are}
 use Rattle.definition_laws.proofs.linkage_laws.Words.{leaf_at}
 

@@ -26,8 +26,8 @@ use Rattle.c_senses.specs.Entities.{declaration_of, is_linked, is_parameter, is_
 use Rattle.c_senses.specs.Rows.{AreSenses}
 use Rattle.c_senses.specs.Sense.{Sense, IsSpecified, Specified, sense_in}
 use Rattle.definition_laws.specs.Definitions.{InDefinition}
-use Rattle.count_laws.specs.passed.parsed_tree_laws.nesting_laws.Nested.{Nested}
-use Rattle.count_laws.proofs.passed.parsed_tree_laws.nesting_laws.PassedOn.{Grown}
+use Rattle.core_node_laws.specs.count_laws.passed.parsed_tree_laws.nesting_laws.Nested.{Nested}
+use Rattle.core_node_laws.proofs.count_laws.passed.parsed_tree_laws.nesting_laws.PassedOn.{Grown}
 use Rattle.definition_laws.specs.linkage_laws.Linked.{StandsLinked}
 use Rattle.definition_laws.proofs.linkage_laws.Origins.{HasOrigin, origin}
 use Rattle.definition_laws.proofs.linkage_laws.Seen.{nodes, some_same, none_some, children_are, node_within, apart, parent_is}

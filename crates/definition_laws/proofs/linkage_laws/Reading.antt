@@ -14,10 +14,10 @@ use Rattle.c_parser.specs.Parse.{begin}
 use Rattle.definition_laws.specs.PassedOn.{IsUnit}
 use Rattle.c_senses.specs.Names.{source_of, names_of, numbered}
 use Rattle.c_senses.specs.Tree.{production_of, children_of, is_a}
-use Rattle.count_laws.proofs.passed.parsed_tree_laws.nesting_laws.PassedOn.{Extends}
-use Rattle.count_laws.proofs.passed.parsed_tree_laws.nesting_laws.PassedOn.{All, all_on}
-use Rattle.count_laws.proofs.passed.parsed_tree_laws.nesting_laws.PassedOn.{grown_read}
-use Rattle.count_laws.proofs.passed.parsed_tree_laws.nesting_laws.Nesting.{units_nest}
+use Rattle.core_node_laws.proofs.count_laws.passed.parsed_tree_laws.nesting_laws.PassedOn.{Extends}
+use Rattle.core_node_laws.proofs.count_laws.passed.parsed_tree_laws.nesting_laws.PassedOn.{All, all_on}
+use Rattle.core_node_laws.proofs.count_laws.passed.parsed_tree_laws.nesting_laws.PassedOn.{grown_read}
+use Rattle.core_node_laws.proofs.count_laws.passed.parsed_tree_laws.nesting_laws.Nesting.{units_nest}
 use Rattle.definition_laws.proofs.Reading.{block_parts}
 use Rattle.definition_laws.specs.linkage_laws.Linked.{LinkedNamesStand}
 use Rattle.definition_laws.proofs.linkage_laws.Every.{every}

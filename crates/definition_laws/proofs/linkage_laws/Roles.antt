@@ -22,7 +22,7 @@ use Rattle.c_mentions.specs.Declarators.{declarator, within, level}
 use Rattle.c_mentions.specs.Mentions.{mention_at, leaf_mention, name_used, label_used, is_type_word, is_list_word, end_mention, declarator_mention, enumerator_mention, at_leaf, name_declared, enumerator_leaf, name_at, is_exempt, linkage_of}
 use Rattle.c_mentions.specs.Roles.{handed, in_declaration, by_specs, specified, in_specs, in_type, is_alone, in_struct, in_enum, in_statement, opened, block_scope, is_selected, selects, list_of, suffix_of}
 use Rattle.c_mentions.specs.Declarators as declarators
-use Rattle.count_laws.proofs.passed.parsed_tree_laws.nesting_laws.PassedOn.{found}
+use Rattle.core_node_laws.proofs.count_laws.passed.parsed_tree_laws.nesting_laws.PassedOn.{found}
 
 module _ (tokens : List Token) (nodes : List Node) where
   no_specs : (r : Role) (x : Specifiers) → in_specs r ≡ role.Declaration x → ⊥

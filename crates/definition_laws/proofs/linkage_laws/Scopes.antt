@@ -13,8 +13,8 @@ use Rattle.c_mentions.specs.Settings.{Standing, standings, with_scope, handed_do
 use Rattle.c_scope.specs.Known.{first_scope}
 use Rattle.c_senses.specs.Tree.{Source, children_at, is_a, child_of}
 use Rattle.definition_laws.specs.Definitions.{InDefinition, itself, below}
-use Rattle.count_laws.specs.passed.parsed_tree_laws.nesting_laws.Nested.{Nested}
-use Rattle.count_laws.proofs.passed.parsed_tree_laws.nesting_laws.PassedOn.{Grown}
+use Rattle.core_node_laws.specs.count_laws.passed.parsed_tree_laws.nesting_laws.Nested.{Nested}
+use Rattle.core_node_laws.proofs.count_laws.passed.parsed_tree_laws.nesting_laws.PassedOn.{Grown}
 use Rattle.definition_laws.proofs.linkage_laws.Standings.{HasParent, parents}
 use Rattle.definition_laws.proofs.linkage_laws.Seen.{list_in, nodes, no_both, production_is, production_same, child_is, node_has, node_within, apart}
 use Rattle.definition_laws.proofs.linkage_laws.Roles.{opens, list_is}

@@ -10,7 +10,7 @@ use Rattle.c_grammar.specs.Terminals.{contains}
 use Rattle.c_grammar.specs.Reads.{Node, node_of, leaf}
 use Rattle.c_mentions.specs.Syntax as syntax
 use Rattle.c_senses.specs.Tree.{Source, production_of, children_of, production_at, children_at, is_a, is_name, is_identifier, kind_of_token, token_of, first_where, numbers_from, all_nodes, parent_of}
-use Rattle.count_laws.proofs.passed.parsed_tree_laws.nesting_laws.PassedOn.{Grown, found_where}
+use Rattle.core_node_laws.proofs.count_laws.passed.parsed_tree_laws.nesting_laws.PassedOn.{Grown, found_where}
 
 pub some_same : {A : Type 0} → {x y : A} → ◌≡◌ {A = Option A} (Some x) (Some y) → x ≡ y
 some_same e = cc

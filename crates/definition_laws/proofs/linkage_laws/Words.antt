@@ -8,8 +8,8 @@ use Rattle.c_grammar.specs.Table.{table, row, item_of}
 use Rattle.c_grammar.specs.Terminals.{contains}
 use Rattle.c_grammar.specs.Tree.{makes_node, nests}
 use Rattle.c_grammar.specs.Reads.{State, Node, leaf, first, second, taken, opened, Walks, Opens}
-use Rattle.count_laws.proofs.passed.parsed_tree_laws.nesting_laws.PassedOn.{left, right, all_bring, rows_bring, row_brings, one_chosen}
-use Rattle.count_laws.proofs.passed.parsed_tree_laws.nesting_laws.PassedOn.{All, row_adds}
+use Rattle.core_node_laws.proofs.count_laws.passed.parsed_tree_laws.nesting_laws.PassedOn.{left, right, all_bring, rows_bring, row_brings, one_chosen}
+use Rattle.core_node_laws.proofs.count_laws.passed.parsed_tree_laws.nesting_laws.PassedOn.{All, row_adds}
 use Rattle.definition_laws.proofs.linkage_laws.Inverting.{tokened, chose, ended, read, plain_opened, plain_closed}
 
 -- by a production: one of three

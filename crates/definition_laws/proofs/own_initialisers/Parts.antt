@@ -5,8 +5,8 @@ use Rattle.c_lexer.specs.declared.TokenKind.TheVariants.{Punctuator}
 use Rattle.c_grammar.specs.Table.{table, row, item_of}
 use Rattle.c_grammar.specs.Tree.{makes_node}
 use Rattle.c_grammar.specs.Words.{sign_semicolon, sign_comma, sign_assign}
-use Rattle.count_laws.specs.passed.parsed_tree_laws.sign_parts.Parts.{Mark, leaf_mark, Brings, Part}
-use Rattle.count_laws.proofs.passed.parsed_tree_laws.sign_parts.Rows.{of_end, of_token, of_use, of_choice, of_scope, of_node, of_row, all_repeated}
+use Rattle.core_node_laws.specs.count_laws.passed.parsed_tree_laws.sign_parts.Parts.{Mark, leaf_mark, Brings, Part}
+use Rattle.core_node_laws.proofs.count_laws.passed.parsed_tree_laws.sign_parts.Rows.{of_end, of_token, of_use, of_choice, of_scope, of_node, of_row, all_repeated}
 
 abbrev pub mark : ℕ → ℕ → Mark
 mark p place = record { production = p; token = place }

@@ -14,9 +14,9 @@ use Rattle.c_grammar.specs.Reads.{leaf}
 use Rattle.c_senses.specs.Tree.{Source, production_of, is_a, is_leaf, is_number, sign_of_kind, kind_of_token, token_of, has_sign, last_where, last_or}
 use Rattle.c_senses.specs.Entities.{behind, without_asm, initialiser_in}
 use Rattle.c_senses.specs.Sense.{Sense}
-use Rattle.count_laws.specs.passed.parsed_tree_laws.family_laws.Families.{Ascend}
+use Rattle.core_node_laws.specs.count_laws.passed.parsed_tree_laws.family_laws.Families.{Ascend}
 use Rattle.definition_laws.proofs.function_definitions.Tokens.{sign_taken}
-use Rattle.count_laws.specs.passed.parsed_tree_laws.sign_parts.Parts.{Mark, leaf_mark, Takes}
+use Rattle.core_node_laws.specs.count_laws.passed.parsed_tree_laws.sign_parts.Parts.{Mark, leaf_mark, Takes}
 use Rattle.definition_laws.proofs.own_initialisers.Parts.{mark, MaybeInit, Absent, Present, MaybeAsm, NoAsm, Asm, Further, Over, Next}
 
 pub member : (k x : ℕ) (ks : List ℕ) → contains (k ∷ ks) x ≡ true → (k ≡ x) ⊎ (contains ks x ≡ true)

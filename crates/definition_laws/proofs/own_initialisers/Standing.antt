@@ -17,15 +17,15 @@ use Rattle.c_senses.specs.Names.{source_of, numbered}
 use Rattle.c_senses.specs.Tree.{Source, production_at, children_at, is_a, has_sign, first_where, last_where, child_of, parent_of}
 use Rattle.c_senses.specs.Entities.{behind, without_asm, in_rest, initialiser_in, initialiser_of, initialised_by}
 use Rattle.c_senses.specs.Sense.{Sense}
-use Rattle.count_laws.specs.passed.parsed_tree_laws.family_laws.Families.{Families, Ascend}
-use Rattle.count_laws.proofs.passed.parsed_tree_laws.family_laws.Reading.{units_families}
-use Rattle.count_laws.specs.passed.parsed_tree_laws.nesting_laws.Nested.{Nested}
-use Rattle.count_laws.proofs.passed.parsed_tree_laws.nesting_laws.Nesting.{units_nest}
-use Rattle.count_laws.proofs.passed.parsed_tree_laws.placed_laws.Climbing.{Grown, exists_at}
-use Rattle.count_laws.proofs.passed.parsed_tree_laws.placed_laws.Growing.{grown_read}
+use Rattle.core_node_laws.specs.count_laws.passed.parsed_tree_laws.family_laws.Families.{Families, Ascend}
+use Rattle.core_node_laws.proofs.count_laws.passed.parsed_tree_laws.family_laws.Reading.{units_families}
+use Rattle.core_node_laws.specs.count_laws.passed.parsed_tree_laws.nesting_laws.Nested.{Nested}
+use Rattle.core_node_laws.proofs.count_laws.passed.parsed_tree_laws.nesting_laws.Nesting.{units_nest}
+use Rattle.core_node_laws.proofs.count_laws.passed.parsed_tree_laws.placed_laws.Climbing.{Grown, exists_at}
+use Rattle.core_node_laws.proofs.count_laws.passed.parsed_tree_laws.placed_laws.Growing.{grown_read}
 use Rattle.definition_laws.proofs.function_definitions.PassedOn.{parent_is, parent_holds}
-use Rattle.count_laws.specs.passed.parsed_tree_laws.sign_parts.Parts.{Mark, mark_of, mark_at, Brings, Takes, IsBrought}
-use Rattle.count_laws.proofs.passed.parsed_tree_laws.sign_parts.Reading.{units_bring}
+use Rattle.core_node_laws.specs.count_laws.passed.parsed_tree_laws.sign_parts.Parts.{Mark, mark_of, mark_at, Brings, Takes, IsBrought}
+use Rattle.core_node_laws.proofs.count_laws.passed.parsed_tree_laws.sign_parts.Reading.{units_bring}
 use Rattle.definition_laws.specs.own_initialisers.Own.{InitialisersStand}
 use Rattle.definition_laws.proofs.own_initialisers.Parts.{mark, MaybeInit, Absent, Present, MaybeAsm, NoAsm, Asm, IsRestList, Begins, IsNaming, Naming, IsOther, Assert, Alone, Body, rest_list, external_list, declaration_list}
 use Rattle.definition_laws.proofs.own_initialisers.Searching.{member, head_in, next_in, last_none, apart, not_same, Reads, is_as, sign_is, test, FoundIn, skip, behind_sign, further}

@@ -5,7 +5,7 @@ use Rattle.c_lexer.specs.declared.TokenKind.{TokenKind}
 use Rattle.c_grammar.specs.Table.{table, row}
 use Rattle.c_grammar.specs.Terminals.{contains}
 use Rattle.c_grammar.specs.Tree.{makes_node}
-use Rattle.count_laws.proofs.passed.parsed_tree_laws.placed_laws.Rows.{left, right, all_bring, rows_bring, row_brings}
+use Rattle.core_node_laws.proofs.count_laws.passed.parsed_tree_laws.placed_laws.Rows.{left, right, all_bring, rows_bring, row_brings}
 
 abbrev pub any_token : TokenKind → Bool
 any_token kind = true

@@ -10,9 +10,9 @@ use Rattle.c_grammar.specs.Terminals.{takes, terminal}
 use Rattle.c_grammar.specs.Tree.{makes_node, nests}
 use Rattle.c_grammar.specs.Reads.{State, Node, leaf, first, second, taken, opened, closed, Walks, Opens}
 use Rattle.c_mentions.specs.Syntax as syntax
-use Rattle.count_laws.proofs.passed.parsed_tree_laws.placed_laws.Rows.{one_chosen, all_bring, rows_bring, row_brings}
-use Rattle.count_laws.proofs.passed.parsed_tree_laws.placed_laws.Adding.{All, all_on, row_adds, part_adds}
-use Rattle.count_laws.proofs.passed.parsed_tree_laws.placed_laws.Once.{Extends, walks_extend}
+use Rattle.core_node_laws.proofs.count_laws.passed.parsed_tree_laws.placed_laws.Rows.{one_chosen, all_bring, rows_bring, row_brings}
+use Rattle.core_node_laws.proofs.count_laws.passed.parsed_tree_laws.placed_laws.Adding.{All, all_on, row_adds, part_adds}
+use Rattle.core_node_laws.proofs.count_laws.passed.parsed_tree_laws.placed_laws.Once.{Extends, walks_extend}
 use Rattle.definition_laws.proofs.linkage_laws.Every.{every}
 use Rattle.definition_laws.proofs.linkage_laws.Inverting.{tokened, chose, ended, read, plain_opened, plain_closed, node_opened, node_closed}
 use Rattle.definition_laws.proofs.function_definitions.Tokens.{sign_taken}

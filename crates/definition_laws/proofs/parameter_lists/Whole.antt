@@ -19,10 +19,10 @@ use Rattle.c_parser.specs.c_units.Units.{IsUnit}
 use Rattle.c_mentions.specs.Declarators.{is_list}
 use Rattle.c_senses.specs.Names.{source_of, numbered}
 use Rattle.c_senses.specs.Tree.{Source, production_of, children_of, children_at, is_a}
-use Rattle.count_laws.proofs.passed.parsed_tree_laws.placed_laws.Adding.{All}
+use Rattle.core_node_laws.proofs.count_laws.passed.parsed_tree_laws.placed_laws.Adding.{All}
 use Rattle.definition_laws.proofs.function_definitions.Mentioned.{listed_is}
-use Rattle.count_laws.specs.passed.parsed_tree_laws.span_laws.Spans.{Spans, Runs, over, no_more, one_more, Spanned}
-use Rattle.count_laws.proofs.passed.parsed_tree_laws.span_laws.Whole.{units_are_spanned}
+use Rattle.core_node_laws.specs.count_laws.passed.parsed_tree_laws.span_laws.Spans.{Spans, Runs, over, no_more, one_more, Spanned}
+use Rattle.core_node_laws.proofs.count_laws.passed.parsed_tree_laws.span_laws.Whole.{units_are_spanned}
 use Rattle.definition_laws.specs.scope_laws.Scoped.{IsPart, ParametersListed}
 use Rattle.definition_laws.specs.parameter_lists.Parameters.{UnitsList}
 use Rattle.definition_laws.proofs.parameter_lists.Rows.{free}

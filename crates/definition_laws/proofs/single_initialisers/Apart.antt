@@ -9,13 +9,13 @@ use Rattle.c_senses.specs.Tree.{Source, is_a, production_at, children_at, first_
 use Rattle.c_senses.specs.Declarators.{is_declarator, is_outermost}
 use Rattle.c_senses.specs.Entities.{initialised_by}
 use Rattle.c_senses.specs.Sense.{Sense}
-use Rattle.count_laws.specs.passed.parsed_tree_laws.family_laws.Families.{Families, Ascend}
-use Rattle.count_laws.proofs.passed.parsed_tree_laws.family_laws.Reading.{units_families}
+use Rattle.core_node_laws.specs.count_laws.passed.parsed_tree_laws.family_laws.Families.{Families, Ascend}
+use Rattle.core_node_laws.proofs.count_laws.passed.parsed_tree_laws.family_laws.Reading.{units_families}
 use Rattle.definition_laws.proofs.linkage_laws.Seen.{some_same, none_some, no_both, parent_is, parent_holds}
 use Rattle.definition_laws.proofs.linkage_laws.Linked.{Tree}
 use Rattle.definition_laws.proofs.linkage_laws.Reading.{tree_is}
-use Rattle.count_laws.specs.passed.parsed_tree_laws.sign_parts.Parts.{mark_at, IsBrought}
-use Rattle.count_laws.proofs.passed.parsed_tree_laws.sign_parts.Reading.{units_bring}
+use Rattle.core_node_laws.specs.count_laws.passed.parsed_tree_laws.sign_parts.Parts.{mark_at, IsBrought}
+use Rattle.core_node_laws.proofs.count_laws.passed.parsed_tree_laws.sign_parts.Reading.{units_bring}
 use Rattle.definition_laws.specs.single_initialisers.Single.{InitialisersApart}
 use Rattle.definition_laws.proofs.single_initialisers.Parts.{member, item_many, apart, differ, First, names, sets, neither, first_of, marked, Holds, in_rest, in_other, holder, inner_holder, item_in, no_declarator_in, one_rest, one_init, separated}
 

@@ -8,7 +8,7 @@ use Rattle.c_grammar.specs.Table.{table, row, item_of}
 use Rattle.c_grammar.specs.Terminals.{contains}
 use Rattle.c_grammar.specs.Tree.{makes_node}
 use Rattle.c_grammar.specs.Reads.{leaf}
-use Rattle.count_laws.specs.passed.parsed_tree_laws.sign_parts.Parts.{Mark, leaf_mark, Brings, ended, token, use_of, choice, again, enough, scope, Part, own_node, own_row}
+use Rattle.core_node_laws.specs.count_laws.passed.parsed_tree_laws.sign_parts.Parts.{Mark, leaf_mark, Brings, ended, token, use_of, choice, again, enough, scope, Part, own_node, own_row}
 
 pub left : (a b : Bool) → (a && b) ≡ true → a ≡ true
 left true b e = refl

@@ -9,8 +9,8 @@ use Rattle.c_grammar.specs.Terminals.{contains}
 use Rattle.c_grammar.specs.Tree.{makes_node}
 use Rattle.c_grammar.specs.Reads.{leaf}
 use Rattle.c_senses.specs.Tree.{Source, production_of, production_at, children_at}
-use Rattle.count_laws.specs.passed.parsed_tree_laws.sign_parts.Parts.{Mark, leaf_mark, Brings, Part, Takes, mark_of, mark_at, IsBrought}
-use Rattle.count_laws.proofs.passed.parsed_tree_laws.sign_parts.Rows.{of_end, of_token, of_use, of_choice, of_scope, of_node, of_row, all_repeated}
+use Rattle.core_node_laws.specs.count_laws.passed.parsed_tree_laws.sign_parts.Parts.{Mark, leaf_mark, Brings, Part, Takes, mark_of, mark_at, IsBrought}
+use Rattle.core_node_laws.proofs.count_laws.passed.parsed_tree_laws.sign_parts.Rows.{of_end, of_token, of_use, of_choice, of_scope, of_node, of_row, all_repeated}
 use Rattle.definition_laws.proofs.single_initialisers.Counts.{all_fine, count, row_brings_few}
 
 -- where initialisers, items of lists, rests of declarations and declarators stand

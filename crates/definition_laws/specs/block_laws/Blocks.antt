@@ -6,7 +6,7 @@ use Rattle.c_parser.specs.c_units.Units.{IsUnit}
 use Rattle.c_senses.specs.Names.{source_of, numbered}
 use Rattle.c_senses.specs.Sense.{Sense}
 use Rattle.c_senses.specs.Rows.{AreSenses}
-use Rattle.count_laws.specs.once_nodes.Once.{BlocksDiffer}
+use Rattle.core_node_laws.specs.count_laws.once_nodes.Once.{BlocksDiffer}
 
 -- functions that are defined by one block are one
 abbrev pub UnitsBlocksDiffer : Type 0

@@ -13,8 +13,8 @@ use Rattle.core_tree.specs.Valid.{IsNamedOrMade}
 use Rattle.core_tree.proofs.Climb.{child_has}
 use Rattle.c_consts.specs.Core.{Core, Cores, Of, NoCores, MoreCores, kind_of}
 use Rattle.c_senses.specs.Right.{Numbering, SameEntities, SameKind, StandsBy, AllStandBy}
-use Rattle.owner_laws.proofs.Walk.{named_is}
-use Rattle.count_laws.proofs.once_nodes.Rooted.{same_initialise}
+use Rattle.declared_type_laws.proofs.owner_laws.Walk.{named_is}
+use Rattle.core_node_laws.proofs.count_laws.once_nodes.Rooted.{same_initialise}
 use Rattle.object_initialiser_laws.specs.listing_blocks.PassedOn.{ListsIt, IsBare, Covered, AllCovered}
 
 some_same : {A : Type 0} → {x y : A} → ◌≡◌ {A = Option A} (Some x) (Some y) → x ≡ y

@@ -19,23 +19,23 @@ use Rattle.c_senses.specs.Sense.{Sense, IsCore, sense_in}
 use Rattle.c_senses.specs.Entities.{entity_of, function_around, defined_name}
 use Rattle.c_senses.specs.Statements.{statement, objects_in, cores_in}
 use Rattle.c_senses.specs.Right.{StandsBy}
-use Rattle.owner_laws.specs.passed.definition_laws.Definitions.{is_definition}
-use Rattle.owner_laws.proofs.passed.definition_laws.Locals.{locals}
-use Rattle.owner_laws.specs.passed.definition_laws.function_definitions.Defined.{Defines}
-use Rattle.owner_laws.proofs.passed.definition_laws.function_definitions.Reading.{definitions_declare}
+use Rattle.declared_type_laws.specs.owner_laws.passed.definition_laws.Definitions.{is_definition}
+use Rattle.declared_type_laws.proofs.owner_laws.passed.definition_laws.Locals.{locals}
+use Rattle.declared_type_laws.specs.owner_laws.passed.definition_laws.function_definitions.Defined.{Defines}
+use Rattle.declared_type_laws.proofs.owner_laws.passed.definition_laws.function_definitions.Reading.{definitions_declare}
 use Rattle.built_unit_laws.specs.built_units.Built.{IsBuilt}
-use Rattle.owner_laws.specs.passed.definition_laws.scope_laws.Beneath.{Beneath, part, deeper}
-use Rattle.owner_laws.specs.passed.definition_laws.scope_laws.Scoped.{IsPart}
-use Rattle.owner_laws.proofs.passed.definition_laws.scope_laws.Tree.{compare, Order}
+use Rattle.declared_type_laws.specs.owner_laws.passed.definition_laws.scope_laws.Beneath.{Beneath, part, deeper}
+use Rattle.declared_type_laws.specs.owner_laws.passed.definition_laws.scope_laws.Scoped.{IsPart}
+use Rattle.declared_type_laws.proofs.owner_laws.passed.definition_laws.scope_laws.Tree.{compare, Order}
 use Rattle.core_node_laws.specs.standing_laws.Standing.{IsGrown}
 use Rattle.core_node_laws.proofs.standing_laws.Climbing.{in_list, child_inside}
 use Rattle.core_node_laws.proofs.standing_laws.Descending.{F, W, row_there, same_given}
-use Rattle.owner_laws.proofs.Whole.{grown_of}
-use Rattle.owner_laws.proofs.passed.definition_laws.linkage_laws.Seen.{some_same, none_some, no_both, apart, parent_holds}
-use Rattle.owner_laws.proofs.passed.definition_laws.linkage_laws.Linked as linked
-use Rattle.owner_laws.proofs.passed.definition_laws.linkage_laws.Reading.{tree_is}
-use Rattle.owner_laws.proofs.internal_laws.Reading as internal_laws
-use Rattle.owner_laws.proofs.owned_laws.Owners.{IsOwner, owner_is}
+use Rattle.declared_type_laws.proofs.owner_laws.Whole.{grown_of}
+use Rattle.declared_type_laws.proofs.owner_laws.passed.definition_laws.linkage_laws.Seen.{some_same, none_some, no_both, apart, parent_holds}
+use Rattle.declared_type_laws.proofs.owner_laws.passed.definition_laws.linkage_laws.Linked as linked
+use Rattle.declared_type_laws.proofs.owner_laws.passed.definition_laws.linkage_laws.Reading.{tree_is}
+use Rattle.declared_type_laws.proofs.owner_laws.internal_laws.Reading as internal_laws
+use Rattle.declared_type_laws.proofs.owner_laws.owned_laws.Owners.{IsOwner, owner_is}
 use Rattle.object_initialiser_laws.proofs.owned_initialisers.Function.{TopOf, function_top}
 use Rattle.object_initialiser_laws.proofs.listing_blocks.PassedOn.{Above, above_blocks}
 

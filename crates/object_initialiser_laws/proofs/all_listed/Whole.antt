@@ -27,20 +27,20 @@ use Rattle.c_senses.specs.Sense.{Sense, IsCore, sense_in}
 use Rattle.c_senses.specs.Entities.{is_internal, is_linked, declares_function, storage_of, linkage_of, entity_of, function_around}
 use Rattle.c_senses.specs.Right.{SameOwner, IsEntityOf, IsDeclaredAt, Declared as Declares, representative, storage_at, declared_as, is_declaring, declares_entity, entity_type}
 use Rattle.built_unit_laws.specs.built_units.Built.{IsBuilt}
-use Rattle.owner_laws.specs.passed.definition_laws.scope_laws.Beneath.{Beneath, part, deeper}
-use Rattle.owner_laws.specs.passed.definition_laws.scope_laws.Scoped.{IsPart}
-use Rattle.owner_laws.proofs.passed.definition_laws.scope_laws.Tree.{further}
+use Rattle.declared_type_laws.specs.owner_laws.passed.definition_laws.scope_laws.Beneath.{Beneath, part, deeper}
+use Rattle.declared_type_laws.specs.owner_laws.passed.definition_laws.scope_laws.Scoped.{IsPart}
+use Rattle.declared_type_laws.proofs.owner_laws.passed.definition_laws.scope_laws.Tree.{further}
 use Rattle.core_node_laws.proofs.standing_laws.Climbing.{in_list}
-use Rattle.owner_laws.specs.Owners.{Forward}
-use Rattle.count_laws.specs.once_nodes.Once.{IsLaid}
-use Rattle.owner_laws.proofs.passed.definition_laws.linkage_laws.Seen.{some_same, no_both, apart}
-use Rattle.owner_laws.proofs.passed.definition_laws.linkage_laws.Linked as linked
-use Rattle.owner_laws.proofs.passed.definition_laws.linkage_laws.Reading.{tree_is}
-use Rattle.owner_laws.proofs.passed.definition_laws.linkage_laws.Unlinked.{lives, local, Made, made}
-use Rattle.owner_laws.specs.held_parts.Held.{StandsIn, IsHeld, PartsHeld}
-use Rattle.owner_laws.proofs.held_parts.Whole.{units_hold_parts}
-use Rattle.owner_laws.specs.held_runs.Runs.{NodeOf}
-use Rattle.owner_laws.proofs.held_runs.Whole.{node_of}
+use Rattle.declared_type_laws.specs.owner_laws.Owners.{Forward}
+use Rattle.core_node_laws.specs.count_laws.once_nodes.Once.{IsLaid}
+use Rattle.declared_type_laws.proofs.owner_laws.passed.definition_laws.linkage_laws.Seen.{some_same, no_both, apart}
+use Rattle.declared_type_laws.proofs.owner_laws.passed.definition_laws.linkage_laws.Linked as linked
+use Rattle.declared_type_laws.proofs.owner_laws.passed.definition_laws.linkage_laws.Reading.{tree_is}
+use Rattle.declared_type_laws.proofs.owner_laws.passed.definition_laws.linkage_laws.Unlinked.{lives, local, Made, made}
+use Rattle.declared_type_laws.specs.owner_laws.held_parts.Held.{StandsIn, IsHeld, PartsHeld}
+use Rattle.declared_type_laws.proofs.owner_laws.held_parts.Whole.{units_hold_parts}
+use Rattle.declared_type_laws.specs.owner_laws.held_runs.Runs.{NodeOf}
+use Rattle.declared_type_laws.proofs.owner_laws.held_runs.Whole.{node_of}
 use Rattle.object_initialiser_laws.specs.block_uses.Uses.{OpensOwn}
 use Rattle.object_initialiser_laws.specs.listing_blocks.PassedOn.{ListsIt, Covered, IsBlockOf}
 use Rattle.object_initialiser_laws.proofs.listing_blocks.PassedOn.{on_blockish, blocks_cover}

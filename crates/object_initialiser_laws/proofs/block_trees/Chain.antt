@@ -15,16 +15,16 @@ use Rattle.c_senses.specs.Sense.{Sense, sense_in}
 use Rattle.c_senses.specs.Rows.{AreSenses}
 use Rattle.core_node_laws.specs.near_nodes.Holding.{OfSense}
 use Rattle.core_node_laws.proofs.near_nodes.Giving.{Gives}
-use Rattle.owner_laws.specs.passed.definition_laws.scope_laws.Beneath.{Beneath, part, deeper}
-use Rattle.owner_laws.specs.passed.definition_laws.scope_laws.Scoped.{IsPart}
-use Rattle.owner_laws.proofs.passed.definition_laws.scope_laws.Tree.{further, compare, Order}
+use Rattle.declared_type_laws.specs.owner_laws.passed.definition_laws.scope_laws.Beneath.{Beneath, part, deeper}
+use Rattle.declared_type_laws.specs.owner_laws.passed.definition_laws.scope_laws.Scoped.{IsPart}
+use Rattle.declared_type_laws.proofs.owner_laws.passed.definition_laws.scope_laws.Tree.{further, compare, Order}
 use Rattle.core_node_laws.specs.standing_laws.Standing.{IsGrown}
 use Rattle.core_node_laws.proofs.standing_laws.Climbing.{in_list, list_in, child_inside}
 use Rattle.core_node_laws.proofs.standing_laws.Descending.{F, W, row_there, sense_before}
-use Rattle.owner_laws.proofs.Whole.{grown_of}
-use Rattle.owner_laws.proofs.passed.definition_laws.linkage_laws.Seen.{no_both, apart}
-use Rattle.owner_laws.proofs.passed.definition_laws.linkage_laws.Linked as linked
-use Rattle.owner_laws.proofs.passed.definition_laws.linkage_laws.Reading.{tree_is}
+use Rattle.declared_type_laws.proofs.owner_laws.Whole.{grown_of}
+use Rattle.declared_type_laws.proofs.owner_laws.passed.definition_laws.linkage_laws.Seen.{no_both, apart}
+use Rattle.declared_type_laws.proofs.owner_laws.passed.definition_laws.linkage_laws.Linked as linked
+use Rattle.declared_type_laws.proofs.owner_laws.passed.definition_laws.linkage_laws.Reading.{tree_is}
 use Rattle.object_initialiser_laws.specs.block_trees.Covered.{ListsIt, Covered, IsBlockOf, BlocksCover}
 use Rattle.object_initialiser_laws.proofs.block_trees.Off.{Off, IsBlockish, Above, smaller, up_one, above_blocks}
 use Rattle.object_initialiser_laws.proofs.block_trees.Free.{IsFree, off_free, blockish}

@@ -26,17 +26,17 @@ use Rattle.parsed_tree_laws.proofs.placed_laws.Climbing.{Grown}
 use Rattle.parsed_tree_laws.proofs.grown_parts.Reading.{units_bring}
 use Rattle.parsed_tree_laws.proofs.span_laws.Whole.{units_are_spanned}
 use Rattle.parsed_tree_laws.proofs.span_laws.Lefts.{units_have_lefts}
-use Rattle.owner_laws.specs.passed.definition_laws.scope_laws.Beneath.{Beneath, part, deeper}
-use Rattle.owner_laws.specs.passed.definition_laws.scope_laws.Scoped.{IsPart, DeclaredOnce, Rooted}
-use Rattle.owner_laws.proofs.passed.definition_laws.scope_laws.Tree.{further, compare, Order}
-use Rattle.owner_laws.proofs.passed.definition_laws.scope_laws.Whole.{names_declared_once}
+use Rattle.declared_type_laws.specs.owner_laws.passed.definition_laws.scope_laws.Beneath.{Beneath, part, deeper}
+use Rattle.declared_type_laws.specs.owner_laws.passed.definition_laws.scope_laws.Scoped.{IsPart, DeclaredOnce, Rooted}
+use Rattle.declared_type_laws.proofs.owner_laws.passed.definition_laws.scope_laws.Tree.{further, compare, Order}
+use Rattle.declared_type_laws.proofs.owner_laws.passed.definition_laws.scope_laws.Whole.{names_declared_once}
 use Rattle.core_node_laws.proofs.standing_laws.Climbing.{list_in}
-use Rattle.owner_laws.proofs.Naming.{own_leaf}
-use Rattle.owner_laws.proofs.passed.definition_laws.linkage_laws.Seen.{some_same, none_some, no_both, apart, parent_holds}
-use Rattle.owner_laws.proofs.passed.definition_laws.linkage_laws.Linked as linked
-use Rattle.owner_laws.proofs.passed.definition_laws.linkage_laws.Reading.{tree_is}
-use Rattle.internal_name_laws.specs.passed.declared_type_laws.declared_leaves.Leaves.{IsNamed, Own, Inner}
-use Rattle.internal_name_laws.proofs.passed.declared_type_laws.declared_leaves.Naming.{sense_named}
+use Rattle.declared_type_laws.proofs.owner_laws.Naming.{own_leaf}
+use Rattle.declared_type_laws.proofs.owner_laws.passed.definition_laws.linkage_laws.Seen.{some_same, none_some, no_both, apart, parent_holds}
+use Rattle.declared_type_laws.proofs.owner_laws.passed.definition_laws.linkage_laws.Linked as linked
+use Rattle.declared_type_laws.proofs.owner_laws.passed.definition_laws.linkage_laws.Reading.{tree_is}
+use Rattle.object_initialiser_laws.specs.internal_name_laws.passed.declared_type_laws.declared_leaves.Leaves.{IsNamed, Own, Inner}
+use Rattle.object_initialiser_laws.proofs.internal_name_laws.passed.declared_type_laws.declared_leaves.Naming.{sense_named}
 use Rattle.object_initialiser_laws.proofs.once_initialised.Whole.{own_name, opening_differs}
 use Rattle.object_initialiser_laws.specs.block_uses.Uses.{OpensOwn}
 use Rattle.object_initialiser_laws.proofs.block_uses.Whole.{uses_stay_within}

@@ -7,9 +7,9 @@ use Rattle.core_node_laws.specs.near_nodes.Holding.{Closed}
 use Rattle.parsed_tree_laws.specs.nesting_laws.Nested.{Nested}
 use Rattle.parsed_tree_laws.proofs.placed_laws.Climbing.{Grown}
 use Rattle.parsed_tree_laws.specs.span_laws.Spans.{Spanned}
-use Rattle.owner_laws.specs.passed.definition_laws.scope_laws.Beneath.{Beneath, part, deeper}
-use Rattle.owner_laws.specs.passed.definition_laws.scope_laws.Scoped.{IsPart}
-use Rattle.owner_laws.proofs.passed.definition_laws.scope_laws.Tree.{further}
+use Rattle.declared_type_laws.specs.owner_laws.passed.definition_laws.scope_laws.Beneath.{Beneath, part, deeper}
+use Rattle.declared_type_laws.specs.owner_laws.passed.definition_laws.scope_laws.Scoped.{IsPart}
+use Rattle.declared_type_laws.proofs.owner_laws.passed.definition_laws.scope_laws.Tree.{further}
 use Rattle.core_node_laws.proofs.standing_laws.Climbing.{in_list, list_in}
 
 clash : {X : Type 0} → (b : Bool) → b ≡ true → b ≡ false → X

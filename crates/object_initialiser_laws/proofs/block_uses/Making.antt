@@ -20,11 +20,11 @@ use Rattle.c_scope.specs.Known.{first_scope}
 use Rattle.c_senses.specs.Tree.{Source, production_of, kind_of_token, token_of, children_at, is_a, has_word, is_number, word_of_kind}
 use Rattle.c_senses.specs.Declarators.{is_declarator, is_outermost, outermost_of}
 use Rattle.parsed_tree_laws.proofs.placed_laws.Climbing.{Grown}
-use Rattle.owner_laws.specs.passed.definition_laws.scope_laws.Scoped.{IsPart}
-use Rattle.owner_laws.proofs.passed.definition_laws.linkage_laws.Standings.{HasParent, parents}
-use Rattle.owner_laws.proofs.passed.definition_laws.linkage_laws.Seen.{nodes, no_both, production_same, children_are, child_is, node_has, node_within, parent_is}
-use Rattle.owner_laws.proofs.passed.definition_laws.linkage_laws.Roles.{open_by, opens}
-use Rattle.owner_laws.proofs.passed.definition_laws.linkage_laws.Chains.{either_is, declaring, name_reached}
+use Rattle.declared_type_laws.specs.owner_laws.passed.definition_laws.scope_laws.Scoped.{IsPart}
+use Rattle.declared_type_laws.proofs.owner_laws.passed.definition_laws.linkage_laws.Standings.{HasParent, parents}
+use Rattle.declared_type_laws.proofs.owner_laws.passed.definition_laws.linkage_laws.Seen.{nodes, no_both, production_same, children_are, child_is, node_has, node_within, parent_is}
+use Rattle.declared_type_laws.proofs.owner_laws.passed.definition_laws.linkage_laws.Roles.{open_by, opens}
+use Rattle.declared_type_laws.proofs.owner_laws.passed.definition_laws.linkage_laws.Chains.{either_is, declaring, name_reached}
 use Rattle.object_initialiser_laws.specs.block_uses.Uses.{OpensOwn, DeclaredIn}
 
 module _ (s : Source) (grown : Grown s) where

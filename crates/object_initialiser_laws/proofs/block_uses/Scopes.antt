@@ -13,10 +13,10 @@ use Rattle.c_mentions.specs.Syntax as syntax
 use Rattle.c_mentions.specs.Declarators.{is_list}
 use Rattle.c_mentions.specs.Roles.{opened, handed, in_declaration, specified, block_scope, list_or, is_selected, selects}
 use Rattle.c_mentions.specs.Settings.{Standing, outermost, handed_down, standings, with_scope}
-use Rattle.owner_laws.specs.passed.definition_laws.scope_laws.Beneath.{part, deeper}
-use Rattle.owner_laws.proofs.passed.definition_laws.scope_laws.Standings.{each_stands}
-use Rattle.owner_laws.proofs.passed.definition_laws.scope_laws.Scopes.{Part, Below, IsOf, IsNot, children_are}
-use Rattle.owner_laws.proofs.passed.definition_laws.linkage_laws.Roles.{role_handed, declared_specs, list_is, opens}
+use Rattle.declared_type_laws.specs.owner_laws.passed.definition_laws.scope_laws.Beneath.{part, deeper}
+use Rattle.declared_type_laws.proofs.owner_laws.passed.definition_laws.scope_laws.Standings.{each_stands}
+use Rattle.declared_type_laws.proofs.owner_laws.passed.definition_laws.scope_laws.Scopes.{Part, Below, IsOf, IsNot, children_are}
+use Rattle.declared_type_laws.proofs.owner_laws.passed.definition_laws.linkage_laws.Roles.{role_handed, declared_specs, list_is, opens}
 
 module _ (tokens : List Token) (nodes : List Node) (b : ℕ) (no_suffix : IsNot tokens nodes p_suffix b) (no_file : length nodes ≡ b → ⊥) where
   -- the list of a declaration's function is a parameter list

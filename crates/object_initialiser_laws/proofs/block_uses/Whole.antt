@@ -11,15 +11,15 @@ use Rattle.c_scope.specs.Resolves.{bindings}
 use Rattle.c_senses.specs.Names.{source_of, names_of, numbered, entry_of}
 use Rattle.c_senses.specs.Tree.{Source, production_at, is_a, paired}
 use Rattle.c_senses.specs.Declarators.{is_declarator}
-use Rattle.internal_name_laws.specs.passed.declared_type_laws.declared_leaves.Leaves.{IsNamed, Own, Inner}
+use Rattle.object_initialiser_laws.specs.internal_name_laws.passed.declared_type_laws.declared_leaves.Leaves.{IsNamed, Own, Inner}
 use Rattle.parsed_tree_laws.proofs.placed_laws.Climbing.{Grown}
-use Rattle.owner_laws.specs.passed.definition_laws.scope_laws.Beneath.{Beneath}
-use Rattle.owner_laws.specs.passed.definition_laws.scope_laws.Scoped.{IsPart}
-use Rattle.owner_laws.proofs.passed.definition_laws.scope_laws.Tree.{beneath_by}
-use Rattle.owner_laws.proofs.passed.definition_laws.scope_laws.Scopes.{Part, IsOf, IsNot}
-use Rattle.owner_laws.proofs.passed.definition_laws.scope_laws.Knowing.{In, every_at, S, IsNameMade, IsTagMade, IsUseOf, IsKnown, no_tag, all_known, paired_in}
-use Rattle.owner_laws.proofs.passed.definition_laws.linkage_laws.Seen.{nodes, some_same, no_both, production_is, production_same, children_are, node_has}
-use Rattle.owner_laws.proofs.passed.definition_laws.linkage_laws.Reading.{tree_is}
+use Rattle.declared_type_laws.specs.owner_laws.passed.definition_laws.scope_laws.Beneath.{Beneath}
+use Rattle.declared_type_laws.specs.owner_laws.passed.definition_laws.scope_laws.Scoped.{IsPart}
+use Rattle.declared_type_laws.proofs.owner_laws.passed.definition_laws.scope_laws.Tree.{beneath_by}
+use Rattle.declared_type_laws.proofs.owner_laws.passed.definition_laws.scope_laws.Scopes.{Part, IsOf, IsNot}
+use Rattle.declared_type_laws.proofs.owner_laws.passed.definition_laws.scope_laws.Knowing.{In, every_at, S, IsNameMade, IsTagMade, IsUseOf, IsKnown, no_tag, all_known, paired_in}
+use Rattle.declared_type_laws.proofs.owner_laws.passed.definition_laws.linkage_laws.Seen.{nodes, some_same, no_both, production_is, production_same, children_are, node_has}
+use Rattle.declared_type_laws.proofs.owner_laws.passed.definition_laws.linkage_laws.Reading.{tree_is}
 use Rattle.object_initialiser_laws.specs.block_uses.Uses.{OpensOwn, DeclaredIn, UsesStayWithin}
 use Rattle.object_initialiser_laws.proofs.block_uses.Scopes.{around_below}
 use Rattle.object_initialiser_laws.proofs.block_uses.Making.{first_is, maker_is}

@@ -25,14 +25,14 @@ use Rattle.parsed_tree_laws.proofs.placed_laws.Climbing.{Grown}
 use Rattle.declaration_laws.proofs.name_order.Ordered.{units_ordered}
 use Rattle.built_unit_laws.specs.built_units.Built.{IsBuilt}
 use Rattle.built_unit_laws.specs.built_rows.Rows.{types_declared, literal_type}
-use Rattle.internal_name_laws.specs.initialised_rows.PassedOn.{TypesFit}
-use Rattle.internal_name_laws.proofs.initialised_rows.PassedOn.{grown}
-use Rattle.internal_name_laws.proofs.initialised_rows.PassedOn.{types_fit, tree_grown}
-use Rattle.owner_laws.proofs.passed.definition_laws.own_initialisers.Standing.{initialisers_stand}
-use Rattle.internal_name_laws.specs.initialised_rows.Rows.{InternalFit}
-use Rattle.internal_name_laws.proofs.initialised_rows.Owning.{linked_fit}
-use Rattle.owner_laws.proofs.passed.definition_laws.linkage_laws.Seen.{some_same, none_some}
-use Rattle.owner_laws.proofs.passed.definition_laws.linkage_laws.Unlinked.{made, Made}
+use Rattle.object_initialiser_laws.specs.internal_name_laws.initialised_rows.PassedOn.{TypesFit}
+use Rattle.object_initialiser_laws.proofs.internal_name_laws.initialised_rows.PassedOn.{grown}
+use Rattle.object_initialiser_laws.proofs.internal_name_laws.initialised_rows.PassedOn.{types_fit, tree_grown}
+use Rattle.declared_type_laws.proofs.owner_laws.passed.definition_laws.own_initialisers.Standing.{initialisers_stand}
+use Rattle.object_initialiser_laws.specs.internal_name_laws.initialised_rows.Rows.{InternalFit}
+use Rattle.object_initialiser_laws.proofs.internal_name_laws.initialised_rows.Owning.{linked_fit}
+use Rattle.declared_type_laws.proofs.owner_laws.passed.definition_laws.linkage_laws.Seen.{some_same, none_some}
+use Rattle.declared_type_laws.proofs.owner_laws.passed.definition_laws.linkage_laws.Unlinked.{made, Made}
 use Rattle.object_initialiser_laws.specs.initialised_objects.Initialised.{IsOwnLiteral, IsObject}
 use Rattle.object_initialiser_laws.proofs.initialised_objects.Literals.{literals_own}
 use Rattle.object_initialiser_laws.proofs.initialised_objects.Initials.{initials_are_objects}

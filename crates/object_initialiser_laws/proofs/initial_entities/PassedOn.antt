@@ -1,2 +1,2 @@
 -- What this crate passes on, from those below it to those above it.
-pub use Rattle.internal_name_laws.proofs.text_rows.Fitting.{asked_fit, grown}
+pub use Rattle.object_initialiser_laws.proofs.internal_name_laws.text_rows.Fitting.{asked_fit, grown}

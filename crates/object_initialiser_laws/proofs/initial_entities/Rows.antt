@@ -32,15 +32,15 @@ use Rattle.core_node_laws.specs.standing_laws.Standing.{IsGrown}
 use Rattle.core_node_laws.proofs.standing_laws.Climbing.{in_list, found_where, parent_is, parent_holds}
 use Rattle.parsed_tree_laws.specs.grown_parts.Parts.{IsBrought}
 use Rattle.parsed_tree_laws.proofs.grown_parts.Reading.{units_bring}
-use Rattle.internal_name_laws.proofs.passed.declared_type_laws.declared_leaves.PassedOn.{known_at, world_of, known, told_before, row_as, fitted}
-use Rattle.internal_name_laws.proofs.passed.declared_type_laws.declared_leaves.PassedOn.{first_in, last_found}
-use Rattle.internal_name_laws.specs.passed.declared_type_laws.declared_leaves.Leaves.{IsDeclaredBy}
-use Rattle.internal_name_laws.proofs.passed.declared_type_laws.declared_leaves.Climbing.{leaves_declared}
-use Rattle.internal_name_laws.proofs.passed.declared_type_laws.known_entities.PassedOn.{node_within}
-use Rattle.internal_name_laws.proofs.passed.declared_type_laws.known_entities.PassedOn.{tree_is}
-use Rattle.internal_name_laws.proofs.text_rows.Fitting.{grown}
-use Rattle.internal_name_laws.specs.passed.declared_type_laws.known_entities.Entities.{IsKnownAt}
-use Rattle.internal_name_laws.proofs.passed.declared_type_laws.known_entities.Known.{entities_known}
+use Rattle.object_initialiser_laws.proofs.internal_name_laws.passed.declared_type_laws.declared_leaves.PassedOn.{known_at, world_of, known, told_before, row_as, fitted}
+use Rattle.object_initialiser_laws.proofs.internal_name_laws.passed.declared_type_laws.declared_leaves.PassedOn.{first_in, last_found}
+use Rattle.object_initialiser_laws.specs.internal_name_laws.passed.declared_type_laws.declared_leaves.Leaves.{IsDeclaredBy}
+use Rattle.object_initialiser_laws.proofs.internal_name_laws.passed.declared_type_laws.declared_leaves.Climbing.{leaves_declared}
+use Rattle.object_initialiser_laws.proofs.internal_name_laws.passed.declared_type_laws.known_entities.PassedOn.{node_within}
+use Rattle.object_initialiser_laws.proofs.internal_name_laws.passed.declared_type_laws.known_entities.PassedOn.{tree_is}
+use Rattle.object_initialiser_laws.proofs.internal_name_laws.text_rows.Fitting.{grown}
+use Rattle.object_initialiser_laws.specs.internal_name_laws.passed.declared_type_laws.known_entities.Entities.{IsKnownAt}
+use Rattle.object_initialiser_laws.proofs.internal_name_laws.passed.declared_type_laws.known_entities.Known.{entities_known}
 use Rattle.object_initialiser_laws.specs.initial_entities.Own.{IsOwnInitial, InitialisersOwn}
 
 name_found : (w : World) (s : Source) (f : ℕ → Sense) (x : Sense) (leaf : ℕ) → name_of_declarator w s f x ≡ Some leaf → (ds : List Derivation) × (x ≡ IsDeclarator (Some leaf) ds)

@@ -20,11 +20,11 @@ use Rattle.c_senses.specs.Rows.{AreSenses}
 use Rattle.sense_laws.specs.Sound.{Gives}
 use Rattle.sense_laws.proofs.Giving.{then_gives, some_given}
 use Rattle.built_unit_laws.proofs.run_laws.Times.{known_at, world_of, told_before, row_as, fitted}
-use Rattle.internal_name_laws.proofs.passed.declared_type_laws.plain_names.Later.{known_later}
+use Rattle.object_initialiser_laws.proofs.internal_name_laws.passed.declared_type_laws.plain_names.Later.{known_later}
 use Rattle.built_unit_laws.specs.built_rows.Rows.{types_declared}
 use Rattle.object_initialiser_laws.specs.initial_entities.PassedOn.{TypesFit}
-use Rattle.internal_name_laws.specs.passed.declared_type_laws.known_entities.Entities.{IsKnownAt}
-use Rattle.internal_name_laws.proofs.passed.declared_type_laws.known_entities.Known.{entities_known}
+use Rattle.object_initialiser_laws.specs.internal_name_laws.passed.declared_type_laws.known_entities.Entities.{IsKnownAt}
+use Rattle.object_initialiser_laws.proofs.internal_name_laws.passed.declared_type_laws.known_entities.Known.{entities_known}
 use Rattle.object_initialiser_laws.specs.initial_entities.Own.{IsOwnInitial}
 use Rattle.object_initialiser_laws.specs.initialised_objects.Initialised.{IsObject, InitialsAreObjects}
 use Rattle.object_initialiser_laws.proofs.initialised_objects.Shapes.{function_below, outcome_object, has_sense}

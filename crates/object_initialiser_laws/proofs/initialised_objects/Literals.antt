@@ -36,7 +36,7 @@ use Rattle.built_unit_laws.proofs.run_laws.Times.{known_at, world_of, row_as, fi
 use Rattle.built_unit_laws.specs.built_rows.Rows.{parenthesis_of, is_list_of, core_type_of, types_declared}
 use Rattle.built_unit_laws.specs.built_rows.Rows as rows
 use Rattle.object_initialiser_laws.proofs.initial_entities.PassedOn.{grown, asked_fit}
-use Rattle.owner_laws.proofs.Unnamed.{literal_unnamed}
+use Rattle.declared_type_laws.proofs.owner_laws.Unnamed.{literal_unnamed}
 use Rattle.object_initialiser_laws.specs.initialised_objects.Initialised.{IsOwnLiteral, LiteralsOwn}
 use Rattle.object_initialiser_laws.proofs.initialised_objects.Shapes.{function_below, outcome_object, has_sense}
 

@@ -14,9 +14,9 @@ use Rattle.c_senses.specs.Rows.{AreSenses}
 use Rattle.parsed_tree_laws.proofs.placed_laws.Climbing.{Grown}
 use Rattle.parsed_tree_laws.specs.grown_parts.Parts.{IsBrought}
 use Rattle.parsed_tree_laws.proofs.grown_parts.Reading.{units_bring}
-use Rattle.internal_name_laws.proofs.passed.declared_type_laws.declared_leaves.Climbing.{leaves_declared}
-use Rattle.owner_laws.proofs.passed.definition_laws.linkage_laws.Reading.{tree_is}
-use Rattle.owner_laws.proofs.passed.definition_laws.linkage_laws.Seen.{some_same, no_both, parent_is}
+use Rattle.object_initialiser_laws.proofs.internal_name_laws.passed.declared_type_laws.declared_leaves.Climbing.{leaves_declared}
+use Rattle.declared_type_laws.proofs.owner_laws.passed.definition_laws.linkage_laws.Reading.{tree_is}
+use Rattle.declared_type_laws.proofs.owner_laws.passed.definition_laws.linkage_laws.Seen.{some_same, no_both, parent_is}
 use Rattle.object_initialiser_laws.specs.listed_declarations.Listed.{ListedApart}
 
 pub member : (k x : ℕ) (ks : List ℕ) → contains (k ∷ ks) x ≡ true → (k ≡ x) ⊎ (contains ks x ≡ true)

@@ -20,11 +20,11 @@ use Rattle.parsed_tree_laws.specs.family_laws.Families.{Families}
 use Rattle.parsed_tree_laws.proofs.placed_laws.Climbing.{Grown}
 use Rattle.parsed_tree_laws.specs.span_laws.Spans.{Spanned}
 use Rattle.core_node_laws.proofs.near_nodes.Giving.{if_holds}
-use Rattle.count_laws.specs.count_rows.Counts.{own_weight}
-use Rattle.count_laws.specs.Counting.{sum_below, Makes}
-use Rattle.count_laws.specs.once_nodes.Once.{IsLaid, apart_from_names, Weighs}
-use Rattle.count_laws.proofs.once_nodes.Whole.{nodes_once}
-use Rattle.count_laws.proofs.single_nodes.Places.{once_only}
+use Rattle.core_node_laws.specs.count_laws.count_rows.Counts.{own_weight}
+use Rattle.core_node_laws.specs.count_laws.Counting.{sum_below, Makes}
+use Rattle.core_node_laws.specs.count_laws.once_nodes.Once.{IsLaid, apart_from_names, Weighs}
+use Rattle.core_node_laws.proofs.count_laws.once_nodes.Whole.{nodes_once}
+use Rattle.core_node_laws.proofs.count_laws.single_nodes.Places.{once_only}
 use Rattle.object_initialiser_laws.specs.listed_declarations.Listed.{AreApart}
 use Rattle.object_initialiser_laws.proofs.listed_declarations.Apart.{head_in, next_in, either_list}
 use Rattle.object_initialiser_laws.proofs.listed_once.Sums.{one_if, most_one, is_one, one_is, less_if}

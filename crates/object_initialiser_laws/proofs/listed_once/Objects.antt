@@ -13,8 +13,8 @@ use Rattle.c_senses.specs.Rows.{AreSenses}
 use Rattle.parsed_tree_laws.specs.family_laws.Families.{Families}
 use Rattle.parsed_tree_laws.proofs.placed_laws.Climbing.{Grown}
 use Rattle.parsed_tree_laws.specs.grown_parts.Parts.{IsBrought}
-use Rattle.owner_laws.proofs.passed.definition_laws.linkage_laws.Seen.{some_same, no_both}
-use Rattle.count_laws.proofs.Rooms.{sum_of}
+use Rattle.declared_type_laws.proofs.owner_laws.passed.definition_laws.linkage_laws.Seen.{some_same, no_both}
+use Rattle.core_node_laws.proofs.count_laws.Rooms.{sum_of}
 use Rattle.object_initialiser_laws.specs.listed_declarations.Listed.{AreApart}
 use Rattle.object_initialiser_laws.proofs.listed_declarations.Apart.{named_by, among, in_rests, known, of_number}
 use Rattle.object_initialiser_laws.proofs.listed_once.Sums.{most_one, one_of_two, occurs, occurs_both, occurs_in, sum_once}

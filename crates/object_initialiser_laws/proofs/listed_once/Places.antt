@@ -24,9 +24,9 @@ use Rattle.core_node_laws.specs.near_nodes.Holding.{MeaningGives, Asks, Holds, A
 use Rattle.core_node_laws.proofs.near_nodes.All.{near_kept}
 use Rattle.core_node_laws.specs.standing_laws.Standing.{IsGrown, IsMade}
 use Rattle.core_node_laws.proofs.standing_laws.Bodies.{above}
-use Rattle.owner_laws.proofs.Walk.{Stood, stood}
-use Rattle.count_laws.proofs.once_nodes.Found.{some_one}
-use Rattle.count_laws.proofs.once_nodes.Rooted.{OfBlock, OfInitial, body_is, body_by}
+use Rattle.declared_type_laws.proofs.owner_laws.Walk.{Stood, stood}
+use Rattle.core_node_laws.proofs.count_laws.once_nodes.Found.{some_one}
+use Rattle.core_node_laws.proofs.count_laws.once_nodes.Rooted.{OfBlock, OfInitial, body_is, body_by}
 use Rattle.object_initialiser_laws.specs.listed_declarations.Listed.{AreApart}
 use Rattle.object_initialiser_laws.proofs.listed_once.Sums.{occurs, one_place}
 use Rattle.object_initialiser_laws.proofs.listed_once.Objects.{declared_once, objects_once}

@@ -3,7 +3,7 @@ use Rattle.std.proofs.Common.{arith, ◌≡◌, ◌≤◌, ◌+◌, ℕ, zero, s
 use Rattle.std.specs.Prelude.{if◌then◌else◌}
 use Rattle.c_grammar.specs.Terminals.{contains}
 use Rattle.parsed_tree_laws.specs.family_laws.Families.{Ascend}
-use Rattle.count_laws.proofs.Rooms.{sum_of}
+use Rattle.core_node_laws.proofs.count_laws.Rooms.{sum_of}
 use Rattle.object_initialiser_laws.proofs.listed_declarations.Apart.{member, head_in, next_in}
 
 abbrev pub one_if : Bool → ℕ

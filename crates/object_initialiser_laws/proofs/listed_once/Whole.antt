@@ -6,8 +6,8 @@ use Rattle.c_senses.specs.Tree.{Source}
 use Rattle.parsed_tree_laws.proofs.family_laws.Reading.{units_families}
 use Rattle.parsed_tree_laws.proofs.span_laws.Whole.{units_are_spanned}
 use Rattle.parsed_tree_laws.proofs.grown_parts.Reading.{units_bring}
-use Rattle.owner_laws.proofs.passed.definition_laws.linkage_laws.Reading.{tree_is}
-use Rattle.owner_laws.proofs.Whole.{grown_of, made_of}
+use Rattle.declared_type_laws.proofs.owner_laws.passed.definition_laws.linkage_laws.Reading.{tree_is}
+use Rattle.declared_type_laws.proofs.owner_laws.Whole.{grown_of, made_of}
 use Rattle.object_initialiser_laws.specs.listed_declarations.Listed.{AreApart}
 use Rattle.object_initialiser_laws.proofs.listed_declarations.Apart.{listed_apart}
 use Rattle.object_initialiser_laws.specs.listed_once.Once.{ListsOnce}

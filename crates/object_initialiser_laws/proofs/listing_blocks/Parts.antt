@@ -18,7 +18,7 @@ use Rattle.c_parser.specs.c_units.Units.{IsUnit}
 use Rattle.c_senses.specs.Names.{source_of, numbered}
 use Rattle.c_senses.specs.Tree.{Source, production_of, production_at, children_of, children_at, is_a}
 use Rattle.c_senses.specs.Declarators.{is_declarator}
-use Rattle.owner_laws.specs.passed.definition_laws.scope_laws.Scoped.{IsPart}
+use Rattle.declared_type_laws.specs.owner_laws.passed.definition_laws.scope_laws.Scoped.{IsPart}
 use Rattle.core_node_laws.proofs.standing_laws.Climbing.{in_list}
 use Rattle.parsed_tree_laws.proofs.statement_shapes.Language.{Word, IsIn, words_in, part_words, IsTaken, IsNode, Matches, Good, AllGood, all_read}
 

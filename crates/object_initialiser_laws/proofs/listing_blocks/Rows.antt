@@ -14,8 +14,8 @@ use Rattle.c_senses.specs.World.{World}
 use Rattle.c_senses.specs.Sense.{Sense, IsCore, IsDeclarator, Derivation, fits}
 use Rattle.c_senses.specs.Statements.{is_automatic_object, automatic_name, objects_among, objects_in_rest, objects_declared, objects_in, ForParts, for_parts, for_objects, for_first, for_condition, for_after, for_of, body_of, statements_among, of_word, leaf_statement, statement_row}
 use Rattle.core_node_laws.proofs.near_nodes.Giving.{Gives, after}
-use Rattle.owner_laws.specs.passed.definition_laws.scope_laws.Scoped.{IsPart}
-use Rattle.owner_laws.proofs.run_initialisers.Shapes.{Calm, EndsIn}
+use Rattle.declared_type_laws.specs.owner_laws.passed.definition_laws.scope_laws.Scoped.{IsPart}
+use Rattle.declared_type_laws.proofs.owner_laws.run_initialisers.Shapes.{Calm, EndsIn}
 use Rattle.object_initialiser_laws.specs.block_trees.Covered.{ListsIt}
 
 head_in : (k : ℕ) (ks : List ℕ) → contains (k ∷ ks) k ≡ true

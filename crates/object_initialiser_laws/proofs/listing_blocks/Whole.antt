@@ -23,21 +23,21 @@ use Rattle.parsed_tree_laws.specs.family_laws.Families.{IsChild}
 use Rattle.parsed_tree_laws.proofs.grown_parts.Reading.{units_bring}
 use Rattle.parsed_tree_laws.proofs.span_laws.Whole.{units_are_spanned}
 use Rattle.core_node_laws.proofs.near_nodes.Giving.{Gives}
-use Rattle.owner_laws.specs.passed.definition_laws.Definitions.{InDefinition, itself, below}
-use Rattle.owner_laws.specs.passed.definition_laws.scope_laws.Beneath.{Beneath, part, deeper}
-use Rattle.owner_laws.specs.passed.definition_laws.scope_laws.Scoped.{IsPart}
-use Rattle.owner_laws.proofs.passed.definition_laws.scope_laws.Tree.{further}
+use Rattle.declared_type_laws.specs.owner_laws.passed.definition_laws.Definitions.{InDefinition, itself, below}
+use Rattle.declared_type_laws.specs.owner_laws.passed.definition_laws.scope_laws.Beneath.{Beneath, part, deeper}
+use Rattle.declared_type_laws.specs.owner_laws.passed.definition_laws.scope_laws.Scoped.{IsPart}
+use Rattle.declared_type_laws.proofs.owner_laws.passed.definition_laws.scope_laws.Tree.{further}
 use Rattle.core_node_laws.specs.standing_laws.Standing.{IsGrown}
 use Rattle.core_node_laws.proofs.standing_laws.Climbing.{in_list, list_in, child_inside}
 use Rattle.core_node_laws.proofs.standing_laws.Descending.{F, W, row_there, same_given, sense_before}
-use Rattle.owner_laws.proofs.Whole.{grown_of}
-use Rattle.owner_laws.proofs.passed.definition_laws.linkage_laws.Seen.{some_same, none_some, no_both, apart, parent_holds}
-use Rattle.owner_laws.proofs.passed.definition_laws.linkage_laws.Linked as linked
-use Rattle.owner_laws.proofs.passed.definition_laws.linkage_laws.Reading.{tree_is}
-use Rattle.internal_name_laws.specs.passed.declared_type_laws.declared_leaves.Leaves.{IsNamed, Own, Inner, IsDeclaredBy}
-use Rattle.internal_name_laws.proofs.passed.declared_type_laws.declared_leaves.Climbing.{leaves_declared}
-use Rattle.owner_laws.proofs.held_parts.Declarations.{for_declarations}
-use Rattle.owner_laws.proofs.run_initialisers.Shapes.{rest_last}
+use Rattle.declared_type_laws.proofs.owner_laws.Whole.{grown_of}
+use Rattle.declared_type_laws.proofs.owner_laws.passed.definition_laws.linkage_laws.Seen.{some_same, none_some, no_both, apart, parent_holds}
+use Rattle.declared_type_laws.proofs.owner_laws.passed.definition_laws.linkage_laws.Linked as linked
+use Rattle.declared_type_laws.proofs.owner_laws.passed.definition_laws.linkage_laws.Reading.{tree_is}
+use Rattle.object_initialiser_laws.specs.internal_name_laws.passed.declared_type_laws.declared_leaves.Leaves.{IsNamed, Own, Inner, IsDeclaredBy}
+use Rattle.object_initialiser_laws.proofs.internal_name_laws.passed.declared_type_laws.declared_leaves.Climbing.{leaves_declared}
+use Rattle.declared_type_laws.proofs.owner_laws.held_parts.Declarations.{for_declarations}
+use Rattle.declared_type_laws.proofs.owner_laws.run_initialisers.Shapes.{rest_last}
 use Rattle.object_initialiser_laws.specs.block_uses.Uses.{OpensOwn, DeclaredIn}
 use Rattle.object_initialiser_laws.specs.listing_blocks.Listing.{IsListedBy, ObjectsAreListed}
 use Rattle.object_initialiser_laws.proofs.listing_blocks.Parts.{no_field, plain_declarator}

@@ -30,19 +30,19 @@ use Rattle.c_senses.specs.Entities.{declaration_of, is_defined, is_parameter, de
 use Rattle.c_senses.specs.Sense.{Sense, IsDeclarator, Derivation, sense_in}
 use Rattle.c_senses.specs.Right.{Numbering, Declared as Declares, IsDeclaredAt, IsEntityOf, StandsBy, SameKind, SameBody, declares_entity, declared_as, declared_name, entity_type, is_declaring, stands_in_declaration, representative, core_of_sense, body_at, block_for, storage_at, of_internal, is_tentative, is_definition_at}
 use Rattle.built_unit_laws.specs.built_units.Built.{IsBuilt}
-use Rattle.owner_laws.proofs.passed.definition_laws.initialiser_laws.Found.{initialisers_found}
+use Rattle.declared_type_laws.proofs.owner_laws.passed.definition_laws.initialiser_laws.Found.{initialisers_found}
 use Rattle.object_initialiser_laws.specs.initial_entities.Own.{IsOwnInitial}
 use Rattle.object_initialiser_laws.proofs.initial_entities.Rows.{initialisers_own}
-use Rattle.owner_laws.proofs.passed.definition_laws.linkage_laws.Seen.{some_same, none_some}
-use Rattle.owner_laws.proofs.passed.definition_laws.linkage_laws.Linked.{stands_linked}
-use Rattle.owner_laws.proofs.passed.definition_laws.linkage_laws.Reading.{tree_is}
-use Rattle.owner_laws.proofs.passed.definition_laws.linkage_laws.Unlinked.{made, Made}
-use Rattle.internal_name_laws.specs.passed.function_laws.function_bodies.PassedOn.{Defines}
-use Rattle.internal_name_laws.proofs.passed.function_laws.function_bodies.PassedOn.{definitions_declare}
-use Rattle.internal_name_laws.proofs.passed.function_laws.function_bodies.Reading.{parts_of, declarators_of}
-use Rattle.internal_name_laws.proofs.passed.function_laws.function_bodies.Standing.{named_by}
-use Rattle.internal_name_laws.specs.representative_names.Representatives.{IsKnown}
-use Rattle.internal_name_laws.proofs.representative_names.Standing.{representatives_known}
+use Rattle.declared_type_laws.proofs.owner_laws.passed.definition_laws.linkage_laws.Seen.{some_same, none_some}
+use Rattle.declared_type_laws.proofs.owner_laws.passed.definition_laws.linkage_laws.Linked.{stands_linked}
+use Rattle.declared_type_laws.proofs.owner_laws.passed.definition_laws.linkage_laws.Reading.{tree_is}
+use Rattle.declared_type_laws.proofs.owner_laws.passed.definition_laws.linkage_laws.Unlinked.{made, Made}
+use Rattle.object_initialiser_laws.specs.internal_name_laws.passed.function_laws.function_bodies.PassedOn.{Defines}
+use Rattle.object_initialiser_laws.proofs.internal_name_laws.passed.function_laws.function_bodies.PassedOn.{definitions_declare}
+use Rattle.object_initialiser_laws.proofs.internal_name_laws.passed.function_laws.function_bodies.Reading.{parts_of, declarators_of}
+use Rattle.object_initialiser_laws.proofs.internal_name_laws.passed.function_laws.function_bodies.Standing.{named_by}
+use Rattle.object_initialiser_laws.specs.internal_name_laws.representative_names.Representatives.{IsKnown}
+use Rattle.object_initialiser_laws.proofs.internal_name_laws.representative_names.Standing.{representatives_known}
 use Rattle.object_initialiser_laws.specs.object_bodies.Objects.{IsPlaced, InitialisersPlaced, NamedInitialises, NamedObjectsInitialise}
 
 left : (a b : Bool) → (a && b) ≡ true → a ≡ true

@@ -21,15 +21,15 @@ use Rattle.c_senses.specs.Sense.{Sense, IsDeclarator, Derivation, sense_in}
 use Rattle.c_senses.specs.Rows.{AreSenses}
 use Rattle.parsed_tree_laws.proofs.family_laws.Reading.{units_families}
 use Rattle.parsed_tree_laws.proofs.grown_parts.Reading.{units_bring}
-use Rattle.internal_name_laws.proofs.passed.declared_type_laws.declared_leaves.Climbing.{leaves_declared}
-use Rattle.owner_laws.proofs.passed.definition_laws.linkage_laws.Reading.{tree_is}
-use Rattle.owner_laws.proofs.passed.definition_laws.linkage_laws.Seen.{some_same, none_some, no_both}
+use Rattle.object_initialiser_laws.proofs.internal_name_laws.passed.declared_type_laws.declared_leaves.Climbing.{leaves_declared}
+use Rattle.declared_type_laws.proofs.owner_laws.passed.definition_laws.linkage_laws.Reading.{tree_is}
+use Rattle.declared_type_laws.proofs.owner_laws.passed.definition_laws.linkage_laws.Seen.{some_same, none_some, no_both}
 use Rattle.parsed_tree_laws.proofs.span_laws.Whole.{units_are_spanned}
 use Rattle.parsed_tree_laws.proofs.sign_parts.Reading as signs
-use Rattle.count_laws.specs.Counting.{seen_at, world_of, Makes}
-use Rattle.count_laws.proofs.Main.{counting}
-use Rattle.count_laws.proofs.single_nodes.Places.{once_only}
-use Rattle.owner_laws.proofs.passed.definition_laws.single_initialisers.Apart.{are_apart, stands_outermost}
+use Rattle.core_node_laws.specs.count_laws.Counting.{seen_at, world_of, Makes}
+use Rattle.core_node_laws.proofs.count_laws.Main.{counting}
+use Rattle.core_node_laws.proofs.count_laws.single_nodes.Places.{once_only}
+use Rattle.declared_type_laws.proofs.owner_laws.passed.definition_laws.single_initialisers.Apart.{are_apart, stands_outermost}
 use Rattle.object_initialiser_laws.specs.once_initialised.Once.{initialises, InitialisedOnce}
 
 abbrev one_if : Bool → ℕ

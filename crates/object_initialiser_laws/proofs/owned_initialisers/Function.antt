@@ -21,18 +21,18 @@ use Rattle.c_senses.specs.Tree.{Source, children_at, is_a, child_of, all_where}
 use Rattle.c_senses.specs.Sense.{Sense, IsCore, sense_in}
 use Rattle.c_senses.specs.Entities.{keep, first_of, internal_among, is_internal, is_linked, is_defined, linkage_of, entity_of, initialiser_for, function_around}
 use Rattle.c_senses.specs.Right.{StandsBy, SameBody, Declared as Declares, IsDeclaredAt, core_of_sense, block_for, body_at, of_internal, is_definition_at, is_tentative, representative, declared_as, declares_entity, entity_type}
-use Rattle.owner_laws.specs.passed.definition_laws.scope_laws.Scoped.{IsPart}
+use Rattle.declared_type_laws.specs.owner_laws.passed.definition_laws.scope_laws.Scoped.{IsPart}
 use Rattle.core_node_laws.proofs.standing_laws.Climbing.{in_list}
 use Rattle.core_node_laws.proofs.standing_laws.Bodies.{found_part}
-use Rattle.internal_name_laws.proofs.passed.function_laws.body_returns.Body.{two_counted}
+use Rattle.object_initialiser_laws.proofs.internal_name_laws.passed.function_laws.body_returns.Body.{two_counted}
 use Rattle.parsed_tree_laws.specs.counted_parts.Counted.{CountedParts, is_ending}
 use Rattle.parsed_tree_laws.proofs.counted_parts.Read.{parts_are_counted}
-use Rattle.owner_laws.specs.passed.definition_laws.Definitions.{is_definition}
-use Rattle.owner_laws.specs.passed.definition_laws.function_definitions.Defined.{Defines}
+use Rattle.declared_type_laws.specs.owner_laws.passed.definition_laws.Definitions.{is_definition}
+use Rattle.declared_type_laws.specs.owner_laws.passed.definition_laws.function_definitions.Defined.{Defines}
 use Rattle.built_unit_laws.specs.built_units.Built.{IsBuilt}
-use Rattle.owner_laws.proofs.passed.definition_laws.linkage_laws.Unlinked.{Made, made}
-use Rattle.owner_laws.specs.owned_laws.Owned.{InternalsDefined}
-use Rattle.owner_laws.proofs.internal_laws.Reading.{definitions_known}
+use Rattle.declared_type_laws.proofs.owner_laws.passed.definition_laws.linkage_laws.Unlinked.{Made, made}
+use Rattle.declared_type_laws.specs.owner_laws.owned_laws.Owned.{InternalsDefined}
+use Rattle.declared_type_laws.proofs.owner_laws.internal_laws.Reading.{definitions_known}
 
 pub some_same : {A : Type 0} → {x y : A} → ◌≡◌ {A = Option A} (Some x) (Some y) → x ≡ y
 some_same e = cc

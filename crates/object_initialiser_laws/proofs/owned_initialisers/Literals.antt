@@ -25,24 +25,24 @@ use Rattle.c_senses.specs.Tree.{Source}
 use Rattle.c_senses.specs.Sense.{Sense, IsCore, sense_in}
 use Rattle.c_senses.specs.Entities.{entity_of, function_around}
 use Rattle.c_senses.specs.Right.{Numbering, StandsBy, AllStandBy, SameKind, SameBody, SameOwner, IsEntityOf, Declared as Declares, declared_name, IsPart, Within, Itself, Below, IsLiteralOf, literal_as}
-use Rattle.owner_laws.specs.passed.definition_laws.scope_laws.Beneath.{part}
-use Rattle.owner_laws.specs.passed.definition_laws.scope_laws.Scoped.{ParametersListed}
+use Rattle.declared_type_laws.specs.owner_laws.passed.definition_laws.scope_laws.Beneath.{part}
+use Rattle.declared_type_laws.specs.owner_laws.passed.definition_laws.scope_laws.Scoped.{ParametersListed}
 use Rattle.core_node_laws.specs.near_nodes.Holding.{Holds, OfSense}
 use Rattle.core_node_laws.specs.standing_laws.Standing.{IsGrown, IsMade}
 use Rattle.built_unit_laws.proofs.parameter_bodies.Bare.{parameters_bare}
 use Rattle.built_unit_laws.proofs.lasting_literals.Lasting.{literals_last}
 use Rattle.built_unit_laws.specs.built_units.Built.{IsBuilt}
-use Rattle.static_value_laws.proofs.built_filled.Filling.{built_are_filled}
-use Rattle.owner_laws.specs.Owners.{LeftsStand, DefinitionsNamed, FurtherKnown}
-use Rattle.owner_laws.proofs.Defined.{FunctionTree, function_tree}
-use Rattle.owner_laws.proofs.Below.{Near, Stands, around_is, trees_stand}
-use Rattle.internal_name_laws.proofs.internal_names.PassedOn.{further_known}
-use Rattle.owner_laws.proofs.Walk.{stood, under_further, literal_is}
-use Rattle.owner_laws.proofs.Fixed.{literal_global}
-use Rattle.owner_laws.proofs.Whole.{grown_of, made_of}
-use Rattle.owner_laws.proofs.left_laws.Left.{lefts_stand}
-use Rattle.owner_laws.proofs.passed.definition_laws.parameter_lists.Whole.{parameters_listed}
-use Rattle.internal_name_laws.proofs.passed.function_laws.named_definitions.Naming.{definitions_named}
+use Rattle.object_initialiser_laws.proofs.static_value_laws.built_filled.Filling.{built_are_filled}
+use Rattle.declared_type_laws.specs.owner_laws.Owners.{LeftsStand, DefinitionsNamed, FurtherKnown}
+use Rattle.declared_type_laws.proofs.owner_laws.Defined.{FunctionTree, function_tree}
+use Rattle.declared_type_laws.proofs.owner_laws.Below.{Near, Stands, around_is, trees_stand}
+use Rattle.object_initialiser_laws.proofs.internal_name_laws.internal_names.PassedOn.{further_known}
+use Rattle.declared_type_laws.proofs.owner_laws.Walk.{stood, under_further, literal_is}
+use Rattle.declared_type_laws.proofs.owner_laws.Fixed.{literal_global}
+use Rattle.declared_type_laws.proofs.owner_laws.Whole.{grown_of, made_of}
+use Rattle.declared_type_laws.proofs.owner_laws.left_laws.Left.{lefts_stand}
+use Rattle.declared_type_laws.proofs.owner_laws.passed.definition_laws.parameter_lists.Whole.{parameters_listed}
+use Rattle.object_initialiser_laws.proofs.internal_name_laws.passed.function_laws.named_definitions.Naming.{definitions_named}
 use Rattle.object_initialiser_laws.proofs.owned_initialisers.Function.{some_same}
 use Rattle.object_initialiser_laws.proofs.owned_initialisers.Names.{Owns, own_initialise, name_owned}
 

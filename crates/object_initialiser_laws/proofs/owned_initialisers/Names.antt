@@ -29,22 +29,22 @@ use Rattle.c_senses.specs.Sense.{Sense, sense_in}
 use Rattle.c_senses.specs.Declarators.{is_outermost, outermost_of}
 use Rattle.c_senses.specs.Entities.{keep, first_of, is_defined, is_parameter, is_at_file, declares_function, has_storage, declaration_of, storage_of, linkage_of, entity_of, initialiser_of, initialiser_for, function_around, defined_name}
 use Rattle.c_senses.specs.Right.{Numbering, StandsBy, SameKind, SameBody, SameOwner, IsEntityOf, Declared as Declares, core_of_sense, block_for, body_at, of_internal, is_definition_at, is_tentative, representative, storage_at, declared_as, declared_name, declares_entity, entity_type}
-use Rattle.owner_laws.specs.passed.definition_laws.Definitions.{is_definition}
-use Rattle.owner_laws.proofs.passed.definition_laws.Locals.{locals}
-use Rattle.owner_laws.specs.passed.definition_laws.function_definitions.Defined.{Defines}
-use Rattle.owner_laws.proofs.passed.definition_laws.function_definitions.Reading.{definitions_declare}
+use Rattle.declared_type_laws.specs.owner_laws.passed.definition_laws.Definitions.{is_definition}
+use Rattle.declared_type_laws.proofs.owner_laws.passed.definition_laws.Locals.{locals}
+use Rattle.declared_type_laws.specs.owner_laws.passed.definition_laws.function_definitions.Defined.{Defines}
+use Rattle.declared_type_laws.proofs.owner_laws.passed.definition_laws.function_definitions.Reading.{definitions_declare}
 use Rattle.built_unit_laws.specs.built_units.Built.{IsBuilt}
-use Rattle.owner_laws.proofs.passed.definition_laws.linkage_laws.Linked as linked
-use Rattle.owner_laws.proofs.passed.definition_laws.linkage_laws.Reading.{tree_is}
-use Rattle.owner_laws.proofs.passed.definition_laws.linkage_laws.Unlinked.{lives, local}
+use Rattle.declared_type_laws.proofs.owner_laws.passed.definition_laws.linkage_laws.Linked as linked
+use Rattle.declared_type_laws.proofs.owner_laws.passed.definition_laws.linkage_laws.Reading.{tree_is}
+use Rattle.declared_type_laws.proofs.owner_laws.passed.definition_laws.linkage_laws.Unlinked.{lives, local}
 use Rattle.object_initialiser_laws.specs.placed_initialisers.PassedOn.{IsPlaced}
 use Rattle.object_initialiser_laws.proofs.placed_initialisers.Whole.{units_place}
 use Rattle.object_initialiser_laws.specs.initial_entities.Own.{IsOwnInitial}
 use Rattle.object_initialiser_laws.proofs.initial_entities.Rows.{initialisers_own}
-use Rattle.owner_laws.proofs.internal_laws.Reading as internal_laws
-use Rattle.owner_laws.proofs.owned_laws.Owners.{IsOwner, owner_is}
-use Rattle.owner_laws.specs.held_runs.Runs.{BlockWith, NodeOf}
-use Rattle.owner_laws.proofs.around_runs.Whole.{initialisers_stand}
+use Rattle.declared_type_laws.proofs.owner_laws.internal_laws.Reading as internal_laws
+use Rattle.declared_type_laws.proofs.owner_laws.owned_laws.Owners.{IsOwner, owner_is}
+use Rattle.declared_type_laws.specs.owner_laws.held_runs.Runs.{BlockWith, NodeOf}
+use Rattle.declared_type_laws.proofs.owner_laws.around_runs.Whole.{initialisers_stand}
 use Rattle.object_initialiser_laws.proofs.owned_initialisers.Function.{some_same, function_top}
 
 -- what is found above passes

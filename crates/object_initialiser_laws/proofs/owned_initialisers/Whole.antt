@@ -15,8 +15,8 @@ use Rattle.c_senses.specs.Names.{source_of, numbered}
 use Rattle.c_senses.specs.Tree.{Source}
 use Rattle.c_senses.specs.Right.{IsDeclaredAt}
 use Rattle.built_unit_laws.specs.built_units.Built.{IsBuilt}
-use Rattle.owner_laws.proofs.passed.definition_laws.linkage_laws.Unlinked.{Made, made}
-use Rattle.owner_laws.specs.Owners.{Forward}
+use Rattle.declared_type_laws.proofs.owner_laws.passed.definition_laws.linkage_laws.Unlinked.{Made, made}
+use Rattle.declared_type_laws.specs.owner_laws.Owners.{Forward}
 use Rattle.object_initialiser_laws.specs.owned_initialisers.Owned.{HasBodies, OwnersInitialise}
 use Rattle.object_initialiser_laws.proofs.owned_initialisers.Names.{Owns, owned, name_owned}
 use Rattle.object_initialiser_laws.proofs.owned_initialisers.Literals.{literal_owned}

@@ -2,13 +2,13 @@
 use Rattle.core_tree.specs.declared.node.Unit.{Unit}
 use Rattle.core_tree.specs.Typed.{trees_of}
 use Rattle.link_model.specs.filled_units.Filled.{IsFilled}
-use Rattle.static_value_laws.proofs.built_filled.Filling.{built_are_filled}
-use Rattle.owner_laws.proofs.left_laws.Left.{lefts_stand}
-use Rattle.owner_laws.proofs.passed.definition_laws.parameter_lists.Whole.{parameters_listed}
-use Rattle.owner_laws.specs.Owners.{IsOwnable}
-use Rattle.internal_name_laws.proofs.internal_names.PassedOn.{further_known}
-use Rattle.owner_laws.proofs.Whole.{owners_built}
-use Rattle.owner_laws.proofs.list_laws.Whole.{lists_built}
+use Rattle.object_initialiser_laws.proofs.static_value_laws.built_filled.Filling.{built_are_filled}
+use Rattle.declared_type_laws.proofs.owner_laws.left_laws.Left.{lefts_stand}
+use Rattle.declared_type_laws.proofs.owner_laws.passed.definition_laws.parameter_lists.Whole.{parameters_listed}
+use Rattle.declared_type_laws.specs.owner_laws.Owners.{IsOwnable}
+use Rattle.object_initialiser_laws.proofs.internal_name_laws.internal_names.PassedOn.{further_known}
+use Rattle.declared_type_laws.proofs.owner_laws.Whole.{owners_built}
+use Rattle.declared_type_laws.proofs.owner_laws.list_laws.Whole.{lists_built}
 use Rattle.object_initialiser_laws.specs.owners_known.Known.{HasOwners, OwnersKnown}
 
 ownable : (u : Unit) → HasOwners (trees_of u) → IsFilled u → IsOwnable u

@@ -12,11 +12,11 @@ use Rattle.c_grammar.specs.Words.{sign_comma, sign_assign}
 use Rattle.c_senses.specs.Tree.{Source, is_a, has_sign, is_number, sign_at, sign_of_kind, kind_of_token, token_of, production_at}
 use Rattle.c_senses.specs.Sense.{Sense}
 use Rattle.c_senses.specs.Entities.{behind, without_asm, initialiser_in}
-use Rattle.owner_laws.proofs.passed.definition_laws.own_initialisers.PassedOn.{sign_taken}
+use Rattle.declared_type_laws.proofs.owner_laws.passed.definition_laws.own_initialisers.PassedOn.{sign_taken}
 use Rattle.c_lexer.specs.Laws.{Stands}
 use Rattle.parsed_tree_laws.specs.sign_parts.Parts.{Mark, leaf_mark, Takes}
-use Rattle.owner_laws.proofs.passed.definition_laws.own_initialisers.Parts.{MaybeInit, Absent, Present, MaybeAsm, NoAsm, Asm, Further, Over, Next, IsRestList, Begins}
-use Rattle.owner_laws.proofs.passed.definition_laws.own_initialisers.Searching.{Reads, StandsAs, is_as}
+use Rattle.declared_type_laws.proofs.owner_laws.passed.definition_laws.own_initialisers.Parts.{MaybeInit, Absent, Present, MaybeAsm, NoAsm, Asm, Further, Over, Next, IsRestList, Begins}
+use Rattle.declared_type_laws.proofs.owner_laws.passed.definition_laws.own_initialisers.Searching.{Reads, StandsAs, is_as}
 
 module _ (s : Source) (sense : ℕ → Sense) (standing : (k : ℕ) (t : Token) → slice_get s.tokens k ≡ Some t → Stands s.text t) where
   abbrev T : ℕ → TokenKind → ℕ → Type 0

@@ -18,15 +18,15 @@ use Rattle.c_senses.specs.Sense.{Sense, sense_in}
 use Rattle.parsed_tree_laws.proofs.placed_laws.Climbing.{Grown}
 use Rattle.core_node_laws.specs.standing_laws.Standing.{IsGrown}
 use Rattle.core_node_laws.proofs.standing_laws.Climbing.{in_list, parent_is, parent_holds}
-use Rattle.internal_name_laws.proofs.passed.function_laws.body_returns.Built.{grown, placed}
+use Rattle.object_initialiser_laws.proofs.internal_name_laws.passed.function_laws.body_returns.Built.{grown, placed}
 use Rattle.parsed_tree_laws.specs.grown_parts.Parts as grown_parts
 use Rattle.parsed_tree_laws.proofs.grown_parts.Reading as plain
 use Rattle.parsed_tree_laws.proofs.grown_parts.Declaring.{AllIn, IsDeclarationList, Asserts, Alone, Names, NamesAsm, declaration_list, rest_list, rest_parts}
 use Rattle.parsed_tree_laws.specs.sign_parts.Parts.{mark_at, Takes, Brings, IsBrought}
 use Rattle.parsed_tree_laws.proofs.sign_parts.Reading.{units_bring}
-use Rattle.owner_laws.proofs.passed.definition_laws.own_initialisers.Parts as signed
-use Rattle.owner_laws.proofs.passed.definition_laws.own_initialisers.Standing.{parts}
-use Rattle.static_value_laws.proofs.static_literals.Lists.{block_parts, name_parts, external_list}
+use Rattle.declared_type_laws.proofs.owner_laws.passed.definition_laws.own_initialisers.Parts as signed
+use Rattle.declared_type_laws.proofs.owner_laws.passed.definition_laws.own_initialisers.Standing.{parts}
+use Rattle.object_initialiser_laws.proofs.static_value_laws.static_literals.Lists.{block_parts, name_parts, external_list}
 use Rattle.object_initialiser_laws.specs.object_bodies.Objects.{IsPlaced, InitialisersPlaced}
 use Rattle.object_initialiser_laws.specs.placed_initialisers.Placed.{UnitsPlace}
 use Rattle.object_initialiser_laws.proofs.placed_initialisers.Signs.{Behind, rest_ok, behind_ok, without_ok, in_ok}

@@ -9,8 +9,8 @@ use Rattle.core_tree.specs.Typed.{trees_of}
 use Rattle.core_tree.specs.Valid.{InOwner, AllListed}
 use Rattle.c_senses.specs.Names.{source_of, numbered}
 use Rattle.built_unit_laws.specs.built_units.Built.{IsBuilt}
-use Rattle.count_laws.specs.once_nodes.Once.{IsLaid}
-use Rattle.owner_laws.specs.Owners.{Forward}
+use Rattle.core_node_laws.specs.count_laws.once_nodes.Once.{IsLaid}
+use Rattle.declared_type_laws.specs.owner_laws.Owners.{Forward}
 
 -- where names and initialisers of locals stand in their owners' bodies
 abbrev pub UnitsList : Type 0

@@ -14,8 +14,8 @@ use Rattle.c_senses.specs.Tree.{Source, is_a, is_name}
 use Rattle.c_senses.specs.Entities.{is_linked}
 use Rattle.c_senses.specs.Sense.{Sense, IsCore, sense_in}
 use Rattle.c_senses.specs.Rows.{AreSenses}
-use Rattle.owner_laws.specs.passed.definition_laws.scope_laws.Beneath.{Beneath}
-use Rattle.owner_laws.specs.passed.definition_laws.scope_laws.Scoped.{IsPart}
+use Rattle.declared_type_laws.specs.owner_laws.passed.definition_laws.scope_laws.Beneath.{Beneath}
+use Rattle.declared_type_laws.specs.owner_laws.passed.definition_laws.scope_laws.Scoped.{IsPart}
 use Rattle.object_initialiser_laws.specs.block_uses.Uses.{OpensOwn, DeclaredIn}
 
 -- a node that lists the object

@@ -10,9 +10,9 @@ use Rattle.c_senses.specs.Names.{source_of, numbered, ordinary_at}
 use Rattle.c_senses.specs.Tree.{Source, is_a, has_word, children_at, paired}
 use Rattle.c_senses.specs.Declarators.{outermost_of}
 use Rattle.c_senses.specs.Declarators as declarators
-use Rattle.internal_name_laws.specs.passed.declared_type_laws.declared_leaves.Leaves.{IsNamed}
-use Rattle.owner_laws.specs.passed.definition_laws.scope_laws.Beneath.{Beneath}
-use Rattle.owner_laws.specs.passed.definition_laws.scope_laws.Scoped.{IsPart}
+use Rattle.object_initialiser_laws.specs.internal_name_laws.passed.declared_type_laws.declared_leaves.Leaves.{IsNamed}
+use Rattle.declared_type_laws.specs.owner_laws.passed.definition_laws.scope_laws.Beneath.{Beneath}
+use Rattle.declared_type_laws.specs.owner_laws.passed.definition_laws.scope_laws.Scoped.{IsPart}
 
 -- a block that is a statement's, or a `for` statement: its scope is its own
 abbrev pub OpensOwn : Source → ℕ → Type 0

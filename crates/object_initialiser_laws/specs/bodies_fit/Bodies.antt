@@ -12,7 +12,7 @@ use Rattle.core_tree.specs.Range.{EachEntity}
 use Rattle.core_tree.specs.Valid.{IsObjectBody}
 use Rattle.c_senses.specs.Names.{source_of, numbered}
 use Rattle.built_unit_laws.specs.built_units.Built.{IsBuilt}
-use Rattle.internal_name_laws.specs.initialised_rows.Rows.{InternalFit}
+use Rattle.object_initialiser_laws.specs.internal_name_laws.initialised_rows.Rows.{InternalFit}
 
 -- the body of what isn't stored as a function is its own Initialise, and no function has one
 abbrev pub ObjectFits : CoreTrees → ℕ → Entity → Type 0

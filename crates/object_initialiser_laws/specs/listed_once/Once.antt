@@ -9,7 +9,7 @@ use Rattle.core_tree.specs.Typed.{trees_of}
 use Rattle.core_tree.specs.Range.{EachEntity, OnceHeld, listed_in}
 use Rattle.c_senses.specs.Names.{source_of, numbered}
 use Rattle.built_unit_laws.specs.built_units.Built.{IsBuilt}
-use Rattle.count_laws.specs.once_nodes.Once.{IsLaid}
+use Rattle.core_node_laws.specs.count_laws.once_nodes.Once.{IsLaid}
 
 -- one of them at most has an entity, and has it once
 abbrev pub ListsOnce : Type 0

@@ -13,8 +13,8 @@ use Rattle.c_senses.specs.Entities.{storage_of}
 use Rattle.c_senses.specs.Rows.{AreSenses}
 use Rattle.c_senses.specs.Right.{declares_entity}
 use Rattle.c_senses.specs.Sense.{Sense, IsCore, sense_in}
-use Rattle.owner_laws.specs.passed.definition_laws.scope_laws.Beneath.{Beneath}
-use Rattle.owner_laws.specs.passed.definition_laws.scope_laws.Scoped.{IsPart}
+use Rattle.declared_type_laws.specs.owner_laws.passed.definition_laws.scope_laws.Beneath.{Beneath}
+use Rattle.declared_type_laws.specs.owner_laws.passed.definition_laws.scope_laws.Scoped.{IsPart}
 use Rattle.object_initialiser_laws.specs.block_uses.Uses.{OpensOwn, DeclaredIn}
 use Rattle.object_initialiser_laws.specs.block_trees.Covered.{ListsIt}
 

@@ -12,8 +12,8 @@ use Rattle.c_senses.specs.Names.{source_of, numbered}
 use Rattle.c_senses.specs.Entities.{is_linked}
 use Rattle.c_senses.specs.Sense.{Sense, sense_in}
 use Rattle.c_senses.specs.Rows.{AreSenses}
-use Rattle.count_laws.specs.count_rows.Counts.{Count}
-use Rattle.count_laws.specs.Counting.{sum_below, bodies}
+use Rattle.core_node_laws.specs.count_laws.count_rows.Counts.{Count}
+use Rattle.core_node_laws.specs.count_laws.Counting.{sum_below, bodies}
 
 -- an Initialise of one entity weighs one, and nothing is left out
 abbrev pub initialise_weight : ℕ → NodeKind → Place → ℕ

@@ -9,7 +9,7 @@ use Rattle.core_tree.specs.Typed.{CoreTrees, trees_of}
 use Rattle.core_tree.specs.Valid.{InRows, Bodied, FixedStatics}
 use Rattle.c_senses.specs.Names.{source_of, numbered}
 use Rattle.built_unit_laws.specs.built_units.Built.{IsBuilt}
-use Rattle.owner_laws.specs.Owners.{Forward}
+use Rattle.declared_type_laws.specs.owner_laws.Owners.{Forward}
 
 -- what other laws give: nodes in their rows, bodies, and what initialises static objects
 pub record HasBodies (u : CoreTrees) : Type 0 where

@@ -9,7 +9,7 @@ use Rattle.core_tree.specs.Typed.{CoreTrees, trees_of}
 use Rattle.core_tree.specs.Valid.{InRows, Owned, Bodied, FixedStatics, InOwner, ListsRight}
 use Rattle.c_senses.specs.Names.{source_of, numbered}
 use Rattle.built_unit_laws.specs.built_units.Built.{IsBuilt}
-use Rattle.owner_laws.specs.Owners.{DefinitionsNamed, Forward}
+use Rattle.declared_type_laws.specs.owner_laws.Owners.{DefinitionsNamed, Forward}
 
 -- what other laws give: nodes in their rows, owners, bodies, what initialises static objects, and where automatic
 -- objects are initialised

@@ -1,5 +1,6 @@
 //! Memories that follow others: each instance stands in its place, the same object, and lives on unless the call ends it.
-ghost use Rattle.ref_lib.specs.memory_laws.Laws.{NewFollows, TypedFollows, ZeroFollows, ClearFollows, EndFollows, PutFollows, PartsFollow, WriteFollows, EffectFollows};
+ghost use Rattle.ref_lib.specs.memory_laws.Laws.{NewFollows, TypedFollows, ZeroFollows, ClearFollows, EndFollows};
+ghost use Rattle.ref_lib.specs.memory_laws.Laws.{PutFollows, PartsFollow, WriteFollows, EffectFollows};
 
 /// A memory with a new instance follows.
 pub fn new_follows()

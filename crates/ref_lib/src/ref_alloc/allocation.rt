@@ -6,7 +6,9 @@ ghost use Rattle.ref_cells.specs.declared.instance.Instance.{Instance};
 ghost use Rattle.ref_cells.specs.declared.cells.Cell.TheVariants.{Number};
 ghost use Rattle.ref_elements.specs.Arguments.{argument};
 ghost use Rattle.ref_cells.specs.Places.{IsKnown, AreKnown};
-ghost use Rattle.ref_lib.specs.ref_alloc.Allocation.{allocated, malloc_row, calloc_row, is_live_heap, heap_at, free_row, takes, kept_elements, regrown, realloc_row, object_row, perhaps_row, place_row, all_number, ctype_set, ctype_row};
+ghost use Rattle.ref_lib.specs.ref_alloc.Allocation.{allocated, malloc_row, calloc_row, is_live_heap, heap_at, free_row};
+ghost use Rattle.ref_lib.specs.ref_alloc.Allocation.{takes, kept_elements, regrown, realloc_row, object_row, perhaps_row};
+ghost use Rattle.ref_lib.specs.ref_alloc.Allocation.{place_row, all_number, ctype_set, ctype_row};
 
 use c_types::key::ObjectKey;
 use c_types::table::TypeTable;

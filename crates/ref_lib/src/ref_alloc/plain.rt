@@ -7,7 +7,8 @@ ghost use Rattle.c_types.specs.Table.{type_of};
 ghost use Rattle.ref_cells.specs.Answers.{Gives};
 ghost use Rattle.ref_cells.specs.declared.instance.Instance.{Instance};
 ghost use Rattle.ref_elements.specs.Arguments.{argument};
-ghost use Rattle.ref_lib.specs.ref_alloc.Plain.{is_in, is_between, upper_of, lower_of, number_row, byte_row, class_row, upper_row, lower_row, keep_row, exit_row, abort_row};
+ghost use Rattle.ref_lib.specs.ref_alloc.Plain.{is_in, is_between, upper_of, lower_of, number_row, byte_row, class_row};
+ghost use Rattle.ref_lib.specs.ref_alloc.Plain.{upper_row, lower_row, keep_row, exit_row, abort_row};
 
 use c_types::table::TypeTable;
 use c_types::term::{OutOfMemory, TypeId};

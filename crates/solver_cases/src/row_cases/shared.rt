@@ -61,7 +61,8 @@ fn add_address(table: &RowTable, seat: &mut RowSeat, row: u32) -> u64
 /// Closes a table whose constraints are all Addresses of `x` that the seat has seen.
 fn close(table: &RowTable, seat: &mut RowSeat)
     requires own { IsOf table.now seat.old }
-    requires seen { (constraint : Constraint) → Contains (system_of table.now).constraints constraint → (row : ℕ) × (constraint ≡ Constraint.Address row 0) × Has (known (view seat.old)) row 0 }
+    requires seen { (constraint : Constraint) → Contains (system_of table.now).constraints constraint
+        → (row : ℕ) × (constraint ≡ Constraint.Address row 0) × Has (known (view seat.old)) row 0 }
     ensures own { IsOf table.now seat.new }
     ensures knows { (view seat.new).knows ≡ true }
 {

@@ -2,8 +2,8 @@
 ghost use Rattle.std.specs.Prelude.{◌≡◌, IfOk};
 ghost use Rattle.sol_model.specs.Systems.{location_count};
 
-use hand_systems::system;
-use pta_base::OutOfMemory;
+use crate::reading::types;
+use pta_base::{Listing, OutOfMemory};
 use sol_model::{Constraint, LocationFact, System};
 use std::alloc::Global;
 
@@ -13,11 +13,30 @@ const NODE: LocationFact = LocationFact {
     function: None,
 };
 
+fn list<T: Copy + Drop>(alloc: Global, items: &[T]) -> Result<Listing<T>, OutOfMemory>
+    ensures { IfOk result (λ list. list ≡ items.now) }
+{
+    let mut list = Listing::new(alloc);
+    for item in items {
+        list.push(*item)?;
+    }
+    Ok(list)
+}
+
 /// A system of three rows and three objects, with these constraints.
 pub(crate) fn three(alloc: Global, constraints: &[Constraint]) -> Result<System, OutOfMemory>
     ensures rows { IfOk result (λ system. (system.rows ≡ 3) × (location_count system ≡ 3)) }
     ensures constraints { IfOk result (λ system. system.constraints ≡ constraints.now) }
 {
-    let made = system(alloc, 3, &[NODE, NODE, NODE], constraints, &[], &[])?;
-    Ok(made)
+    let locations = list(alloc, &[NODE, NODE, NODE])?;
+    let constraints = list(alloc, constraints)?;
+    let types = types(alloc)?;
+    Ok(System {
+        rows: 3,
+        locations,
+        types,
+        constraints,
+        calls: Listing::new(alloc),
+        functions: Listing::new(alloc),
+    })
 }

@@ -20,11 +20,11 @@ use Rattle.parsed_tree_laws.specs.family_laws.Families.{Families, IsChild}
 use Rattle.parsed_tree_laws.proofs.family_laws.Reading.{units_families}
 use Rattle.parsed_tree_laws.specs.span_laws.Spans.{Spanned}
 use Rattle.parsed_tree_laws.proofs.span_laws.Whole.{units_are_spanned}
-use Rattle.count_laws.specs.count_rows.Counts.{own_weight}
-use Rattle.count_laws.specs.Counting.{sum_below, Makes}
-use Rattle.count_laws.specs.once_nodes.Once.{IsLaid, apart_from_names, Weighs}
-use Rattle.count_laws.proofs.once_nodes.Whole.{nodes_once}
-use Rattle.count_laws.proofs.single_nodes.Places.{IsPlaced, is_placed, one_place, once_only}
+use Rattle.core_node_laws.specs.count_laws.count_rows.Counts.{own_weight}
+use Rattle.core_node_laws.specs.count_laws.Counting.{sum_below, Makes}
+use Rattle.core_node_laws.specs.count_laws.once_nodes.Once.{IsLaid, apart_from_names, Weighs}
+use Rattle.core_node_laws.proofs.count_laws.once_nodes.Whole.{nodes_once}
+use Rattle.core_node_laws.proofs.count_laws.single_nodes.Places.{IsPlaced, is_placed, one_place, once_only}
 use Rattle.twin_report_laws.specs.orders.Order.{MayMake}
 
 abbrev one_if : Bool → ℕ

@@ -14,10 +14,10 @@ use Rattle.c_senses.specs.Tree.{Source, is_leaf, is_name, is_a, is_identifier, i
 use Rattle.c_senses.specs.Entities.{linkage_of, entity_of, is_internal, is_linked, is_typedef, first_of, keep}
 use Rattle.c_senses.specs.Sense.{Sense, sense_in}
 use Rattle.c_senses.specs.Right.{Declared, sense_of, declares_entity, is_declaring, stands_in_declaration, is_tentative, is_definition_at, of_internal, representative, entity_type, declared_as, declared_name}
-use Rattle.count_laws.proofs.Rooms.{apart}
-use Rattle.count_laws.proofs.once_nodes.Rooted.{found_where}
-use Rattle.internal_name_laws.specs.representative_names.Representatives.{IsKnown}
-use Rattle.count_laws.proofs.named_units.Standing.{IsOpening}
+use Rattle.core_node_laws.proofs.count_laws.Rooms.{apart}
+use Rattle.core_node_laws.proofs.count_laws.once_nodes.Rooted.{found_where}
+use Rattle.object_initialiser_laws.specs.internal_name_laws.representative_names.Representatives.{IsKnown}
+use Rattle.core_node_laws.proofs.count_laws.named_units.Standing.{IsOpening}
 
 pub none_some : {X : Type 0} → {x : X} → ◌≡◌ {A = Option X} None (Some x) → ⊥
 none_some h = cc

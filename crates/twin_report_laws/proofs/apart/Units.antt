@@ -24,24 +24,24 @@ use Rattle.c_grammar.specs.Productions.{p_unit}
 use Rattle.c_parser.specs.Parse.{begin}
 use Rattle.c_lexer.specs.Laws.{Stands}
 use Rattle.c_lexer.proofs.OneCut.{stand}
-use Rattle.count_laws.proofs.named_units.Openings.{AllOpened, all_opened}
+use Rattle.core_node_laws.proofs.count_laws.named_units.Openings.{AllOpened, all_opened}
 use Rattle.c_senses.specs.Tree.{Source, production_of, token_of, is_leaf, is_name, is_identifier, kind_at, kind_of_token, token_at, place_at}
 use Rattle.c_senses.specs.Entities.{entity_of, is_internal, is_defined, initialiser_for}
 use Rattle.c_senses.specs.Rows.{AreSenses}
 use Rattle.c_senses.specs.Sense.{Sense, IsCore, IsInitial, sense_in}
 use Rattle.c_senses.specs.Right.{Declared, sense_of, representative, core_of_sense, block_for, body_at, declared_name, Within, Itself, Below, IsLiteralOf, IsDeclaredAt, Right}
-use Rattle.count_laws.proofs.named_units.Standing.{IsOpening, Fine, OfSource, AllOfSource}
-use Rattle.count_laws.proofs.named_units.Giving.{if_holds}
-use Rattle.count_laws.proofs.named_units.Values.{SomeOf}
-use Rattle.count_laws.proofs.named_units.Expressions.{OfSense}
-use Rattle.count_laws.proofs.named_units.All.{all_kept}
-use Rattle.count_laws.proofs.named_units.Parts.{HasToken}
-use Rattle.count_laws.proofs.named_units.Openers.{opener}
-use Rattle.internal_name_laws.specs.representative_names.Representatives.{IsKnown}
-use Rattle.internal_name_laws.proofs.representative_names.Standing.{representatives_known}
+use Rattle.core_node_laws.proofs.count_laws.named_units.Standing.{IsOpening, Fine, OfSource, AllOfSource}
+use Rattle.core_node_laws.proofs.count_laws.named_units.Giving.{if_holds}
+use Rattle.core_node_laws.proofs.count_laws.named_units.Values.{SomeOf}
+use Rattle.core_node_laws.proofs.count_laws.named_units.Expressions.{OfSense}
+use Rattle.core_node_laws.proofs.count_laws.named_units.All.{all_kept}
+use Rattle.core_node_laws.proofs.count_laws.named_units.Parts.{HasToken}
+use Rattle.core_node_laws.proofs.count_laws.named_units.Openers.{opener}
+use Rattle.object_initialiser_laws.specs.internal_name_laws.representative_names.Representatives.{IsKnown}
+use Rattle.object_initialiser_laws.proofs.internal_name_laws.representative_names.Standing.{representatives_known}
 use Rattle.definition_laws.proofs.block_laws.Whole.{blocks_differ}
 use Rattle.declared_type_laws.proofs.right_nodes.Whole.{right_laid}
-use Rattle.count_laws.proofs.single_nodes.Places.{IsPlaced, is_placed, one_place}
+use Rattle.core_node_laws.proofs.count_laws.single_nodes.Places.{IsPlaced, is_placed, one_place}
 use Rattle.twin_report_laws.specs.apart.Apart.{RightApart}
 use Rattle.twin_report_laws.proofs.apart.Makers.{makers_once}
 use Rattle.twin_report_laws.proofs.apart.Spots.{none_some, some_one, named_by, at_name, no_name}

@@ -49,11 +49,11 @@ use Rattle.row_numbers.specs.Functions.{keys_in, begins_at, object_at, objects_a
 use Rattle.row_numbers.specs.declared.functions.Role.TheVariants.{Defined}
 use Rattle.call_sites.specs.Signatures.{called_type}
 use Rattle.sol_model.proofs.Members.{at_Contains}
-use Rattle.outcome_laws.proofs.twin_words.Sums.{some_one, none_some}
-use Rattle.outcome_laws.proofs.twin_words.Options.{any_one}
-use Rattle.outcome_laws.proofs.twin_words.Members.{Member, member_at, at_member, member_split, member_map, member_flat, member_filter, find_member, find_some, at_range}
-use Rattle.outcome_laws.proofs.twin_words.Library.{IsOwn, all_own, member_own, begins, location_key, library_view, library_external, one_name}
-use Rattle.outcome_laws.proofs.twin_locations.Options.{and_then_some, number_is}
+use Rattle.twin_report_laws.proofs.outcome_laws.twin_words.Sums.{some_one, none_some}
+use Rattle.twin_report_laws.proofs.outcome_laws.twin_words.Options.{any_one}
+use Rattle.twin_report_laws.proofs.outcome_laws.twin_words.Members.{Member, member_at, at_member, member_split, member_map, member_flat, member_filter, find_member, find_some, at_range}
+use Rattle.twin_report_laws.proofs.outcome_laws.twin_words.Library.{IsOwn, all_own, member_own, begins, location_key, library_view, library_external, one_name}
+use Rattle.twin_report_laws.proofs.outcome_laws.twin_locations.Options.{and_then_some, number_is}
 use Rattle.system_laws.specs.item_laws.Items.{HasPlace, IsPlacedIn, IsPlacedAt, KindPlaced}
 use Rattle.linked_laws.specs.alike_laws.Plain.{IsPlain, DefinesPlain}
 use Rattle.twin_report_laws.specs.rows.Ready.{IsReady, HasId, HasCalled}

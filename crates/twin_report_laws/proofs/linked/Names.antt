@@ -18,13 +18,13 @@ use Rattle.obj_space.specs.View.{view_of}
 use Rattle.call_sites.specs.Calls.{calls_upto, IsSiteAt}
 use Rattle.normal_form.specs.SystemOf.{SystemOf, setting_of}
 use Rattle.alias_query.specs.Asked.{made_setting, place_text}
-use Rattle.location_laws.specs.name_shapes.Bytes.{is_unit_byte, is_base_byte, IsMadeOf}
-use Rattle.location_laws.proofs.name_shapes.Cutting.{cut, decimal_base}
-use Rattle.location_laws.specs.name_laws.Named.{IsPlace, HasNames}
+use Rattle.linked_laws.specs.location_laws.name_shapes.Bytes.{is_unit_byte, is_base_byte, IsMadeOf}
+use Rattle.linked_laws.proofs.location_laws.name_shapes.Cutting.{cut, decimal_base}
+use Rattle.linked_laws.specs.location_laws.name_laws.Named.{IsPlace, HasNames}
 use Rattle.unit_report.specs.report_text.Report.{name_in, has_set}
-use Rattle.outcome_laws.specs.twin_programs.One.{Numbers}
-use Rattle.outcome_laws.specs.twin_locations.Same.{number_moved, SameLocation}
-use Rattle.outcome_laws.proofs.twin_words.Sums.{some_one}
+use Rattle.twin_report_laws.specs.outcome_laws.twin_programs.One.{Numbers}
+use Rattle.twin_report_laws.specs.outcome_laws.twin_locations.Same.{number_moved, SameLocation}
+use Rattle.twin_report_laws.proofs.outcome_laws.twin_words.Sums.{some_one}
 use Rattle.twin_report_laws.specs.reports.Same.{SameNames, CallsApart}
 use Rattle.twin_report_laws.specs.answers.Same.{CallsTold}
 use Rattle.twin_report_laws.specs.orders.Order.{MayMake, MadeApart}

@@ -8,11 +8,11 @@ use Rattle.obj_space.specs.Space.{locations_in}
 use Rattle.obj_space.specs.View.{view_of}
 use Rattle.normal_form.specs.SystemOf.{SystemOf}
 use Rattle.linked_laws.proofs.alike_laws.Plain.{linked_plain}
-use Rattle.location_laws.specs.name_laws.Named.{HasNames}
-use Rattle.location_laws.proofs.named_laws.Whole.{linked_names, linked_distinct}
+use Rattle.linked_laws.specs.location_laws.name_laws.Named.{HasNames}
+use Rattle.linked_laws.proofs.location_laws.named_laws.Whole.{linked_names, linked_distinct}
 use Rattle.unit_report.specs.unit_system.Of.{IsProgramOf, IsSystemOf}
-use Rattle.outcome_laws.specs.twin_programs.One.{AreOne}
-use Rattle.outcome_laws.specs.twin_words.Words.{IsSound}
+use Rattle.twin_report_laws.specs.outcome_laws.twin_programs.One.{AreOne}
+use Rattle.twin_report_laws.specs.outcome_laws.twin_words.Words.{IsSound}
 use Rattle.twin_report_laws.specs.reports.Same.{AreOneSystem}
 use Rattle.twin_report_laws.specs.prints.Prints.{AreOnePrint}
 use Rattle.twin_report_laws.proofs.prints.Whole.{one_report as one_print, one_text as one_answer, spaces_same}
@@ -23,7 +23,7 @@ use Rattle.twin_report_laws.proofs.apart.Linking.{linked_apart}
 use Rattle.twin_report_laws.specs.rows.Paired.{ArePaired}
 use Rattle.twin_report_laws.specs.rows.Ready.{IsReady, HasCalled}
 use Rattle.twin_report_laws.proofs.rows.Whole.{one_system}
-use Rattle.location_laws.specs.named_laws.Units.{AreNamedUnits}
+use Rattle.linked_laws.specs.location_laws.named_laws.Units.{AreNamedUnits}
 use Rattle.unit_report.specs.Reported.{IsProgramReport}
 use Rattle.unit_report.specs.unit_answers.Answered.{IsProgramAnswers}
 use Rattle.gen_summary.specs.Summary.{IsProgramSummary}

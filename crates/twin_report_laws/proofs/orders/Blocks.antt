@@ -9,10 +9,10 @@ use Rattle.obj_made.specs.declared.object.Object.{Object}
 use Rattle.obj_space.specs.declared.location.Location.{Location}
 use Rattle.obj_space.specs.Parts.{Part, parts_of}
 use Rattle.obj_space.specs.Space.{located, locations_by, locations_of}
-use Rattle.outcome_laws.specs.twin_programs.One.{Numbers}
-use Rattle.outcome_laws.specs.twin_locations.Same.{key_moved, number_moved, SameLocation}
-use Rattle.outcome_laws.proofs.twin_locations.Cells.{Cell, cell_of, cells, cell_moved, IsCellOf, one_is}
-use Rattle.outcome_laws.proofs.twin_locations.Objects.{SameObject}
+use Rattle.twin_report_laws.specs.outcome_laws.twin_programs.One.{Numbers}
+use Rattle.twin_report_laws.specs.outcome_laws.twin_locations.Same.{key_moved, number_moved, SameLocation}
+use Rattle.twin_report_laws.proofs.outcome_laws.twin_locations.Cells.{Cell, cell_of, cells, cell_moved, IsCellOf, one_is}
+use Rattle.twin_report_laws.proofs.outcome_laws.twin_locations.Objects.{SameObject}
 
 parts_match : (o : Object) (ps : List Part) → AllZip (IsCellOf o) (map cell_of ps) (map (located o.key o.content o.name) ps)
 parts_match o [] = tt

@@ -15,10 +15,10 @@ use Rattle.core_tree.specs.declared.node.Storage.TheVariants.{Static, Automatic,
 use Rattle.core_tree.specs.declared.node.Program.{Program}
 use Rattle.obj_made.specs.declared.object.Object.{Object}
 use Rattle.obj_made.specs.Made.{Spot, spot_at, Made, object_unless_declared, entity_object, made_at, entity_made, entities_made, object_of_kind, node_object, node_made, nodes_made, last_place, has_body, is_variadic, has_varargs, varargs_object, varargs_spot, varargs_made, made_in_order}
-use Rattle.outcome_laws.proofs.twin_locations.Options.{some_one, none_some}
-use Rattle.outcome_laws.proofs.twin_locations.Members.{Member, member_left, member_right, member_split}
-use Rattle.outcome_laws.proofs.twin_locations.Made.{all_there, nothing_else, all_made, whole, whole_rises}
-use Rattle.outcome_laws.proofs.twin_locations.Further.{IsParameterAt, last_from}
+use Rattle.twin_report_laws.proofs.outcome_laws.twin_locations.Options.{some_one, none_some}
+use Rattle.twin_report_laws.proofs.outcome_laws.twin_locations.Members.{Member, member_left, member_right, member_split}
+use Rattle.twin_report_laws.proofs.outcome_laws.twin_locations.Made.{all_there, nothing_else, all_made, whole, whole_rises}
+use Rattle.twin_report_laws.proofs.outcome_laws.twin_locations.Further.{IsParameterAt, last_from}
 use Rattle.twin_report_laws.specs.orders.Order.{MayMake, MadeApart}
 
 abbrev pub Entry : Type 0

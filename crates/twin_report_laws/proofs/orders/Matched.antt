@@ -2,7 +2,7 @@
 use Rattle.std.proofs.Common.{◌≡◌, ◌∙◌, ℕ, List, [], ◌∷◌, refl, sym, ap, subst, inl, inr}
 use Rattle.std.specs.Prelude.{⊤}
 use Rattle.std.specs.List.{AllZip}
-use Rattle.outcome_laws.proofs.twin_locations.Members.{Member}
+use Rattle.twin_report_laws.proofs.outcome_laws.twin_locations.Members.{Member}
 use Rattle.twin_report_laws.proofs.orders.Ranks.{Before, before_then, not_itself}
 
 -- a rank is before those of a list

@@ -9,8 +9,8 @@ use Rattle.std.specs.BTreeMap.{insert_entry}
 use Rattle.std.proofs.lemmas.Bool.{ltb-true, ltb-false}
 use Rattle.core_tree.specs.declared.node.Program.{Program}
 use Rattle.obj_made.specs.Made.{by_place, Made, in_order, made_in_order}
-use Rattle.outcome_laws.proofs.twin_locations.Members.{Member}
-use Rattle.outcome_laws.proofs.twin_locations.Made.{Below, below_more, Rise, put_below, put_from, all_made, whole, whole_rises}
+use Rattle.twin_report_laws.proofs.outcome_laws.twin_locations.Members.{Member}
+use Rattle.twin_report_laws.proofs.outcome_laws.twin_locations.Made.{Below, below_more, Rise, put_below, put_from, all_made, whole, whole_rises}
 use Rattle.twin_report_laws.specs.orders.Order.{MadeApart}
 use Rattle.twin_report_laws.proofs.orders.Ranks.{Before, either_way}
 use Rattle.twin_report_laws.proofs.orders.Matched.{After, InOrder, after_more}

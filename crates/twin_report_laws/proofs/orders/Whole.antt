@@ -10,14 +10,14 @@ use Rattle.unit_link.specs.Places.{kind_renamed}
 use Rattle.obj_made.specs.Made.{Spot, spot_at, last_place, varargs_spot, made_in_order, objects_in}
 use Rattle.obj_space.specs.Objects.{library_part, objects_of}
 use Rattle.obj_space.specs.Space.{locations_of, locations_in}
-use Rattle.outcome_laws.specs.twin_programs.One.{Numbers, LeadsTo}
-use Rattle.outcome_laws.specs.twin_locations.Same.{SameLocation}
-use Rattle.outcome_laws.proofs.twin_locations.Members.{Member}
-use Rattle.outcome_laws.proofs.twin_locations.Library.{library_same}
-use Rattle.outcome_laws.proofs.twin_locations.Objects.{SameObject, IsKnownTable, entity_twin, node_twin, further_twin}
-use Rattle.outcome_laws.proofs.twin_locations.Further.{last_same}
-use Rattle.outcome_laws.proofs.twin_locations.Fixed.{library_view, library_twin}
-use Rattle.outcome_laws.proofs.twin_locations.Whole.{known_table}
+use Rattle.twin_report_laws.specs.outcome_laws.twin_programs.One.{Numbers, LeadsTo}
+use Rattle.twin_report_laws.specs.outcome_laws.twin_locations.Same.{SameLocation}
+use Rattle.twin_report_laws.proofs.outcome_laws.twin_locations.Members.{Member}
+use Rattle.twin_report_laws.proofs.outcome_laws.twin_locations.Library.{library_same}
+use Rattle.twin_report_laws.proofs.outcome_laws.twin_locations.Objects.{SameObject, IsKnownTable, entity_twin, node_twin, further_twin}
+use Rattle.twin_report_laws.proofs.outcome_laws.twin_locations.Further.{last_same}
+use Rattle.twin_report_laws.proofs.outcome_laws.twin_locations.Fixed.{library_view, library_twin}
+use Rattle.twin_report_laws.proofs.outcome_laws.twin_locations.Whole.{known_table}
 use Rattle.twin_report_laws.specs.orders.Order.{MayMake, MadeApart, SameOrder}
 use Rattle.twin_report_laws.proofs.orders.Matched.{matched}
 use Rattle.twin_report_laws.proofs.orders.Zips.{zip_append, zip_flat, zip_maps, zip_self}

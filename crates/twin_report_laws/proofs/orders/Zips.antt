@@ -1,8 +1,8 @@
 -- Lists side by side.
 use Rattle.std.proofs.Common.{◌≡◌, ℕ, zero, suc, List, [], ◌∷◌, ◌++◌, map, Some, refl, subst, inl, inr}
 use Rattle.std.specs.List.{slice_get, flat_map, AllZip}
-use Rattle.outcome_laws.proofs.twin_locations.Options.{some_one, none_some}
-use Rattle.outcome_laws.proofs.twin_locations.Members.{Member}
+use Rattle.twin_report_laws.proofs.outcome_laws.twin_locations.Options.{some_one, none_some}
+use Rattle.twin_report_laws.proofs.outcome_laws.twin_locations.Members.{Member}
 
 pub at_zip : {A B : Type 0} (R : A → B → Type 0) (xs : List A) (ys : List B) (i : ℕ) (x : A) → AllZip R xs ys → slice_get xs i ≡ Some x → (y : B) × (slice_get ys i ≡ Some y) × R x y
 at_zip R [] [] i x h at = absurd (none_some at)

@@ -38,13 +38,13 @@ use Rattle.call_sites.specs.Calls.{is_call, call_if, calls_upto, head_of, rest_o
 use Rattle.normal_form.specs.SystemOf.{setting_of}
 use Rattle.system_laws.proofs.Compact.{found_at, stands_at}
 use Rattle.system_laws.proofs.Calls.{fresh_valid}
-use Rattle.outcome_laws.specs.twin_programs.One.{Numbers, SameNode}
-use Rattle.outcome_laws.specs.twin_locations.Same.{key_moved}
+use Rattle.twin_report_laws.specs.outcome_laws.twin_programs.One.{Numbers, SameNode}
+use Rattle.twin_report_laws.specs.outcome_laws.twin_locations.Same.{key_moved}
 use Rattle.twin_report_laws.specs.systems.Systems.{Maps, SameCall}
-use Rattle.outcome_laws.proofs.twin_words.Sums.{some_one, none_some}
-use Rattle.outcome_laws.proofs.twin_words.Options.{and_then_some}
-use Rattle.outcome_laws.proofs.twin_words.Library.{first_below}
-use Rattle.outcome_laws.proofs.twin_words.Members.{Member, at_member}
+use Rattle.twin_report_laws.proofs.outcome_laws.twin_words.Sums.{some_one, none_some}
+use Rattle.twin_report_laws.proofs.outcome_laws.twin_words.Options.{and_then_some}
+use Rattle.twin_report_laws.proofs.outcome_laws.twin_words.Library.{first_below}
+use Rattle.twin_report_laws.proofs.outcome_laws.twin_words.Members.{Member, at_member}
 use Rattle.twin_report_laws.specs.rows.Paired.{ArePaired}
 use Rattle.twin_report_laws.specs.rows.Ready.{IsReady}
 use Rattle.twin_report_laws.proofs.rows.Views.{here, over, first_same, all_functions, number_same}

@@ -7,8 +7,8 @@ use Rattle.normal_form.specs.declared.normal.Assignment.{Assignment}
 use Rattle.normal_form.specs.declared.normal.Assignment.TheVariants.{Address, Copy, Load, Store, Field}
 use Rattle.normal_form.specs.Assignments.{copies, spreads, loads, stores, put_at}
 use Rattle.row_numbers.specs.Kept.{kept, kept_row}
-use Rattle.outcome_laws.specs.twin_locations.Same.{number_moved}
-use Rattle.outcome_laws.proofs.twin_words.Members.{Member}
+use Rattle.twin_report_laws.specs.outcome_laws.twin_locations.Same.{number_moved}
+use Rattle.twin_report_laws.proofs.outcome_laws.twin_words.Members.{Member}
 use Rattle.twin_report_laws.proofs.rows.Types.{kept_moved}
 use Rattle.twin_report_laws.proofs.rows.Rows.{same_map, map_map, Leads, kept_row_moved, kept_length_below}
 

@@ -26,12 +26,12 @@ use Rattle.obj_space.specs.View.{view_of}
 use Rattle.row_numbers.specs.Kept.{nodes_of as row_nodes, member_node}
 use Rattle.normal_form.specs.Facts.{location_fact, location_facts, plain_fact, is_union, tagged, positions_by, tag_fact_by, tag_fact, type_facts}
 use Rattle.obj_space.proofs.Preorder.{get_behind}
-use Rattle.outcome_laws.specs.twin_programs.One.{Numbers}
-use Rattle.outcome_laws.specs.twin_locations.Same.{number_moved}
-use Rattle.outcome_laws.proofs.twin_locations.Cells.{tag_moved}
-use Rattle.outcome_laws.proofs.twin_words.Sums.{some_one, none_some}
-use Rattle.outcome_laws.proofs.twin_words.Options.{and_then_some, mapped_at, unmapped_at}
-use Rattle.outcome_laws.proofs.twin_words.Members.{range_at, at_range}
+use Rattle.twin_report_laws.specs.outcome_laws.twin_programs.One.{Numbers}
+use Rattle.twin_report_laws.specs.outcome_laws.twin_locations.Same.{number_moved}
+use Rattle.twin_report_laws.proofs.outcome_laws.twin_locations.Cells.{tag_moved}
+use Rattle.twin_report_laws.proofs.outcome_laws.twin_words.Sums.{some_one, none_some}
+use Rattle.twin_report_laws.proofs.outcome_laws.twin_words.Options.{and_then_some, mapped_at, unmapped_at}
+use Rattle.twin_report_laws.proofs.outcome_laws.twin_words.Members.{range_at, at_range}
 use Rattle.twin_report_laws.specs.rows.Paired.{ArePaired}
 use Rattle.twin_report_laws.proofs.rows.Views.{here, over, count_same, collapsed_same, type_same}
 use Rattle.twin_report_laws.proofs.rows.Types.{nodes_moved, member_moved, as_many_members, no_members, lists}

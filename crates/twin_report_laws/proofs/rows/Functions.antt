@@ -33,13 +33,13 @@ use Rattle.normal_form.specs.Facts.{cell_list, parameter_rows, further_rows, par
 use Rattle.system_laws.proofs.parameter_laws.Contents.{content_of}
 use Rattle.system_laws.proofs.parameter_laws.Fitting.{is_first, all_nodes}
 use Rattle.system_laws.proofs.Functions.{HasPlace, place_of}
-use Rattle.outcome_laws.specs.twin_programs.One.{Numbers}
-use Rattle.outcome_laws.specs.twin_locations.Same.{key_moved}
+use Rattle.twin_report_laws.specs.outcome_laws.twin_programs.One.{Numbers}
+use Rattle.twin_report_laws.specs.outcome_laws.twin_locations.Same.{key_moved}
 use Rattle.twin_report_laws.specs.systems.Systems.{Maps, SameFunction}
-use Rattle.outcome_laws.proofs.twin_words.Sums.{some_one, none_some}
-use Rattle.outcome_laws.proofs.twin_words.Options.{mapped_at, same_test}
-use Rattle.outcome_laws.proofs.twin_words.Members.{Member, member_at, member_filter, member_map, find_member}
-use Rattle.outcome_laws.proofs.twin_words.Results.{IsFunctionKey, own, library, takes_same}
+use Rattle.twin_report_laws.proofs.outcome_laws.twin_words.Sums.{some_one, none_some}
+use Rattle.twin_report_laws.proofs.outcome_laws.twin_words.Options.{mapped_at, same_test}
+use Rattle.twin_report_laws.proofs.outcome_laws.twin_words.Members.{Member, member_at, member_filter, member_map, find_member}
+use Rattle.twin_report_laws.proofs.outcome_laws.twin_words.Results.{IsFunctionKey, own, library, takes_same}
 use Rattle.twin_report_laws.specs.rows.Paired.{ArePaired, flipped}
 use Rattle.twin_report_laws.specs.rows.Ready.{IsReady, HasId}
 use Rattle.twin_report_laws.proofs.rows.Views.{here, over, begins_view, count_same, first_same, entity_round, IsInRole, in_role, role_moved, order_same, all_functions}

@@ -13,10 +13,10 @@ use Rattle.row_numbers.specs.Functions.{function_at, number_at}
 use Rattle.call_sites.specs.Calls.{calls_upto}
 use Rattle.normal_form.specs.Facts.{number_if, location_fact}
 use Rattle.normal_form.specs.SystemOf.{SystemOf}
-use Rattle.outcome_laws.specs.twin_programs.One.{Numbers}
+use Rattle.twin_report_laws.specs.outcome_laws.twin_programs.One.{Numbers}
 use Rattle.twin_report_laws.specs.reports.Same.{Keeps}
-use Rattle.outcome_laws.proofs.twin_words.Options.{mapped_at, unmapped_at}
-use Rattle.outcome_laws.proofs.twin_words.Members.{range_at, at_range}
+use Rattle.twin_report_laws.proofs.outcome_laws.twin_words.Options.{mapped_at, unmapped_at}
+use Rattle.twin_report_laws.proofs.outcome_laws.twin_words.Members.{range_at, at_range}
 use Rattle.twin_report_laws.specs.rows.Paired.{ArePaired, flipped}
 use Rattle.twin_report_laws.specs.rows.Ready.{IsReady}
 use Rattle.twin_report_laws.proofs.rows.Views.{here, over, count_same, functions_moved, object_moved, before_same}
@@ -27,7 +27,7 @@ use Rattle.twin_report_laws.proofs.rows.Systems.{maps, call_there}
 use Rattle.row_numbers.specs.Functions.{function_keys}
 use Rattle.std.specs.Option.{option_map}
 use Rattle.std.proofs.Common.{None}
-use Rattle.outcome_laws.specs.twin_locations.Same.{key_moved}
+use Rattle.twin_report_laws.specs.outcome_laws.twin_locations.Same.{key_moved}
 
 module _ (p q : Program) (to back : Numbers) (h : ArePaired p q to back) (ready : IsReady p) (other_ready : IsReady q) (S T : System)
     (of : SystemOf p (here p q to back h) S) (over_of : SystemOf q (over p q to back h) T) where

@@ -47,11 +47,11 @@ use Rattle.normal_form.specs.Assignments.{copies, spreads, loads, stores, is_poi
 use Rattle.normal_form.specs.SystemOf.{setting_of}
 use Rattle.linked_laws.proofs.merged_laws.Terms.{structure_term}
 use Rattle.twin_report_laws.proofs.rows.Parts.{part_rows}
-use Rattle.outcome_laws.specs.twin_programs.One.{Numbers, SameEntity}
-use Rattle.outcome_laws.specs.twin_locations.Same.{key_moved, number_moved}
-use Rattle.outcome_laws.proofs.twin_words.Sums.{some_one, none_some}
-use Rattle.outcome_laws.proofs.twin_words.Library.{first_below}
-use Rattle.outcome_laws.proofs.twin_words.Members.{Member as Among, at_member}
+use Rattle.twin_report_laws.specs.outcome_laws.twin_programs.One.{Numbers, SameEntity}
+use Rattle.twin_report_laws.specs.outcome_laws.twin_locations.Same.{key_moved, number_moved}
+use Rattle.twin_report_laws.proofs.outcome_laws.twin_words.Sums.{some_one, none_some}
+use Rattle.twin_report_laws.proofs.outcome_laws.twin_words.Library.{first_below}
+use Rattle.twin_report_laws.proofs.outcome_laws.twin_words.Members.{Member as Among, at_member}
 use Rattle.twin_report_laws.specs.rows.Paired.{ArePaired}
 use Rattle.twin_report_laws.specs.rows.Ready.{IsReady}
 use Rattle.twin_report_laws.proofs.rows.Views.{here, over, entity_round, first_same}

@@ -11,9 +11,9 @@ use Rattle.core_tree.specs.Range.{IsChild, Under, here, below, child_in}
 use Rattle.core_tree.specs.Valid.{IsAround, UnderBody, HasBody}
 use Rattle.linked_laws.specs.embedded_laws.Trees.{AreTreesRight}
 use Rattle.row_numbers.specs.Around.{IsOwner, AreOwners}
-use Rattle.outcome_laws.specs.twin_programs.One.{Numbers, SameEntity, LeadsTo}
-use Rattle.outcome_laws.proofs.twin_words.Sums.{some_one, none_some}
-use Rattle.outcome_laws.proofs.twin_words.Options.{mapped_at}
+use Rattle.twin_report_laws.specs.outcome_laws.twin_programs.One.{Numbers, SameEntity, LeadsTo}
+use Rattle.twin_report_laws.proofs.outcome_laws.twin_words.Sums.{some_one, none_some}
+use Rattle.twin_report_laws.proofs.outcome_laws.twin_words.Options.{mapped_at}
 use Rattle.twin_report_laws.proofs.rows.Nodes.{some_at}
 
 -- ---- one function around a node

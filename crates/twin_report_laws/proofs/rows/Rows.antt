@@ -25,13 +25,13 @@ use Rattle.row_numbers.specs.Functions.{begins_at, object_at, objects_at, functi
 use Rattle.row_numbers.specs.Setting.{width_by, own_width, lead, lead_in, trail, trail_at, calls_further, width, widths, result_nodes, result_widths, row, list_row, rest_row, result_row, none_row, value_rows}
 use Rattle.row_numbers.proofs.KeptLemmas.{count_more}
 use Rattle.system_laws.proofs.Rows.{kept_fewer}
-use Rattle.outcome_laws.specs.twin_programs.One.{Numbers}
-use Rattle.outcome_laws.specs.twin_locations.Same.{key_moved}
-use Rattle.outcome_laws.proofs.twin_words.Sums.{some_one, none_some, sum-cons, sum_same}
-use Rattle.outcome_laws.proofs.twin_words.Options.{mapped_at, unmapped_at}
-use Rattle.outcome_laws.proofs.twin_words.Members.{Member, at_member, member_map, member_filter, find_member, at_range}
-use Rattle.outcome_laws.proofs.twin_words.Results.{IsFunctionKey, own, library, key_view, lead_same, width_same, width_there, width_round, result_renamed, result_tags, void_tags}
-use Rattle.outcome_laws.proofs.twin_words.Library.{library_type}
+use Rattle.twin_report_laws.specs.outcome_laws.twin_programs.One.{Numbers}
+use Rattle.twin_report_laws.specs.outcome_laws.twin_locations.Same.{key_moved}
+use Rattle.twin_report_laws.proofs.outcome_laws.twin_words.Sums.{some_one, none_some, sum-cons, sum_same}
+use Rattle.twin_report_laws.proofs.outcome_laws.twin_words.Options.{mapped_at, unmapped_at}
+use Rattle.twin_report_laws.proofs.outcome_laws.twin_words.Members.{Member, at_member, member_map, member_filter, find_member, at_range}
+use Rattle.twin_report_laws.proofs.outcome_laws.twin_words.Results.{IsFunctionKey, own, library, key_view, lead_same, width_same, width_there, width_round, result_renamed, result_tags, void_tags}
+use Rattle.twin_report_laws.proofs.outcome_laws.twin_words.Library.{library_type}
 use Rattle.twin_report_laws.specs.rows.Paired.{ArePaired, flipped}
 use Rattle.twin_report_laws.proofs.rows.Views.{here, over, count_same, all_functions}
 use Rattle.twin_report_laws.proofs.rows.Types.{nodes_moved, own_tags, kept_moved, kept_take, kept_at_moved, type_moved}

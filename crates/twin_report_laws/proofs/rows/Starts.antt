@@ -24,13 +24,13 @@ use Rattle.row_numbers.specs.Functions.{number_of, entity_in, is_owned_by, all_p
 use Rattle.row_numbers.specs.Setting.{none_row, result_row, result_nodes}
 use Rattle.normal_form.specs.Facts.{parameter_rows}
 use Rattle.normal_form.specs.SystemOf.{present_rows, taken_in, given_out, result_rows, entry_constraints, outside_constraints, start_constraints}
-use Rattle.outcome_laws.specs.twin_programs.One.{Numbers}
-use Rattle.outcome_laws.specs.twin_locations.Same.{key_moved}
+use Rattle.twin_report_laws.specs.outcome_laws.twin_programs.One.{Numbers}
+use Rattle.twin_report_laws.specs.outcome_laws.twin_locations.Same.{key_moved}
 use Rattle.twin_report_laws.specs.systems.Systems.{Maps, constraint_moved}
-use Rattle.outcome_laws.proofs.twin_words.Options.{same_test}
-use Rattle.outcome_laws.proofs.twin_words.Members.{Member}
-use Rattle.outcome_laws.proofs.twin_words.Library.{first_below}
-use Rattle.outcome_laws.proofs.twin_words.Results.{result_renamed, result_tags}
+use Rattle.twin_report_laws.proofs.outcome_laws.twin_words.Options.{same_test}
+use Rattle.twin_report_laws.proofs.outcome_laws.twin_words.Members.{Member}
+use Rattle.twin_report_laws.proofs.outcome_laws.twin_words.Library.{first_below}
+use Rattle.twin_report_laws.proofs.outcome_laws.twin_words.Results.{result_renamed, result_tags}
 use Rattle.twin_report_laws.specs.rows.Paired.{ArePaired, flipped}
 use Rattle.twin_report_laws.specs.rows.Ready.{IsReady}
 use Rattle.twin_report_laws.proofs.rows.Views.{here, over, first_same, number_same}

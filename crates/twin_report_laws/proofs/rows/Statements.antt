@@ -38,8 +38,8 @@ use Rattle.system_laws.specs.item_laws.Items.{HasPlace, KindPlaced}
 use Rattle.system_laws.proofs.item_laws.Spots.{IsPut, item_put, entity_of}
 use Rattle.normal_form.specs.declared.normal.Assignment.{Assignment}
 use Rattle.normal_form.specs.Assignments.{copies, given_type, returned_by, return_row, path_node, target_node, spot, put_at, item_row, initialise_row, place_of_kind, value_of_kind, statement_of_kind, row_of_kind, node_assignments}
-use Rattle.outcome_laws.specs.twin_programs.One.{Numbers, SameNode}
-use Rattle.outcome_laws.proofs.twin_words.Results.{result_renamed, result_tags}
+use Rattle.twin_report_laws.specs.outcome_laws.twin_programs.One.{Numbers, SameNode}
+use Rattle.twin_report_laws.proofs.outcome_laws.twin_words.Results.{result_renamed, result_tags}
 use Rattle.twin_report_laws.specs.rows.Paired.{ArePaired}
 use Rattle.twin_report_laws.specs.rows.Ready.{IsReady}
 use Rattle.twin_report_laws.proofs.rows.Views.{here, over, collapsed_same, number_same}

@@ -41,13 +41,13 @@ use Rattle.normal_form.specs.Assignments.{node_assignments, assignments_at, assi
 use Rattle.normal_form.proofs.Demanding.{demanded as each_demanded}
 use Rattle.normal_form.specs.SystemOf.{constraint_of, held_by, library_pair, library_constraints, second_of, argument_constraints, start_constraints, Demands, by_node, by_call, by_library, by_start, setting_of, SystemOf}
 use Rattle.unit_link.specs.Places.{kind_renamed}
-use Rattle.outcome_laws.specs.twin_programs.One.{Numbers, SameNode, LeadsTo}
-use Rattle.outcome_laws.specs.twin_locations.Same.{key_moved, number_moved}
+use Rattle.twin_report_laws.specs.outcome_laws.twin_programs.One.{Numbers, SameNode, LeadsTo}
+use Rattle.twin_report_laws.specs.outcome_laws.twin_locations.Same.{key_moved, number_moved}
 use Rattle.twin_report_laws.specs.systems.Systems.{Maps, constraint_moved, SystemLeads}
-use Rattle.outcome_laws.proofs.twin_words.Sums.{some_one, none_some}
-use Rattle.outcome_laws.proofs.twin_words.Options.{and_then_some}
-use Rattle.outcome_laws.proofs.twin_words.Members.{Member, member_at, at_member, member_split, member_flat, flat_member, map_member, range_at, at_range}
-use Rattle.outcome_laws.proofs.twin_words.Library.{first_below}
+use Rattle.twin_report_laws.proofs.outcome_laws.twin_words.Sums.{some_one, none_some}
+use Rattle.twin_report_laws.proofs.outcome_laws.twin_words.Options.{and_then_some}
+use Rattle.twin_report_laws.proofs.outcome_laws.twin_words.Members.{Member, member_at, at_member, member_split, member_flat, flat_member, map_member, range_at, at_range}
+use Rattle.twin_report_laws.proofs.outcome_laws.twin_words.Library.{first_below}
 use Rattle.twin_report_laws.specs.rows.Paired.{ArePaired, flipped}
 use Rattle.twin_report_laws.specs.rows.Ready.{IsReady, HasCalled}
 use Rattle.twin_report_laws.proofs.rows.Views.{here, over, first_same, entity_round, in_role, role_moved}

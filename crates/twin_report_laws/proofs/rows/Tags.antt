@@ -20,8 +20,8 @@ use Rattle.obj_space.specs.Parts.{Part, only, behind, members_parts, structure_p
 use Rattle.obj_space.specs.Space.{located, locations_by, locations_of, locations_in}
 use Rattle.obj_space.specs.View.{collapsed_of, type_of_node, view_of}
 use Rattle.obj_space.proofs.Small.{IsSmall, AllSmall, objects_small}
-use Rattle.outcome_laws.specs.twin_words.Words.{IsSound}
-use Rattle.outcome_laws.proofs.twin_words.Members.{Member, member_at, member_split, member_map, member_flat}
+use Rattle.twin_report_laws.specs.outcome_laws.twin_words.Words.{IsSound}
+use Rattle.twin_report_laws.proofs.outcome_laws.twin_words.Members.{Member, member_at, member_split, member_map, member_flat}
 use Rattle.twin_report_laws.proofs.rows.Nodes.{some_at, void_past, structure_known}
 use Rattle.twin_report_laws.proofs.rows.Facts.{ApartTags}
 

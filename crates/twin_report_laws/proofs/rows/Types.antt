@@ -21,16 +21,16 @@ use Rattle.link_model.specs.Partition.{HasTags}
 use Rattle.link_merge.proofs.Own.{type_tags}
 use Rattle.row_numbers.specs.Kept.{nodes_in, nodes_of, member_node, is_kept, kept_at, kept_from, kept, kept_count}
 use Rattle.row_numbers.specs.Numbers.{integer_number, type_number}
-use Rattle.outcome_laws.specs.twin_programs.One.{Numbers, SameMembers}
-use Rattle.outcome_laws.specs.twin_locations.Same.{number_moved}
-use Rattle.outcome_laws.proofs.twin_locations.Cells.{tag_moved}
+use Rattle.twin_report_laws.specs.outcome_laws.twin_programs.One.{Numbers, SameMembers}
+use Rattle.twin_report_laws.specs.outcome_laws.twin_locations.Same.{number_moved}
+use Rattle.twin_report_laws.proofs.outcome_laws.twin_locations.Cells.{tag_moved}
 use Rattle.linked_laws.proofs.merged_laws.Completing.{among_first}
 use Rattle.linked_laws.proofs.merged_laws.Members.{stands_within}
-use Rattle.outcome_laws.proofs.twin_words.Sums.{none_some}
-use Rattle.outcome_laws.proofs.twin_words.Extents.{Alike, members_alike, known_before, alike_below}
-use Rattle.outcome_laws.proofs.twin_words.Kept.{kept_same}
-use Rattle.outcome_laws.proofs.twin_words.Tables.{extents}
-use Rattle.outcome_laws.proofs.twin_words.Results.{sort_same}
+use Rattle.twin_report_laws.proofs.outcome_laws.twin_words.Sums.{none_some}
+use Rattle.twin_report_laws.proofs.outcome_laws.twin_words.Extents.{Alike, members_alike, known_before, alike_below}
+use Rattle.twin_report_laws.proofs.outcome_laws.twin_words.Kept.{kept_same}
+use Rattle.twin_report_laws.proofs.outcome_laws.twin_words.Tables.{extents}
+use Rattle.twin_report_laws.proofs.outcome_laws.twin_words.Results.{sort_same}
 use Rattle.twin_report_laws.specs.rows.Paired.{ArePaired}
 
 -- ---- lists

@@ -23,12 +23,12 @@ use Rattle.obj_space.proofs.Indexed.{same_is, same_self}
 use Rattle.row_numbers.specs.declared.functions.Role.{Role}
 use Rattle.row_numbers.specs.declared.functions.Role.TheVariants.{Defined, Parameter as ParameterRole, Main}
 use Rattle.row_numbers.specs.Functions.{has_body, is_parameter, is_external, plays, key_if, keys_in, begins_at, object_at, in_order, function_keys, functions_below, functions_of, number_at, number_of}
-use Rattle.outcome_laws.specs.twin_programs.One.{Numbers}
-use Rattle.outcome_laws.specs.twin_locations.Same.{key_moved, number_moved, SameLocation}
-use Rattle.outcome_laws.proofs.twin_words.Sums.{some_one, none_some}
-use Rattle.outcome_laws.proofs.twin_words.Options.{same_test}
-use Rattle.outcome_laws.proofs.twin_words.Members.{Member, member_left, member_right, member_split, member_map, member_filter, filter_member, member_numbered, numbered_member, find_member, find_some}
-use Rattle.outcome_laws.proofs.twin_words.Library.{one_object}
+use Rattle.twin_report_laws.specs.outcome_laws.twin_programs.One.{Numbers}
+use Rattle.twin_report_laws.specs.outcome_laws.twin_locations.Same.{key_moved, number_moved, SameLocation}
+use Rattle.twin_report_laws.proofs.outcome_laws.twin_words.Sums.{some_one, none_some}
+use Rattle.twin_report_laws.proofs.outcome_laws.twin_words.Options.{same_test}
+use Rattle.twin_report_laws.proofs.outcome_laws.twin_words.Members.{Member, member_left, member_right, member_split, member_map, member_filter, filter_member, member_numbered, numbered_member, find_member, find_some}
+use Rattle.twin_report_laws.proofs.outcome_laws.twin_words.Library.{one_object}
 use Rattle.twin_report_laws.specs.rows.Paired.{ArePaired, flipped}
 
 -- ---- lists of locations side by side

@@ -8,12 +8,12 @@ use Rattle.link_model.specs.filled_units.Filled.{AreFilled}
 use Rattle.unit_link.specs.Needs.{AreLinkable}
 use Rattle.linked_laws.specs.alike_laws.Plain.{DefinePlain}
 use Rattle.obj_space.specs.declared.location.Location.{Location}
-use Rattle.location_laws.specs.named_laws.Units.{AreNamedUnits}
+use Rattle.linked_laws.specs.location_laws.named_laws.Units.{AreNamedUnits}
 use Rattle.unit_report.specs.unit_system.Of.{IsProgramOf, IsSystemOf}
 use Rattle.unit_report.specs.Reported.{IsProgramReport}
 use Rattle.unit_report.specs.unit_answers.Answered.{IsProgramAnswers}
 use Rattle.gen_summary.specs.Summary.{IsProgramSummary}
-use Rattle.outcome_laws.specs.twin_programs.One.{AreOne}
+use Rattle.twin_report_laws.specs.outcome_laws.twin_programs.One.{AreOne}
 use Rattle.twin_report_laws.specs.apart.Apart.{AreUnitsApart}
 
 -- what is known of units that are right for texts of distinct names

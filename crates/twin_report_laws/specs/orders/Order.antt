@@ -9,8 +9,8 @@ use Rattle.core_tree.specs.declared.node.Entity.{Entity}
 use Rattle.core_tree.specs.declared.node.Storage.TheVariants.{Declared}
 use Rattle.core_tree.specs.declared.node.Program.{Program}
 use Rattle.obj_space.specs.Space.{locations_in}
-use Rattle.outcome_laws.specs.twin_programs.One.{AreOne}
-use Rattle.outcome_laws.specs.twin_locations.Same.{SameLocation}
+use Rattle.twin_report_laws.specs.outcome_laws.twin_programs.One.{AreOne}
+use Rattle.twin_report_laws.specs.outcome_laws.twin_locations.Same.{SameLocation}
 
 -- the nodes that may make an object: strings and calls
 abbrev pub MayMake : NodeKind → Type 0

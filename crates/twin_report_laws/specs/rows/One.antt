@@ -5,7 +5,7 @@ use Rattle.sol_model.specs.Systems.{IsValid}
 use Rattle.obj_space.specs.Space.{locations_in}
 use Rattle.obj_space.specs.View.{view_of}
 use Rattle.normal_form.specs.SystemOf.{SystemOf}
-use Rattle.outcome_laws.specs.twin_programs.One.{Numbers}
+use Rattle.twin_report_laws.specs.outcome_laws.twin_programs.One.{Numbers}
 use Rattle.twin_report_laws.specs.reports.Same.{AreOneSystem}
 use Rattle.twin_report_laws.specs.rows.Paired.{ArePaired}
 use Rattle.twin_report_laws.specs.rows.Ready.{IsReady, HasCalled}

@@ -2,9 +2,9 @@
 use Rattle.std.specs.List.{AllZip}
 use Rattle.core_tree.specs.declared.node.Program.{Program}
 use Rattle.obj_space.specs.Space.{locations_in}
-use Rattle.outcome_laws.specs.twin_programs.One.{Numbers, LeadsTo}
-use Rattle.outcome_laws.specs.twin_words.Words.{IsSound}
-use Rattle.outcome_laws.specs.twin_locations.Same.{SameLocation}
+use Rattle.twin_report_laws.specs.outcome_laws.twin_programs.One.{Numbers, LeadsTo}
+use Rattle.twin_report_laws.specs.outcome_laws.twin_words.Words.{IsSound}
+use Rattle.twin_report_laws.specs.outcome_laws.twin_locations.Same.{SameLocation}
 
 -- what is known of two programs
 pub record ArePaired (p q : Program) (to back : Numbers) : Type 0 where

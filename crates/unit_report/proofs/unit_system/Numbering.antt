@@ -1,7 +1,7 @@
 -- What is right for the tree of a unit is that unit.
 use Rattle.std.proofs.Common.{ℕ, subst}
-use Rattle.reading_laws.specs.numbered_laws.Numbered.{AreOfUnit}
-use Rattle.reading_laws.proofs.numbered_laws.Whole.{numbered}
+use Rattle.parsed_tree_laws.specs.reading_laws.numbered_laws.Numbered.{AreOfUnit}
+use Rattle.parsed_tree_laws.proofs.reading_laws.numbered_laws.Whole.{numbered}
 use Rattle.unit_report.specs.unit_system.Numbered.{RightIsNumbered}
 
 pub right_numbered : RightIsNumbered

@@ -13,9 +13,9 @@ use Rattle.obj_space.specs.Space.{locations_in}
 use Rattle.obj_space.specs.View.{view_of}
 use Rattle.normal_form.specs.SystemOf.{SystemOf}
 
--- a program that is linked from units and entered at those names, or begins at main, on a table that the table's own functions made, in which each term comes
--- behind its types, and with so few types that a signature of 32 bits, which is 2 above a type's number, is never
--- that of a type that the table lacks; each number in it is in range
+-- a program that is linked from units and entered at those names, or begins at main, on a table that the table's
+-- own functions made, in which each term comes behind its types, and with so few types that a signature of 32 bits,
+-- which is 2 above a type's number, is never that of a type that the table lacks; each number in it is in range
 pub record IsProgramOf (entered : List (List ℕ)) (units : List Unit) (p : Program) : Type 0 where
   pub linked : LinkedAt entered units p
   pub made : IsMade p.types

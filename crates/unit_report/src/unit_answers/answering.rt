@@ -21,8 +21,8 @@ use crate::unit_answers::fault::{AnswersFault, fault_of};
 use crate::unit_system::UnitSystem;
 use alias_query::ask_rounds::{answers_text, solve_and_ask};
 use alias_query::{Answer, Question, questions};
-use desk_rounds::solve_and_ask_by_desk;
 use pta_base::{Gate, OutOfMemory};
+use question_desk::desk_rounds::solve_and_ask_by_desk;
 use set_rows::{RowSeat, RowTable};
 use sol_model::System;
 use std::alloc::Global;
@@ -55,7 +55,8 @@ fn solved_and_asked<R: Threads + Wait + Sync, G: Gate + Sync>(
     requires workers { (0 < workers) × (workers ≤ 64) }
     ensures own { IfOk result (λ made. IsOf table.now made.0) }
     ensures solved { IfOk result (λ made. HasSolved system.now (view seat) (view made.0)) }
-    ensures answers { IfOk result (λ made. (F : Family) → IsLeast system.now F → AreAnswers system.now F asked.entry.questions.now made.1.items) }
+    ensures answers { IfOk result
+        (λ made. (F : Family) → IsLeast system.now F → AreAnswers system.now F asked.entry.questions.now made.1.items) }
 {
     if asked.desk {
         return solve_and_ask_by_desk(
@@ -94,7 +95,8 @@ fn answer_on_rows<R: Threads + Wait + Sync, G: Gate + Sync>(
     requires valid { IsValid system }
     requires known { All (IsKnown system) asked.questions.now }
     requires workers { (0 < workers) × (workers ≤ 64) }
-    ensures answers { IfOk result (λ found. (F : Family) → IsLeast system F → AreAnswers system F asked.entry.questions.now found.0.items) }
+    ensures answers { IfOk result
+        (λ found. (F : Family) → IsLeast system F → AreAnswers system F asked.entry.questions.now found.0.items) }
     ensures solved { IfOk result (λ found. IsSolved system found.1) }
 {
     let (table, seat) = RowTable::new(alloc, &system)?;

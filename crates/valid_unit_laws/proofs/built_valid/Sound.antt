@@ -20,15 +20,15 @@ use Rattle.parsed_tree_laws.proofs.family_laws.Reading.{units_families}
 use Rattle.parsed_tree_laws.proofs.nesting_laws.Nesting.{units_nest}
 use Rattle.core_node_laws.specs.standing_laws.Standing.{IsGrown}
 use Rattle.parsed_tree_laws.proofs.grown_parts.Reading.{units_bring}
-use Rattle.internal_name_laws.specs.text_rows.Texts.{TypesFit}
-use Rattle.internal_name_laws.proofs.text_rows.Fitting.{asked_fit}
-use Rattle.internal_name_laws.proofs.text_rows.Linked.{types_fit, tree_grown}
+use Rattle.object_initialiser_laws.specs.internal_name_laws.text_rows.Texts.{TypesFit}
+use Rattle.object_initialiser_laws.proofs.internal_name_laws.text_rows.Fitting.{asked_fit}
+use Rattle.object_initialiser_laws.proofs.internal_name_laws.text_rows.Linked.{types_fit, tree_grown}
 use Rattle.declaration_laws.proofs.name_order.Ordered.{units_ordered}
 use Rattle.built_unit_laws.specs.built_rows.Rows.{types_declared}
-use Rattle.owner_laws.proofs.passed.definition_laws.own_initialisers.Standing.{initialisers_stand}
-use Rattle.object_size_laws.specs.passed.object_initialiser_laws.bodies_fit.PassedOn.{InternalFit}
-use Rattle.internal_name_laws.proofs.internal_names.Reading.{internals_fit}
-use Rattle.object_size_laws.proofs.passed.object_initialiser_laws.bodies_fit.PassedOn.{linked_fit}
+use Rattle.declared_type_laws.proofs.owner_laws.passed.definition_laws.own_initialisers.Standing.{initialisers_stand}
+use Rattle.valid_unit_laws.specs.object_size_laws.passed.object_initialiser_laws.bodies_fit.PassedOn.{InternalFit}
+use Rattle.object_initialiser_laws.proofs.internal_name_laws.internal_names.Reading.{internals_fit}
+use Rattle.valid_unit_laws.proofs.object_size_laws.passed.object_initialiser_laws.bodies_fit.PassedOn.{linked_fit}
 use Rattle.parsed_tree_laws.proofs.placed_laws.Climbing.{Grown}
 
 module _

@@ -17,12 +17,12 @@ use Rattle.parsed_tree_laws.proofs.nesting_laws.Nesting.{units_nest}
 use Rattle.core_node_laws.specs.standing_laws.Standing.{IsGrown}
 use Rattle.parsed_tree_laws.proofs.grown_parts.Reading.{units_bring}
 use Rattle.declaration_laws.proofs.name_order.Ordered.{units_ordered}
-use Rattle.owner_laws.proofs.passed.definition_laws.own_initialisers.Standing.{initialisers_stand}
-use Rattle.internal_name_laws.proofs.initialised_rows.Owning.{linked_fit}
+use Rattle.declared_type_laws.proofs.owner_laws.passed.definition_laws.own_initialisers.Standing.{initialisers_stand}
+use Rattle.object_initialiser_laws.proofs.internal_name_laws.initialised_rows.Owning.{linked_fit}
 use Rattle.valid_unit_laws.proofs.built_valid.PassedOn.{internals_fit}
 use Rattle.parsed_tree_laws.proofs.placed_laws.Climbing.{Grown}
-use Rattle.internal_name_laws.specs.initialised_rows.PassedOn.{TypesFit}
-use Rattle.internal_name_laws.proofs.initialised_rows.PassedOn.{types_fit, tree_grown}
+use Rattle.object_initialiser_laws.specs.internal_name_laws.initialised_rows.PassedOn.{TypesFit}
+use Rattle.object_initialiser_laws.proofs.internal_name_laws.initialised_rows.PassedOn.{types_fit, tree_grown}
 use Rattle.built_unit_laws.specs.tag_sizes.Sizes.{TagsSpecified}
 use Rattle.valid_unit_laws.proofs.specified_types.Specified.{types_specified}
 use Rattle.unit_finish.specs.declared.planted_nodes.planting.Planted.{Planted}
@@ -31,11 +31,11 @@ use Rattle.unit_finish.specs.Complete.{IsNamedWhole, IsMadeOf, MakesUnits}
 use Rattle.built_unit_laws.specs.built_parts.Parts.{ArePut, IsPut}
 use Rattle.built_unit_laws.proofs.built_parts.Building.{parts_built}
 use Rattle.valid_unit_laws.proofs.built_valid.Whole.{built_is_valid}
-use Rattle.body_node_laws.specs.known_initials.PassedOn.{AreParts as AreNamedParts}
-use Rattle.body_node_laws.proofs.known_initials.PassedOn.{parts_known}
-use Rattle.body_node_laws.proofs.known_names.Whole.{names_known}
-use Rattle.body_node_laws.proofs.known_initials.Whole.{initials_known}
-use Rattle.body_node_laws.proofs.raised_parts.Whole.{parts_once}
+use Rattle.valid_unit_laws.specs.body_node_laws.known_initials.PassedOn.{AreParts as AreNamedParts}
+use Rattle.valid_unit_laws.proofs.body_node_laws.known_initials.PassedOn.{parts_known}
+use Rattle.valid_unit_laws.proofs.body_node_laws.known_names.Whole.{names_known}
+use Rattle.valid_unit_laws.proofs.body_node_laws.known_initials.Whole.{initials_known}
+use Rattle.valid_unit_laws.proofs.body_node_laws.raised_parts.Whole.{parts_once}
 use Rattle.valid_unit_laws.specs.lowered_laws.Parts.{AreParts, declared_in}
 use Rattle.valid_unit_laws.specs.lowered_laws.Complete.{TextsComplete}
 

@@ -1,1 +1,1 @@
-pub use Rattle.owner_laws.proofs.Naming.{own_leaf}
+pub use Rattle.declared_type_laws.proofs.owner_laws.Naming.{own_leaf}

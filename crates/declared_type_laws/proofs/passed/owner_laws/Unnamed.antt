@@ -1,1 +1,1 @@
-pub use Rattle.owner_laws.proofs.Unnamed.{literal_unnamed}
+pub use Rattle.declared_type_laws.proofs.owner_laws.Unnamed.{literal_unnamed}

@@ -1,1 +1,1 @@
-pub use Rattle.owner_laws.proofs.Whole.{grown_of}
+pub use Rattle.declared_type_laws.proofs.owner_laws.Whole.{grown_of}

@@ -1,1 +1,1 @@
-pub use Rattle.owner_laws.proofs.automatic_runs.Whole.{automatic_runs}
+pub use Rattle.declared_type_laws.proofs.owner_laws.automatic_runs.Whole.{automatic_runs}

@@ -1,1 +1,1 @@
-pub use Rattle.owner_laws.proofs.held_parts.Whole.{units_hold_parts}
+pub use Rattle.declared_type_laws.proofs.owner_laws.held_parts.Whole.{units_hold_parts}

@@ -1,1 +1,1 @@
-pub use Rattle.owner_laws.proofs.held_runs.Whole.{climb}
+pub use Rattle.declared_type_laws.proofs.owner_laws.held_runs.Whole.{climb}

@@ -1,1 +1,1 @@
-pub use Rattle.owner_laws.proofs.internal_laws.Reading.{definitions_known}
+pub use Rattle.declared_type_laws.proofs.owner_laws.internal_laws.Reading.{definitions_known}

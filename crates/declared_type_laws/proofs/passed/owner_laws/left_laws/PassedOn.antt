@@ -1,1 +1,1 @@
-pub use Rattle.owner_laws.proofs.left_laws.PassedOn.{literal_unnamed}
+pub use Rattle.declared_type_laws.proofs.owner_laws.left_laws.PassedOn.{literal_unnamed}

@@ -1,1 +1,1 @@
-pub use Rattle.owner_laws.specs.automatic_runs.Automatic.{RunsFor}
+pub use Rattle.declared_type_laws.specs.owner_laws.automatic_runs.Automatic.{RunsFor}

@@ -1,1 +1,1 @@
-pub use Rattle.owner_laws.specs.held_runs.Runs.{BlockWith}
+pub use Rattle.declared_type_laws.specs.owner_laws.held_runs.Runs.{BlockWith}

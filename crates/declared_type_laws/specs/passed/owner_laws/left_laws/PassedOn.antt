@@ -1,1 +1,1 @@
-pub use Rattle.owner_laws.specs.left_laws.PassedOn.{LeftsStand}
+pub use Rattle.declared_type_laws.specs.owner_laws.left_laws.PassedOn.{LeftsStand}

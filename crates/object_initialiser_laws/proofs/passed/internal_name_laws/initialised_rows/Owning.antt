@@ -1,1 +1,1 @@
-pub use Rattle.internal_name_laws.proofs.initialised_rows.Owning.{linked_fit}
+pub use Rattle.object_initialiser_laws.proofs.internal_name_laws.initialised_rows.Owning.{linked_fit}

@@ -1,1 +1,1 @@
-pub use Rattle.internal_name_laws.proofs.initialised_rows.PassedOn.{asked_fit, types_fit, tree_grown}
+pub use Rattle.object_initialiser_laws.proofs.internal_name_laws.initialised_rows.PassedOn.{asked_fit, types_fit, tree_grown}

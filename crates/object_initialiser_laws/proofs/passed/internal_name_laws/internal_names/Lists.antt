@@ -1,1 +1,1 @@
-pub use Rattle.internal_name_laws.proofs.internal_names.Lists.{last_is}
+pub use Rattle.object_initialiser_laws.proofs.internal_name_laws.internal_names.Lists.{last_is}

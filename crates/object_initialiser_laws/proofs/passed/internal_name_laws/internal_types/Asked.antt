@@ -1,1 +1,1 @@
-pub use Rattle.internal_name_laws.proofs.internal_types.Asked.{declarator_asked}
+pub use Rattle.object_initialiser_laws.proofs.internal_name_laws.internal_types.Asked.{declarator_asked}

@@ -1,1 +1,1 @@
-pub use Rattle.internal_name_laws.proofs.internal_types.Initials.{initialised_words}
+pub use Rattle.object_initialiser_laws.proofs.internal_name_laws.internal_types.Initials.{initialised_words}

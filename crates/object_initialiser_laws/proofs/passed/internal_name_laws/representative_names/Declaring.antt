@@ -1,1 +1,1 @@
-pub use Rattle.internal_name_laws.proofs.representative_names.Declaring.{linked_declares}
+pub use Rattle.object_initialiser_laws.proofs.internal_name_laws.representative_names.Declaring.{linked_declares}

@@ -1,1 +1,1 @@
-pub use Rattle.internal_name_laws.proofs.representative_names.Standing.{representatives_known}
+pub use Rattle.object_initialiser_laws.proofs.internal_name_laws.representative_names.Standing.{representatives_known}

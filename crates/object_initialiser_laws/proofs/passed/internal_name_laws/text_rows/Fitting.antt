@@ -1,1 +1,1 @@
-pub use Rattle.internal_name_laws.proofs.text_rows.Fitting.{grown, asked_fit}
+pub use Rattle.object_initialiser_laws.proofs.internal_name_laws.text_rows.Fitting.{grown, asked_fit}

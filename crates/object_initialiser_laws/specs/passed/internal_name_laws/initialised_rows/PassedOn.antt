@@ -1,1 +1,1 @@
-pub use Rattle.internal_name_laws.specs.initialised_rows.PassedOn.{TypesFit}
+pub use Rattle.object_initialiser_laws.specs.internal_name_laws.initialised_rows.PassedOn.{TypesFit}

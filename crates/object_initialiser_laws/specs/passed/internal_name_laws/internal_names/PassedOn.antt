@@ -1,1 +1,1 @@
-pub use Rattle.internal_name_laws.specs.internal_names.PassedOn.{AreScoped}
+pub use Rattle.object_initialiser_laws.specs.internal_name_laws.internal_names.PassedOn.{AreScoped}

@@ -1,1 +1,1 @@
-pub use Rattle.internal_name_laws.specs.representative_names.Representatives.{IsKnown}
+pub use Rattle.object_initialiser_laws.specs.internal_name_laws.representative_names.Representatives.{IsKnown}

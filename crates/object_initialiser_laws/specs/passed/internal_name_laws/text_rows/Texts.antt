@@ -1,1 +1,1 @@
-pub use Rattle.internal_name_laws.specs.text_rows.Texts.{TypesFit}
+pub use Rattle.object_initialiser_laws.specs.internal_name_laws.text_rows.Texts.{TypesFit}

@@ -1,5 +1,5 @@
 use Rattle.system_laws.proofs.filled_laws.Placed.{linked_placed}
-use Rattle.location_laws.proofs.named_laws.Whole.{linked_whole}
+use Rattle.linked_laws.proofs.location_laws.named_laws.Whole.{linked_whole}
 use Rattle.unit_report.proofs.unit_system.Refused.{program_refused}
 use Rattle.unit_report.proofs.unit_system.Rightness.{right_of}
 use Rattle.unit_report.proofs.unit_system.systems.linked_system.Goals as goal

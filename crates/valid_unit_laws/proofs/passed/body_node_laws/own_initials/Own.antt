@@ -1,1 +1,1 @@
-pub use Rattle.body_node_laws.proofs.own_initials.Own.{units_initialise_own}
+pub use Rattle.valid_unit_laws.proofs.body_node_laws.own_initials.Own.{units_initialise_own}

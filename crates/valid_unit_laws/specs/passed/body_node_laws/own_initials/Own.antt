@@ -1,1 +1,1 @@
-pub use Rattle.body_node_laws.specs.own_initials.Own.{InitialisesOwn}
+pub use Rattle.valid_unit_laws.specs.body_node_laws.own_initials.Own.{InitialisesOwn}

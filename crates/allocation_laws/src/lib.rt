@@ -1,4 +1,0 @@
-//! Which calls reach the functions that allocate: these functions do nothing, and their contracts are the laws.
-#![tactic(auto)]
-
-pub mod laws;

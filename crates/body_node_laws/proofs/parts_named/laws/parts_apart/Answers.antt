@@ -1,5 +1,0 @@
-use Rattle.body_node_laws.proofs.parts_named.Apart.{parts_apart}
-use Rattle.body_node_laws.proofs.parts_named.laws.parts_apart.Goals as goal
-
-pub returns : goal.returns
-returns c = λ tokens unit tree tag_number cut is p. parts_apart tokens unit tree tag_number cut is p

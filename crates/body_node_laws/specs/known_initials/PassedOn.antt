@@ -1,2 +1,0 @@
--- What this crate passes on, from those below it to those above it.
-pub use Rattle.body_node_laws.specs.parts_named.Named.{AreParts}

@@ -1,3 +1,0 @@
-pub mod Looked
-pub mod Layers
-pub mod Laws

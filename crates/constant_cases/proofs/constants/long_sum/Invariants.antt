@@ -1,5 +1,0 @@
-use Rattle.c_consts.specs.Nodes.{AreRows}
-use Rattle.constant_cases.proofs.constants.long_sum.Given as goal
-
-abbrev pub invariant-terms : goal.invariant-terms
-invariant-terms l = AreRows l.sheet.types l.sheet.nodes.items

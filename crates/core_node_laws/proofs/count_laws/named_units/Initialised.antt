@@ -1,0 +1,144 @@
+-- The places of initialisers and compound literals.
+use Rattle.std.proofs.Common.{◌≡◌, ℕ, zero, suc, Bool, true, false, refl, ap, ◌&&◌, ◌||◌, not, List, [], ◌∷◌, Option, Some, None}
+use Rattle.std.specs.Prelude.{is_some, if◌then◌else◌}
+use Rattle.pta_base.specs.declared.kind.Kind.TheVariants.{Operand}
+use Rattle.pta_base.specs.declared.place.Place.{Place}
+use Rattle.c_types.specs.Trees.{Ctype}
+use Rattle.c_grammar.specs.Productions.{p_rest, p_type_name, p_conditional, p_cast, p_unary}
+use Rattle.c_grammar.specs.Words.{sign_left_bracket}
+use Rattle.c_consts.specs.Core.{Core, MoreCores}
+use Rattle.c_inits.specs.Made.{shape_for}
+use Rattle.c_inits.specs.Initial.{Outcome, Places, NoPlace, Placed, lasting}
+use Rattle.c_inits.specs.View as view
+use Rattle.c_senses.specs.Tree.{Source, is_a, has_sign, place_at, child_of}
+use Rattle.c_senses.specs.Given.{Given, Fits, ◌>>=◌}
+use Rattle.c_senses.specs.World.{World}
+use Rattle.c_senses.specs.Conversions.{conversion, typed}
+use Rattle.c_senses.specs.Constants.{constant_in}
+use Rattle.c_senses.specs.Limits.{within_limits}
+use Rattle.c_senses.specs.Places.{Own, First, At, OfPart, own_of, own_within, own_place}
+use Rattle.c_senses.specs.Entities.{with_length, length_seen, entity_of, is_static_object, is_in_static, derived_type, specified_of, initialised_by}
+use Rattle.c_senses.specs.Sense.{Sense, Nothing, IsCore, IsInitial, value_in}
+use Rattle.c_senses.specs.Initialised.{is_fixed, type_along, expression_of, character_core, expression_core, is_automatic, fixed_or, placed_core, placed_cores, new_length, Made, made_of, most_elements, seen, outcome_of, object_initialiser, with_seen, initialised_as, initialised_object, name_of_declarator, init_in, opening, brace, braced, is_in_body, literal_core, literal_of, literal_type, literal_in, designator_row}
+use Rattle.core_node_laws.proofs.count_laws.named_units.Standing.{IsAt, IsOpening, OfSource, AllOfSource}
+use Rattle.core_node_laws.proofs.count_laws.named_units.Giving.{Gives, then_gives, after, if_given, some_given, if_holds}
+use Rattle.core_node_laws.proofs.count_laws.named_units.Values.{place_kept, conversion_kept, typed_kept}
+use Rattle.core_node_laws.proofs.count_laws.named_units.Expressions.{OfSense, at_node, as_sense_kept, value_in_kept}
+
+module _ (s : Source) where
+  by_own : (i : ℕ) (f : ℕ → Place) → ((c : ℕ) → IsAt s (f c)) → (o : Own) → IsAt s (elim o as (λ _. Place) [ First ↦ place_at s i | At leaf ↦ place_at s leaf | OfPart c ↦ f c ])
+  by_own i f h First = at_node s i
+  by_own i f h (At leaf) = at_node s leaf
+  by_own i f h (OfPart c) = h c
+
+  within_node : (depth i : ℕ) → IsAt s (own_within s depth i)
+  within_node zero i = at_node s i
+  within_node (suc depth) i = by_own i (own_within s depth) (λ c. within_node depth c) (own_of s i)
+
+  pub own_node : (i : ℕ) → IsAt s (own_place s i)
+  own_node i = within_node (suc i) i
+
+module _ (w : World) (s : Source) (sense : ℕ → Sense) (each : (i : ℕ) → OfSense s (sense i)) where
+  expression_sense : (o : Option ℕ) → OfSense s (elim o as (λ _. Sense) [ None ↦ Nothing | Some c ↦ sense c ])
+  expression_sense None = tt
+  expression_sense (Some c) = each c
+
+  expression_core_kept : (init : ℕ) (t : Ctype) → Gives (OfSource s) (expression_core w s sense init t)
+  expression_core_kept init t =
+      then_gives (OfSource s) (OfSource s) (value_in w init (expression_of w s sense init)) (λ v. conversion w false init v t) (value_in_kept s w init (expression_of w s sense init) (expression_sense _))
+      (λ v h. conversion_kept s w false init v t h)
+
+  character_kept : (x : Sense) (t : Ctype) (k : ℕ) → OfSense s x → Gives (OfSource s) (character_core w s sense x t k)
+  character_kept (IsCore c) t k h = (place_kept s c h, tt)
+  character_kept x t k h = tt
+
+  value_placed : (o : Option ℕ) (node : ℕ) (t : Ctype) → Gives (OfSource s) (elim o as (λ _. Given Core) [ None ↦ expression_core w s sense node t | Some k ↦ character_core w s sense (expression_of w s sense node) t k ])
+  value_placed None node t = expression_core_kept node t
+  value_placed (Some k) node t = character_kept (expression_of w s sense node) t k (expression_sense _)
+
+  placed_kept : (static : Bool) (p : Placed) (t : Ctype) → Gives (OfSource s) (placed_core w s sense static p t)
+  placed_kept static p t =
+      then_gives (OfSource s) (OfSource s) _ (fixed_or w s sense static p.node) (value_placed p.character p.node t)
+      (λ c h. if_given (OfSource s) (not static || is_fixed (is_automatic w s sense) c) Operand p.node (Fits c) h)
+
+  placed_all : (static : Bool) (t : Ctype) (list : List Placed) → Gives (AllOfSource s) (placed_cores w s sense static t list)
+  placed_all static t [] = tt
+  placed_all static t (p ∷ rest) =
+      some_given (AllOfSource s) (type_along w (Some t) p.path) Operand p.node (λ type. placed_core w s sense static p type >>= (λ c. placed_cores w s sense static t rest >>= (λ more. Fits (MoreCores c more))))
+      (λ type.
+      then_gives (OfSource s) (AllOfSource s) (placed_core w s sense static p type) (λ c. placed_cores w s sense static t rest >>= (λ more. Fits (MoreCores c more))) (placed_kept static p type)
+      (λ c h. then_gives (AllOfSource s) (AllOfSource s) (placed_cores w s sense static t rest) (λ more. Fits (MoreCores c more)) (placed_all static t rest) (λ more k. (h, k))))
+
+  MadeOf : Made w s sense → Type 0
+  MadeOf m = OfSource s m.initial
+
+  made_kept : (static : Bool) (entity : ℕ) (place : Place) (t : Ctype) (outcome : Outcome) → IsAt s place → Gives MadeOf (made_of w s sense static entity place t outcome)
+  unfolding MadeOf
+  made_kept static entity place t (NoPlace node) p = tt
+  made_kept static entity place t (Places actions) p =
+      let whole : Ctype = with_length (new_length w s sense t actions) t in
+      then_gives (AllOfSource s) MadeOf (placed_cores w s sense static whole (lasting [] actions)) _ (placed_all static whole (lasting [] actions)) (λ values h. (p, h))
+
+  object_kept : (at declarator leaf : ℕ) (t : Ctype) → Gives (OfSense s) (object_initialiser w s sense at declarator leaf t)
+  unfolding MadeOf
+  object_kept at declarator leaf t =
+      after (OfSense s) (outcome_of w s sense at (shape_for w.fillable most_elements t) (view.init_at (seen w s sense) s.nodes at)) _
+      (λ outcome.
+      then_gives MadeOf (OfSense s) (made_of w s sense (is_static_object s sense leaf) (entity_of s sense leaf) (own_place s at) t outcome) _
+      (made_kept (is_static_object s sense leaf) (entity_of s sense leaf) (own_place s at) t outcome (own_node s at))
+      (λ m h. if_given (OfSense s) _ Operand leaf (Fits (IsInitial m.initial m.length)) h))
+
+  literal_kept : (at p : ℕ) (t : Ctype) → IsOpening s (opening w s sense p) → Gives (OfSource s) (literal_of w s sense at p t)
+  unfolding MadeOf
+  literal_kept at p t opens =
+      after (OfSource s) (outcome_of w s sense (brace w s sense p) (shape_for w.fillable most_elements t) (braced w s sense (brace w s sense p) (view.items_at (seen w s sense) s.nodes at))) _
+      (λ outcome.
+      then_gives MadeOf (OfSource s) (made_of w s sense (not (is_in_body w s sense at)) (opening w s sense p) (place_at s (brace w s sense p)) t outcome) _
+      (made_kept (not (is_in_body w s sense at)) (opening w s sense p) (place_at s (brace w s sense p)) t outcome (at_node s (brace w s sense p)))
+      (λ m h.
+      if_given (OfSource s) (within_limits w (with_length m.length t) && not (is_in_body w s sense at && is_in_static s sense at)) Operand (opening w s sense p) (Fits (literal_core w s sense p t m))
+      ((at_node s (opening w s sense p), opens), (h, tt))))
+
+  pub designator_kept : (at : ℕ) (children : List ℕ) → Gives (OfSense s) (designator_row w s sense at children)
+  designator_kept at [] = tt
+  designator_kept at (first ∷ rest) =
+      if_holds (Gives (OfSense s)) (has_sign s sign_left_bracket first) _ (Fits Nothing)
+      (some_given (OfSense s) (child_of s p_conditional at) Operand at _ (λ c. after (OfSense s) (constant_in w s at (sense c)) _ (λ n. tt))) tt
+
+  -- whose length was seen before: the same tree
+  seen_kept : (n : Option ℕ) (x : Sense) → OfSense s x → OfSense s (with_seen n x)
+  seen_kept n (IsInitial c None) h = h
+  seen_kept n x h = h
+
+  as_kept : (at declarator leaf : ℕ) (t : Ctype) → Gives (OfSense s) (initialised_as w s sense at declarator leaf t)
+  as_kept at declarator leaf t =
+      let n : Option ℕ = length_seen s sense leaf in
+      then_gives (OfSense s) (OfSense s) (object_initialiser w s sense at declarator leaf (with_length n t)) (λ x. Fits (with_seen n x)) (object_kept at declarator leaf (with_length n t)) (λ x h. seen_kept n x h)
+
+  initialised_kept : (at declarator : ℕ) (o : Option ℕ) → Gives (OfSense s) (initialised_object w s sense at declarator o)
+  initialised_kept at declarator None = tt
+  initialised_kept at declarator (Some leaf) =
+      some_given (OfSense s) (derived_type s sense (specified_of s sense leaf) (Some declarator)) Operand at (initialised_as w s sense at declarator leaf) (λ t. as_kept at declarator leaf t)
+
+  init_in_kept : (at : ℕ) (o : Option ℕ) → Gives (OfSense s) (init_in w s sense at o)
+  init_in_kept at None = tt
+  init_in_kept at (Some declarator) = initialised_kept at declarator (name_of_declarator w s sense (sense declarator))
+
+  pub init_kept : (at : ℕ) (o : Option ℕ) → Gives (OfSense s) (elim o as (λ _. Given Sense) [ None ↦ Fits Nothing | Some p ↦ if is_a s p_rest p then init_in w s sense at (initialised_by s sense at) else Fits Nothing ])
+  init_kept at None = tt
+  init_kept at (Some p) = if_holds (Gives (OfSense s)) (is_a s p_rest p) _ (Fits Nothing) (init_in_kept at (initialised_by s sense at)) tt
+
+  literal_in_kept : (at p : ℕ) (o : Option ℕ) → (is_a s p_cast p || is_a s p_unary p) ≡ true → child_of s p_type_name p ≡ o → Gives (OfSense s) (literal_in w s sense at p o)
+  literal_in_kept at p None kind named = tt
+  literal_in_kept at p (Some t) kind named =
+      as_sense_kept s w (literal_type w s sense at (sense t) >>= (λ type. typed (opening w s sense p) type (literal_of w s sense at p type)))
+      (after (OfSource s) (literal_type w s sense at (sense t)) (λ type. typed (opening w s sense p) type (literal_of w s sense at p type))
+      (λ type. typed_kept s (opening w s sense p) type (literal_of w s sense at p type) (literal_kept at p type (record { node = p; kind = kind; typed = ap is_some named; opens = refl }))))
+
+  pub items_kept : (at : ℕ) (o : Option ℕ) → Gives (OfSense s) (elim o as (λ _. Given Sense) [ None ↦ Fits Nothing | Some p ↦ if is_a s p_cast p || is_a s p_unary p then literal_in w s sense at p (child_of s p_type_name p) else Fits Nothing ])
+  items_kept at None = tt
+  items_kept at (Some p) = by (is_a s p_cast p || is_a s p_unary p) refl
+    where
+      by : (b : Bool) → (is_a s p_cast p || is_a s p_unary p) ≡ b → Gives (OfSense s) (if b then literal_in w s sense at p (child_of s p_type_name p) else Fits Nothing)
+      by true kind = literal_in_kept at p (child_of s p_type_name p) kind refl
+      by false kind = tt

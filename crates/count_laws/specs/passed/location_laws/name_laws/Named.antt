@@ -1,1 +1,0 @@
-pub use Rattle.location_laws.specs.name_laws.Named.{AreMembers, IsText}

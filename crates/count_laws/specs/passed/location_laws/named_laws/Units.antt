@@ -1,1 +1,0 @@
-pub use Rattle.location_laws.specs.named_laws.Units.{IsLocalOf, HasFunction, IsNamedUnit, IsNarrow, SamePlace}

@@ -1,8 +1,0 @@
-//! The counting law: the rows use each operand's tree once.
-#![tactic(auto)]
-
-pub mod count_rows;
-pub mod laws;
-pub mod named_units;
-pub mod once_nodes;
-pub mod single_nodes;

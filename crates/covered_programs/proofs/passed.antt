@@ -1,0 +1,1 @@
+pub mod valid_unit_laws

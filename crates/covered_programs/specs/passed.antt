@@ -1,0 +1,2 @@
+pub mod valid_unit_laws
+pub mod machine_sound

@@ -1,0 +1,1 @@
+pub use Rattle.machine_sound.specs.covered_start.Objects.{IsSolved}

@@ -1,4 +1,0 @@
-//! That statements, jumps, initialisers and returns keep what sets cover: these functions do nothing, and their contracts are the laws.
-#![tactic(auto)]
-
-pub mod laws;

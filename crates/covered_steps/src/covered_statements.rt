@@ -1,0 +1,2 @@
+//! That statements, jumps, initialisers and returns keep what sets cover: these functions do nothing, and their contracts are the laws.
+pub mod laws;

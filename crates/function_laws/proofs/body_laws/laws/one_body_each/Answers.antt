@@ -1,5 +1,0 @@
-use Rattle.function_laws.proofs.body_laws.Apart.{one_body_each}
-use Rattle.function_laws.proofs.body_laws.laws.one_body_each.Goals as goal
-
-pub returns : goal.returns
-returns c = one_body_each

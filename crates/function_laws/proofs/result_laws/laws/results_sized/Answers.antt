@@ -1,5 +1,0 @@
-use Rattle.function_laws.proofs.result_laws.Results.{results_sized}
-use Rattle.function_laws.proofs.result_laws.laws.results_sized.Goals as goal
-
-pub returns : goal.returns
-returns c = λ tokens unit tree tag_number name u cut is built bodied e entity at storage. results_sized tokens unit tree tag_number name u cut is built bodied e entity at storage

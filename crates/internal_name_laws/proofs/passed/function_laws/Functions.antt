@@ -1,1 +1,0 @@
-pub use Rattle.function_laws.proofs.Functions.{functions_fit}

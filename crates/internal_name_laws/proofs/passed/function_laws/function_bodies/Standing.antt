@@ -1,1 +1,0 @@
-pub use Rattle.function_laws.proofs.function_bodies.Standing.{named_by}

@@ -1,1 +1,0 @@
-pub use Rattle.function_laws.proofs.result_laws.Results.{results_sized}

@@ -1,2 +1,0 @@
--- What this crate passes on, from those below it to those above it.
-pub use Rattle.internal_name_laws.specs.text_rows.Texts.{TypesFit}

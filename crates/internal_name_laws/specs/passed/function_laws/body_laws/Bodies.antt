@@ -1,1 +1,0 @@
-pub use Rattle.function_laws.specs.body_laws.Bodies.{BodiesInitialise, BodiesApart}

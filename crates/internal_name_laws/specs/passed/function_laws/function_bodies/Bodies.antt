@@ -1,1 +1,0 @@
-pub use Rattle.function_laws.specs.function_bodies.Bodies.{FunctionFits}

@@ -1,4 +1,0 @@
-//! What linking gives of the library's names: these functions do nothing, and their contracts are the laws.
-#![tactic(auto)]
-
-pub mod laws;

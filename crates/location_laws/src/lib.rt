@@ -1,7 +1,0 @@
-//! Names of locations are distinct; each has one object.
-#![tactic(auto)]
-
-pub mod name_laws;
-pub mod name_shapes;
-pub mod named_laws;
-pub mod object_laws;

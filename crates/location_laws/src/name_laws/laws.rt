@@ -1,8 +1,0 @@
-//! Names of locations.
-ghost use Rattle.location_laws.specs.name_laws.Named.{NamesDistinct};
-
-/// The locations of a program have distinct names, where its units' names differ, its parts are told apart by their names
-/// and places (C11 6.2.1, 6.2.2, 6.7.2.1), and the names are identifiers.
-pub fn names_distinct()
-    ensures { NamesDistinct }
-{}

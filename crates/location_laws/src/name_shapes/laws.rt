@@ -1,7 +1,0 @@
-//! That a name can be read back into its parts.
-ghost use Rattle.location_laws.specs.name_shapes.Shapes.{ReadBack};
-
-/// The parts of an object's name, and what stands behind it, can be read back from the text.
-pub fn read_back()
-    ensures { ReadBack }
-{}

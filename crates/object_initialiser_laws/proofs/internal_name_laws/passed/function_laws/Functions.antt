@@ -1,0 +1,1 @@
+pub use Rattle.declaration_laws.proofs.function_laws.Functions.{functions_fit}

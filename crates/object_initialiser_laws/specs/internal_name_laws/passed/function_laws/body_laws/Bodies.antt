@@ -1,0 +1,1 @@
+pub use Rattle.declaration_laws.specs.function_laws.body_laws.Bodies.{BodiesInitialise, BodiesApart}

@@ -1,0 +1,1 @@
+pub use Rattle.declaration_laws.specs.function_laws.function_bodies.Bodies.{FunctionFits}

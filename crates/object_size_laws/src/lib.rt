@@ -1,8 +1,0 @@
-//! Sizes of objects, and how functions are stored.
-#![tactic(auto)]
-
-pub mod entity_sizes;
-pub mod function_storage;
-pub mod literal_sizes;
-pub mod object_sizes;
-pub mod parameter_sizes;

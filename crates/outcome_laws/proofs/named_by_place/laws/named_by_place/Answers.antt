@@ -1,5 +1,0 @@
-use Rattle.outcome_laws.proofs.named_by_place.Whole.{named_by_place}
-use Rattle.outcome_laws.proofs.named_by_place.laws.named_by_place.Goals as goal
-
-pub returns : goal.returns
-returns c = named_by_place

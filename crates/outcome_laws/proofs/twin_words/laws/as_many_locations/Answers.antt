@@ -1,5 +1,0 @@
-use Rattle.outcome_laws.proofs.twin_words.Whole.{as_many_locations}
-use Rattle.outcome_laws.proofs.twin_words.laws.as_many_locations.Goals as goal
-
-pub returns : goal.returns
-returns c = as_many_locations

@@ -1,2 +1,0 @@
--- What this crate passes on, from those below it to those above it.
-pub use Rattle.owner_laws.proofs.Unnamed.{literal_unnamed}

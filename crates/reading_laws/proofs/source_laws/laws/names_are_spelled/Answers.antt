@@ -1,5 +1,0 @@
-use Rattle.reading_laws.proofs.source_laws.Spelled.{names_spelled}
-use Rattle.reading_laws.proofs.source_laws.laws.names_are_spelled.Goals as goal
-
-pub returns : goal.returns
-returns c = λ s is name h. names_spelled s is name h

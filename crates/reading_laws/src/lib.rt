@@ -1,7 +1,0 @@
-//! Laws of reading a text: its tokens, its syntax tree and its source are one.
-#![tactic(auto)]
-
-pub mod laws;
-pub mod numbered_laws;
-pub mod right_laws;
-pub mod source_laws;

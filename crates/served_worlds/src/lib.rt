@@ -1,4 +1,0 @@
-//! What a linked program's world has of the library: these functions do nothing, and their contracts are the laws.
-#![tactic(auto)]
-
-pub mod laws;

@@ -1,0 +1,13 @@
+use Rattle.std.proofs.Common.{subst}
+use Rattle.sol_model.specs.Families.{Has}
+use Rattle.sol_model.specs.Systems.{width_of}
+use Rattle.sol_model.proofs.Shown.{zeros_show_nothing}
+use Rattle.set_rows.specs.Views.{known, words_of}
+use Rattle.set_rows.specs.declared.view.View.{View}
+use Rattle.solver_cases.proofs.questions.answers.Goals as goal
+
+pub solve-requires-clause-fresh : goal.solve-requires-clause-fresh
+solve-requires-clause-fresh g c κs within row location h =
+    let S = c.args.system.now in
+    let at = λ (v : View). Has (known v) row location in
+    zeros_show_nothing (width_of S) (words_of S) row location (subst at (c.in_ok-table.ensures.view) (subst at (c.split-other.ensures.view) h))

@@ -1,6 +1,0 @@
-//! What initialises what lives for the whole run.
-#![tactic(auto)]
-
-pub mod built_filled;
-pub mod fixed_laws;
-pub mod static_literals;

@@ -1,8 +1,0 @@
-//! What `--stops` prints: the places where the machine may stop for a type, as lines.
-#![tactic(auto)]
-
-mod lines;
-mod systems;
-
-pub use lines::stops_text;
-pub use systems::stops_of_system;

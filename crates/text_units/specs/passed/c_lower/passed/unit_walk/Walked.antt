@@ -1,0 +1,1 @@
+pub use Rattle.c_lower.specs.passed.unit_walk.Walked.{AreDense}
