@@ -16,7 +16,7 @@ use Rattle.set_rows.specs.Views.{OnlyAdded, IsBelowWord, looked, added, known}
 use Rattle.sol_model.proofs.Words.{adds_or}
 use Rattle.set_rows.proofs.Adding.{nothing_added, added_twice, look_only_adds, add_only_adds, known_more}
 use Rattle.sol_model.specs.Systems.{width_of}
-use Rattle.delta_prop.specs.Deltas.{new_bits, gained, AreNews, IsSameBeside, IsSeenOf, IsSound}
+use Rattle.delta_prop.specs.Deltas.{new_bits, gained, AreNews, IsDoneBeside, IsSeenOf, IsSound}
 use Rattle.delta_prop.proofs.Sounding.{sound_look}
 
 pub edge_gives : (S : System) (F : Family) (a b location : ℕ) → IsEdge S F a b → Has F a location → IsGiven S F b location
@@ -116,14 +116,14 @@ listed_same W first k done now news l lt d n none = record {
   few = (let g = gained_next k done now in let f = l.few in omega arith);
 }
 
-pub listed_all : (W first end k : ℕ) (done now : List ℕ) (news : List (ℕ × ℕ)) → Listed W first k done now news → end ≤ k → IsSameBeside W first end done now → AreNews W done now news
+pub listed_all : (W first end k : ℕ) (done now : List ℕ) (news : List (ℕ × ℕ)) → Listed W first k done now news → end ≤ k → IsDoneBeside W first end done now → AreNews W done now news
 listed_all W first end k done now news l past same = record {
   there = λ j new h. (let p = l.there j new h in ((let q = p.0 in let w = l.within in omega arith), p.1));
   whole = λ j b lt h. elim (cases_lt j first) [
-    | inl before ↦ inl (ap (λ (x : ℕ). bit_at x b) (sym (same j lt (inl before))) ∙ h)
+    | inl before ↦ inl (same j lt (inl before) b h)
     | inr from ↦ elim (cases_lt j k) [
       | inl below ↦ l.whole j b (omega arith) below h
-      | inr behind ↦ inl (ap (λ (x : ℕ). bit_at x b) (sym (same j lt (inr (omega arith)))) ∙ h)
+      | inr behind ↦ inl (same j lt (inr (omega arith)) b h)
     ]
   ];
   few = (let f = l.few in let w = l.within in let e : k + (W - k) ≡ W = omega arith in

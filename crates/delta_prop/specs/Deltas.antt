@@ -1,6 +1,6 @@
 -- What a row has newly, and where it has gone.
-use Rattle.std.specs.Prelude.{◌≡◌, ◌⊎◌, ℕ, zero, suc, ◌+◌, ◌*◌, ◌<◌, ◌≤◌, List, length, slice_index, bit_and, count_ones}
-use Rattle.std.specs.Prelude.{Contains}
+use Rattle.std.specs.Prelude.{◌≡◌, ◌⊎◌, ℕ, zero, suc, ◌+◌, ◌*◌, ◌<◌, ◌≤◌, List, length, slice_index}
+use Rattle.std.specs.Prelude.{Contains, bit_and, count_ones}
 use Rattle.std.specs.Int.{bit_at, bit_not, w64}
 use Rattle.sol_model.specs.declared.system.System.{System}
 use Rattle.sol_model.specs.Families.{Family}
@@ -38,10 +38,10 @@ abbrev pub IsAllOf : ℕ → List ℕ → ℕ → List ℕ → Type 0
 IsAllOf width seen row words =
     (k : ℕ) → k < width → Within (slice_index seen (row * width + k)) (slice_index words k)
 
--- but for those from one number on and below another, the words are those that were done
-abbrev pub IsSameBeside : ℕ → ℕ → ℕ → List ℕ → List ℕ → Type 0
-IsSameBeside width first end done now =
-    (k : ℕ) → k < width → (k < first) ⊎ (end ≤ k) → slice_index now k ≡ slice_index done k
+-- but for those from one number on and below another, the words have no more than those that were done
+abbrev pub IsDoneBeside : ℕ → ℕ → ℕ → List ℕ → List ℕ → Type 0
+IsDoneBeside width first end done now =
+    (k : ℕ) → k < width → (k < first) ⊎ (end ≤ k) → Within (slice_index now k) (slice_index done k)
 
 -- some rule demands each edge of the book
 pub record AllDemanded (S : System) (F : Family) (book : List (ℕ × ℕ)) : Type 0 where

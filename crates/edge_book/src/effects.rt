@@ -38,7 +38,9 @@ fn fresh_of(system: &System, call: &CallSite, number: usize) -> Option<u32>
 fn reached_of(system: &System, call: &CallSite, k: u8, location: u32) -> Option<u32>
     requires call { IsCallValid system.now call.now }
     requires location { IsLocation system.now location }
-    ensures value { (object : ℕ) → (((row : ℕ) × (argument_row call.now k ≡ Some row) × Has (only call.now.callee location) row object) ↔ (result ≡ Some object)) }
+    ensures value { (object : ℕ)
+        → (((row : ℕ) × (argument_row call.now k ≡ Some row) × Has (only call.now.callee location) row object)
+        ↔ (result ≡ Some object)) }
     ensures known { IfSome result (IsLocation system.now) }
 {
     if argument_row(system, call, k) == Some(call.callee) {
@@ -79,7 +81,8 @@ fn put_effect(
     requires function { slice_get system.now.functions number ≡ Some function.now }
     requires location { IsLocation system.now location × (function.now.location ≡ location) }
     requires library { function.now.library ≡ Some library }
-    ensures { OnOk result (Gains pairs.old.items pairs.new.items (EffectEdge system.now (only call.now.callee location) call.now number effect)) }
+    ensures { OnOk result
+        (Gains pairs.old.items pairs.new.items (EffectEdge system.now (only call.now.callee location) call.now number effect)) }
 {
     match effect {
         Effect::Nothing => {}
@@ -116,7 +119,9 @@ fn put_plain(
 ) -> Result<(), OutOfMemory>
     requires call { IsCallValid system.now call.now }
     requires known { IsFunctionValid system.now function.now }
-    ensures { OnOk result (Gains pairs.old.items pairs.new.items (TargetEdge system.now (only call.now.callee location) call.now number function.now None)) }
+    ensures { OnOk result
+        (Gains pairs.old.items pairs.new.items
+        (TargetEdge system.now (only call.now.callee location) call.now number function.now None)) }
 {
     put_joined(
         pairs,
@@ -148,7 +153,9 @@ fn put_effects(
     requires function { slice_get system.now.functions number ≡ Some function.now }
     requires location { IsLocation system.now location × (function.now.location ≡ location) }
     requires library { function.now.library ≡ Some library }
-    ensures { OnOk result (Gains pairs.old.items pairs.new.items (TargetEdge system.now (only call.now.callee location) call.now number function.now (Some library))) }
+    ensures { OnOk result
+        (Gains pairs.old.items pairs.new.items
+        (TargetEdge system.now (only call.now.callee location) call.now number function.now (Some library))) }
 {
     for i in 0..function.effects.len() {
         let effect = effect_at(function, i);
@@ -173,7 +180,9 @@ fn put_target(
     requires function { slice_get system.now.functions number ≡ Some function.now }
     requires known { IsFunctionValid system.now function.now }
     requires location { IsLocation system.now location × (function.now.location ≡ location) }
-    ensures { OnOk result (Gains pairs.old.items pairs.new.items (TargetEdge system.now (only call.now.callee location) call.now number function.now function.now.library)) }
+    ensures { OnOk result
+        (Gains pairs.old.items pairs.new.items
+        (TargetEdge system.now (only call.now.callee location) call.now number function.now function.now.library)) }
 {
     match function.library {
         None => put_plain(pairs, system, call, number, function, location),
@@ -191,7 +200,10 @@ pub(crate) fn put_call(
     requires valid { IsValid system.now }
     requires call { call < length system.now.calls }
     requires location { IsLocation system.now location }
-    ensures { (site : CallSite) → slice_get system.now.calls call ≡ Some site → OnOk result (Gains pairs.old.items pairs.new.items (DemandsEdge system.now (only site.callee location) (Constraint.Call call))) }
+    ensures { (site : CallSite)
+        → slice_get system.now.calls call ≡ Some site
+        → OnOk result
+        (Gains pairs.old.items pairs.new.items (DemandsEdge system.now (only site.callee location) (Constraint.Call call))) }
 {
     let site = call_at(system, call as usize);
     let Some(number) = location_fact(system, location).function else {

@@ -77,7 +77,10 @@ pub(crate) fn put_objects(
     requires valid { IsValid system.now }
     requires to { IfSome to (IsLocation system.now) }
     requires from { IfSome from (IsLocation system.now) }
-    ensures { OnOk result (Gains pairs.old.items pairs.new.items (λ a b. (target : ℕ) × (source : ℕ) × (to ≡ Some target) × (from ≡ Some source) × PairEdge system.now target source a b)) }
+    ensures { OnOk result
+        (Gains pairs.old.items pairs.new.items
+        (λ a b. (target : ℕ) × (source : ℕ) × (to ≡ Some target) × (from ≡ Some source)
+        × PairEdge system.now target source a b)) }
 {
     if let (Some(target), Some(source)) = (to, from) {
         put_copy(pairs, system, target, source)?;

@@ -49,7 +49,8 @@ impl Leaving {
     pub(crate) fn push_reserved(&mut self, row: u32, to: u32)
         requires there { row < length self.old.lists.items }
         requires room { HasRoom self.old.lists.items row }
-        ensures { (other : ℕ) → listed self.new.lists.items other ≡ listed self.old.lists.items other ++ (if row == other then to ∷ [] else []) }
+        ensures { (other : ℕ)
+            → listed self.new.lists.items other ≡ listed self.old.lists.items other ++ (if row == other then to ∷ [] else []) }
     {
         self.lists[row as usize].push_reserved(to);
     }

@@ -16,7 +16,9 @@ use sol_model::{Constraint, System};
 /// Puts pairs in order, each once. No pair comes or goes.
 pub fn in_order(pairs: &mut Vec<(u32, u32)>)
     ensures order { IsStrictlySortedBy pair_order pairs.new.items }
-    ensures same { (pair : ℕ × ℕ) → (Contains pairs.new.items pair → Contains pairs.old.items pair) × (Contains pairs.old.items pair → Contains pairs.new.items pair) }
+    ensures same { (pair : ℕ × ℕ)
+        → (Contains pairs.new.items pair → Contains pairs.old.items pair)
+        × (Contains pairs.old.items pair → Contains pairs.new.items pair) }
 {
     pairs.sort_unstable();
     pairs.dedup();
@@ -33,10 +35,15 @@ impl PairBook {
         location: u32,
     ) -> Result<u32, OutOfMemory>
         requires valid { IsValid system.now }
-        requires load { (pointer : ℕ) × (to : ℕ) × (ty : ℕ) × (sub : ℕ) × (slice_get system.now.constraints constraint ≡ Some (Constraint.Load pointer to ty sub)) }
+        requires load { (pointer : ℕ) × (to : ℕ) × (ty : ℕ) × (sub : ℕ)
+            × (slice_get system.now.constraints constraint ≡ Some (Constraint.Load pointer to ty sub)) }
         requires location { IsLocation system.now location }
-        ensures ok { (pointer to ty sub : ℕ) → slice_get system.now.constraints constraint ≡ Some (Constraint.Load pointer to ty sub) → IfOk result (TakesPairs system.now (only pointer location) (Constraint.Load pointer to ty sub) self.old self.new) }
-        ensures err { (pointer to ty sub : ℕ) → slice_get system.now.constraints constraint ≡ Some (Constraint.Load pointer to ty sub) → OnErr result (TakesFirst system.now (only pointer location) (Constraint.Load pointer to ty sub) self.old self.new) }
+        ensures ok { (pointer to ty sub : ℕ)
+            → slice_get system.now.constraints constraint ≡ Some (Constraint.Load pointer to ty sub)
+            → IfOk result (TakesPairs system.now (only pointer location) (Constraint.Load pointer to ty sub) self.old self.new) }
+        ensures err { (pointer to ty sub : ℕ)
+            → slice_get system.now.constraints constraint ≡ Some (Constraint.Load pointer to ty sub)
+            → OnErr result (TakesFirst system.now (only pointer location) (Constraint.Load pointer to ty sub) self.old self.new) }
     {
         let Constraint::Load {
             pointer: _,
@@ -66,10 +73,16 @@ impl PairBook {
         location: u32,
     ) -> Result<u32, OutOfMemory>
         requires valid { IsValid system.now }
-        requires store { (pointer : ℕ) × (from : ℕ) × (ty : ℕ) × (sub : ℕ) × (slice_get system.now.constraints constraint ≡ Some (Constraint.Store pointer from ty sub)) }
+        requires store { (pointer : ℕ) × (from : ℕ) × (ty : ℕ) × (sub : ℕ)
+            × (slice_get system.now.constraints constraint ≡ Some (Constraint.Store pointer from ty sub)) }
         requires location { IsLocation system.now location }
-        ensures ok { (pointer from ty sub : ℕ) → slice_get system.now.constraints constraint ≡ Some (Constraint.Store pointer from ty sub) → IfOk result (TakesPairs system.now (only pointer location) (Constraint.Store pointer from ty sub) self.old self.new) }
-        ensures err { (pointer from ty sub : ℕ) → slice_get system.now.constraints constraint ≡ Some (Constraint.Store pointer from ty sub) → OnErr result (TakesFirst system.now (only pointer location) (Constraint.Store pointer from ty sub) self.old self.new) }
+        ensures ok { (pointer from ty sub : ℕ)
+            → slice_get system.now.constraints constraint ≡ Some (Constraint.Store pointer from ty sub)
+            → IfOk result (TakesPairs system.now (only pointer location) (Constraint.Store pointer from ty sub) self.old self.new) }
+        ensures err { (pointer from ty sub : ℕ)
+            → slice_get system.now.constraints constraint ≡ Some (Constraint.Store pointer from ty sub)
+            → OnErr result
+            (TakesFirst system.now (only pointer location) (Constraint.Store pointer from ty sub) self.old self.new) }
     {
         let Constraint::Store {
             pointer: _,
@@ -101,8 +114,12 @@ impl PairBook {
         requires valid { IsValid system.now }
         requires call { call < length system.now.calls }
         requires location { IsLocation system.now location }
-        ensures ok { (site : CallSite) → slice_get system.now.calls call ≡ Some site → IfOk result (TakesPairs system.now (only site.callee location) (Constraint.Call call) self.old self.new) }
-        ensures err { (site : CallSite) → slice_get system.now.calls call ≡ Some site → OnErr result (StaysOrTakesFirst system.now (only site.callee location) (Constraint.Call call) self.old self.new) }
+        ensures ok { (site : CallSite)
+            → slice_get system.now.calls call ≡ Some site
+            → IfOk result (TakesPairs system.now (only site.callee location) (Constraint.Call call) self.old self.new) }
+        ensures err { (site : CallSite)
+            → slice_get system.now.calls call ≡ Some site
+            → OnErr result (StaysOrTakesFirst system.now (only site.callee location) (Constraint.Call call) self.old self.new) }
     {
         let mut pairs = self.no_pairs();
         put_call(&mut pairs, system, call, location)?;

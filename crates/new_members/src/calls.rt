@@ -4,7 +4,8 @@ ghost use Rattle.edge_book.specs.Edges.{Gains};
 ghost use Rattle.sol_model.specs.Families.{members};
 ghost use Rattle.sol_model.specs.Systems.{IsValid, Fits, IsLocation, IsCallValid};
 ghost use Rattle.sol_model.specs.declared.system.CallSite.{CallSite};
-ghost use Rattle.new_members.specs.News.{Takes, IsLibraryAt, LibraryEdge, LibraryFact, NewLibraryEdge, EnteredEdge, NewCallEdge, NewCallFact};
+ghost use Rattle.new_members.specs.News.{Takes, IsLibraryAt, LibraryEdge, LibraryFact, NewLibraryEdge, EnteredEdge};
+ghost use Rattle.new_members.specs.News.{NewCallEdge, NewCallFact};
 
 use crate::books::add_all;
 use crate::effects::{enter_edges, enter_facts, renew_edges};
@@ -74,7 +75,9 @@ fn renew_library(
     requires call { IsCallValid system.now call.now }
     requires new { All (IsLocation system.now) news.now.new.now }
     requires location { IsLocation system.now location }
-    ensures { OnOk result (Gains pairs.old.items pairs.new.items (NewLibraryEdge system.now (members rows.now) call.now news.now.row news.now.new.now location)) }
+    ensures { OnOk result
+        (Gains pairs.old.items pairs.new.items
+        (NewLibraryEdge system.now (members rows.now) call.now news.now.row news.now.new.now location)) }
 {
     let Some(number) = library_at(system, call, location) else {
         return Ok(());
@@ -106,8 +109,12 @@ fn enter_libraries(
     requires fits { Fits system.now rows.now }
     requires call { IsCallValid system.now call.now }
     requires new { All (IsLocation system.now) new.now }
-    ensures pairs { OnOk result (Gains pairs.old.items pairs.new.items (λ a b. (location : ℕ) × Contains new.now location × LibraryEdge system.now (members rows.now) call.now location a b)) }
-    ensures facts { OnOk result (Gains facts.old.items facts.new.items (λ a b. (location : ℕ) × Contains new.now location × LibraryFact system.now call.now location a b)) }
+    ensures pairs { OnOk result
+        (Gains pairs.old.items pairs.new.items
+        (λ a b. (location : ℕ) × Contains new.now location × LibraryEdge system.now (members rows.now) call.now location a b)) }
+    ensures facts { OnOk result
+        (Gains facts.old.items facts.new.items
+        (λ a b. (location : ℕ) × Contains new.now location × LibraryFact system.now call.now location a b)) }
 {
     for location in new {
         enter_library(alloc, pairs, facts, system, rows, call, *location)?;
@@ -130,7 +137,10 @@ fn renew_libraries(
     requires call { IsCallValid system.now call.now }
     requires new { All (IsLocation system.now) news.now.new.now }
     requires locations { All (IsLocation system.now) locations.now }
-    ensures { OnOk result (Gains pairs.old.items pairs.new.items (λ a b. (location : ℕ) × Contains locations.now location × NewLibraryEdge system.now (members rows.now) call.now news.now.row news.now.new.now location a b)) }
+    ensures { OnOk result
+        (Gains pairs.old.items pairs.new.items
+        (λ a b. (location : ℕ) × Contains locations.now location
+        × NewLibraryEdge system.now (members rows.now) call.now news.now.row news.now.new.now location a b)) }
 {
     for location in locations {
         renew_library(alloc, pairs, system, rows, call, news, *location)?;
@@ -148,7 +158,11 @@ fn enter_plain(
     requires valid { IsValid system.now }
     requires call { number < length system.now.calls }
     requires new { All (IsLocation system.now) new.now }
-    ensures { (site : CallSite) → slice_get system.now.calls number ≡ Some site → OnOk result (Takes book.old book.new (λ a b. (location : ℕ) × Contains new.now location × EnteredEdge system.now site number location a b)) }
+    ensures { (site : CallSite)
+        → slice_get system.now.calls number ≡ Some site
+        → OnOk result
+        (Takes book.old book.new
+        (λ a b. (location : ℕ) × Contains new.now location × EnteredEdge system.now site number location a b)) }
 {
     for location in new {
         book.edges_of_call(system, number, *location)?;
@@ -170,8 +184,13 @@ pub(crate) fn renew_call(
     requires fits { Fits system.now rows.now }
     requires call { number < length system.now.calls }
     requires new { All (IsLocation system.now) news.now.new.now }
-    ensures book { (site : CallSite) → slice_get system.now.calls number ≡ Some site → OnOk result (Takes book.old book.new (NewCallEdge system.now (members rows.now) site number news.now.row news.now.new.now)) }
-    ensures facts { (site : CallSite) → slice_get system.now.calls number ≡ Some site → OnOk result (Gains facts.old.items facts.new.items (NewCallFact system.now site news.now.row news.now.new.now)) }
+    ensures book { (site : CallSite)
+        → slice_get system.now.calls number ≡ Some site
+        → OnOk result
+        (Takes book.old book.new (NewCallEdge system.now (members rows.now) site number news.now.row news.now.new.now)) }
+    ensures facts { (site : CallSite)
+        → slice_get system.now.calls number ≡ Some site
+        → OnOk result (Gains facts.old.items facts.new.items (NewCallFact system.now site news.now.row news.now.new.now)) }
 {
     let call = call_at(system, number as usize);
     let mut pairs = Vec::new(alloc);

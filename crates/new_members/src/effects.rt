@@ -113,7 +113,9 @@ fn renew_effect(
     requires fits { Fits system.now rows.now }
     requires call { IsCallValid system.now call.now }
     requires new { All (IsLocation system.now) news.now.new.now }
-    ensures { OnOk result (Gains pairs.old.items pairs.new.items (NewEdge system.now (members rows.now) call.now number news.now.row news.now.new.now effect)) }
+    ensures { OnOk result
+        (Gains pairs.old.items pairs.new.items
+        (NewEdge system.now (members rows.now) call.now number news.now.row news.now.new.now effect)) }
 {
     match effect {
         Effect::Nothing => {}
@@ -153,7 +155,10 @@ pub(crate) fn enter_edges(
     requires valid { IsValid system.now }
     requires fits { Fits system.now rows.now }
     requires call { IsCallValid system.now call.now }
-    ensures { OnOk result (Gains pairs.old.items pairs.new.items (λ a b. (effect : Effect) × Contains function.now.effects effect × EffectEdge system.now (members rows.now) call.now number effect a b)) }
+    ensures { OnOk result
+        (Gains pairs.old.items pairs.new.items
+        (λ a b. (effect : Effect) × Contains function.now.effects effect
+        × EffectEdge system.now (members rows.now) call.now number effect a b)) }
 {
     for i in 0..function.effects.len() {
         enter_effect(
@@ -179,7 +184,9 @@ pub(crate) fn enter_facts(
     function: &Function,
 ) -> Result<(), OutOfMemory>
     requires call { IsCallValid system.now call.now }
-    ensures { OnOk result (Gains facts.old.items facts.new.items (λ a b. (effect : Effect) × Contains function.now.effects effect × EffectFact call.now number effect a b)) }
+    ensures { OnOk result
+        (Gains facts.old.items facts.new.items
+        (λ a b. (effect : Effect) × Contains function.now.effects effect × EffectFact call.now number effect a b)) }
 {
     for i in 0..function.effects.len() {
         enter_fresh(alloc, facts, system, call, number, effect_at(function, i))?;
@@ -202,7 +209,10 @@ pub(crate) fn renew_edges(
     requires fits { Fits system.now rows.now }
     requires call { IsCallValid system.now call.now }
     requires new { All (IsLocation system.now) news.now.new.now }
-    ensures { OnOk result (Gains pairs.old.items pairs.new.items (λ a b. (effect : Effect) × Contains function.now.effects effect × NewEdge system.now (members rows.now) call.now number news.now.row news.now.new.now effect a b)) }
+    ensures { OnOk result
+        (Gains pairs.old.items pairs.new.items
+        (λ a b. (effect : Effect) × Contains function.now.effects effect
+        × NewEdge system.now (members rows.now) call.now number news.now.row news.now.new.now effect a b)) }
 {
     for i in 0..function.effects.len() {
         let effect = effect_at(function, i);

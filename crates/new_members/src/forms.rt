@@ -26,9 +26,12 @@ pub(crate) fn renew_load(
     new: &[u32],
 ) -> Result<(), OutOfMemory>
     requires valid { IsValid system.now }
-    requires load { (pointer : ℕ) × (to : ℕ) × (ty : ℕ) × (sub : ℕ) × (slice_get system.now.constraints constraint ≡ Some (Constraint.Load pointer to ty sub)) }
+    requires load { (pointer : ℕ) × (to : ℕ) × (ty : ℕ) × (sub : ℕ)
+        × (slice_get system.now.constraints constraint ≡ Some (Constraint.Load pointer to ty sub)) }
     requires new { All (IsLocation system.now) new.now }
-    ensures { (pointer to ty sub : ℕ) → slice_get system.now.constraints constraint ≡ Some (Constraint.Load pointer to ty sub) → OnOk result (Takes book.old book.new (NewPointerEdge system.now pointer new.now (Constraint.Load pointer to ty sub))) }
+    ensures { (pointer to ty sub : ℕ)
+        → slice_get system.now.constraints constraint ≡ Some (Constraint.Load pointer to ty sub)
+        → OnOk result (Takes book.old book.new (NewPointerEdge system.now pointer new.now (Constraint.Load pointer to ty sub))) }
 {
     for location in new {
         book.edges_of_load(system, constraint, *location)?;
@@ -44,9 +47,12 @@ pub(crate) fn renew_store(
     new: &[u32],
 ) -> Result<(), OutOfMemory>
     requires valid { IsValid system.now }
-    requires store { (pointer : ℕ) × (from : ℕ) × (ty : ℕ) × (sub : ℕ) × (slice_get system.now.constraints constraint ≡ Some (Constraint.Store pointer from ty sub)) }
+    requires store { (pointer : ℕ) × (from : ℕ) × (ty : ℕ) × (sub : ℕ)
+        × (slice_get system.now.constraints constraint ≡ Some (Constraint.Store pointer from ty sub)) }
     requires new { All (IsLocation system.now) new.now }
-    ensures { (pointer from ty sub : ℕ) → slice_get system.now.constraints constraint ≡ Some (Constraint.Store pointer from ty sub) → OnOk result (Takes book.old book.new (NewPointerEdge system.now pointer new.now (Constraint.Store pointer from ty sub))) }
+    ensures { (pointer from ty sub : ℕ)
+        → slice_get system.now.constraints constraint ≡ Some (Constraint.Store pointer from ty sub)
+        → OnOk result (Takes book.old book.new (NewPointerEdge system.now pointer new.now (Constraint.Store pointer from ty sub))) }
 {
     for location in new {
         book.edges_of_store(system, constraint, *location)?;

@@ -22,7 +22,10 @@ pub(crate) struct News<'a> {
 /// Adds the number of each bit of a word, counted on from `base`.
 fn put_bits(list: &mut Vec<u32>, word: u64, base: u32) -> Result<(), OutOfMemory>
     requires { base + 64 ≤ 2 ^ 32 }
-    ensures { OnOk result ((location : ℕ) → (Contains list.new.items location ↔ (Contains list.old.items location ⊎ ((k : ℕ) × (k < 64) × (bit_at word k ≡ 1) × (location ≡ base + k))))) }
+    ensures { OnOk result
+        ((location : ℕ)
+        → (Contains list.new.items location
+        ↔ (Contains list.old.items location ⊎ ((k : ℕ) × (k < 64) × (bit_at word k ≡ 1) × (location ≡ base + k))))) }
 {
     for k in 0..64u32 {
         if word >> k & 1 == 1 {
@@ -43,7 +46,10 @@ pub(crate) fn new_between(
 ) -> Result<Vec<u32>, OutOfMemory>
     requires small { length words.now ≤ 2 ^ 24 }
     requires range { (first ≤ end) × (end ≤ length words.now) }
-    ensures { IfOk result (λ list. (location : ℕ) → (Contains list.items location ↔ (IsIn words.now location × (IsIn without.now location → ⊥) × (first ≤ location / 64) × (location / 64 < end)))) }
+    ensures { IfOk result
+        (λ list. (location : ℕ)
+        → (Contains list.items location
+        ↔ (IsIn words.now location × (IsIn without.now location → ⊥) × (first ≤ location / 64) × (location / 64 < end)))) }
 {
     let mut list = Vec::new(alloc);
     for k in first..end {
@@ -63,7 +69,8 @@ pub(crate) fn new_members(
     without: &[u64],
 ) -> Result<Vec<u32>, OutOfMemory>
     requires { length words.now ≤ 2 ^ 24 }
-    ensures { IfOk result (λ list. (location : ℕ) → (Contains list.items location ↔ (IsIn words.now location × (IsIn without.now location → ⊥)))) }
+    ensures { IfOk result
+        (λ list. (location : ℕ) → (Contains list.items location ↔ (IsIn words.now location × (IsIn without.now location → ⊥)))) }
 {
     new_between(alloc, words, without, 0, words.len())
 }
@@ -94,7 +101,9 @@ pub(crate) fn members_of_any(
     requires valid { IsValid system.now }
     requires fits { Fits system.now rows.now }
     requires row { IfSome row (IsRow system.now) }
-    ensures has { IfOk result (λ list. (location : ℕ) → (Contains list.items location ↔ ((at : ℕ) × (row ≡ Some at) × Has (members rows.now) at location))) }
+    ensures has { IfOk result
+        (λ list. (location : ℕ)
+        → (Contains list.items location ↔ ((at : ℕ) × (row ≡ Some at) × Has (members rows.now) at location))) }
     ensures known { IfOk result (λ list. All (IsLocation system.now) list.items) }
 {
     match row {
@@ -143,7 +152,8 @@ pub(crate) fn argument_members(
     requires valid { IsValid system.now }
     requires fits { Fits system.now rows.now }
     requires call { IsCallValid system.now call.now }
-    ensures has { IfOk result (λ list. (location : ℕ) → (Contains list.items location ↔ IsInArgument (members rows.now) call.now number k location)) }
+    ensures has { IfOk result
+        (λ list. (location : ℕ) → (Contains list.items location ↔ IsInArgument (members rows.now) call.now number k location)) }
     ensures known { IfOk result (λ list. All (IsLocation system.now) list.items) }
 {
     if k == 0 {

@@ -119,7 +119,9 @@ pub(crate) fn put_backs(
     requires valid { IsValid system.now }
     requires call { IsCallValid system.now call.now }
     requires locations { All (IsLocation system.now) locations.now }
-    ensures { OnOk result (Gains pairs.old.items pairs.new.items (λ a b. (location : ℕ) × Contains locations.now location × BackEdge system.now call.now passed location a b)) }
+    ensures { OnOk result
+        (Gains pairs.old.items pairs.new.items
+        (λ a b. (location : ℕ) × Contains locations.now location × BackEdge system.now call.now passed location a b)) }
 {
     for location in locations {
         put_back(pairs, system, call, passed, *location)?;

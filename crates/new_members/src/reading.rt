@@ -29,7 +29,10 @@ fn put_call_readers(
 ) -> Result<(), OutOfMemory>
     requires valid { IsValid system.now }
     requires call { call < length system.now.calls }
-    ensures { (site : CallSite) → slice_get system.now.calls call ≡ Some site → OnOk result (Gains readers.old readers.new (λ a b. ((a ≡ site.callee) ⊎ ((k : ℕ) × (argument_row site k ≡ Some a))) × (b ≡ number))) }
+    ensures { (site : CallSite)
+        → slice_get system.now.calls call ≡ Some site
+        → OnOk result
+        (Gains readers.old readers.new (λ a b. ((a ≡ site.callee) ⊎ ((k : ℕ) × (argument_row site k ≡ Some a))) × (b ≡ number))) }
 {
     let site = call_at(system, call as usize);
     put_reader(readers, site.callee, number)?;

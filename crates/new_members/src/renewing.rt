@@ -34,8 +34,17 @@ fn renew_constraint(
     requires new { All (IsLocation system.now) news.now.new.now }
     requires members { (location : ℕ) → Contains news.now.new.now location → Has (members rows.now) news.now.row location }
     ensures kept { OnOk result (Extends book.old book.new) }
-    ensures book { (F : Family) (constraint : Constraint) → IsGrown F (members rows.now) news.now.row news.now.new.now → slice_get system.now.constraints number ≡ Some constraint → OnOk result (Renews book.old book.new (DemandsEdge system.now F constraint) (DemandsEdge system.now (members rows.now) constraint)) }
-    ensures facts { (F : Family) (constraint : Constraint) → IsGrown F (members rows.now) news.now.row news.now.new.now → slice_get system.now.constraints number ≡ Some constraint → OnOk result (Renews facts.old.items facts.new.items (DemandsFact system.now F constraint) (DemandsFact system.now (members rows.now) constraint)) }
+    ensures book { (F : Family) (constraint : Constraint)
+        → IsGrown F (members rows.now) news.now.row news.now.new.now
+        → slice_get system.now.constraints number ≡ Some constraint
+        → OnOk result
+        (Renews book.old book.new (DemandsEdge system.now F constraint) (DemandsEdge system.now (members rows.now) constraint)) }
+    ensures facts { (F : Family) (constraint : Constraint)
+        → IsGrown F (members rows.now) news.now.row news.now.new.now
+        → slice_get system.now.constraints number ≡ Some constraint
+        → OnOk result
+        (Renews facts.old.items facts.new.items (DemandsFact system.now F constraint)
+        (DemandsFact system.now (members rows.now) constraint)) }
 {
     match constraint_at(system, number as usize) {
         Constraint::Address {
@@ -85,8 +94,12 @@ fn renew_readers(
     requires new { All (IsLocation system.now) news.now.new.now }
     requires members { (location : ℕ) → Contains news.now.new.now location → Has (members rows.now) news.now.row location }
     ensures kept { OnOk result (Extends book.old book.new) }
-    ensures book { (F : Family) → IsGrown F (members rows.now) news.now.row news.now.new.now → OnOk result (Renews book.old book.new (IsEdge system.now F) (IsEdge system.now (members rows.now))) }
-    ensures facts { (F : Family) → IsGrown F (members rows.now) news.now.row news.now.new.now → OnOk result (Renews facts.old.items facts.new.items (IsFact system.now F) (IsFact system.now (members rows.now))) }
+    ensures book { (F : Family)
+        → IsGrown F (members rows.now) news.now.row news.now.new.now
+        → OnOk result (Renews book.old book.new (IsEdge system.now F) (IsEdge system.now (members rows.now))) }
+    ensures facts { (F : Family)
+        → IsGrown F (members rows.now) news.now.row news.now.new.now
+        → OnOk result (Renews facts.old.items facts.new.items (IsFact system.now F) (IsFact system.now (members rows.now))) }
 {
     for number in readers.targets(news.row) {
         renew_constraint(alloc, book, facts, system, rows, *number, news)?;
@@ -126,10 +139,14 @@ fn renew_read(
     requires among { AreAmong (members rows.old) grown.now.row grown.now.words.now grown.now.first grown.now.end }
     requires range { (grown.now.first ≤ grown.now.end) × (grown.now.end ≤ width_of system.now) }
     ensures fits { OnOk result (Fits system.now rows.new) }
-    ensures has { OnOk result ((other location : ℕ) → (Has (members rows.new) other location ↔ (Has (members rows.old) other location ⊎ ((other ≡ grown.now.row) × IsIn grown.now.words.now location)))) }
+    ensures has { OnOk result
+        ((other location : ℕ)
+        → (Has (members rows.new) other location
+        ↔ (Has (members rows.old) other location ⊎ ((other ≡ grown.now.row) × IsIn grown.now.words.now location)))) }
     ensures kept { OnOk result (Extends book.old book.new) }
     ensures book { OnOk result (Renews book.old book.new (IsEdge system.now (members rows.old)) (IsEdge system.now (members rows.new))) }
-    ensures facts { OnOk result (Renews facts.old.items facts.new.items (IsFact system.now (members rows.old)) (IsFact system.now (members rows.new))) }
+    ensures facts { OnOk result
+        (Renews facts.old.items facts.new.items (IsFact system.now (members rows.old)) (IsFact system.now (members rows.new))) }
 {
     let Grown {
         row,
@@ -175,10 +192,14 @@ pub fn renew(
     requires among { AreAmong (members rows.old) grown.now.row grown.now.words.now grown.now.first grown.now.end }
     requires range { grown.now.end ≤ width_of system.now }
     ensures fits { OnOk result (Fits system.now rows.new) }
-    ensures has { OnOk result ((other location : ℕ) → (Has (members rows.new) other location ↔ (Has (members rows.old) other location ⊎ ((other ≡ grown.now.row) × IsIn grown.now.words.now location)))) }
+    ensures has { OnOk result
+        ((other location : ℕ)
+        → (Has (members rows.new) other location
+        ↔ (Has (members rows.old) other location ⊎ ((other ≡ grown.now.row) × IsIn grown.now.words.now location)))) }
     ensures kept { OnOk result (Extends book.old book.new) }
     ensures book { OnOk result (Renews book.old book.new (IsEdge system.now (members rows.old)) (IsEdge system.now (members rows.new))) }
-    ensures facts { OnOk result (Renews facts.old.items facts.new.items (IsFact system.now (members rows.old)) (IsFact system.now (members rows.new))) }
+    ensures facts { OnOk result
+        (Renews facts.old.items facts.new.items (IsFact system.now (members rows.old)) (IsFact system.now (members rows.new))) }
 {
     if grown.first >= grown.end {
         return Ok(());

@@ -40,7 +40,9 @@ pub fn start(
 ) -> Result<Vec<(u32, u32)>, OutOfMemory>
     requires { IsValid system.now }
     ensures book { OnOk result (Gains book.old book.new (λ a b. Contains system.now.constraints (Constraint.Copy a b))) }
-    ensures facts { IfOk result (λ facts. (row location : ℕ) → (Contains facts.items (row, location) ↔ Contains system.now.constraints (Constraint.Address row location))) }
+    ensures facts { IfOk result
+        (λ facts. (row location : ℕ)
+        → (Contains facts.items (row, location) ↔ Contains system.now.constraints (Constraint.Address row location))) }
     ensures once { AreApart book.old → AreApart book.new }
 {
     let mut facts = Vec::new(alloc);

@@ -47,7 +47,9 @@ pub(crate) fn take_row(
     requires among { AreAmong (members rows.old) row words.now first end }
     requires range { (first ≤ end) × (end ≤ width_of system.now) }
     ensures fits { Fits system.now rows.new }
-    ensures has { (other location : ℕ) → (Has (members rows.new) other location ↔ (Has (members rows.old) other location ⊎ ((other ≡ row) × IsIn words.now location))) }
+    ensures has { (other location : ℕ)
+        → (Has (members rows.new) other location
+        ↔ (Has (members rows.old) other location ⊎ ((other ≡ row) × IsIn words.now location))) }
 {
     let start = row as usize * words.len();
     for k in first..end {

@@ -1,5 +1,5 @@
 -- What was settled before a round is settled after it; and where nothing is left, what was seen is closed.
-use Rattle.std.proofs.Common.{◌≡◌, ◌⊎◌, ◌↔◌, ◌<◌, ℕ, Bool, true, cond, List, [], length, take, Contains, Vec, Global, Result, Ok, Err, IfOk, refl, sym, ap, ◌∙◌, subst, inl, inr, arith}
+use Rattle.std.proofs.Common.{◌≡◌, ◌⊎◌, ◌↔◌, ◌<◌, ℕ, Bool, true, cond, List, [], length, take, Contains, Result, Ok, Err, IfOk, refl, sym, ap, ◌∙◌, subst, inl, inr, arith}
 use Rattle.std.proofs.Math.Seq.{take-append_seam}
 use Rattle.std.proofs.lemmas.List.Elements.{All-contains}
 use Rattle.pta_base.specs.declared.memory.OutOfMemory.{OutOfMemory}
@@ -23,17 +23,18 @@ use Rattle.delta_prop.specs.declared.turn.Turn.{Turn}
 use Rattle.delta_prop.specs.Deltas.{AllDemanded, IsSound}
 use Rattle.delta_prop.proofs.Carries.{edge_more}
 use Rattle.new_members.specs.News.{Extends, IsFact}
-use Rattle.round_pieces.specs.Rounds.{AreCarried, HasWorked, HasClosed, IsSettled, IsTurnOf, IsTakenIn, IsNoted, IsWorked}
+use Rattle.round_pieces.specs.Rounds.{AreCarried, HasWorked, HasClosed, IsRest, IsSettled, IsTurnOf, IsTakenIn, IsWorked}
+use Rattle.round_pieces.specs.declared.joining.Told.{Told}
 use Rattle.round_pieces.specs.Turns.{HasShares, AreTogether}
 use Rattle.round_pieces.proofs.Sharing.{shares_together}
 
-pub joined_shares : (S : System) (book : List (ℕ × ℕ)) (v : View) (done : Rows) (todo : List ℕ) (workers first middle last : ℕ) (a b : View) (left right joined : Result (Vec Turn Global) OutOfMemory)
-    → b.system ≡ a.system → IfOk left (λ ts. HasShares S book done todo workers first middle (half_kept v) a ts.items) → IfOk right (λ ts. HasShares S book done todo workers middle last (half_given v) b ts.items)
-    → IfOk joined (AreTogether left right) → IfOk joined (λ ts. HasShares S book done todo workers first last v (met a b) ts.items)
-joined_shares S book v done todo workers first middle last a b left right (Ok turns) e l r j =
-    shares_together S book v done todo workers first middle last a b (j.0).items (j.1).items turns.items e j.4
-    (subst (λ (x : Result (Vec Turn Global) OutOfMemory). IfOk x (λ ts. HasShares S book done todo workers first middle (half_kept v) a ts.items)) j.2 l)
-    (subst (λ (x : Result (Vec Turn Global) OutOfMemory). IfOk x (λ ts. HasShares S book done todo workers middle last (half_given v) b ts.items)) j.3 r)
+pub joined_shares : (S : System) (book : List (ℕ × ℕ)) (v : View) (done : Rows) (todo : List ℕ) (workers first middle last : ℕ) (a b : View) (left right joined : Result Told OutOfMemory)
+    → b.system ≡ a.system → IfOk left (λ t. HasShares S book done todo workers first middle (half_kept v) a t.turns.items) → IfOk right (λ t. HasShares S book done todo workers middle last (half_given v) b t.turns.items)
+    → IfOk joined (AreTogether left right) → IfOk joined (λ t. HasShares S book done todo workers first last v (met a b) t.turns.items)
+joined_shares S book v done todo workers first middle last a b left right (Ok told) e l r j =
+    shares_together S book v done todo workers first middle last a b (j.0).turns.items (j.1).turns.items told.turns.items e j.4
+    (subst (λ (x : Result Told OutOfMemory). IfOk x (λ t. HasShares S book done todo workers first middle (half_kept v) a t.turns.items)) j.2 l)
+    (subst (λ (x : Result Told OutOfMemory). IfOk x (λ t. HasShares S book done todo workers middle last (half_given v) b t.turns.items)) j.3 r)
 joined_shares S book v done todo workers first middle last a b left right (Err x) e l r j = tt
 
 pub worked_known : (v w : View) → HasWorked v w → IsInside (known v) (known w)
@@ -48,10 +49,10 @@ sound_range S w row location valid e sound h = full_has S row location (sound (f
 pub edge_in_rows : (S : System) (F : Family) (a b : ℕ) → IsValid S → ((row location : ℕ) → Has F row location → IsRow S row × IsLocation S location) → IsEdge S F a b → IsRow S a × IsRow S b
 edge_in_rows S F a b valid range e = edge_rows S valid F range e.0 a b (All-contains (IsConstraintValid S) S.constraints e.0 valid.constraints e.1) e.2
 
-module _ (S : System) (v w : View) (book more news : List (ℕ × ℕ)) (done after : Rows) (todo : List ℕ) (turns : List Turn) (valid : IsValid S) (own : w.system ≡ S)
-    (round : IsWorked S v w book done todo turns) where
+module _ (S : System) (v w : View) (book more news : List (ℕ × ℕ)) (done after : Rows) (turns : List Turn) (valid : IsValid S) (own : w.system ≡ S)
+    (round : IsWorked S v w book done turns) where
   pub turns_of : (turn : Turn) → Contains turns turn → IsTurnOf S turn
-  turns_of turn c = let p = round.served.pieces turn c in record {
+  turns_of turn c = let p = round.served turn c in record {
     row = p.row;
     sized = p.sized;
     known = λ location h. (sound_range S w turn.row location valid own (round.worked.sound round.before.sound) (p.done location h)).1;
@@ -61,7 +62,7 @@ module _ (S : System) (v w : View) (book more news : List (ℕ × ℕ)) (done af
     pub after_inside : IsInside (members after) (known w)
     after_inside row location h = elim ((taken.has row location).0 h) [
       | inl old ↦ worked_known v w round.worked row location (round.before.ready.own row location old)
-      | inr new ↦ subst (λ (r : ℕ). Has (known w) r location) new.2 ((round.served.pieces new.0 new.1).done location new.3)
+      | inr new ↦ subst (λ (r : ℕ). Has (known w) r location) new.2 ((round.served new.0 new.1).done location new.3)
     ]
 
     pub facts_demanded : (x : View) → IsInside (known w) (known x) → (row location : ℕ) → Contains news (row, location) → IsFact S (known x) row location
@@ -94,14 +95,12 @@ module _ (S : System) (v w : View) (book more news : List (ℕ × ℕ)) (done af
         let edge : Contains book (a, b) = subst (λ (xs : List (ℕ × ℕ)). Contains xs (a, b)) whole c in
         elim ((taken.has a location).0 h) [
           | inl old ↦ inside b location (worked_known v w round.worked b location (round.before.ready.carried a b location edge old))
-          | inr new ↦ inside b location ((round.served.pieces new.0 new.1).targets b location (subst (λ (r : ℕ). Contains book (r, b)) (sym new.2) edge) new.3)
+          | inr new ↦ inside b location ((round.served new.0 new.1).targets b location (subst (λ (r : ℕ). Contains book (r, b)) (sym new.2) edge) new.3)
         ]
 
-    pub settled_again : (x y : View) (noted listed final : List ℕ) → IsInside (known w) (known x) → IsInside (known x) (known y) → IsSound y
-        → ((row : ℕ) → Contains noted row → row < S.rows) → ((turn : Turn) (row : ℕ) → Contains turns turn → Contains turn.grown.items row → row < S.rows → Contains noted row)
-        → ((row location : ℕ) → Contains news (row, location) → Has (known x) row location) → IsNoted S w x noted listed
-        → AreCarried more (members after) (known y) → IsNoted S x y listed final → IsSettled S y more after final
-    settled_again x y noted listed final to_x to_y sound below note added first_noted carried last_noted = record {
+    pub settled_again : (x y : View) → IsInside (known w) (known x) → IsInside (known x) (known y) → IsSound y
+        → ((row location : ℕ) → Contains news (row, location) → Has (known x) row location) → AreCarried more (members after) (known y) → IsSettled S y more after
+    settled_again x y to_x to_y sound added carried = record {
       ready = record {
         demanded = more_demanded y (λ r l h. to_y r l (to_x r l h));
         fits = taken.fits;
@@ -119,43 +118,23 @@ module _ (S : System) (v w : View) (book more news : List (ℕ × ℕ)) (done af
         ];
       };
       sound = sound;
-      rest = λ r l h. elim (last_noted.rest r l h) [
-        | inr named ↦ inr named
-        | inl at_x ↦ elim (first_noted.rest r l at_x) [
-          | inr named ↦ inr (last_noted.kept r named)
-          | inl at_w ↦ elim (round.served.others r l at_w) [
-            | inl at_v ↦ elim (round.before.rest r l at_v) [
-              | inl was ↦ inl ((taken.has r l).1 (inl was))
-              | inr left ↦ (let turn = round.each r left in
-                  inl ((taken.has r l).1 (inr (turn.0, turn.1, turn.2, (round.served.pieces turn.0 turn.1).read l (subst (λ (n : ℕ). Has (known v) n l) (sym turn.2) at_v)))))
-            ]
-            | inr told ↦ elim told.2 [
-              | inl grown ↦ inr (last_noted.kept r (first_noted.kept r (note told.0 r told.1 grown (round.before.ready.demanded.rows told.0.row r ((round.served.pieces told.0 told.1).within r grown)).1)))
-              | inr mine ↦ inl ((taken.has r l).1 (inr (told.0, told.1, mine.0, mine.1)))
-            ]
-          ]
-        ]
-      ];
-      rows = λ r c. elim (last_noted.rows r c) [
-        | inr in_rows ↦ in_rows
-        | inl l ↦ elim (first_noted.rows r l) [
-          | inr in_rows ↦ in_rows
-          | inl n ↦ below r n
-        ]
-      ];
     }
 
-pub closed_when_done : (S : System) (v : View) (book : List (ℕ × ℕ)) (done : Rows) → IsSettled S v book done [] → IsClosed S (known v)
-closed_when_done S v book done settled =
-    let all : IsInside (known v) (members done) = λ row location h. elim (settled.rest row location h) [ inl there ↦ there | inr none ↦ absurd (let l = none.1 in omega arith) ] in
+-- where nothing is left, all that was seen is done
+pub all_done : (v : View) (done : Rows) → IsRest v done [] → IsInside (known v) (members done)
+all_done v done rest row location h = elim (rest row location h) [ inl there ↦ there | inr none ↦ absurd (let l = none.1 in omega arith) ]
+
+pub closed_when_done : (S : System) (v : View) (book : List (ℕ × ℕ)) (done : Rows) → IsSettled S v book done → IsRest v done [] → IsClosed S (known v)
+closed_when_done S v book done settled rest =
+    let all = all_done v done rest in
     λ constraint listed. record {
       edges = λ a b d location h. settled.ready.carried a b location (settled.treated.edges a b (constraint, listed, more_edge S (known v) (members done) all constraint a b d)) (all a location h);
       facts = λ row location d. settled.treated.facts row location (constraint, listed, more_fact S (known v) (members done) all constraint row location d);
     }
 
-pub least_when_done : (S : System) (v : View) (book : List (ℕ × ℕ)) (done : Rows) → v.system ≡ S → IsSettled S v book done [] → IsLeast S (known v)
-least_when_done S v book done e settled = record {
-  closed = closed_when_done S v book done settled;
+pub least_when_done : (S : System) (v : View) (book : List (ℕ × ℕ)) (done : Rows) → v.system ≡ S → IsSettled S v book done → IsRest v done [] → IsLeast S (known v)
+least_when_done S v book done e settled rest = record {
+  closed = closed_when_done S v book done settled rest;
   below = λ G closed. settled.sound G (subst (λ (T : System). IsClosed T G) (sym e) closed);
 }
 
@@ -178,10 +157,10 @@ empty_fact S F (Field f t y m) row location none d = absurd (none f d.0 d.1)
 empty_fact S F (Contents t f) row location none d = absurd d
 empty_fact S F (Call number) row location none d = absurd (none (d.0).callee (d.2).location (d.4).reached)
 
-pub begun : (S : System) (w y : View) (book : List (ℕ × ℕ)) (done : Rows) (todo : List ℕ) → IsValid S → ((a b : ℕ) → (Contains book (a, b) ↔ (Contains {X = ℕ × ℕ} [] (a, b) ⊎ Contains S.constraints (Copy a b))))
-    → ((row location : ℕ) → Has (known w) row location → ⊥) → Fits S done → ((row location : ℕ) → Has (members done) row location → ⊥)
-    → ((row location : ℕ) → Contains S.constraints (Address row location) → Has (known y) row location) → IsNoted S w y [] todo → IsSound y → IsSettled S y book done todo
-begun S w y book done todo valid copies fresh fits none facts noted sound = record {
+pub begun : (S : System) (y : View) (book : List (ℕ × ℕ)) (done : Rows) → IsValid S → ((a b : ℕ) → (Contains book (a, b) ↔ (Contains {X = ℕ × ℕ} [] (a, b) ⊎ Contains S.constraints (Copy a b))))
+    → Fits S done → ((row location : ℕ) → Has (members done) row location → ⊥)
+    → ((row location : ℕ) → Contains S.constraints (Address row location) → Has (known y) row location) → IsSound y → IsSettled S y book done
+begun S y book done valid copies fits none facts sound = record {
   ready = record {
     demanded = record {
       edges = λ a b c. elim ((copies a b).0 c) [ inl no_edge ↦ absurd (let l = no_edge.1 in omega arith) | inr listed ↦ (Copy a b, listed, (refl, refl)) ];
@@ -196,18 +175,6 @@ begun S w y book done todo valid copies fresh fits none facts noted sound = reco
     facts = λ row location f. facts row location (subst (Contains S.constraints) (empty_fact S (members done) f.0 row location none f.2) f.1);
   };
   sound = sound;
-  rest = λ row location h. elim (noted.rest row location h) [ inl old ↦ absurd (fresh row location old) | inr named ↦ inr named ];
-  rows = λ row c. elim (noted.rows row c) [ inl nothing ↦ absurd (let l = nothing.1 in omega arith) | inr in_rows ↦ in_rows ];
-}
-
-pub settled_same : (S : System) (v : View) (book : List (ℕ × ℕ)) (done : Rows) (todo other : List ℕ) → ((row : ℕ) → Contains other row → Contains todo row) → ((row : ℕ) → Contains todo row → Contains other row)
-    → IsSettled S v book done todo → IsSettled S v book done other
-settled_same S v book done todo other from to s = record {
-  ready = s.ready;
-  treated = s.treated;
-  sound = s.sound;
-  rest = λ row location h. elim (s.rest row location h) [ inl there ↦ inl there | inr named ↦ inr (to row named) ];
-  rows = λ row c. s.rows row (from row c);
 }
 
 -- the table was closed, and read so

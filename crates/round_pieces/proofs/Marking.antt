@@ -3,10 +3,7 @@ use Rattle.std.proofs.Common.{◌≡◌, ℕ, ◌<◌, Bool, true, false, true�
 use Rattle.std.proofs.lemmas.Bool.{cases_eq, cases_lt}
 use Rattle.std.proofs.lemmas.List.{get_or_past, get_or-replicate, length-replicate}
 use Rattle.std.proofs.lemmas.List.Elements.{Contains-append_left, Contains-push, Contains-push_cases}
-use Rattle.sol_model.specs.declared.system.System.{System}
-use Rattle.sol_model.specs.declared.rows.Rows.{Rows}
-use Rattle.set_rows.specs.declared.view.View.{View}
-use Rattle.round_pieces.specs.Rounds.{AreRowsApart, IsSettled}
+use Rattle.round_pieces.specs.Rounds.{AreRowsApart}
 use Rattle.round_pieces.specs.Orders.{AreMarked}
 use Rattle.round_pieces.proofs.Once.{distinct_push}
 
@@ -72,14 +69,3 @@ marked_below rows marks row marked h = elim (cases_lt row (length marks)) [
   | inl lt ↦ lt
   | inr past ↦ absurd (true≢false (sym ((marked row).0 h) ∙ get_or_past marks row false (omega arith)))
 ]
-
--- more rows may have a turn than have grown
-pub settled_more : (S : System) (v : View) (book : List (ℕ × ℕ)) (done : Rows) (todo other : List ℕ) → ((row : ℕ) → Contains todo row → row < S.rows → Contains other row) → ((row : ℕ) → Contains other row → row < S.rows)
-    → IsSettled S v book done todo → IsSettled S v book done other
-settled_more S v book done todo other to below s = record {
-  ready = s.ready;
-  treated = s.treated;
-  sound = s.sound;
-  rest = λ row location h. elim (s.rest row location h) [ inl there ↦ inl there | inr named ↦ inr (to row named (s.rows row named)) ];
-  rows = below;
-}

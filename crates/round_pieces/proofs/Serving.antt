@@ -19,14 +19,14 @@ use Rattle.delta_prop.specs.declared.turn.Turn.{Turn}
 use Rattle.delta_prop.specs.Deltas.{IsSeenOf}
 use Rattle.delta_prop.specs.Turns.{IsTurn}
 use Rattle.new_members.specs.News.{IsIn}
-use Rattle.round_pieces.specs.Rounds.{IsPiece, IsToldBy, HasServed}
+use Rattle.round_pieces.specs.Rounds.{IsPiece, HasServed}
 use Rattle.round_pieces.specs.Turns.{AreTurns, row_of}
 
 pub known_as : (v : View) (S : System) → v.system ≡ S → known v ≡ shown (width_of S) v.seen
 known_as v S e = ap (λ (T : System). shown (width_of T) v.seen) e
 
 -- a location that words have is within them
-pub in_within : (W location : ℕ) (words : List ℕ) → length words ≡ W → IsIn words location → location < 64 * W
+pub in_within : (W location : ℕ) (words : List ℕ) → length words ≤ W → IsIn words location → location < 64 * W
 in_within W location words e h = elim (cases_lt location (64 * W)) [
   | inl lt ↦ lt
   | inr ge ↦ absurd (let past : get_or words (location / 64) 0 ≡ 0 = get_or_past words (location / 64) 0 (omega arith) in
@@ -34,7 +34,7 @@ in_within W location words e h = elim (cases_lt location (64 * W)) [
 ]
 
 -- words that were seen of a row
-pub in_seen : (S : System) (u : View) (row location : ℕ) (words : List ℕ) → u.system ≡ S → length words ≡ width_of S → IsSeenOf (width_of S) u.seen row words → IsIn words location → Has (known u) row location
+pub in_seen : (S : System) (u : View) (row location : ℕ) (words : List ℕ) → u.system ≡ S → length words ≤ width_of S → IsSeenOf (width_of S) u.seen row words → IsIn words location → Has (known u) row location
 in_seen S u row location words e sized seen h =
     let W : ℕ = width_of S in
     let small = in_within W location words sized h in
@@ -66,66 +66,26 @@ module _ (S : System) (book : List (ℕ × ℕ)) (done : ℕ → List ℕ) where
   turns_added [] v w h = subst (OnlyAdded v) (sym h) (nothing_added v)
   turns_added (turn ∷ ts) v w h = added_twice v h.0 w h.2 (turns_added ts h.0 w h.3)
 
-  piece_of : (v u w : View) (turn : Turn) → v.system ≡ S → OnlyAdded v u → OnlyAdded u w → IsRow S turn.row → IsTurn (width_of S) book turn.row (done turn.row) v u turn → IsPiece S book v w turn
+  piece_of : (v u w : View) (turn : Turn) → v.system ≡ S → OnlyAdded v u → OnlyAdded u w → IsRow S turn.row → IsTurn (width_of S) book turn.row (done turn.row) v u turn → IsPiece S book w turn
   piece_of v u w turn e first then in_rows t =
-      let W : ℕ = width_of S in
       let here : u.system ≡ S = first.system ∙ e in record {
         row = in_rows;
+        short = t.short;
         sized = t.sized;
-        read = λ location h.
-            (let old : Has (shown W v.seen) turn.row location = subst (λ (F : Family). Has F turn.row location) (known_as v S e) h in
-            let small = within_shown W v.seen turn.row location old in
-            t.read (location / 64) (omega arith) (location % 64) (bit_shown W v.seen turn.row location old));
-        done = λ location h. known_more u w then turn.row location (in_seen S u turn.row location turn.done.items here t.sized t.done_seen h);
-        targets = λ to location edge h. known_more u w then to location (in_seen S u to location turn.done.items here t.sized (t.targets to edge) h);
-        within = t.within;
+        done = λ location h. known_more u w then turn.row location (in_seen S u turn.row location turn.done.items here t.short t.done_seen h);
+        targets = λ to location edge h. known_more u w then to location (in_seen S u to location turn.done.items here t.short (t.targets to edge) h);
       }
 
-  told : (v u : View) (turn : Turn) → v.system ≡ S → OnlyAdded v u → IsTurn (width_of S) book turn.row (done turn.row) v u turn → (row location : ℕ) → Has (known u) row location
-      → Has (known v) row location ⊎ IsToldBy turn row location
-  told v u turn e more t row location h =
-      let W : ℕ = width_of S in
-      let new : Has (shown W u.seen) row location = subst (λ (F : Family). Has F row location) (known_as u S (more.system ∙ e)) h in
-      let small = within_shown W u.seen row location new in
-      let k : location / 64 < W = omega arith in
-      let bit = bit_shown W u.seen row location new in
-      elim (cases_eq row turn.row) [
-        | inl is ↦ elim t.own [
-          | inl grown ↦ inr (inl (subst (Contains turn.grown.items) (sym is) grown))
-          | inr same ↦ inr (inr (sym is, ap (λ (x : ℕ). bit_at x (location % 64)) (sym (same (location / 64) k)) ∙ subst (λ (r : ℕ). bit_at (get_or u.seen (r * W + location / 64) 0) (location % 64) ≡ 1) is bit))
-        ]
-        | inr apart ↦ elim (t.others row apart) [
-          | inl grown ↦ inr (inl grown)
-          | inr same ↦ inl (subst (λ (F : Family). Has F row location) (sym (known_as v S e)) (shown_from_bit W v.seen row location small (ap (λ (x : ℕ). bit_at x (location % 64)) (sym (same (location / 64) k)) ∙ bit)))
-        ]
-      ]
-
-  earlier : (v u w : View) (turn : Turn) → OnlyAdded v u → IsPiece S book u w turn → IsPiece S book v w turn
-  earlier v u w turn more p = record { row = p.row; sized = p.sized; read = λ location h. p.read location (known_more v u more turn.row location h); done = p.done; targets = p.targets; within = p.within }
-
-  pub turns_served : (ts : List Turn) (v w : View) → v.system ≡ S → ((turn : Turn) → Contains ts turn → IsRow S turn.row) → AreTurns (width_of S) book done v ts w → HasServed S book v w ts
-  turns_served [] v w e rows h = record {
-    pieces = λ turn c. absurd (let l = c.1 in omega arith);
-    others = λ row location has. inl (subst (λ (x : View). Has (known x) row location) h has);
-  }
-  turns_served (first ∷ ts) v w e rows h =
+  pub turns_served : (ts : List Turn) (v w : View) → v.system ≡ S → ((turn : Turn) → Contains ts turn → IsRow S turn.row) → AreTurns (width_of S) book done v ts w → HasServed S book w ts
+  turns_served [] v w e rows h turn c = absurd (let l = c.1 in omega arith)
+  turns_served (first ∷ ts) v w e rows h turn c =
       let u : View = h.0 in
       let more : OnlyAdded v u = h.2 in
       let after : OnlyAdded u w = turns_added ts u w h.3 in
-      let rest = turns_served ts u w (more.system ∙ e) (λ turn c. rows turn (Contains-append_right (first ∷ []) ts turn c)) h.3 in
-      let mine = piece_of v u w first e more after (rows first (Contains-append_left (first ∷ []) ts first (0, omega arith, refl))) h.1 in record {
-        pieces = λ turn c. elim (Contains-append_cases (first ∷ []) ts turn c) [
-          | inl here ↦ subst (IsPiece S book v w) (only_one first turn here) mine
-          | inr there ↦ earlier v u w turn more (rest.pieces turn there)
-        ];
-        others = λ row location has. elim (rest.others row location has) [
-          | inr later ↦ inr (later.0, Contains-append_right (first ∷ []) ts later.0 later.1, later.2)
-          | inl before ↦ elim (told v u first e more h.1 row location before) [
-            | inl old ↦ inl old
-            | inr new ↦ inr (first, Contains-append_left (first ∷ []) ts first (0, omega arith, refl), new)
-          ]
-        ];
-      }
+      elim (Contains-append_cases (first ∷ []) ts turn c) [
+        | inl here ↦ subst (IsPiece S book w) (only_one first turn here) (piece_of v u w first e more after (rows first (Contains-append_left (first ∷ []) ts first (0, omega arith, refl))) h.1)
+        | inr there ↦ turns_served ts u w (more.system ∙ e) (λ other d. rows other (Contains-append_right (first ∷ []) ts other d)) h.3 turn there
+      ]
 
 -- the rows of a worker's share, one more
 pub share_push : (todo : List ℕ) (ts : List Turn) (turn : Turn) (worker workers piece : ℕ) → piece ≡ worker + length ts * workers → slice_get todo piece ≡ Some turn.row

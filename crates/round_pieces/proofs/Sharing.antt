@@ -54,23 +54,17 @@ all_append [] ys = refl
 all_append (x ∷ xs) ys = ap (λ (ts : List Turn). x ++ ts) (all_append xs ys) ∙ sym (append_assoc x (all_of xs) (all_of ys))
 
 module _ (S : System) (book : List (ℕ × ℕ)) (v : View) where
-  piece_left : (a b : View) (turn : Turn) → IsPiece S book (half_kept v) a turn → IsPiece S book v (met a b) turn
-  piece_left a b turn p = record { row = p.row; sized = p.sized; read = p.read; done = λ l h. met_first a b turn.row l (p.done l h); targets = λ to l e h. met_first a b to l (p.targets to l e h); within = p.within }
+  piece_left : (a b : View) (turn : Turn) → IsPiece S book a turn → IsPiece S book (met a b) turn
+  piece_left a b turn p = record { row = p.row; short = p.short; sized = p.sized; done = λ l h. met_first a b turn.row l (p.done l h); targets = λ to l e h. met_first a b to l (p.targets to l e h) }
 
-  piece_right : (a b : View) (turn : Turn) → b.system ≡ a.system → IsPiece S book (half_given v) b turn → IsPiece S book v (met a b) turn
-  piece_right a b turn e p = record { row = p.row; sized = p.sized; read = p.read; done = λ l h. met_second a b turn.row l e (p.done l h); targets = λ to l edge h. met_second a b to l e (p.targets to l edge h); within = p.within }
+  piece_right : (a b : View) (turn : Turn) → b.system ≡ a.system → IsPiece S book b turn → IsPiece S book (met a b) turn
+  piece_right a b turn e p = record { row = p.row; short = p.short; sized = p.sized; done = λ l h. met_second a b turn.row l e (p.done l h); targets = λ to l edge h. met_second a b to l e (p.targets to l edge h) }
 
-  served_together : (a b : View) (ts us : List Turn) → b.system ≡ a.system → HasServed S book (half_kept v) a ts → HasServed S book (half_given v) b us → HasServed S book v (met a b) (ts ++ us)
-  served_together a b ts us e left right = record {
-    pieces = λ turn c. elim (Contains-append_cases ts us turn c) [
-      | inl l ↦ piece_left a b turn (left.pieces turn l)
-      | inr r ↦ piece_right a b turn e (right.pieces turn r)
-    ];
-    others = λ row location has. elim (met_has a b row location e has) [
-      | inl l ↦ elim (left.others row location l) [ inl old ↦ inl old | inr new ↦ inr (new.0, Contains-append_left ts us new.0 new.1, new.2) ]
-      | inr r ↦ elim (right.others row location r) [ inl old ↦ inl old | inr new ↦ inr (new.0, Contains-append_right ts us new.0 new.1, new.2) ]
-    ];
-  }
+  served_together : (a b : View) (ts us : List Turn) → b.system ≡ a.system → HasServed S book a ts → HasServed S book b us → HasServed S book (met a b) (ts ++ us)
+  served_together a b ts us e left right turn c = elim (Contains-append_cases ts us turn c) [
+    | inl l ↦ piece_left a b turn (left turn l)
+    | inr r ↦ piece_right a b turn e (right turn r)
+  ]
 
   module _ (done : Rows) (todo : List ℕ) (workers : ℕ) where
     share_left : (worker : ℕ) (a b : View) (ts : List Turn) → IsShare S book done todo workers worker (half_kept v) a ts → IsShare S book done todo workers worker v (met a b) ts
@@ -91,7 +85,7 @@ module _ (S : System) (book : List (ℕ × ℕ)) (v : View) where
             let same : middle + h.0 ≡ first + k = (let l = left.count in let n = h.1 in omega arith) in
             subst (λ (n : ℕ). IsShare S book done todo workers n v (met a b) share) same there)
       ];
-      served = subst (HasServed S book v (met a b)) (sym is) (served_together a b ts us e left.served right.served);
+      served = subst (HasServed S book (met a b)) (sym is) (served_together a b ts us e left.served right.served);
       ors = subst (λ (xs : List Turn). (met a b).ors ≤ v.ors + spent (width_of S) book (words_at done) xs) (sym is)
           (let l = left.ors in let r = right.ors in let s = spent_append (width_of S) book (words_at done) ts us in
           let goal : a.ors + b.ors ≤ v.ors + spent (width_of S) book (words_at done) (ts ++ us) = omega arith in goal);
@@ -99,23 +93,14 @@ module _ (S : System) (book : List (ℕ × ℕ)) (v : View) where
 
 -- one seat's shares, one after the other
 module _ (S : System) (book : List (ℕ × ℕ)) (done : Rows) (todo : List ℕ) (workers : ℕ) (v u w : View) (before : OnlyAdded v u) (after : OnlyAdded u w) where
-  piece_before : (turn : Turn) → IsPiece S book v u turn → IsPiece S book v w turn
-  piece_before turn p = record { row = p.row; sized = p.sized; read = p.read; done = λ l h. known_more u w after turn.row l (p.done l h); targets = λ to l e h. known_more u w after to l (p.targets to l e h); within = p.within }
+  piece_before : (turn : Turn) → IsPiece S book u turn → IsPiece S book w turn
+  piece_before turn p = record { row = p.row; short = p.short; sized = p.sized; done = λ l h. known_more u w after turn.row l (p.done l h); targets = λ to l e h. known_more u w after to l (p.targets to l e h) }
 
-  piece_behind : (turn : Turn) → IsPiece S book u w turn → IsPiece S book v w turn
-  piece_behind turn p = record { row = p.row; sized = p.sized; read = λ l h. p.read l (known_more v u before turn.row l h); done = p.done; targets = p.targets; within = p.within }
-
-  served_after : (ts us : List Turn) → HasServed S book v u ts → HasServed S book u w us → HasServed S book v w (ts ++ us)
-  served_after ts us left right = record {
-    pieces = λ turn c. elim (Contains-append_cases ts us turn c) [
-      | inl l ↦ piece_before turn (left.pieces turn l)
-      | inr r ↦ piece_behind turn (right.pieces turn r)
-    ];
-    others = λ row location has. elim (right.others row location has) [
-      | inr new ↦ inr (new.0, Contains-append_right ts us new.0 new.1, new.2)
-      | inl old ↦ elim (left.others row location old) [ inl older ↦ inl older | inr new ↦ inr (new.0, Contains-append_left ts us new.0 new.1, new.2) ]
-    ];
-  }
+  served_after : (ts us : List Turn) → HasServed S book u ts → HasServed S book w us → HasServed S book w (ts ++ us)
+  served_after ts us left right turn c = elim (Contains-append_cases ts us turn c) [
+    | inl l ↦ piece_before turn (left turn l)
+    | inr r ↦ right turn r
+  ]
 
   share_before : (worker : ℕ) (ts : List Turn) → IsShare S book done todo workers worker v u ts → IsShare S book done todo workers worker v w ts
   share_before worker ts s = record { from = s.from; to = s.to; begun = s.begun; turns_are = s.turns_are; ended = λ row l h. known_more u w after row l (s.ended row l h); rows = s.rows }
@@ -136,7 +121,7 @@ module _ (S : System) (book : List (ℕ × ℕ)) (done : Rows) (todo : List ℕ)
           let same : middle + h.0 ≡ first + k = (let l = left.count in let n = h.1 in omega arith) in
           subst (λ (n : ℕ). IsShare S book done todo workers n v w share) same there
     ];
-    served = subst (HasServed S book v w) (sym is) (served_after ts us left.served right.served);
+    served = subst (HasServed S book w) (sym is) (served_after ts us left.served right.served);
     ors = subst (λ (xs : List Turn). w.ors ≤ v.ors + spent (width_of S) book (words_at done) xs) (sym is)
         (let l = left.ors in let r = right.ors in let s = spent_append (width_of S) book (words_at done) ts us in omega arith);
   }
@@ -148,13 +133,13 @@ no_shares S book done todo workers first v = record {
   all = refl;
   count = (omega arith);
   each = λ k share at. absurd (none-some share at);
-  served = record { pieces = λ turn c. absurd (let l = c.1 in omega arith); others = λ row location has. inl has };
+  served = λ turn c. absurd (let l = c.1 in omega arith);
   ors = omega arith;
 }
 
 -- one worker's turns
 pub one_share : (S : System) (book : List (ℕ × ℕ)) (done : Rows) (todo : List ℕ) (workers first last : ℕ) (v w : View) (ts : List Turn) → first + 1 ≡ last
-    → IsShare S book done todo workers first v w ts → HasServed S book v w ts → w.ors ≤ v.ors + spent (width_of S) book (words_at done) ts → HasShares S book done todo workers first last v w ts
+    → IsShare S book done todo workers first v w ts → HasServed S book w ts → w.ors ≤ v.ors + spent (width_of S) book (words_at done) ts → HasShares S book done todo workers first last v w ts
 one_share S book done todo workers first last v w ts e share served paid = record {
   shares = ts ∷ [];
   all = sym (append-nil ts);
@@ -179,40 +164,12 @@ shares_round S book done todo workers first last v b ts e right = record {
   all = right.all;
   count = right.count;
   each = λ k share at. share_back (first + k) share (right.each k share at);
-  served = record {
-    pieces = λ turn c. (let p = right.served.pieces turn c in record { row = p.row; sized = p.sized; read = p.read; done = λ l h. met_second (half_kept v) b turn.row l e (p.done l h); targets = λ to l edge h. met_second (half_kept v) b to l e (p.targets to l edge h); within = p.within });
-    others = λ row location has. elim (met_has (half_kept v) b row location e has) [
-      | inl l ↦ inl l
-      | inr r ↦ right.served.others row location r
-    ];
-  };
+  served = λ turn c. (let p = right.served turn c in record { row = p.row; short = p.short; sized = p.sized; done = λ l h. met_second (half_kept v) b turn.row l e (p.done l h); targets = λ to l edge h. met_second (half_kept v) b to l e (p.targets to l edge h) });
   ors = (let r = right.ors in let goal : v.ors + b.ors ≤ v.ors + spent (width_of S) book (words_at done) ts = omega arith in goal);
 }
   where
     share_back : (worker : ℕ) (share : List Turn) → IsShare S book done todo workers worker (half_given v) b share → IsShare S book done todo workers worker v (met (half_kept v) b) share
     share_back worker share s = record { from = s.from; to = s.to; begun = s.begun; turns_are = s.turns_are; ended = λ row l h. met_second (half_kept v) b row l e (s.ended row l h); rows = s.rows }
-
-in_all : (shares : List (List Turn)) (k : ℕ) (share : List Turn) (turn : Turn) → slice_get shares k ≡ Some share → Contains share turn → Contains (all_of shares) turn
-in_all [] k share turn at c = absurd (none-some share at)
-in_all (first ∷ rest) zero share turn at c = Contains-append_left first (all_of rest) turn (subst (λ (ts : List Turn). Contains ts turn) (sym (same_Some first share at)) c)
-in_all (first ∷ rest) (suc k) share turn at c = Contains-append_right first (all_of rest) turn (in_all rest k share turn at c)
-
--- each row of the round has had a turn
-pub each_row : (S : System) (book : List (ℕ × ℕ)) (done : Rows) (todo : List ℕ) (workers : ℕ) (v w : View) (turns : List Turn) → HasShares S book done todo workers 0 workers v w turns → 0 < workers
-    → (row : ℕ) → Contains todo row → (turn : Turn) × Contains turns turn × (turn.row ≡ row)
-each_row S book done todo workers v w turns h some row c =
-    let n = at_Contains todo row c in
-    let worker : ℕ = n.0 % workers in
-    let i : ℕ = n.0 / workers in
-    let less : worker < workers = mod_below n.0 workers some in
-    let whole : worker + i * workers ≡ n.0 = (let d = mul_comm i workers in omega arith) in
-    let long : worker < length h.shares = (let e = h.count in omega arith) in
-    let share = element h.shares worker long in
-    let s = h.each worker share.0 share.1 in
-    let start : 0 + worker + i * workers ≡ n.0 = (let d = whole in omega arith) in
-    let at : slice_get (map row_of share.0) i ≡ Some row = s.rows i ∙ ap (slice_get todo) start ∙ n.2 in
-    let t = Contains-map row_of share.0 row (Contains-at (map row_of share.0) i row at) in
-    (t.0, subst (λ (ts : List Turn). Contains ts t.0) (sym h.all) (in_all h.shares worker share.0 t.0 share.1 t.1), sym t.2)
 
 -- no row of the round has had two turns
 pub rows_apart : (S : System) (book : List (ℕ × ℕ)) (done : Rows) (todo : List ℕ) (workers : ℕ) (v w : View) (turns : List Turn) → AreRowsApart todo → HasShares S book done todo workers 0 workers v w turns → IsApart (map row_of turns)
@@ -248,10 +205,10 @@ module _ (S : System) (book : List (ℕ × ℕ)) (done : Rows) (fits : Fits S do
         (let W : ℕ = width_of S in
         let k : ℕ = location / 64 in
         let wide : done.width ≡ W = fits.width in
-        let small : location < 64 * W = in_within W location turn.done.items t.sized h in
+        let small : location < 64 * W = in_within W location turn.done.items t.short h in
         let within : k < done.width = omega arith in
-        let same : get_or turn.done.items k 0 ≡ get_or done.words (turn.row * done.width + k) 0 = t.beside k (omega arith) out ∙ word_at done turn.row k within in
-        shown_from_bit done.width done.words turn.row location (omega arith) (ap (λ (x : ℕ). bit_at x (location % 64)) (sym same) ∙ h));
+        let was : bit_at (get_or (words_at done turn.row) k 0) (location % 64) ≡ 1 = t.beside k (omega arith) out (location % 64) h in
+        shown_from_bit done.width done.words turn.row location (omega arith) (ap (λ (x : ℕ). bit_at x (location % 64)) (sym (word_at done turn.row k within)) ∙ was));
     range = t.range.1;
   }
 

@@ -40,28 +40,20 @@ pub record HasWorked (v w : View) : Type 0 where
   pub sound : IsSound v → IsSound w
   pub seen : (word : ℕ) → Within (slice_index v.seen word) (slice_index w.seen word)
 
--- what a turn tells of what was seen before a round and after it
-pub record IsPiece (S : System) (book : List (ℕ × ℕ)) (v w : View) (turn : Turn) : Type 0 where
+-- what a turn tells of what is seen after a round
+pub record IsPiece (S : System) (book : List (ℕ × ℕ)) (w : View) (turn : Turn) : Type 0 where
   pub row : IsRow S turn.row
-  pub sized : length turn.done.items ≡ width_of S
-  pub read : (location : ℕ) → Has (known v) turn.row location → IsIn turn.done.items location
+  pub short : length turn.done.items ≤ width_of S
+  pub sized : turn.first < turn.end → length turn.done.items ≡ width_of S
   pub done : (location : ℕ) → IsIn turn.done.items location → Has (known w) turn.row location
   pub targets : (to location : ℕ)
       → Contains book (turn.row, to)
       → IsIn turn.done.items location
       → Has (known w) to location
-  pub within : (other : ℕ) → Contains turn.grown.items other → Contains book (turn.row, other)
 
--- a fact that was seen since comes from a turn that names its row as grown, or is done in the row's own turn
-abbrev pub IsToldBy : Turn → ℕ → ℕ → Type 0
-IsToldBy turn row location = Contains turn.grown.items row ⊎ ((turn.row ≡ row) × IsIn turn.done.items location)
-
--- the turns of a round tell all that was seen in it
-pub record HasServed (S : System) (book : List (ℕ × ℕ)) (v w : View) (turns : List Turn) : Type 0 where
-  pub pieces : (turn : Turn) → Contains turns turn → IsPiece S book v w turn
-  pub others : (row location : ℕ)
-      → Has (known w) row location
-      → Has (known v) row location ⊎ ((turn : Turn) × Contains turns turn × IsToldBy turn row location)
+-- what the turns of a round have done is seen after it
+abbrev pub HasServed : System → List (ℕ × ℕ) → View → List Turn → Type 0
+HasServed S book w turns = (turn : Turn) → Contains turns turn → IsPiece S book w turn
 
 -- the edges and the facts that rules demand of what is done are in the book and in what was seen
 pub record IsTreated (S : System) (v : View) (book : List (ℕ × ℕ)) (done : Rows) : Type 0 where
@@ -74,12 +66,10 @@ IsRest v done todo =
     (row location : ℕ) → Has (known v) row location → Has (members done) row location ⊎ Contains todo row
 
 -- what holds between two rounds
-pub record IsSettled (S : System) (v : View) (book : List (ℕ × ℕ)) (done : Rows) (todo : List ℕ) : Type 0 where
+pub record IsSettled (S : System) (v : View) (book : List (ℕ × ℕ)) (done : Rows) : Type 0 where
   pub ready : IsReady S v book done
   pub treated : IsTreated S v book done
   pub sound : IsSound v
-  pub rest : IsRest v done todo
-  pub rows : (row : ℕ) → Contains todo row → IsRow S row
 
 -- the seat has worked, closed the table, and read that it is closed
 pub record HasClosed (v w : View) : Type 0 where
@@ -95,7 +85,7 @@ pub record HasClosed (v w : View) : Type 0 where
 -- a turn's row is one, and what is done of it are locations
 pub record IsTurnOf (S : System) (turn : Turn) : Type 0 where
   pub row : IsRow S turn.row
-  pub sized : length turn.done.items ≡ width_of S
+  pub sized : turn.first < turn.end → length turn.done.items ≡ width_of S
   pub known : (location : ℕ) → IsIn turn.done.items location → IsLocation S location
 
 -- what a turn's row has newly is in the words that the turn names
@@ -114,18 +104,10 @@ pub record IsTakenIn (S : System) (turns : List Turn) (done after : Rows)
   pub edges : Renews book more (IsEdge S (members done)) (IsEdge S (members after))
   pub facts : Renews known news (IsFact S (members done)) (IsFact S (members after))
 
--- rows of which more was seen were noted
-pub record IsNoted (S : System) (v w : View) (todo more : List ℕ) : Type 0 where
-  pub kept : (row : ℕ) → Contains todo row → Contains more row
-  pub rows : (row : ℕ) → Contains more row → Contains todo row ⊎ IsRow S row
-  pub rest : (row location : ℕ) → Has (known w) row location → Has (known v) row location ⊎ Contains more row
-
--- a round has been worked, each of whose rows has had a turn, and none of them two
-pub record IsWorked (S : System) (v w : View) (book : List (ℕ × ℕ)) (done : Rows) (todo : List ℕ)
-    (turns : List Turn) : Type 0 where
-  pub before : IsSettled S v book done todo
+-- a round has been worked, and none of its rows has had two turns
+pub record IsWorked (S : System) (v w : View) (book : List (ℕ × ℕ)) (done : Rows) (turns : List Turn) : Type 0 where
+  pub before : IsSettled S v book done
   pub worked : HasWorked v w
-  pub served : HasServed S book v w turns
-  pub each : (row : ℕ) → Contains todo row → (turn : Turn) × Contains turns turn × (turn.row ≡ row)
+  pub served : HasServed S book w turns
   pub once : AreRowsApart (map (λ turn. turn.row) turns)
   pub changes : (turn : Turn) → Contains turns turn → IsChange S done turn

@@ -1,7 +1,5 @@
 -- The turns of a round, one after another, and how they are shared out.
 use Rattle.std.specs.Prelude.{◌≡◌, ℕ, ◌+◌, ◌*◌, ◌≤◌, List, [], ◌∷◌, ◌++◌, length, map, slice_get, Some, Ok, Result}
-use Rattle.std.specs.Prelude.{Vec}
-use Rattle.std.specs.declared.alloc.Global.{Global}
 use Rattle.pta_base.specs.declared.memory.OutOfMemory.{OutOfMemory}
 use Rattle.sol_model.specs.declared.system.System.{System}
 use Rattle.sol_model.specs.declared.rows.Rows.{Rows}
@@ -12,6 +10,7 @@ use Rattle.set_rows.specs.Views.{known, OnlyAdded}
 use Rattle.delta_prop.specs.declared.turn.Turn.{Turn}
 use Rattle.delta_prop.specs.Turns.{IsTurn}
 use Rattle.new_members.specs.News.{words_at}
+use Rattle.round_pieces.specs.declared.joining.Told.{Told}
 use Rattle.round_pieces.specs.Rounds.{HasServed}
 use Rattle.round_pieces.specs.Balance.{spent}
 
@@ -52,14 +51,11 @@ pub record HasShares (S : System) (book : List (ℕ × ℕ)) (done : Rows) (todo
   pub each : (k : ℕ) (share : List Turn)
       → slice_get shares k ≡ Some share
       → IsShare S book done todo workers (first + k) v w share
-  pub served : HasServed S book v w turns
+  pub served : HasServed S book w turns
   pub ors : w.ors ≤ v.ors + spent (width_of S) book (words_at done) turns
 
--- both were given, and this is the one after the other
-abbrev pub AreTogether : Result (Vec Turn Global) OutOfMemory
-    → Result (Vec Turn Global) OutOfMemory
-    → Vec Turn Global
-    → Type 0
-AreTogether first second turns =
-    (one : Vec Turn Global) × (other : Vec Turn Global) × (first ≡ Ok one) × (second ≡ Ok other)
-    × (turns.items ≡ one.items ++ other.items)
+-- both were given, and these are the turns of the one after those of the other
+abbrev pub AreTogether : Result Told OutOfMemory → Result Told OutOfMemory → Told → Type 0
+AreTogether first second both =
+    (one : Told) × (other : Told) × (first ≡ Ok one) × (second ≡ Ok other)
+    × (both.turns.items ≡ one.turns.items ++ other.turns.items)

@@ -14,8 +14,15 @@ fn deal(
     workers: u32,
 ) -> Result<(), OutOfMemory>
     requires { (block ≤ 2 ^ 32) × (at ≤ 2 ^ 32) × (workers ≤ 64) }
-    ensures rows { OnOk result ((row : ℕ) → (Contains out.new.items row ↔ (Contains out.old.items row ⊎ ((k : ℕ) × (k < workers) × (slice_get todo.now (k * block + at) ≡ Some row))))) }
-    ensures once { at < block → AreRowsApart todo.now → AreRowsApart out.old.items → ((k row : ℕ) → slice_get todo.now (k * block + at) ≡ Some row → Contains out.old.items row → ⊥) → OnOk result (AreRowsApart out.new.items) }
+    ensures rows { OnOk result
+        ((row : ℕ)
+        → (Contains out.new.items row
+        ↔ (Contains out.old.items row ⊎ ((k : ℕ) × (k < workers) × (slice_get todo.now (k * block + at) ≡ Some row))))) }
+    ensures once { at < block
+        → AreRowsApart todo.now
+        → AreRowsApart out.old.items
+        → ((k row : ℕ) → slice_get todo.now (k * block + at) ≡ Some row → Contains out.old.items row → ⊥)
+        → OnOk result (AreRowsApart out.new.items) }
 {
     for k in 0..workers as usize {
         let i = k * block + at;

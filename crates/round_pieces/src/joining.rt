@@ -1,19 +1,41 @@
-//! The turns of two groups of workers.
+//! What two groups of workers tell.
 ghost use Rattle.std.specs.Prelude.{IfOk};
 ghost use Rattle.round_pieces.specs.Turns.{AreTogether};
 
-use delta_prop::Turn;
+use delta_prop::{Span, Turn, joined};
 use pta_base::OutOfMemory;
 
-/// The turns of both groups, one after the other, where neither was in want of memory.
+/// What workers tell of a round.
+#[derive(Drop)]
+pub struct Told {
+    /// Their turns.
+    pub turns: Vec<Turn>,
+    /// For each row the words that these turns found grown since the row's own turn.
+    pub spans: Vec<Span>,
+}
+
+/// Widens the spans of all rows by those of a list.
+fn widen_all(spans: &mut Vec<Span>, more: &[Span]) {
+    for row in 0..more.len() {
+        if row < spans.len() {
+            spans[row] = joined(spans[row], more[row]);
+        }
+    }
+}
+
+/// What both groups tell, the turns of the one behind those of the other, where neither was in want of memory.
 pub(crate) fn together(
-    first: Result<Vec<Turn>, OutOfMemory>,
-    second: Result<Vec<Turn>, OutOfMemory>,
-) -> Result<Vec<Turn>, OutOfMemory>
+    first: Result<Told, OutOfMemory>,
+    second: Result<Told, OutOfMemory>,
+) -> Result<Told, OutOfMemory>
     ensures { IfOk result (AreTogether first second) }
 {
-    let mut turns = first?;
-    let mut more = second?;
+    let mine = first?;
+    let other = second?;
+    let mut turns = mine.turns;
+    let mut spans = mine.spans;
+    let mut more = other.turns;
     turns.append(&mut more)?;
-    Ok(turns)
+    widen_all(&mut spans, other.spans.as_slice());
+    Ok(Told { turns, spans })
 }

@@ -9,6 +9,7 @@ mod pieces;
 mod round;
 
 pub use dealing::dealt;
-pub use ordering::{put_once, turn_order};
+pub use joining::Told;
+pub use ordering::turn_order;
 pub use pieces::Round;
 pub use round::all_pieces;

@@ -10,8 +10,11 @@ use std::alloc::Global;
 /// Whether a row is a new one: one of those that have a mark, whose mark isn't set. Its mark is set from then on.
 fn visit(marks: &mut Vec<bool>, row: u32) -> bool
     ensures length { length marks.new.items ≡ length marks.old.items }
-    ensures new { result ≡ true → (row < length marks.old.items) × (slice_index_or marks.old.items row false ≡ false) × (marks.new.items ≡ slice_set marks.old.items row true) }
-    ensures old { result ≡ false → (marks.new.items ≡ marks.old.items) × (row < length marks.old.items → slice_index_or marks.old.items row false ≡ true) }
+    ensures new { result ≡ true
+        → (row < length marks.old.items) × (slice_index_or marks.old.items row false ≡ false)
+        × (marks.new.items ≡ slice_set marks.old.items row true) }
+    ensures old { result ≡ false
+        → (marks.new.items ≡ marks.old.items) × (row < length marks.old.items → slice_index_or marks.old.items row false ≡ true) }
 {
     let at = row as usize;
     if at >= marks.len() || marks[at] {
@@ -70,7 +73,11 @@ fn reached(
 }
 
 /// Adds those rows of a list that have a mark which isn't set, each once, and sets their marks.
-pub fn put_once(out: &mut Vec<u32>, marks: &mut Vec<bool>, list: &[u32]) -> Result<(), OutOfMemory>
+pub(crate) fn put_once(
+    out: &mut Vec<u32>,
+    marks: &mut Vec<bool>,
+    list: &[u32],
+) -> Result<(), OutOfMemory>
     requires marked { AreMarked out.old.items marks.old.items }
     requires once { AreRowsApart out.old.items }
     ensures length { length marks.new.items ≡ length marks.old.items }
@@ -87,13 +94,53 @@ pub fn put_once(out: &mut Vec<u32>, marks: &mut Vec<bool>, list: &[u32]) -> Resu
     Ok(())
 }
 
+/// The rows of a list, those first that stand in another list, in the order of this one; and so some stand twice.
+fn in_order_of(
+    alloc: Global,
+    order: &[u32],
+    todo: &[u32],
+    rows: u32,
+) -> Result<Vec<u32>, OutOfMemory> {
+    let mut marks = vec![in alloc; false; rows as usize]?;
+    for row in todo {
+        visit(&mut marks, *row);
+    }
+    let mut out = Vec::new(alloc);
+    for row in order {
+        let at = *row as usize;
+        if at < marks.len() && marks[at] {
+            out.push(*row)?;
+        }
+    }
+    for row in todo {
+        out.push(*row)?;
+    }
+    Ok(out)
+}
+
+/// The rows with which a search begins: in the order of the round before, or, where there was none, in that of a search of its own.
+fn roots(
+    alloc: Global,
+    book: &PairBook,
+    before: &[u32],
+    todo: &[u32],
+    rows: u32,
+) -> Result<Vec<u32>, OutOfMemory> {
+    if before.is_empty() {
+        return reached(alloc, book, todo, rows);
+    }
+    in_order_of(alloc, before, todo, rows)
+}
+
 /// The rows of a round: those that have grown, and those that edges reach from them, each once. What goes along edges from
 /// row to row finds the next row later in the order, but once for each ring, so one round carries it all the way (Pearce,
-/// Kelly and Hankin 2003, on the order in which a worklist's rows are visited). The second search begins with what the first
-/// leaves last, so that rows which lead into a ring come before it.
+/// Kelly and Hankin 2003, on the order in which a worklist's rows are visited). The order is that in which the rows stood in the round
+/// before, mended where edges are new, by a search that begins with its first rows; so rows which lead into a ring come before
+/// it. The first round's search begins with what a search before it leaves last.
 pub fn turn_order(
     alloc: Global,
     book: &PairBook,
+    before: &[u32],
     todo: &[u32],
     rows: u32,
 ) -> Result<Vec<u32>, OutOfMemory>
@@ -101,7 +148,7 @@ pub fn turn_order(
     ensures all { IfOk result (λ order. (row : ℕ) → Contains todo.now row → row < rows → Contains order.items row) }
     ensures rows { IfOk result (λ order. (row : ℕ) → Contains order.items row → row < rows) }
 {
-    let first = reached(alloc, book, todo, rows)?;
+    let first = roots(alloc, book, before, todo, rows)?;
     let second = reached(alloc, book, first.as_slice(), rows)?;
     let mut marks = vec![in alloc; false; rows as usize]?;
     let mut out = Vec::new(alloc);

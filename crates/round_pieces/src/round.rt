@@ -8,9 +8,9 @@ ghost use Rattle.delta_prop.specs.Deltas.{IsSound};
 ghost use Rattle.round_pieces.specs.Rounds.{IsReady, HasWorked};
 ghost use Rattle.round_pieces.specs.Turns.{HasShares};
 
-use crate::joining::together;
+use crate::joining::{Told, together};
 use crate::pieces::{Round, serve};
-use delta_prop::Turn;
+use delta_prop::NO_SPAN;
 use pta_base::{Gate, OutOfMemory};
 use set_rows::RowSeat;
 use std::alloc::Global;
@@ -23,7 +23,7 @@ fn in_turn<G: Gate>(
     seat: &mut RowSeat,
     first: u32,
     last: u32,
-) -> Result<Vec<Turn>, OutOfMemory>
+) -> Result<Told, OutOfMemory>
     requires own { IsOf round.now.table.now seat.old }
     requires valid { IsValid (system_of round.now.table.now) }
     requires ready { IsReady (system_of round.now.table.now) (view seat.old) round.now.book.now round.now.done.now }
@@ -33,14 +33,18 @@ fn in_turn<G: Gate>(
     ensures own { IsOf round.now.table.now seat.new }
     ensures view { OnlyAdded (view seat.old) (view seat.new) }
     ensures sound { IsSound (view seat.old) → IsSound (view seat.new) }
-    ensures shares { IfOk result (λ turns. HasShares (system_of round.now.table.now) round.now.book.now round.now.done.now round.now.todo.now round.now.workers first last (view seat.old) (view seat.new) turns.items) }
+    ensures shares { IfOk result
+        (λ told. HasShares
+        (system_of round.now.table.now) round.now.book.now round.now.done.now round.now.todo.now round.now.workers first last
+        (view seat.old) (view seat.new) told.turns.items) }
 {
+    let mut spans = vec![in alloc; NO_SPAN; round.spans.len()]?;
     let mut turns = Vec::new(alloc);
     for worker in first..last {
-        let mut share = serve(alloc, round, seat, worker)?;
+        let mut share = serve(alloc, round, seat, worker, &mut spans)?;
         turns.append(&mut share)?;
     }
-    Ok(turns)
+    Ok(Told { turns, spans })
 }
 
 /// The pieces of the workers from `first` up to `last`, on so many threads at most. Each thread has a seat of its own, and
@@ -53,7 +57,7 @@ fn spread<R: Threads + Sync, G: Gate + Sync>(
     first: u32,
     last: u32,
     threads: u32,
-) -> (RowSeat, Result<Vec<Turn>, OutOfMemory>)
+) -> (RowSeat, Result<Told, OutOfMemory>)
     requires own { IsOf round.now.table.now seat }
     requires valid { IsValid (system_of round.now.table.now) }
     requires ready { IsReady (system_of round.now.table.now) (view seat) round.now.book.now round.now.done.now }
@@ -62,18 +66,22 @@ fn spread<R: Threads + Sync, G: Gate + Sync>(
     requires workers { (first < last) × (last ≤ round.now.workers) × (round.now.workers ≤ 64) }
     ensures own { IsOf round.now.table.now result.0 }
     ensures view { HasWorked (view seat) (view result.0) }
-    ensures shares { IfOk result.1 (λ turns. HasShares (system_of round.now.table.now) round.now.book.now round.now.done.now round.now.todo.now round.now.workers first last (view seat) (view result.0) turns.items) }
+    ensures shares { IfOk result.1
+        (λ told. HasShares
+        (system_of round.now.table.now) round.now.book.now round.now.done.now round.now.todo.now round.now.workers first last
+        (view seat) (view result.0) told.turns.items) }
 {
     let mut seat = seat;
     if threads <= 1 || last - first == 1 {
-        let turns = in_turn(alloc, round, &mut seat, first, last);
-        return (seat, turns);
+        let told = in_turn(alloc, round, &mut seat, first, last);
+        return (seat, told);
     }
     let middle = first + (last - first) / 2;
     let Round {
         table,
         done,
         book,
+        spans,
         todo,
         workers,
         gate,
@@ -81,7 +89,7 @@ fn spread<R: Threads + Sync, G: Gate + Sync>(
     let other = table.split(&mut seat);
     let ((mut seat, left), (other, right)) = join(
         rt,
-        move || -> (RowSeat, Result<Vec<Turn>, OutOfMemory>)
+        move || -> (RowSeat, Result<Told, OutOfMemory>)
             requires sync { IsSync R.row × IsSync G.row }
             requires own { IsOf table.now seat }
             requires valid { IsValid (system_of table.now) }
@@ -91,12 +99,15 @@ fn spread<R: Threads + Sync, G: Gate + Sync>(
             requires workers { (first < middle) × (middle ≤ workers) × (workers ≤ 64) }
             ensures own { IsOf table.entry.now result.0 }
             ensures view { HasWorked (view seat) (view result.0) }
-            ensures shares { IfOk result.1 (λ turns. HasShares (system_of table.entry.now) book.entry.now done.entry.now todo.entry.now workers first middle (view seat) (view result.0) turns.items) }
+            ensures shares { IfOk result.1
+                (λ told. HasShares (system_of table.entry.now) book.entry.now done.entry.now todo.entry.now workers first middle
+                (view seat) (view result.0) told.turns.items) }
         {
             let round = Round {
                 table,
                 done,
                 book,
+                spans,
                 todo,
                 workers,
                 gate,
@@ -111,7 +122,7 @@ fn spread<R: Threads + Sync, G: Gate + Sync>(
                 threads - threads / 2,
             )
         },
-        move || -> (RowSeat, Result<Vec<Turn>, OutOfMemory>)
+        move || -> (RowSeat, Result<Told, OutOfMemory>)
             requires sync { IsSync R.row × IsSync G.row }
             requires own { IsOf table.now other }
             requires valid { IsValid (system_of table.now) }
@@ -121,12 +132,15 @@ fn spread<R: Threads + Sync, G: Gate + Sync>(
             requires workers { (middle < last) × (last ≤ workers) × (workers ≤ 64) }
             ensures own { IsOf table.entry.now result.0 }
             ensures view { HasWorked (view other) (view result.0) }
-            ensures shares { IfOk result.1 (λ turns. HasShares (system_of table.entry.now) book.entry.now done.entry.now todo.entry.now workers middle last (view other) (view result.0) turns.items) }
+            ensures shares { IfOk result.1
+                (λ told. HasShares (system_of table.entry.now) book.entry.now done.entry.now todo.entry.now workers middle last
+                (view other) (view result.0) told.turns.items) }
         {
             let round = Round {
                 table,
                 done,
                 book,
+                spans,
                 todo,
                 workers,
                 gate,
@@ -145,7 +159,7 @@ pub fn all_pieces<R: Threads + Sync, G: Gate + Sync>(
     round: &Round<G>,
     seat: &mut RowSeat,
     threads: u32,
-) -> Result<Vec<Turn>, OutOfMemory>
+) -> Result<Told, OutOfMemory>
     requires own { IsOf round.now.table.now seat.old }
     requires valid { IsValid (system_of round.now.table.now) }
     requires ready { IsReady (system_of round.now.table.now) (view seat.old) round.now.book.now round.now.done.now }
@@ -154,10 +168,14 @@ pub fn all_pieces<R: Threads + Sync, G: Gate + Sync>(
     requires workers { (0 < round.now.workers) × (round.now.workers ≤ 64) }
     ensures own { IsOf round.now.table.now seat.new }
     ensures worked { HasWorked (view seat.old) (view seat.new) }
-    ensures shares { IfOk result (λ turns. HasShares (system_of round.now.table.now) round.now.book.now round.now.done.now round.now.todo.now round.now.workers 0 round.now.workers (view seat.old) (view seat.new) turns.items) }
+    ensures shares { IfOk result
+        (λ told. HasShares
+        (system_of round.now.table.now) round.now.book.now round.now.done.now round.now.todo.now round.now.workers 0
+        round.now.workers
+        (view seat.old) (view seat.new) told.turns.items) }
 {
     let mine = round.table.split(seat);
-    let (mine, turns) = spread(rt, alloc, round, mine, 0, round.workers, threads);
+    let (mine, told) = spread(rt, alloc, round, mine, 0, round.workers, threads);
     round.table.meet(seat, mine);
-    turns
+    told
 }

@@ -1,10 +1,9 @@
 -- Rows that still have more than is done of them.
-use Rattle.std.proofs.Common.{◌≡◌, ◌≢◌, ◌⊎◌, ℕ, ◌+◌, ◌*◌, ◌/◌, ◌%◌, ◌<◌, ◌^◌, List, [], ◌∷◌, ◌++◌, get_or, drop, Contains, refl, sym, ◌∙◌, subst, inl, inr, arith}
+use Rattle.std.proofs.Common.{◌≡◌, ◌≢◌, ◌⊎◌, ℕ, ◌+◌, ◌*◌, ◌/◌, ◌%◌, ◌<◌, ◌≤◌, ◌^◌, List, [], ◌∷◌, ◌++◌, get_or, Contains, refl, sym, ◌∙◌, subst, inl, inr, arith}
 use Rattle.std.specs.Int.{bit_at, trailing_zeros, w64}
 use Rattle.std.proofs.lemmas.Bool.{cases_eq}
 use Rattle.std.proofs.lemmas.Nat.Bits.{bit_at-trailing_zeros}
-use Rattle.std.proofs.lemmas.List.Elements.{Contains-append_cases, Contains-append_left, Contains-push, Contains-push_cases}
-use Rattle.edge_book.proofs.Targets.{only_one}
+use Rattle.std.proofs.lemmas.List.Elements.{Contains-append_left, Contains-push, Contains-push_cases}
 use Rattle.sol_model.specs.declared.system.System.{System}
 use Rattle.sol_model.specs.declared.rows.Rows.{Rows}
 use Rattle.sol_model.specs.Families.{Family, Has, shown, members}
@@ -17,7 +16,7 @@ use Rattle.set_rows.proofs.Adding.{known_more}
 use Rattle.delta_prop.specs.Deltas.{IsAllOf, IsSound, new_bits}
 use Rattle.delta_prop.proofs.Going.{looked_adds}
 use Rattle.new_members.specs.News.{IsIn}
-use Rattle.round_pieces.specs.Rounds.{IsRest, IsSettled}
+use Rattle.round_pieces.specs.Rounds.{IsSettled}
 use Rattle.round_pieces.proofs.Growing.{new_small, new_there, new_lacked}
 use Rattle.round_pieces.proofs.Parts.{ready_more}
 use Rattle.round_pieces.proofs.Serving.{known_as}
@@ -67,74 +66,63 @@ one_more S w row k words e lt some =
       λ h. new_lacked held now b less low.1 (subst (λ (x : ℕ). bit_at held x ≡ 1) bit (subst (λ (x : ℕ). bit_at (get_or words x 0) ((64 * k + b) % 64) ≡ 1) at h)),
     )
 
--- the first i rows of a list were looked at, and those that have more were kept
-pub record Kept (done : Rows) (todo : List ℕ) (i : ℕ) (v u : View) (left : List ℕ) : Type 0 where
+-- the rows below i were looked at, and those that have more were kept
+pub record Kept (done : Rows) (i : ℕ) (v u : View) (left : List ℕ) : Type 0 where
   pub more : OnlyLooked v u
   pub sound : IsSound v → IsSound u
-  pub few : (row : ℕ) → Contains left row → Contains todo row
-  pub rest : (row location : ℕ) → Has (known u) row location → Has (members done) row location ⊎ (Contains left row ⊎ Contains (drop i todo) row)
+  pub rest : (row location : ℕ) → Has (known u) row location → Has (members done) row location ⊎ (Contains left row ⊎ (i ≤ row))
   pub grown : (row : ℕ) → Contains left row → (location : ℕ) × Has (known u) row location × (Has (members done) row location → ⊥)
 
-pub kept_start : (done : Rows) (todo : List ℕ) (v : View) → IsRest v done todo → Kept done todo 0 v v []
-kept_start done todo v rest = record {
+pub kept_start : (done : Rows) (v : View) → Kept done 0 v v []
+kept_start done v = record {
   more = nothing_looked v;
   sound = λ s. s;
-  few = λ row h. absurd (let l = h.1 in omega arith);
-  rest = λ row location h. elim (rest row location h) [ inl there ↦ inl there | inr listed ↦ inr (inr listed) ];
+  rest = λ row location h. inr (inr (omega arith));
   grown = λ row h. absurd (let l = h.1 in omega arith);
 }
 
--- a row that isn't the next is among the later ones
-later : (row r : ℕ) (xs : List ℕ) → r ≢ row → Contains (row ∷ xs) r → Contains xs r
-later row r xs ne h = elim (Contains-append_cases (row ∷ []) xs r h) [ inl here ↦ absurd (ne (sym (only_one row r here))) | inr there ↦ there ]
-
-module _ (done : Rows) (todo : List ℕ) (i row : ℕ) (v u w : View) (left : List ℕ) (kept : Kept done todo i v u left) (at : drop i todo ≡ row ∷ drop (i + 1) todo)
-    (more : OnlyLooked u w) (sound : IsSound u → IsSound w) (others : (r l : ℕ) → Has (known w) r l → Has (known u) r l ⊎ (r ≡ row)) where
+module _ (done : Rows) (i : ℕ) (v u w : View) (left : List ℕ) (kept : Kept done i v u left)
+    (more : OnlyLooked u w) (sound : IsSound u → IsSound w) (others : (r l : ℕ) → Has (known w) r l → Has (known u) r l ⊎ (r ≡ i)) where
   still : (r : ℕ) → Contains left r → (location : ℕ) × Has (known w) r location × (Has (members done) r location → ⊥)
   still r h = let g = kept.grown r h in (g.0, known_more u w (looked_adds u w more) r g.0 g.1, g.2)
 
-  older : (r l : ℕ) → r ≢ row → Has (known w) r l → Has (members done) r l ⊎ (Contains left r ⊎ Contains (drop (i + 1) todo) r)
+  older : (r l : ℕ) → r ≢ i → Has (known w) r l → Has (members done) r l ⊎ (Contains left r ⊎ (i + 1 ≤ r))
   older r l ne h = elim (others r l h) [
     | inr is ↦ absurd (ne is)
     | inl before ↦ elim (kept.rest r l before) [
       | inl there ↦ inl there
-      | inr other ↦ elim other [ inl listed ↦ inr (inl listed) | inr ahead ↦ inr (inr (later row r (drop (i + 1) todo) ne (subst (λ (xs : List ℕ). Contains xs r) at ahead))) ]
+      | inr other ↦ elim other [ inl listed ↦ inr (inl listed) | inr ahead ↦ inr (inr (omega arith)) ]
     ]
   ]
 
   -- the row has no more than is done
-  pub kept_done : ((l : ℕ) → Has (known w) row l → Has (members done) row l) → Kept done todo (i + 1) v w left
+  pub kept_done : ((l : ℕ) → Has (known w) i l → Has (members done) i l) → Kept done (i + 1) v w left
   kept_done all = record {
     more = looked_again v u w kept.more more;
     sound = λ s. sound (kept.sound s);
-    few = kept.few;
-    rest = λ r l h. elim (cases_eq r row) [ inl is ↦ inl (subst (λ (n : ℕ). Has (members done) n l) (sym is) (all l (subst (λ (n : ℕ). Has (known w) n l) is h))) | inr ne ↦ older r l ne h ];
+    rest = λ r l h. elim (cases_eq r i) [ inl is ↦ inl (subst (λ (n : ℕ). Has (members done) n l) (sym is) (all l (subst (λ (n : ℕ). Has (known w) n l) is h))) | inr ne ↦ older r l ne h ];
     grown = still;
   }
 
   -- it has more
-  pub kept_more : Contains todo row → (location : ℕ) × Has (known w) row location × (Has (members done) row location → ⊥) → Kept done todo (i + 1) v w (left ++ row ∷ [])
-  kept_more listed some = record {
+  pub kept_more : (location : ℕ) × Has (known w) i location × (Has (members done) i location → ⊥) → Kept done (i + 1) v w (left ++ i ∷ [])
+  kept_more some = record {
     more = looked_again v u w kept.more more;
     sound = λ s. sound (kept.sound s);
-    few = λ r h. elim (Contains-push_cases left row r h) [ inl old ↦ kept.few r old | inr is ↦ subst (Contains todo) is listed ];
-    rest = λ r l h. elim (cases_eq r row) [
-      | inl is ↦ inr (inl (subst (Contains (left ++ row ∷ [])) (sym is) (Contains-push left row)))
+    rest = λ r l h. elim (cases_eq r i) [
+      | inl is ↦ inr (inl (subst (Contains (left ++ i ∷ [])) (sym is) (Contains-push left i)))
       | inr ne ↦ elim (older r l ne h) [
         | inl there ↦ inl there
-        | inr other ↦ elim other [ inl kept_row ↦ inr (inl (Contains-append_left left (row ∷ []) r kept_row)) | inr ahead ↦ inr (inr ahead) ]
+        | inr other ↦ elim other [ inl kept_row ↦ inr (inl (Contains-append_left left (i ∷ []) r kept_row)) | inr ahead ↦ inr (inr ahead) ]
       ]
     ];
-    grown = λ r h. elim (Contains-push_cases left row r h) [ inl old ↦ still r old | inr is ↦ subst (λ (n : ℕ). (location : ℕ) × Has (known w) n location × (Has (members done) n location → ⊥)) is some ];
+    grown = λ r h. elim (Contains-push_cases left i r h) [ inl old ↦ still r old | inr is ↦ subst (λ (n : ℕ). (location : ℕ) × Has (known w) n location × (Has (members done) n location → ⊥)) is some ];
   }
 
--- what was settled stays so with the rows that are left
-pub settled_left : (S : System) (v w : View) (book : List (ℕ × ℕ)) (done : Rows) (todo left : List ℕ) → OnlyLooked v w → (IsSound v → IsSound w) → ((row : ℕ) → Contains left row → Contains todo row)
-    → IsRest w done left → IsSettled S v book done todo → IsSettled S w book done left
-settled_left S v w book done todo left more sound few rest s = record {
+-- what was settled stays so where rows are only looked at
+pub settled_still : (S : System) (v w : View) (book : List (ℕ × ℕ)) (done : Rows) → OnlyLooked v w → IsSound w → IsSettled S v book done → IsSettled S w book done
+settled_still S v w book done more sound s = record {
   ready = ready_more S v w book done (looked_adds v w more) s.ready;
   treated = record { edges = s.treated.edges; facts = λ row location f. known_more v w (looked_adds v w more) row location (s.treated.facts row location f) };
-  sound = sound s.sound;
-  rest = rest;
-  rows = λ row h. s.rows row (few row h);
+  sound = sound;
 }

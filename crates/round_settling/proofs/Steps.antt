@@ -21,9 +21,7 @@ use Rattle.delta_prop.specs.declared.turn.Turn.{Turn}
 use Rattle.delta_prop.specs.Deltas.{IsSeenOf}
 use Rattle.delta_prop.proofs.Carries.{edge_more}
 use Rattle.new_members.specs.News.{IsIn, IsFact, Renews}
-use Rattle.round_pieces.specs.Rounds.{AreRowsApart, IsTakenIn, IsNoted}
-use Rattle.round_pieces.specs.Orders.{AreMarked}
-use Rattle.round_pieces.proofs.Marking.{none_marked}
+use Rattle.round_pieces.specs.Rounds.{IsTakenIn}
 use Rattle.round_pieces.proofs.Serving.{known_as}
 use Rattle.round_pieces.proofs.Ending.{fact_more}
 
@@ -67,37 +65,6 @@ fact_added S v row location n found own e known lt =
     let small : location < 64 * W = subst (λ (T : System). location < 64 * width_of T) (sym own) (locations_fit S location known) in
     let bit : bit_at (get_or seen i 0) (location % 64) ≡ 1 = ap (λ (x : ℕ). bit_at x (location % 64)) (get_or-set_same v.seen i (bit_or found mask) 0 lt) ∙ adds_or found mask (location % 64) (bit_here (location % 64) (mod_below location 64 (omega arith))) in
     shown_from_bit W seen row location small (ap (λ (j : ℕ). bit_at (get_or seen j 0) (location % 64)) (sym place) ∙ bit)
-
-pub fact_others : (S : System) (v : View) (row location n found : ℕ) → v.system ≡ S → n ≡ width_of S → IsLocation S location → row * n + location / 64 < length v.seen
-    → (r l : ℕ) → Has (known (added v (row * n + location / 64) (one_bit (location % 64)) found)) r l → Has (known v) r l ⊎ (r ≡ row)
-fact_others S v row location n found own e known lt r l h =
-    let i : ℕ = row * n + location / 64 in
-    let W : ℕ = width_of v.system in
-    let mask : ℕ = one_bit (location % 64) in
-    let wide : n ≡ W = e ∙ ap width_of (sym own) in
-    let small : location < 64 * W = subst (λ (T : System). location < 64 * width_of T) (sym own) (locations_fit S location known) in
-    elim (set_has W v.seen i (bit_or found mask) r l lt h) [
-      | inl old ↦ inl old
-      | inr at ↦ inr (same_from_place r (l / 64) row (location / 64) W (let s = at.0 in omega arith) (omega arith) (at.1 ∙ ap (λ (m : ℕ). row * m + location / 64) wide)).0
-    ]
-
--- rows that were noted
-pub noted_same : (S : System) (v : View) (todo : List ℕ) → IsNoted S v v todo todo
-noted_same S v todo = record { kept = λ row c. c; rows = λ row c. inl c; rest = λ row location h. inl h }
-
-pub noted_then : (S : System) (u v w : View) (a b c : List ℕ) → IsNoted S u v a b → IsNoted S v w b c → IsNoted S u w a c
-noted_then S u v w a b c f s = record {
-  kept = λ row h. s.kept row (f.kept row h);
-  rows = λ row h. elim (s.rows row h) [ inl x ↦ f.rows row x | inr y ↦ inr y ];
-  rest = λ row location h. elim (s.rest row location h) [ inl x ↦ elim (f.rest row location x) [ inl o ↦ inl o | inr n ↦ inr (s.kept row n) ] | inr n ↦ inr n ];
-}
-
-pub noted_one : (S : System) (v w : View) (todo : List ℕ) (row : ℕ) → IsRow S row → ((r l : ℕ) → Has (known w) r l → Has (known v) r l ⊎ (r ≡ row)) → IsNoted S v w todo (todo ++ row ∷ [])
-noted_one S v w todo row in_rows others = record {
-  kept = λ r c. Contains-append_left todo (row ∷ []) r c;
-  rows = λ r c. elim (Contains-push_cases todo row r c) [ inl o ↦ inl o | inr n ↦ inr (subst (IsRow S) n in_rows) ];
-  rest = λ r l h. elim (others r l h) [ inl o ↦ inl o | inr n ↦ inr (subst (Contains (todo ++ row ∷ [])) (sym n) (Contains-push todo row)) ];
-}
 
 -- words that were carried to one row
 pub carried_others : (S : System) (v w : View) (to : ℕ) → v.system ≡ S → w.system ≡ S
@@ -156,31 +123,3 @@ taken_next S turns turn done mid after book half more known some news t fits has
       edges = renews_then book half more (IsEdge S (members done)) (IsEdge S (members mid)) (IsEdge S (members after)) (λ a b e. edge_more S (members mid) (members after) a b grows e) t.edges edges;
       facts = renews_then known some news (IsFact S (members done)) (IsFact S (members mid)) (IsFact S (members after)) (λ a b f. fact_more S (members mid) (members after) a b grows f) t.facts facts;
     }
-
--- the rows that the first turns have found grown were put, by their marks
-pub record NotedBy (rows : ℕ) (turns : List Turn) (todo : List ℕ) (marks : List Bool) : Type 0 where
-  pub sized : length marks ≡ rows
-  pub marked : AreMarked todo marks
-  pub once : AreRowsApart todo
-  pub all : (turn : Turn) (row : ℕ) → Contains turns turn → Contains turn.grown.items row → row < rows → Contains todo row
-
-pub noted_none : (rows : ℕ) (marks : List Bool) → marks ≡ replicate rows false → NotedBy rows [] [] marks
-noted_none rows marks e = record {
-  sized = ap (λ (bs : List Bool). length bs) e ∙ length-replicate rows false;
-  marked = subst (AreMarked []) (sym e) (none_marked rows);
-  once = λ i j d lt l. absurd (omega arith);
-  all = λ turn row h. absurd (let l = h.1 in omega arith);
-}
-
-pub noted_next : (rows : ℕ) (turns : List Turn) (turn : Turn) (todo new : List ℕ) (marks next : List Bool) → NotedBy rows turns todo marks
-    → length next ≡ length marks → AreMarked new next → AreRowsApart new → ((row : ℕ) → Contains turn.grown.items row → row < length marks → Contains new row)
-    → ((row : ℕ) → Contains todo row → Contains new row) → NotedBy rows (turns ++ turn ∷ []) new next
-noted_next rows turns turn todo new marks next n sized marked once put kept = record {
-  sized = sized ∙ n.sized;
-  marked = marked;
-  once = once;
-  all = λ other row h grown lt. elim (Contains-push_cases turns turn other h) [
-    | inl old ↦ kept row (n.all other row old grown lt)
-    | inr same ↦ put row (subst (λ (x : Turn). Contains x.grown.items row) (sym same) grown) (let e = n.sized in omega arith)
-  ];
-}

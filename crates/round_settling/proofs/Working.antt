@@ -20,14 +20,14 @@ use Rattle.delta_prop.specs.declared.turn.Turn.{Turn}
 use Rattle.delta_prop.specs.Deltas.{gained}
 use Rattle.delta_prop.proofs.Carries.{edge_more}
 use Rattle.new_members.specs.News.{Extends, words_at}
-use Rattle.round_pieces.specs.Rounds.{IsSettled, IsTakenIn}
+use Rattle.round_pieces.specs.Rounds.{IsRest, IsSettled, IsTakenIn}
 use Rattle.round_pieces.specs.Turns.{row_of}
 use Rattle.round_pieces.specs.Balance.{paid_for, spent, IsBooked}
 use Rattle.round_pieces.specs.Work.{asked_by, edge_work, fact_work, fresh_targets, is_target, size, IsWork, OneWork, WorkGrows}
 use Rattle.round_settling.proofs.Asking.{facts_within}
 use Rattle.round_settling.proofs.Costs.{paid_within}
 use Rattle.round_pieces.proofs.Counts.{count_more, one_or_none}
-use Rattle.round_pieces.proofs.Ending.{fact_more, sound_range}
+use Rattle.round_pieces.proofs.Ending.{all_done, fact_more, sound_range}
 use Rattle.round_pieces.proofs.Growing.{turn_grows}
 use Rattle.round_pieces.proofs.Sums.{IsApart, in_list, list_has, apart_list, sum_more, sum_within}
 
@@ -93,11 +93,11 @@ turns_pay S done after book more known news turns fits taken once =
     (λ turn i. turn_grows S done after turn.row turn.done.items fits taken.fits (kept turn.row) (λ location h. (taken.has turn.row location).1 (inr (turn, list_has turns turn i, refl, h))))
 
 -- at the end all that was paid for is work of what was seen
-pub work_done : (S : System) (u : View) (book facts : List (ℕ × ℕ)) (done : Rows) (before : ℕ) → u.system ≡ S → IsValid S → IsSettled S u book done [] → IsBooked S done book facts
+pub work_done : (S : System) (u : View) (book facts : List (ℕ × ℕ)) (done : Rows) (before : ℕ) → u.system ≡ S → IsValid S → IsSettled S u book done → IsRest u done [] → IsBooked S done book facts
     → u.ors ≤ before + paid_for S done book facts → (n : ℕ) × IsWork S (known u) n × (u.ors ≤ before + n)
-work_done S u book facts done before own valid settled booked paid =
+work_done S u book facts done before own valid settled rest booked paid =
     let F : Family = known u in
-    let all : IsInside F (members done) = λ row location h. elim (settled.rest row location h) [ inl there ↦ there | inr none ↦ absurd (let l = none.1 in omega arith) ] in
+    let all : IsInside F (members done) = all_done u done rest in
     let a : edge_work S (members done) book ≤ edge_work S F book = edges_more S (members done) F settled.ready.own book in
     let b : length facts ≤ fact_work S F = facts_within S F (λ row location h. (sound_range S u row location valid own settled.sound h).1) facts booked.facts_once
     (λ row location c. fact_more S (members done) F row location settled.ready.own (booked.demanded row location c)) in (

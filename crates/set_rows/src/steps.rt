@@ -3,7 +3,8 @@ ghost use Rattle.std.specs.Prelude.{◌≡◌, ◌<◌, true, slice_index, IfOk,
 ghost use Rattle.sol_model.specs.Solutions.{IsClosed, IsGiven};
 ghost use Rattle.sol_model.specs.Systems.{IsValid, width_of};
 ghost use Rattle.sol_model.specs.Words.{Within, At};
-ghost use Rattle.set_rows.specs.Views.{words_of, known, fresh, looked, added, shutting, reading, half_kept, half_given, met, IsLeastWord, IsBelowWord};
+ghost use Rattle.set_rows.specs.Views.{words_of, known, fresh, looked, added, shutting, reading, half_kept, half_given};
+ghost use Rattle.set_rows.specs.Views.{met, IsLeastWord, IsBelowWord};
 ghost use Rattle.set_rows.specs.Calls.{system_of, view, IsOf};
 
 use crate::rule::{Adds, Draws, Halves, Looks, Meets, Reads, Shuts};
@@ -57,7 +58,9 @@ impl RowTable {
     pub fn add(&self, seat: &mut RowSeat, word: usize, mask: u64) -> u64
         requires own { IsOf self.now seat.old }
         requires word { word < words_of (system_of self.now) }
-        requires licensed { (row location : _) → At (width_of (system_of self.now)) word mask row location → IsGiven (system_of self.now) (known (view seat.old)) row location }
+        requires licensed { (row location : _)
+            → At (width_of (system_of self.now)) word mask row location
+            → IsGiven (system_of self.now) (known (view seat.old)) row location }
         ensures view { view seat.new ≡ added (view seat.old) word mask result }
         ensures own { IsOf self.now seat.new }
         ensures seen { Within (slice_index (view seat.old).seen word) result }

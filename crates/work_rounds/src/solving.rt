@@ -1,5 +1,5 @@
 //! Solving by rounds.
-ghost use Rattle.std.specs.Prelude.{◌≡◌, ◌⊎◌, ◌↔◌, ℕ, ◌+◌, ◌^◌, ◌<◌, ◌≤◌, OnOk, OnErr, IfOk, replicate, length, Contains};
+ghost use Rattle.std.specs.Prelude.{◌≡◌, ◌↔◌, ℕ, ◌+◌, ◌^◌, ◌<◌, ◌≤◌, OnOk, OnErr, IfOk, replicate, length, Contains};
 ghost use Rattle.sol_model.specs.Families.{Has};
 ghost use Rattle.sol_model.specs.Solutions.{IsLeast};
 ghost use Rattle.sol_model.specs.Systems.{IsValid, IsRow, width_of};
@@ -10,12 +10,14 @@ ghost use Rattle.new_members.specs.News.{IsReader};
 ghost use Rattle.round_pieces.specs.Rounds.{AreRowsApart, HasClosed, HasWorked, IsSettled};
 ghost use Rattle.round_pieces.specs.Balance.{IsBooked, paid_for};
 ghost use Rattle.round_pieces.specs.Work.{IsWork};
+ghost use Rattle.round_settling.specs.Extents.{AreExtents};
 
+use delta_prop::{NO_SPAN, Span};
 use edge_book::{PairBook, PairSet};
 use new_members::readers;
 use pta_base::{Gate, OutOfMemory};
-use round_pieces::{Round, all_pieces, dealt, turn_order};
-use round_settling::{Ground, Progress, begin, settle, still_grown};
+use round_pieces::{Round, Told, all_pieces, dealt, turn_order};
+use round_settling::{Ground, NOWHERE, Progress, begin, rows_to_do, settle};
 use set_rows::{RowSeat, RowTable};
 use sol_model::{Rows, System};
 use std::alloc::Global;
@@ -35,14 +37,6 @@ fn thread_count(round: u64, rows: usize, workers: u32) -> u32
         return workers;
     }
     (rows / ROWS_A_THREAD).clamp(1, workers as usize) as u32
-}
-
-/// The rows in order of their numbers, each once.
-fn in_order(todo: &mut Vec<u32>)
-    ensures { (row : ℕ) → (Contains todo.new.items row → Contains todo.old.items row) × (Contains todo.old.items row → Contains todo.new.items row) }
-{
-    todo.sort_unstable();
-    todo.dedup();
 }
 
 /// The rows of a round in the order in which they are dealt out. More than 2^32 - 1 rows are want of memory.
@@ -70,45 +64,7 @@ struct Crew<'a, G> {
     gate: &'a G,
 }
 
-/// The pieces of one round, and then what their turns have done is taken in. It gives the rows that have grown.
-fn work_pieces<R: Threads + Sync, G: Gate + Sync>(
-    rt: &R,
-    alloc: Global,
-    ground: &Ground,
-    seat: &mut RowSeat,
-    progress: &mut Progress,
-    todo: &[u32],
-    crew: &Crew<G>,
-) -> Result<Vec<u32>, OutOfMemory>
-    requires own { IsOf ground.now.table.now seat.old }
-    requires valid { IsValid ground.now.system.now }
-    requires system { system_of ground.now.table.now ≡ ground.now.system.now }
-    requires readers { (row number : ℕ) → (Contains ground.now.readers.now (row, number) ↔ IsReader ground.now.system.now row number) }
-    requires nothing { ground.now.nothing.now ≡ replicate (width_of ground.now.system.now) 0 }
-    requires settled { IsSettled ground.now.system.now (view seat.old) progress.old.book progress.old.done todo.now }
-    requires booked { IsBooked ground.now.system.now progress.old.done progress.old.book progress.old.facts }
-    requires once { AreRowsApart todo.now }
-    requires few { length todo.now < 2 ^ 32 }
-    requires workers { (0 < crew.now.workers) × (crew.now.workers ≤ 64) }
-    ensures own { IsOf ground.now.table.now seat.new }
-    ensures worked { HasWorked (view seat.old) (view seat.new) }
-    ensures settled { IfOk result (λ grown. IsSettled ground.now.system.now (view seat.new) progress.new.book progress.new.done grown.items) }
-    ensures booked { OnOk result (IsBooked ground.now.system.now progress.new.done progress.new.book progress.new.facts) }
-    ensures paid { OnOk result ((view seat.new).ors + paid_for ground.now.system.now progress.old.done progress.old.book progress.old.facts ≤ (view seat.old).ors + paid_for ground.now.system.now progress.new.done progress.new.book progress.new.facts) }
-{
-    let round = Round {
-        table: ground.table,
-        done: &progress.done,
-        book: &progress.book,
-        todo,
-        workers: crew.workers,
-        gate: crew.gate,
-    };
-    let turns = all_pieces(rt, alloc, &round, seat, crew.threads)?;
-    settle(alloc, ground, seat, progress, turns.as_slice())
-}
-
-/// One round. It gives the rows that have more than is done of them.
+/// One round: its pieces, and then what their turns have done is taken in. What grows meanwhile is noted.
 fn work_round<R: Threads + Sync, G: Gate + Sync>(
     rt: &R,
     alloc: Global,
@@ -117,26 +73,45 @@ fn work_round<R: Threads + Sync, G: Gate + Sync>(
     progress: &mut Progress,
     todo: &[u32],
     crew: &Crew<G>,
-) -> Result<Vec<u32>, OutOfMemory>
+    spans: &mut Vec<Span>,
+) -> Result<(), OutOfMemory>
     requires own { IsOf ground.now.table.now seat.old }
     requires valid { IsValid ground.now.system.now }
     requires system { system_of ground.now.table.now ≡ ground.now.system.now }
     requires readers { (row number : ℕ) → (Contains ground.now.readers.now (row, number) ↔ IsReader ground.now.system.now row number) }
     requires nothing { ground.now.nothing.now ≡ replicate (width_of ground.now.system.now) 0 }
-    requires settled { IsSettled ground.now.system.now (view seat.old) progress.old.book progress.old.done todo.now }
+    requires settled { IsSettled ground.now.system.now (view seat.old) progress.old.book progress.old.done }
     requires booked { IsBooked ground.now.system.now progress.old.done progress.old.book progress.old.facts }
+    requires extents { AreExtents progress.old.done progress.old.extents.items }
+    requires rows { (row : ℕ) → Contains todo.now row → IsRow ground.now.system.now row }
     requires once { AreRowsApart todo.now }
     requires few { length todo.now < 2 ^ 32 }
     requires workers { (0 < crew.now.workers) × (crew.now.workers ≤ 64) }
     ensures own { IsOf ground.now.table.now seat.new }
     ensures worked { HasWorked (view seat.old) (view seat.new) }
-    ensures settled { IfOk result (λ grown. IsSettled ground.now.system.now (view seat.new) progress.new.book progress.new.done grown.items) }
+    ensures settled { OnOk result (IsSettled ground.now.system.now (view seat.new) progress.new.book progress.new.done) }
     ensures booked { OnOk result (IsBooked ground.now.system.now progress.new.done progress.new.book progress.new.facts) }
-    ensures paid { OnOk result ((view seat.new).ors + paid_for ground.now.system.now progress.old.done progress.old.book progress.old.facts ≤ (view seat.old).ors + paid_for ground.now.system.now progress.new.done progress.new.book progress.new.facts) }
+    ensures paid { OnOk result
+        ((view seat.new).ors + paid_for ground.now.system.now progress.old.done progress.old.book progress.old.facts
+        ≤ (view seat.old).ors + paid_for ground.now.system.now progress.new.done progress.new.book progress.new.facts) }
+    ensures extents { OnOk result (AreExtents progress.new.done progress.new.extents.items) }
 {
-    let mut grown = work_pieces(rt, alloc, ground, seat, progress, todo, crew)?;
-    in_order(&mut grown);
-    still_grown(alloc, ground.table, seat, &progress.done, grown.as_slice())
+    let round = Round {
+        table: ground.table,
+        done: &progress.done,
+        book: &progress.book,
+        spans: spans.as_slice(),
+        todo,
+        workers: crew.workers,
+        gate: crew.gate,
+    };
+    let told = all_pieces(rt, alloc, &round, seat, crew.threads)?;
+    let Told {
+        turns,
+        spans: grown,
+    } = told;
+    *spans = grown;
+    settle(alloc, ground, seat, progress, turns.as_slice(), spans)
 }
 
 /// Solves a system on its shared rows with 1 to 64 workers, from a seat that has seen no fact. After Ok the table is
@@ -164,19 +139,23 @@ pub fn solve<R: Threads + Sync, G: Gate + Sync>(
     ensures own { IsOf table.now seat.new }
     ensures closed { OnOk result (HasClosed (view seat.old) (view seat.new)) }
     ensures least { OnOk result (IsLeast system.now (known (view seat.new))) }
-    ensures bound { OnOk result ((n : ℕ) × IsWork system.now (known (view seat.new)) n × ((view seat.new).ors ≤ (view seat.old).ors + n + 1)) }
+    ensures bound { OnOk result
+        ((n : ℕ) × IsWork system.now (known (view seat.new)) n × ((view seat.new).ors ≤ (view seat.old).ors + n + 1)) }
     ensures err { OnErr result (HasWorked (view seat.old) (view seat.new)) }
 {
     let width = system.row_width() as u32;
     let nothing = vec![in alloc; 0u64; width as usize]?;
     let readers = readers(alloc, system)?;
     let done = Rows::empty(alloc, system.rows, width)?;
+    let extents = vec![in alloc; NOWHERE; system.rows as usize]?;
     let mut progress = Progress {
         done,
         book: PairBook::new(alloc),
         facts: PairSet::new(alloc),
+        extents,
     };
-    let mut todo = begin(
+    let mut spans = vec![in alloc; NO_SPAN; system.rows as usize]?;
+    begin(
         alloc,
         system,
         table,
@@ -184,15 +163,23 @@ pub fn solve<R: Threads + Sync, G: Gate + Sync>(
         width as usize,
         &mut progress.book,
         &mut progress.facts,
+        &mut spans,
     )?;
+    let mut kept = Vec::new(alloc);
     for round in 0..u64::MAX {
+        let todo = rows_to_do(alloc, table, seat, &progress.done, system.rows, &mut spans)?;
         if todo.is_empty() {
             table.shut(seat);
             table.is_shut(seat);
             return Ok(());
         }
-        in_order(&mut todo);
-        let order = turn_order(alloc, &progress.book, todo.as_slice(), system.rows)?;
+        let order = turn_order(
+            alloc,
+            &progress.book,
+            kept.as_slice(),
+            todo.as_slice(),
+            system.rows,
+        )?;
         let threads = thread_count(round, order.len(), workers);
         let rows = round_rows(alloc, order.as_slice(), workers)?;
         let ground = Ground {
@@ -206,7 +193,7 @@ pub fn solve<R: Threads + Sync, G: Gate + Sync>(
             threads,
             gate,
         };
-        todo = work_round(
+        work_round(
             rt,
             alloc,
             &ground,
@@ -214,7 +201,9 @@ pub fn solve<R: Threads + Sync, G: Gate + Sync>(
             &mut progress,
             rows.as_slice(),
             &crew,
+            &mut spans,
         )?;
+        kept = order;
     }
     // No run comes here: it is past 2^64 - 1 rounds.
     Err(OutOfMemory)

@@ -2,7 +2,8 @@
 //! give.
 ghost use Rattle.std.specs.Prelude.{◌≡◌, ℕ, ◌↔◌, ◌<◌, length, IsTrue, IfSome, All, Some, None, Contains, zip};
 ghost use Rattle.sol_model.specs.Families.{Has, members};
-ghost use Rattle.sol_model.specs.Rules.{Gives, IsDemanded, AreJoined, IsInArgument, IntoArgumentEdge, EffectEdge, EffectFact, TargetEdge, TargetFact, PassesBack};
+ghost use Rattle.sol_model.specs.Rules.{Gives, IsDemanded, AreJoined, IsInArgument, IntoArgumentEdge, EffectEdge};
+ghost use Rattle.sol_model.specs.Rules.{EffectFact, TargetEdge, TargetFact, PassesBack};
 ghost use Rattle.sol_model.specs.Systems.{IsValid, Fits, IsRow, IsLocation, IsCallValid, IsFunctionValid};
 ghost use Rattle.set_rows.specs.rows_core.Given.{IsCarried};
 
@@ -101,7 +102,9 @@ fn gives_stores(
     requires into { IfSome into (IsRow system.now) }
     requires from { IfSome from (IsRow system.now) }
     requires location { IsLocation system.now location }
-    ensures { IsTrue result ↔ IsCarried (λ a b. (pointer : ℕ) × (into ≡ Some pointer) × Has (members rows.now) pointer b × (from ≡ Some a)) (members rows.now) row location }
+    ensures { IsTrue result
+        ↔ IsCarried (λ a b. (pointer : ℕ) × (into ≡ Some pointer) × Has (members rows.now) pointer b × (from ≡ Some a))
+        (members rows.now) row location }
 {
     match (into, from) {
         (Some(pointer), Some(source)) => (row as usize) < system.locations.len()
@@ -138,7 +141,8 @@ fn gives_into_argument(
     requires call { IsCallValid system.now call.now }
     requires to { IsLocation system.now to }
     requires location { IsLocation system.now location }
-    ensures { IsTrue result ↔ IsCarried (IntoArgumentEdge system.now (members rows.now) call.now number to k) (members rows.now) row location }
+    ensures { IsTrue result
+        ↔ IsCarried (IntoArgumentEdge system.now (members rows.now) call.now number to k) (members rows.now) row location }
 {
     for from in 0..system.locations.len() as u32 {
         if is_in_argument(system, rows, call, number, k, from)
@@ -165,7 +169,8 @@ fn gives_copies(
     requires fits { Fits system.now rows.now }
     requires call { IsCallValid system.now call.now }
     requires location { IsLocation system.now location }
-    ensures { IsTrue result ↔ IsCarried (EffectEdge system.now (members rows.now) call.now number (Effect.Copies i j)) (members rows.now) row location }
+    ensures { IsTrue result
+        ↔ IsCarried (EffectEdge system.now (members rows.now) call.now number (Effect.Copies i j)) (members rows.now) row location }
 {
     for target in 0..system.locations.len() as u32 {
         if is_in_argument(system, rows, call, number, i, target)
@@ -232,7 +237,9 @@ fn gives_backs(
     requires fits { Fits system.now rows.now }
     requires call { IsCallValid system.now call.now }
     requires location { IsLocation system.now location }
-    ensures { IsTrue result ↔ IsCarried (EffectEdge system.now (members rows.now) call.now number (Effect.CallsBack k passed)) (members rows.now) row location }
+    ensures { IsTrue result
+        ↔ IsCarried (EffectEdge system.now (members rows.now) call.now number (Effect.CallsBack k passed))
+        (members rows.now) row location }
 {
     let Some(argument) = argument_row(system, call, k) else {
         return false;
@@ -263,7 +270,9 @@ fn gives_effect(
     requires fits { Fits system.now rows.now }
     requires call { IsCallValid system.now call.now }
     requires location { IsLocation system.now location }
-    ensures { IsTrue result ↔ IsDemanded (EffectEdge system.now (members rows.now) call.now number effect) (EffectFact call.now number effect) (members rows.now) row location }
+    ensures { IsTrue result
+        ↔ IsDemanded (EffectEdge system.now (members rows.now) call.now number effect) (EffectFact call.now number effect)
+        (members rows.now) row location }
 {
     match effect {
         Effect::Nothing => false,
@@ -307,7 +316,8 @@ fn gives_plain(
     requires call { IsCallValid system.now call.now }
     requires function { IsFunctionValid system.now function.now }
     requires location { IsLocation system.now location }
-    ensures { IsTrue result ↔ IsCarried (TargetEdge system.now (members rows.now) call.now number function.now None) (members rows.now) row location }
+    ensures { IsTrue result
+        ↔ IsCarried (TargetEdge system.now (members rows.now) call.now number function.now None) (members rows.now) row location }
 {
     gives_joined(
         system,
@@ -341,7 +351,9 @@ fn gives_effects(
     requires fits { Fits system.now rows.now }
     requires call { IsCallValid system.now call.now }
     requires location { IsLocation system.now location }
-    ensures { IsTrue result ↔ IsDemanded (TargetEdge system.now (members rows.now) call.now number function.now (Some library)) (TargetFact call.now number function.now (Some library)) (members rows.now) row location }
+    ensures { IsTrue result
+        ↔ IsDemanded (TargetEdge system.now (members rows.now) call.now number function.now (Some library))
+        (TargetFact call.now number function.now (Some library)) (members rows.now) row location }
 {
     for i in 0..function.effects.len() {
         let effect = effect_at(function, i);
@@ -367,7 +379,9 @@ fn gives_target(
     requires call { IsCallValid system.now call.now }
     requires function { IsFunctionValid system.now function.now }
     requires location { IsLocation system.now location }
-    ensures { IsTrue result ↔ IsDemanded (TargetEdge system.now (members rows.now) call.now number function.now function.now.library) (TargetFact call.now number function.now function.now.library) (members rows.now) row location }
+    ensures { IsTrue result
+        ↔ IsDemanded (TargetEdge system.now (members rows.now) call.now number function.now function.now.library)
+        (TargetFact call.now number function.now function.now.library) (members rows.now) row location }
 {
     match function.library {
         None => gives_plain(system, rows, call, number, function, row, location),

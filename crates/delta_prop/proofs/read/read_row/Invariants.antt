@@ -1,14 +1,10 @@
-use Rattle.std.proofs.Common.{◌≤◌}
 use Rattle.sol_model.specs.Systems.{width_of}
 use Rattle.set_rows.specs.Calls.{system_of, view, IsOf}
-use Rattle.delta_prop.specs.Deltas.{IsSameBeside}
 use Rattle.delta_prop.proofs.Readings.{Reading}
 use Rattle.delta_prop.proofs.read.read_row.Given as goal
 
 abbrev pub invariant-loop-k : goal.invariant-loop-k
 invariant-loop-k l = record {
   own : IsOf l.table l.seat;
-  reading : Reading (width_of (system_of l.table)) l.row l.k l.words.items (view l.initial.seat) (view l.seat);
-  beside : IsSameBeside l.k l.first l.end l.done l.words.items;
-  range : (l.first ≤ width_of (system_of l.table)) × (l.end ≤ width_of (system_of l.table));
+  reading : Reading (width_of (system_of l.table)) l.row l.from l.k l.first l.end l.done l.words.items (view l.initial.seat) (view l.seat);
 }

@@ -7,5 +7,5 @@ use Rattle.delta_prop.proofs.work.propagate.Given as goal
 abbrev pub invariant-loop-to : goal.invariant-loop-to
 invariant-loop-to l = record {
   own : IsOf l.table l.seat;
-  going : Going (width_of (system_of l.table)) l.row l.to-index (targets_of l.row l.book) l.done l.read.words.items l.grown.items (view l.fn.seat) (view l.seat);
+  going : Going (width_of (system_of l.table)) l.row l.to-index (targets_of l.row l.book) l.done l.read.words.items (view l.fn.seat) (view l.seat);
 }

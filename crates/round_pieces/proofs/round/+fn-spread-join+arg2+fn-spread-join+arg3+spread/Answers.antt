@@ -1,7 +1,7 @@
-use Rattle.std.proofs.Common.{◌+◌, ◌-◌, ◌/◌, ℕ, Vec, Global, IfOk, sym, ap, ◌∙◌, subst}
+use Rattle.std.proofs.Common.{◌+◌, ◌-◌, ◌/◌, ℕ, IfOk, sym, ap, ◌∙◌, subst}
 use Rattle.set_rows.specs.declared.view.View.{View}
 use Rattle.set_rows.specs.Calls.{view, system_of}
-use Rattle.delta_prop.specs.declared.turn.Turn.{Turn}
+use Rattle.round_pieces.specs.declared.joining.Told.{Told}
 use Rattle.round_pieces.specs.Rounds.{HasWorked}
 use Rattle.round_pieces.specs.Turns.{HasShares}
 use Rattle.round_pieces.proofs.Parts.{worked_together}
@@ -29,9 +29,9 @@ returns-clause-shares g t c =
     let left = c.join-seat.result.0.1 in
     let right = c.join-seat.result.1.1 in
     let middle : ℕ = c.args.first + (c.args.last - c.args.first) / 2 in
-    let Left : View → Vec Turn Global → Type 0 = λ u ts. HasShares S c.args.round.now.book.now c.args.round.now.done.now c.args.round.now.todo.now c.args.round.now.workers c.args.first middle u a ts.items in
-    let Right : View → Vec Turn Global → Type 0 = λ u ts. HasShares S c.args.round.now.book.now c.args.round.now.done.now c.args.round.now.todo.now c.args.round.now.workers middle c.args.last u b ts.items in
-    let Ended : View → Vec Turn Global → Type 0 = λ w ts. HasShares S c.args.round.now.book.now c.args.round.now.done.now c.args.round.now.todo.now c.args.round.now.workers c.args.first c.args.last v w ts.items in
+    let Left : View → Told → Type 0 = λ u ts. HasShares S c.args.round.now.book.now c.args.round.now.done.now c.args.round.now.todo.now c.args.round.now.workers c.args.first middle u a ts.turns.items in
+    let Right : View → Told → Type 0 = λ u ts. HasShares S c.args.round.now.book.now c.args.round.now.done.now c.args.round.now.todo.now c.args.round.now.workers middle c.args.last u b ts.turns.items in
+    let Ended : View → Told → Type 0 = λ w ts. HasShares S c.args.round.now.book.now c.args.round.now.done.now c.args.round.now.todo.now c.args.round.now.workers c.args.first c.args.last v w ts.turns.items in
     subst (λ (w : View). IfOk c.together.result (Ended w)) (sym c.meet.ensures.view)
     (joined_shares S c.args.round.now.book.now v c.args.round.now.done.now c.args.round.now.todo.now c.args.round.now.workers c.args.first middle c.args.last a b left right c.together.result
     (both.second.1.0.system ∙ ap (λ (u : View). u.system) split.new ∙ sym (both.first.1.0.system ∙ ap (λ (u : View). u.system) split.view))

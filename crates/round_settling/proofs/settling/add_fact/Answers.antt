@@ -6,7 +6,7 @@ use Rattle.set_rows.specs.Calls.{system_of, view}
 use Rattle.set_rows.proofs.Adding.{add_only_adds}
 use Rattle.delta_prop.specs.Deltas.{IsSound}
 use Rattle.delta_prop.proofs.Sounding.{sound_add_by}
-use Rattle.round_settling.proofs.Steps.{one_bit, fact_licence, fact_word, fact_added, fact_others}
+use Rattle.round_settling.proofs.Steps.{one_bit, fact_licence, fact_word, fact_added}
 use Rattle.round_settling.proofs.settling.add_fact.Goals as goal
 
 pub add-requires-clause-word : goal.add-requires-clause-word
@@ -39,11 +39,3 @@ returns-clause-has c =
     let word : ℕ = c.args.row * c.args.width + c.args.location / 64 in
     let lt : word < length v.seen = (let w = fact_word S c.args.row c.args.location c.args.width c.requires.width c.requires.known.0 c.requires.known.1 in let n : length v.seen ≡ words_of S = c.args.seat.now.sized ∙ ap words_of c.requires.own.1 in omega arith) in
     subst (λ (x : View). Has (known x) c.args.row c.args.location) (sym c.add.ensures.view) (fact_added S v c.args.row c.args.location c.args.width c.add.result c.requires.own.1 c.requires.width c.requires.known.1 lt)
-
-pub returns-clause-others : goal.returns-clause-others
-returns-clause-others c r l h =
-    let S = system_of c.args.table.now in
-    let v = view c.args.seat.now in
-    let word : ℕ = c.args.row * c.args.width + c.args.location / 64 in
-    let lt : word < length v.seen = (let w = fact_word S c.args.row c.args.location c.args.width c.requires.width c.requires.known.0 c.requires.known.1 in let n : length v.seen ≡ words_of S = c.args.seat.now.sized ∙ ap words_of c.requires.own.1 in omega arith) in
-    fact_others S v c.args.row c.args.location c.args.width c.add.result c.requires.own.1 c.requires.width c.requires.known.1 lt r l (subst (λ (x : View). Has (known x) r l) c.add.ensures.view h)

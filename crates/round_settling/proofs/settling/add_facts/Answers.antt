@@ -10,7 +10,6 @@ use Rattle.set_rows.specs.Calls.{system_of, view}
 use Rattle.set_rows.proofs.Adding.{added_twice, known_more, nothing_added}
 use Rattle.new_members.proofs.Through.{OfAll, through_none, through_next, through_all}
 use Rattle.round_pieces.proofs.Ending.{fact_more}
-use Rattle.round_settling.proofs.Steps.{noted_same, noted_then}
 use Rattle.round_settling.proofs.settling.add_facts.Goals as goal
 
 abbrev Same : ℕ × ℕ → ℕ → ℕ → Type 0
@@ -25,7 +24,6 @@ loop-row-init c = record {
   had = c.requires.had;
   facts = through_none c.args.demanded.now Same c.args.facts.now;
   once = λ h. h;
-  noted = noted_same (system_of c.args.table.now) (view c.args.seat.now) c.args.todo.now.items;
   ors = omega arith;
 }
 
@@ -49,7 +47,6 @@ add_once-requires-clause-had c h =
 
 pub loop-row-preserved : goal.loop-row-preserved
 loop-row-preserved c =
-    let S = system_of c.args.table.now in
     let demanded = c.args.demanded.now in
     let i : ℕ = c.loop-row.row-index in
     let pair : ℕ × ℕ = get_or demanded i (0, 0) in
@@ -73,7 +70,6 @@ loop-row-preserved c =
       ];
       facts = through_next demanded Same c.args.facts.now c.loop-row.facts c.add_once.new.facts i pair inv.facts at ens.facts;
       once = λ h. ens.once;
-      noted = noted_then S v u w c.args.todo.now.items c.loop-row.todo.items c.add_once.new.todo.items inv.noted ens.todo;
       ors = (let a = inv.ors in let b = ens.ors in omega arith);
     }
 

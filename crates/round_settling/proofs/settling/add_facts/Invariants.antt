@@ -2,10 +2,9 @@ use Rattle.std.proofs.Common.{◌≡◌, ℕ, ◌+◌, ◌<◌, ◌≤◌, lengt
 use Rattle.edge_book.specs.Edges.{AreApart, Gains}
 use Rattle.sol_model.specs.Families.{Has}
 use Rattle.set_rows.specs.Views.{OnlyAdded, known}
-use Rattle.set_rows.specs.Calls.{system_of, view, IsOf}
+use Rattle.set_rows.specs.Calls.{view, IsOf}
 use Rattle.delta_prop.specs.Deltas.{IsSound}
 use Rattle.new_members.proofs.Through.{Through}
-use Rattle.round_pieces.specs.Rounds.{IsNoted}
 use Rattle.round_settling.proofs.settling.add_facts.Given as goal
 
 abbrev pub invariant-loop-row : goal.invariant-loop-row
@@ -17,6 +16,5 @@ invariant-loop-row l = record {
   had : (row location : ℕ) → Contains l.facts (row, location) → Has (known (view l.seat)) row location;
   facts : Gains l.initial.facts l.facts (Through l.demanded (λ (pair : ℕ × ℕ) (a b : ℕ). (a ≡ pair.0) × (b ≡ pair.1)) l.row-index);
   once : AreApart l.initial.facts → AreApart l.facts;
-  noted : IsNoted (system_of l.table) (view l.initial.seat) (view l.seat) l.initial.todo.items l.todo.items;
   ors : (view l.seat).ors + length l.initial.facts ≤ (view l.initial.seat).ors + length l.facts;
 }

@@ -7,7 +7,6 @@ use Rattle.sol_model.specs.Systems.{IsRow, IsLocation, IsConstraintValid}
 use Rattle.set_rows.specs.Views.{known}
 use Rattle.set_rows.specs.Calls.{view}
 use Rattle.new_members.specs.News.{IsFact}
-use Rattle.round_pieces.specs.Rounds.{IsNoted}
 use Rattle.round_pieces.proofs.Ending.{begun}
 use Rattle.round_settling.proofs.settling.begin.Goals as goal
 
@@ -26,13 +25,11 @@ add_facts-requires-clause-demanded c row location h =
 pub returns-clause-settled : goal.returns-clause-settled
 returns-clause-settled c done fits none =
     let S = c.args.system.now in
-    let w = view c.args.seat.now in
     let y = view c.add_facts.new.seat in
-    begun S w y c.start.new.book done c.add_facts.new.todo.items c.requires.valid
+    begun S y c.start.new.book done c.requires.valid
     (subst (λ (xs : List (ℕ × ℕ)). Gains xs c.start.new.book (λ a b. Contains S.constraints (Copy a b))) c.requires.book c.in_ok-demanded.ensures.book)
-    c.requires.fresh fits none
+    fits none
     (λ row location h. c.in_ok-add_facts.ensures.has row location (subst (λ (xs : List (ℕ × ℕ)). Contains xs (row, location)) (sym c.as_slice.ensures.value) ((c.in_ok-demanded.ensures.facts row location).1 h)))
-    (subst (λ (xs : List ℕ). IsNoted S w y xs c.add_facts.new.todo.items) c.new-todo.ensures.items (subst (λ (T : System). IsNoted T w y c.new-todo.result.items c.add_facts.new.todo.items) c.requires.system c.in_ok-add_facts.ensures.todo))
     (c.in_ok-add_facts.ensures.sound (λ G closed row location h. absurd (c.requires.fresh row location h)))
 
 -- a list without pairs

@@ -1,4 +1,4 @@
-use Rattle.std.proofs.Common.{◌≡◌, ℕ, ◌+◌, ◌*◌, ◌<◌, ◌≤◌, ◌^◌, List, [], ◌∷◌, ◌++◌, length, get_or, replicate, take, take_all, slice_get, Some, Contains, Vec, Global, sym, ap, ◌∙◌, subst, subst₂, inl, inr, arith, get_or-take, min}
+use Rattle.std.proofs.Common.{◌≡◌, ℕ, ◌+◌, ◌*◌, ◌<◌, ◌≤◌, ◌^◌, List, [], ◌∷◌, ◌++◌, length, get_or, replicate, take, take_all, slice_get, Some, Contains, sym, ap, ◌∙◌, subst, inl, inr, arith, get_or-take, min}
 use Rattle.std.proofs.lemmas.Bool.{cases_eq}
 use Rattle.std.proofs.lemmas.List.{length-replicate, length-take}
 use Rattle.std.proofs.lemmas.Option.{slice_get-get_or, slice_get_within, get_or_from_slice_get, same_Some, none-some}
@@ -18,11 +18,11 @@ use Rattle.round_pieces.specs.Work.{edge_work}
 use Rattle.round_pieces.proofs.Growing.{edge_pays}
 use Rattle.round_settling.proofs.Working.{edge_paid}
 use Rattle.delta_prop.proofs.Carries.{edge_more, news_seen}
-use Rattle.round_pieces.specs.Rounds.{IsNoted}
 use Rattle.round_pieces.proofs.Serving.{seen_at, in_seen}
-use Rattle.round_settling.proofs.Steps.{noted_same, noted_then, noted_one, carried_others, nothing_seen}
+use Rattle.round_settling.proofs.Extents.{nothing_outside}
+use Rattle.round_settling.proofs.Steps.{nothing_seen}
 use Rattle.round_settling.proofs.settling.carry_new.Goals as goal
-use Rattle.round_settling.proofs.settling.carry_new.Goals.{in-Some+in_ok-reserve+in_ok-list_news+then-len-ne0, in-Some+in_ok-reserve+in_ok-list_news+else-len-ne0, in_default}
+use Rattle.round_settling.proofs.settling.carry_new.Goals.{in-Some+in_ok-list_news, in_default}
 
 pub loop-i-init : goal.loop-i-init
 loop-i-init c = record {
@@ -30,7 +30,6 @@ loop-i-init c = record {
   more = nothing_added (view c.args.seat.now);
   sound = λ s. s;
   carried = λ k a b location lt at h. c.requires.carried a b location (early c.args.book.now c.args.first k (a, b) lt at) h;
-  noted = noted_same (system_of c.args.table.now) (view c.args.seat.now) c.args.todo.now.items;
   ors = omega arith;
 }
   where
@@ -50,16 +49,16 @@ read_of S u done row words e wide fits same seen =
     (λ location h. seen location (subst (λ (n : ℕ). Has (shown n done.words) row location) (sym wide) h))
 
 pub row_words-requires : goal.row_words-requires
-row_words-requires c = row_held (system_of c.args.table.now) c.args.done.now c.requires.fits c.in-Some.from (c.requires.demanded.rows c.in-Some.from c.in-Some.to (edge_at c.args.book.now c.loop-i.i c.in-Some.from c.in-Some.to c.in-Some.ensures)).0
+row_words-requires c = row_held (system_of c.args.ground.now.table.now) c.args.done.now c.requires.fits c.in-Some.from (c.requires.demanded.rows c.in-Some.from c.in-Some.to (edge_at c.args.book.now c.loop-i.i c.in-Some.from c.in-Some.to c.in-Some.ensures)).0
 
-pub carry-requires-clause-rows : goal.carry-requires-clause-rows
-carry-requires-clause-rows c = c.requires.demanded.rows c.in-Some.from c.in-Some.to (edge_at c.args.book.now c.loop-i.i c.in-Some.from c.in-Some.to c.in-Some.ensures)
+pub carry-grown-requires-clause-rows : goal.carry-grown-requires-clause-rows
+carry-grown-requires-clause-rows c = c.requires.demanded.rows c.in-Some.from c.in-Some.to (edge_at c.args.book.now c.loop-i.i c.in-Some.from c.in-Some.to c.in-Some.ensures)
 
-pub carry-requires-clause-edge : goal.carry-requires-clause-edge
-carry-requires-clause-edge c =
+pub carry-grown-requires-clause-edge : goal.carry-grown-requires-clause-edge
+carry-grown-requires-clause-edge c =
     let v = view c.args.seat.now in
     let u = view c.loop-i.seat in
-    edge_more (system_of c.args.table.now) (known v) (known u) c.in-Some.from c.in-Some.to (known_more v u c.loop-i.invariant.more)
+    edge_more (system_of c.args.ground.now.table.now) (known v) (known u) c.in-Some.from c.in-Some.to (known_more v u c.loop-i.invariant.more)
     (c.requires.demanded.edges c.in-Some.from c.in-Some.to (edge_at c.args.book.now c.loop-i.i c.in-Some.from c.in-Some.to c.in-Some.ensures))
 
 -- a row without a location is as long as any
@@ -67,33 +66,35 @@ nothing_long : (W : ℕ) (nothing : List ℕ) → nothing ≡ replicate W 0 → 
 nothing_long W nothing e = ap (λ (xs : List ℕ). length xs) e ∙ length-replicate W 0
 
 pub list_news-requires-clause-sized : goal.list_news-requires-clause-sized
-list_news-requires-clause-sized c = nothing_long (width_of (system_of c.args.table.now)) c.args.nothing.now c.requires.nothing ∙ sym (c.row_words.ensures.sized ∙ c.requires.fits.width)
+list_news-requires-clause-sized c = nothing_long (width_of (system_of c.args.ground.now.table.now)) c.args.ground.now.nothing.now c.requires.nothing ∙ sym (c.row_words.ensures.sized ∙ c.requires.fits.width)
 
 pub list_news-requires-clause-beside : goal.list_news-requires-clause-beside
-list_news-requires-clause-beside c k lt out = elim out [
-  | inl before ↦ absurd (omega arith)
-  | inr past ↦ absurd (let n = nothing_long (width_of (system_of c.args.table.now)) c.args.nothing.now c.requires.nothing in let m = c.row_words.ensures.sized ∙ c.requires.fits.width in omega arith)
-]
+list_news-requires-clause-beside c k lt out =
+    nothing_outside c.args.done.now c.args.extents.now c.in-Some.from k c.row_words.result.now c.args.ground.now.nothing.now c.requires.extents (λ location. (c.row_words.ensures.has location).1) (c.row_words.ensures.small k)
+    (c.done_words-words.ensures.beside k (let n = nothing_long (width_of (system_of c.args.ground.now.table.now)) c.args.ground.now.nothing.now c.requires.nothing in let m = c.row_words.ensures.sized ∙ c.requires.fits.width in omega arith) out)
 
 pub list_news-requires-clause-range : goal.list_news-requires-clause-range
-list_news-requires-clause-range c = (omega arith, (let n = nothing_long (width_of (system_of c.args.table.now)) c.args.nothing.now c.requires.nothing in let m = c.row_words.ensures.sized ∙ c.requires.fits.width in omega arith))
+list_news-requires-clause-range c =
+    let n = nothing_long (width_of (system_of c.args.ground.now.table.now)) c.args.ground.now.nothing.now c.requires.nothing in
+    let m = c.row_words.ensures.sized ∙ c.requires.fits.width in
+    ((let r = c.done_words-words.ensures.range.0 in omega arith), (let r = c.done_words-words.ensures.range.1 in omega arith))
 
 -- what is new of words of a row, where nothing was done
 news_in : (W : ℕ) (nothing words : List ℕ) (news : List (ℕ × ℕ)) → length words ≡ W → AreNews (length words) nothing words news → AreNews W nothing words news
 news_in W nothing words news e a = subst (λ (n : ℕ). AreNews n nothing words news) e a
 
-pub carry-requires-clause-width : goal.carry-requires-clause-width
-carry-requires-clause-width c = nothing_long (width_of (system_of c.args.table.now)) c.args.nothing.now c.requires.nothing
+pub carry-grown-requires-clause-width : goal.carry-grown-requires-clause-width
+carry-grown-requires-clause-width c = nothing_long (width_of (system_of c.args.ground.now.table.now)) c.args.ground.now.nothing.now c.requires.nothing
 
-pub carry-requires-clause-read : goal.carry-requires-clause-read
-carry-requires-clause-read c k new h =
-    let W : ℕ = width_of (system_of c.args.table.now) in
+pub carry-grown-requires-clause-read : goal.carry-grown-requires-clause-read
+carry-grown-requires-clause-read c k new h =
+    let W : ℕ = width_of (system_of c.args.ground.now.table.now) in
     let v = view c.args.seat.now in
     let u = view c.loop-i.seat in
     let words = c.row_words.result.now in
-    let a : AreNews W c.args.nothing.now words c.list_news.new.news.items = news_in W c.args.nothing.now words c.list_news.new.news.items (c.row_words.ensures.sized ∙ c.requires.fits.width) c.in_ok-list_news.ensures in
+    let a : AreNews W c.args.ground.now.nothing.now words c.list_news.new.news.items = news_in W c.args.ground.now.nothing.now words c.list_news.new.news.items (c.row_words.ensures.sized ∙ c.requires.fits.width) c.in_ok-list_news.ensures in
     let p = a.there k new (subst (λ (xs : List (ℕ × ℕ)). Contains xs (k, new)) c.as_slice.ensures.value h) in
-    let seen = read_of (system_of c.args.table.now) u c.args.done.now c.in-Some.from words c.loop-i.invariant.own.1 c.requires.fits.width c.row_words.ensures.small c.row_words.ensures.words
+    let seen = read_of (system_of c.args.ground.now.table.now) u c.args.done.now c.in-Some.from words c.loop-i.invariant.own.1 c.requires.fits.width c.row_words.ensures.small c.row_words.ensures.words
     (λ location has. known_more v u c.loop-i.invariant.more c.in-Some.from location (c.requires.inside c.in-Some.from location has)) in
     (p.0, λ b bit. seen k p.0 b (p.1 b bit))
 
@@ -109,7 +110,7 @@ carried_more book F u w i from to at more now so_far k a b location lt there h =
 
 pub loop-i-preserved : goal.loop-i-preserved
 loop-i-preserved c =
-    let t = c.args.table.now in
+    let t = c.args.ground.now.table.now in
     let S = system_of t in
     let book = c.args.book.now in
     let F = members c.args.done.now in
@@ -117,62 +118,37 @@ loop-i-preserved c =
     let v = view c.args.seat.now in
     let u = view c.loop-i.seat in
     let inv = c.loop-i.invariant in
-    let start = c.args.todo.now.items in
-    let so_far = c.loop-i.todo.items in
-    let P : RowSeat → List ℕ → Type 0 = λ s todo. record {
+    let P : RowSeat → Type 0 = λ s. record {
       own : IsOf t s;
       more : OnlyAdded v (view s);
       sound : IsSound v → IsSound (view s);
       carried : (k a b location : ℕ) → k < i + 1 → slice_get book k ≡ Some (a, b) → Has F a location → Has (known (view s)) b location;
-      noted : IsNoted S v (view s) start todo;
       ors : (view s).ors + edge_work S F (take c.args.first book) ≤ v.ors + edge_work S F (take (i + 1) book);
     } in
     elim c.match-get.branch [
-      | in-Some+in_ok-reserve+in_ok-list_news+then-len-ne0 x ↦
+      | in-Some+in_ok-list_news x ↦
           let W : ℕ = width_of S in
           let from : ℕ = x.in-Some.from in
           let to : ℕ = x.in-Some.to in
-          let w = view x.carry.new.seat in
+          let ens = x.carry-grown.ensures in
+          let w = view x.carry-grown.new.seat in
           let words = x.row_words.result.now in
           let news = x.list_news.new.news.items in
           let at : slice_get book i ≡ Some (from, to) = sym x.in-Some.ensures in
           let long = x.row_words.ensures.sized ∙ c.requires.fits.width in
-          let a : AreNews W c.args.nothing.now words news = news_in W c.args.nothing.now words news long x.in_ok-list_news.ensures in
+          let a : AreNews W c.args.ground.now.nothing.now words news = news_in W c.args.ground.now.nothing.now words news long x.in_ok-list_news.ensures in
           let few = a.few in
-          let seen : IsSeenOf W w.seen to words = news_seen W to c.args.nothing.now words w.seen news a (nothing_seen W w.seen c.args.nothing.now to c.requires.nothing)
-          (λ k new h. x.carry.ensures.carried k new (subst (λ (xs : List (ℕ × ℕ)). Contains xs (k, new)) (sym x.as_slice.ensures.value) h)) in
-          let steps : w.ors ≤ u.ors + length news = subst (λ (xs : List (ℕ × ℕ)). w.ors ≤ u.ors + length xs) x.as_slice.ensures.value x.carry.ensures.ors in
-          subst₂ P (sym x.seat-is) (sym (ap (λ (g : Vec ℕ Global). g.items) x.todo-is ∙ x.push_reserved.ensures.items ∙ ap (λ (xs : List ℕ). xs ++ to ∷ []) x.in_ok-reserve.ensures.items)) record {
-            own = x.carry.ensures.own;
-            more = added_twice v u w inv.more x.carry.ensures.view;
-            sound = λ s. x.carry.ensures.sound (inv.sound s);
-            carried = carried_more book F u w i from to at x.carry.ensures.view
-                (λ location h. in_seen S w to location words x.carry.ensures.own.1 long seen ((x.row_words.ensures.has location).0 h)) inv.carried;
-            noted = noted_then S v u w start so_far (so_far ++ to ∷ []) inv.noted
-                (noted_one S u w so_far to (c.requires.demanded.rows from to (Contains-at book i (from, to) at)).1 (carried_others S u w to inv.own.1 x.carry.ensures.own.1 x.carry.ensures.others));
-            ors = edge_paid S F book c.args.first i from to v.ors u.ors w.ors (gained W c.args.nothing.now words) at inv.ors (omega arith)
-                (edge_pays S c.args.done.now from c.args.nothing.now words c.requires.fits (λ location. (x.row_words.ensures.has location).1));
-          }
-      | in-Some+in_ok-reserve+in_ok-list_news+else-len-ne0 x ↦
-          let W : ℕ = width_of S in
-          let from : ℕ = x.in-Some.from in
-          let to : ℕ = x.in-Some.to in
-          let words = x.row_words.result.now in
-          let news = x.list_news.new.news.items in
-          let at : slice_get book i ≡ Some (from, to) = sym x.in-Some.ensures in
-          let long = x.row_words.ensures.sized ∙ c.requires.fits.width in
-          let a : AreNews W c.args.nothing.now words news = news_in W c.args.nothing.now words news long x.in_ok-list_news.ensures in
-          let none : length news ≡ 0 = (let e = x.len.ensures in let z = x.if-len-ne0.false in let k = x.list_news.new.news.ok in omega arith) in
-          let seen : IsSeenOf W u.seen to words = news_seen W to c.args.nothing.now words u.seen news a (nothing_seen W u.seen c.args.nothing.now to c.requires.nothing) (λ k new h. absurd (let l = h.1 in omega arith)) in
-          subst₂ P (sym x.seat-is) (sym (ap (λ (g : Vec ℕ Global). g.items) x.todo-is ∙ x.in_ok-reserve.ensures.items)) record {
-            own = inv.own;
-            more = inv.more;
-            sound = inv.sound;
-            carried = carried_more book F u u i from to at (nothing_added u)
-                (λ location h. in_seen S u to location words inv.own.1 long seen ((x.row_words.ensures.has location).0 h)) inv.carried;
-            noted = inv.noted;
-            ors = edge_paid S F book c.args.first i from to v.ors u.ors u.ors (gained W c.args.nothing.now words) at inv.ors (omega arith)
-                (edge_pays S c.args.done.now from c.args.nothing.now words c.requires.fits (λ location. (x.row_words.ensures.has location).1));
+          let seen : IsSeenOf W w.seen to words = news_seen W to c.args.ground.now.nothing.now words w.seen news a (nothing_seen W w.seen c.args.ground.now.nothing.now to c.requires.nothing)
+          (λ k new h. ens.carried k new (subst (λ (xs : List (ℕ × ℕ)). Contains xs (k, new)) (sym x.as_slice.ensures.value) h)) in
+          let steps : w.ors ≤ u.ors + length news = subst (λ (xs : List (ℕ × ℕ)). w.ors ≤ u.ors + length xs) x.as_slice.ensures.value ens.ors in
+          subst P (sym x.seat-is) record {
+            own = ens.own;
+            more = added_twice v u w inv.more ens.view;
+            sound = λ s. ens.sound (inv.sound s);
+            carried = carried_more book F u w i from to at ens.view
+                (λ location h. in_seen S w to location words ens.own.1 (omega arith) seen ((x.row_words.ensures.has location).0 h)) inv.carried;
+            ors = edge_paid S F book c.args.first i from to v.ors u.ors w.ors (gained W c.args.ground.now.nothing.now words) at inv.ors (omega arith)
+                (edge_pays S c.args.done.now from c.args.ground.now.nothing.now words c.requires.fits (λ location. (x.row_words.ensures.has location).1));
           }
       | in_default x ↦ absurd (let e = slice_get-get_or book i (0, 0) (let l = c.loop-i-test.true in let n = c.len-i-end.ensures.len in omega arith) in none-some (get_or book i (0, 0)) (sym (sym c.get.ensures ∙ x.in_default.is) ∙ e))
     ]
@@ -184,7 +160,7 @@ returns-clause-carried c a b location edge h =
 
 pub returns-clause-ors : goal.returns-clause-ors
 returns-clause-ors c =
-    let S = system_of c.args.table.now in
+    let S = system_of c.args.ground.now.table.now in
     let F = members c.args.done.now in
     let book = c.args.book.now in
     subst (λ (xs : List (ℕ × ℕ)). (view c.loop-i.seat).ors + edge_work S F (take c.args.first book) ≤ (view c.args.seat.now).ors + edge_work S F xs)

@@ -7,37 +7,36 @@ use Rattle.set_rows.specs.Calls.{view}
 use Rattle.set_rows.proofs.Adding.{known_more}
 use Rattle.delta_prop.specs.Deltas.{AllDemanded}
 use Rattle.new_members.specs.News.{IsFact, words_at}
-use Rattle.round_pieces.specs.Rounds.{IsTakenIn, IsNoted}
+use Rattle.round_pieces.specs.Rounds.{IsTakenIn}
 use Rattle.round_pieces.proofs.Ending.{turns_of, after_inside, facts_demanded, facts_known, more_demanded, first_carried, settled_again, fact_more, worked_known}
 use Rattle.round_pieces.specs.Turns.{row_of}
 use Rattle.round_pieces.specs.Balance.{spent}
 use Rattle.round_pieces.specs.Work.{edge_work}
 use Rattle.round_pieces.proofs.Sums.{apart_list}
+use Rattle.round_settling.specs.Extents.{AreExtents}
 use Rattle.round_settling.proofs.Working.{old_edges, round_paid, turns_pay}
 use Rattle.round_settling.proofs.settling.settle.Goals as goal
 
 pub take_in-requires-clause-turns : goal.take_in-requires-clause-turns
 take_in-requires-clause-turns c =
     let S = c.args.ground.now.system.now in
-    let round = c.requires.worked.2 in
+    let round = c.requires.worked.1 in
     let v = c.requires.worked.0 in
-    let todo = c.requires.worked.1 in
     let w = view c.args.seat.now in
     let own : w.system ≡ S = c.requires.own.1 ∙ c.requires.system in
     let book = c.args.progress.now.book in
     let done = c.args.progress.now.done in
     let turns = c.args.turns.now in
-    turns_of S v w book [] [] done done todo turns c.requires.valid own round
+    turns_of S v w book [] [] done done turns c.requires.valid own round
 
 pub take_in-requires-clause-changes : goal.take_in-requires-clause-changes
-take_in-requires-clause-changes c = c.requires.worked.2.changes
+take_in-requires-clause-changes c = c.requires.worked.1.changes
 
 pub add_facts-requires-clause-known : goal.add_facts-requires-clause-known
 add_facts-requires-clause-known c row location h =
     let S = c.args.ground.now.system.now in
-    let round = c.requires.worked.2 in
+    let round = c.requires.worked.1 in
     let v = c.requires.worked.0 in
-    let todo = c.requires.worked.1 in
     let w = view c.args.seat.now in
     let own : w.system ≡ S = c.requires.own.1 ∙ c.requires.system in
     let book = c.args.progress.now.book in
@@ -48,14 +47,13 @@ add_facts-requires-clause-known c row location h =
     let news = c.take_in.new.facts.items in
     let taken : IsTakenIn S turns done after book more [] news = subst (λ (xs : List (ℕ × ℕ)). IsTakenIn S turns done after book more xs news) c.new-demanded.ensures.items c.in_ok-take_in.ensures.taken in
     let there : Contains news (row, location) = subst (λ (xs : List (ℕ × ℕ)). Contains xs (row, location)) c.as_slice.ensures.value h in
-    subst (λ (T : System). IsRow T row × IsLocation T location) (sym c.requires.system) (facts_known S v w book more news done after todo turns c.requires.valid own round taken row location there)
+    subst (λ (T : System). IsRow T row × IsLocation T location) (sym c.requires.system) (facts_known S v w book more news done after turns c.requires.valid own round taken row location there)
 
 pub add_facts-requires-clause-demanded : goal.add_facts-requires-clause-demanded
 add_facts-requires-clause-demanded c row location h =
     let S = c.args.ground.now.system.now in
-    let round = c.requires.worked.2 in
+    let round = c.requires.worked.1 in
     let v = c.requires.worked.0 in
-    let todo = c.requires.worked.1 in
     let w = view c.args.seat.now in
     let own : w.system ≡ S = c.requires.own.1 ∙ c.requires.system in
     let book = c.args.progress.now.book in
@@ -66,7 +64,7 @@ add_facts-requires-clause-demanded c row location h =
     let news = c.take_in.new.facts.items in
     let taken : IsTakenIn S turns done after book more [] news = subst (λ (xs : List (ℕ × ℕ)). IsTakenIn S turns done after book more xs news) c.new-demanded.ensures.items c.in_ok-take_in.ensures.taken in
     let there : Contains news (row, location) = subst (λ (xs : List (ℕ × ℕ)). Contains xs (row, location)) c.as_slice.ensures.value h in
-    subst (λ (T : System). IsFact T (known w) row location) (sym c.requires.system) (facts_demanded S v w book more news done after todo turns c.requires.valid own round taken w (λ r l k. k) row location there)
+    subst (λ (T : System). IsFact T (known w) row location) (sym c.requires.system) (facts_demanded S v w book more news done after turns c.requires.valid own round taken w (λ r l k. k) row location there)
 
 pub carry_new-requires-clause-fits : goal.carry_new-requires-clause-fits
 carry_new-requires-clause-fits c = subst (λ (T : System). Fits T c.take_in.new.done) (sym c.requires.system) c.in_ok-take_in.ensures.taken.fits
@@ -74,9 +72,8 @@ carry_new-requires-clause-fits c = subst (λ (T : System). Fits T c.take_in.new.
 pub carry_new-requires-clause-inside : goal.carry_new-requires-clause-inside
 carry_new-requires-clause-inside c row location h =
     let S = c.args.ground.now.system.now in
-    let round = c.requires.worked.2 in
+    let round = c.requires.worked.1 in
     let v = c.requires.worked.0 in
-    let todo = c.requires.worked.1 in
     let w = view c.args.seat.now in
     let own : w.system ≡ S = c.requires.own.1 ∙ c.requires.system in
     let book = c.args.progress.now.book in
@@ -86,14 +83,13 @@ carry_new-requires-clause-inside c row location h =
     let after = c.take_in.new.done in
     let news = c.take_in.new.facts.items in
     let taken : IsTakenIn S turns done after book more [] news = subst (λ (xs : List (ℕ × ℕ)). IsTakenIn S turns done after book more xs news) c.new-demanded.ensures.items c.in_ok-take_in.ensures.taken in
-    known_more w (view c.add_facts.new.seat) c.in_ok-add_facts.ensures.view row location (after_inside S v w book more news done after todo turns c.requires.valid own round taken row location h)
+    known_more w (view c.add_facts.new.seat) c.in_ok-add_facts.ensures.view row location (after_inside S v w book more news done after turns c.requires.valid own round taken row location h)
 
 pub carry_new-requires-clause-demanded : goal.carry_new-requires-clause-demanded
 carry_new-requires-clause-demanded c =
     let S = c.args.ground.now.system.now in
-    let round = c.requires.worked.2 in
+    let round = c.requires.worked.1 in
     let v = c.requires.worked.0 in
-    let todo = c.requires.worked.1 in
     let w = view c.args.seat.now in
     let own : w.system ≡ S = c.requires.own.1 ∙ c.requires.system in
     let book = c.args.progress.now.book in
@@ -104,14 +100,13 @@ carry_new-requires-clause-demanded c =
     let news = c.take_in.new.facts.items in
     let taken : IsTakenIn S turns done after book more [] news = subst (λ (xs : List (ℕ × ℕ)). IsTakenIn S turns done after book more xs news) c.new-demanded.ensures.items c.in_ok-take_in.ensures.taken in
     let x = view c.add_facts.new.seat in
-    subst (λ (T : System). AllDemanded T (known x) more) (sym c.requires.system) (more_demanded S v w book more news done after todo turns c.requires.valid own round taken x (known_more w x c.in_ok-add_facts.ensures.view))
+    subst (λ (T : System). AllDemanded T (known x) more) (sym c.requires.system) (more_demanded S v w book more news done after turns c.requires.valid own round taken x (known_more w x c.in_ok-add_facts.ensures.view))
 
 pub carry_new-requires-clause-carried : goal.carry_new-requires-clause-carried
 carry_new-requires-clause-carried c =
     let S = c.args.ground.now.system.now in
-    let round = c.requires.worked.2 in
+    let round = c.requires.worked.1 in
     let v = c.requires.worked.0 in
-    let todo = c.requires.worked.1 in
     let w = view c.args.seat.now in
     let own : w.system ≡ S = c.requires.own.1 ∙ c.requires.system in
     let book = c.args.progress.now.book in
@@ -122,7 +117,13 @@ carry_new-requires-clause-carried c =
     let news = c.take_in.new.facts.items in
     let taken : IsTakenIn S turns done after book more [] news = subst (λ (xs : List (ℕ × ℕ)). IsTakenIn S turns done after book more xs news) c.new-demanded.ensures.items c.in_ok-take_in.ensures.taken in
     let x = view c.add_facts.new.seat in
-    first_carried S v w book more news done after todo turns c.requires.valid own round taken x c.len-first.result c.len-first.ensures.len c.in_ok-take_in.ensures.kept (known_more w x c.in_ok-add_facts.ensures.view)
+    first_carried S v w book more news done after turns c.requires.valid own round taken x c.len-first.result c.len-first.ensures.len c.in_ok-take_in.ensures.kept (known_more w x c.in_ok-add_facts.ensures.view)
+
+pub carry_new-requires-clause-extents : goal.carry_new-requires-clause-extents
+carry_new-requires-clause-extents c = subst (AreExtents c.take_in.new.done) (sym c.as_slice-2.ensures.value) c.in_ok-take_in.ensures.extents
+
+pub returns-clause-extents : goal.returns-clause-extents
+returns-clause-extents c = c.in_ok-take_in.ensures.extents
 
 pub returns-in_err-carry_new-clause-sound : goal.returns-in_err-carry_new-clause-sound
 returns-in_err-carry_new-clause-sound c s = c.in_err-carry_new.ensures.sound (c.in_ok-add_facts.ensures.sound s)
@@ -133,9 +134,8 @@ returns-clause-sound c s = c.in_ok-carry_new.ensures.sound (c.in_ok-add_facts.en
 pub returns-clause-settled : goal.returns-clause-settled
 returns-clause-settled c =
     let S = c.args.ground.now.system.now in
-    let round = c.requires.worked.2 in
+    let round = c.requires.worked.1 in
     let v = c.requires.worked.0 in
-    let todo = c.requires.worked.1 in
     let w = view c.args.seat.now in
     let own : w.system ≡ S = c.requires.own.1 ∙ c.requires.system in
     let book = c.args.progress.now.book in
@@ -147,20 +147,14 @@ returns-clause-settled c =
     let taken : IsTakenIn S turns done after book more [] news = subst (λ (xs : List (ℕ × ℕ)). IsTakenIn S turns done after book more xs news) c.new-demanded.ensures.items c.in_ok-take_in.ensures.taken in
     let x = view c.add_facts.new.seat in
     let y = view c.carry_new.new.seat in
-    let noted = c.in_ok-todo.todo.items in
-    let listed = c.add_facts.new.todo.items in
-    let final = c.carry_new.new.todo.items in
-    settled_again S v w book more news done after todo turns c.requires.valid own round taken x y noted listed final (known_more w x c.in_ok-add_facts.ensures.view) (known_more x y c.in_ok-carry_new.ensures.view)
+    settled_again S v w book more news done after turns c.requires.valid own round taken x y (known_more w x c.in_ok-add_facts.ensures.view) (known_more x y c.in_ok-carry_new.ensures.view)
     (c.in_ok-carry_new.ensures.sound (c.in_ok-add_facts.ensures.sound (round.worked.sound round.before.sound)))
-    c.in_ok-todo.ensures.rows c.in_ok-todo.ensures.all
     (λ row location h. c.in_ok-add_facts.ensures.has row location (subst (λ (xs : List (ℕ × ℕ)). Contains xs (row, location)) (sym c.as_slice.ensures.value) h))
-    (subst (λ (T : System). IsNoted T w x noted listed) c.requires.system c.in_ok-add_facts.ensures.todo)
     c.in_ok-carry_new.ensures.carried
-    (subst (λ (T : System). IsNoted T x y listed final) c.requires.system c.in_ok-carry_new.ensures.todo)
 
 pub add_facts-requires-clause-had : goal.add_facts-requires-clause-had
 add_facts-requires-clause-had c row location h =
-    let round = c.requires.worked.2 in
+    let round = c.requires.worked.1 in
     worked_known c.requires.worked.0 (view c.args.seat.now) round.worked row location (round.before.treated.facts row location (c.requires.booked.demanded row location h))
 
 pub returns-clause-booked : goal.returns-clause-booked
@@ -185,7 +179,7 @@ returns-clause-booked c =
 pub returns-clause-paid : goal.returns-clause-paid
 returns-clause-paid c =
     let S = c.args.ground.now.system.now in
-    let round = c.requires.worked.2 in
+    let round = c.requires.worked.1 in
     let book = c.args.progress.now.book in
     let done = c.args.progress.now.done in
     let turns = c.args.turns.now in

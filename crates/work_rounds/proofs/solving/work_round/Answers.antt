@@ -1,64 +1,63 @@
-use Rattle.std.proofs.Common.{ℕ, ◌+◌, ◌≤◌, List, Contains, Vec, Global, sym, subst, arith}
+use Rattle.std.proofs.Common.{◌≡◌, ℕ, ◌+◌, ◌≤◌, List, map, Contains, get_or, sym, subst, arith}
+use Rattle.std.proofs.lemmas.List.Elements.{Contains-get_or}
 use Rattle.sol_model.specs.declared.system.System.{System}
-use Rattle.sol_model.specs.Systems.{IsRow, Fits}
+use Rattle.sol_model.specs.Systems.{IsRow, width_of}
 use Rattle.set_rows.specs.Calls.{view}
-use Rattle.delta_prop.proofs.Going.{looked_adds}
-use Rattle.new_members.proofs.Answering.{any_ok, if_ok}
-use Rattle.round_pieces.specs.Rounds.{IsRest, IsSettled}
-use Rattle.round_pieces.specs.Balance.{IsBooked, paid_for}
-use Rattle.round_pieces.proofs.Ending.{settled_same}
+use Rattle.delta_prop.specs.declared.turn.Turn.{Turn}
+use Rattle.round_pieces.specs.Rounds.{HasServed, IsChange}
+use Rattle.new_members.specs.News.{words_at}
+use Rattle.new_members.proofs.Answering.{on_ok}
+use Rattle.round_pieces.specs.Turns.{row_of, HasShares}
+use Rattle.round_pieces.specs.Balance.{paid_for, spent}
 use Rattle.round_pieces.proofs.Parts.{worked_alone, worked_again}
-use Rattle.round_settling.proofs.Rests.{settled_left}
-use Rattle.round_pieces.proofs.Sharing.{both_ok}
+use Rattle.round_pieces.proofs.Sharing.{each_changed, rows_apart}
+use Rattle.round_pieces.proofs.Sums.{IsApart, list_apart}
 use Rattle.work_rounds.proofs.solving.work_round.Goals as goal
 
-pub still_grown-requires-clause-fits : goal.still_grown-requires-clause-fits
-still_grown-requires-clause-fits g c = subst (λ (T : System). Fits T c.work_pieces.new.progress.done) (sym c.requires.system) c.in_ok-grown.ensures.settled.ready.fits
+pub all_pieces-requires-clause-todo : goal.all_pieces-requires-clause-todo
+all_pieces-requires-clause-todo g c κs within = λ k d lt. subst (λ (T : System). IsRow T (get_or c.args.todo.now k d)) (sym c.requires.system) (c.requires.rows (get_or c.args.todo.now k d) (Contains-get_or c.args.todo.now k d lt))
 
-pub still_grown-requires-clause-rows : goal.still_grown-requires-clause-rows
-still_grown-requires-clause-rows g c row h =
-    subst (λ (T : System). IsRow T row) (sym c.requires.system) (c.in_ok-grown.ensures.settled.rows row ((c.in_order.ensures row).0 (subst (λ (xs : List ℕ). Contains xs row) c.as_slice.ensures.value h)))
-
-pub still_grown-requires-clause-rest : goal.still_grown-requires-clause-rest
-still_grown-requires-clause-rest g c =
+pub settle-requires-clause-worked : goal.settle-requires-clause-worked
+settle-requires-clause-worked g c =
     let S = c.args.ground.now.system.now in
-    let w = view c.work_pieces.new.seat in
-    let book = c.work_pieces.new.progress.book in
-    let done = c.work_pieces.new.progress.done in
-    let sorted = c.in_order.new.todo.items in
-    subst (IsRest w done) (sym c.as_slice.ensures.value) (settled_same S w book done c.in_ok-grown.grown.items sorted (λ row h. (c.in_order.ensures row).0 h) (λ row h. (c.in_order.ensures row).1 h) c.in_ok-grown.ensures.settled).rest
+    let book = c.args.progress.now.book in
+    let done = c.args.progress.now.done in
+    let v = view c.args.seat.now in
+    let w = view c.all_pieces.new.seat in
+    let turns = c.in_ok-told.told.turns.items in
+    let settled = c.as_slice-2.result.now in
+    let same : settled ≡ turns = c.as_slice-2.ensures.value in
+    let shares : HasShares S book done c.args.todo.now c.args.crew.now.workers 0 c.args.crew.now.workers v w turns =
+    subst (λ (T : System). HasShares T book done c.args.todo.now c.args.crew.now.workers 0 c.args.crew.now.workers v w turns) c.requires.system c.in_ok-told.ensures.shares in (
+      v,
+      record {
+        before = c.requires.settled;
+        worked = c.in_ok-told.ensures.worked;
+        served = subst (HasServed S book w) (sym same) shares.served;
+        once = list_apart (map row_of settled) (subst (λ (ts : List Turn). IsApart (map row_of ts)) (sym same) (rows_apart S book done c.args.todo.now c.args.crew.now.workers v w turns c.requires.once shares));
+        changes = subst (λ (ts : List Turn). (turn : Turn) → Contains ts turn → IsChange S done turn) (sym same)
+            (each_changed S book done c.requires.settled.ready.fits c.args.todo.now c.args.crew.now.workers 0 c.args.crew.now.workers v w turns shares);
+      },
+    )
 
 pub returns-clause-worked : goal.returns-clause-worked
 returns-clause-worked g c =
     let v = view c.args.seat.now in
-    let w = view c.work_pieces.new.seat in
-    let y = view c.still_grown.new.seat in
-    worked_again v w y c.in_ok-grown.ensures.worked (worked_alone w y (looked_adds w y c.still_grown.ensures.view) c.still_grown.ensures.sound)
-
-pub returns-clause-settled : goal.returns-clause-settled
-returns-clause-settled g c =
-    let S = c.args.ground.now.system.now in
-    let w = view c.work_pieces.new.seat in
-    let y = view c.still_grown.new.seat in
-    let book = c.work_pieces.new.progress.book in
-    let done = c.work_pieces.new.progress.done in
-    let grown = c.in_ok-grown.grown.items in
-    let listed = c.as_slice.result.now in
-    let Few : Vec ℕ Global → Type 0 = λ left. (row : ℕ) → Contains left.items row → Contains listed row in
-    let Rest : Vec ℕ Global → Type 0 = λ left. IsRest y done left.items in
-    if_ok c.still_grown.result (λ left. Few left × Rest left) (λ left. IsSettled S y book done left.items)
-    (λ left h. settled_left S w y book done grown left.items c.still_grown.ensures.view c.still_grown.ensures.sound
-    (λ row l. (c.in_order.ensures row).0 (subst (λ (xs : List ℕ). Contains xs row) c.as_slice.ensures.value (h.0 row l))) h.1 c.in_ok-grown.ensures.settled)
-    (both_ok c.still_grown.result Few Rest c.still_grown.ensures.few c.still_grown.ensures.rest)
-
-pub returns-clause-booked : goal.returns-clause-booked
-returns-clause-booked g c =
-    any_ok c.still_grown.result (IsBooked c.args.ground.now.system.now c.work_pieces.new.progress.done c.work_pieces.new.progress.book c.work_pieces.new.progress.facts) c.in_ok-grown.ensures.booked
+    let w = view c.all_pieces.new.seat in
+    let y = view c.settle.new.seat in
+    worked_again v w y c.in_ok-told.ensures.worked (worked_alone w y c.settle.ensures.view c.settle.ensures.sound)
 
 pub returns-clause-paid : goal.returns-clause-paid
 returns-clause-paid g c =
     let S = c.args.ground.now.system.now in
-    let before = c.args.progress.now in
-    let after = c.work_pieces.new.progress in
-    any_ok c.still_grown.result ((view c.still_grown.new.seat).ors + paid_for S before.done before.book before.facts ≤ (view c.args.seat.now).ors + paid_for S after.done after.book after.facts)
-    (let p = c.in_ok-grown.ensures.paid in let e = c.still_grown.ensures.view.ors in omega arith)
+    let v = view c.args.seat.now in
+    let w = view c.all_pieces.new.seat in
+    let book = c.args.progress.now.book in
+    let done = c.args.progress.now.done in
+    let turns = c.in_ok-told.told.turns.items in
+    let spending : w.ors ≤ v.ors + spent (width_of S) book (words_at done) turns =
+    subst (λ (T : System). w.ors ≤ v.ors + spent (width_of T) book (words_at done) turns) c.requires.system c.in_ok-told.ensures.shares.ors in
+    let Paid : List Turn → Type 0 = λ ts. (view c.settle.new.seat).ors + (spent (width_of S) book (words_at done) ts + paid_for S done book c.args.progress.now.facts) ≤ w.ors + paid_for S c.settle.new.progress.done c.settle.new.progress.book c.settle.new.progress.facts in
+    on_ok c.settle.result (Paid c.as_slice-2.result.now) ((view c.settle.new.seat).ors + paid_for S done book c.args.progress.now.facts ≤ v.ors + paid_for S c.settle.new.progress.done c.settle.new.progress.book c.settle.new.progress.facts)
+    (λ h. let p : Paid turns = subst Paid c.as_slice-2.ensures.value h in omega arith)
+    c.settle.ensures.paid
