@@ -1,5 +1,5 @@
 -- What is answered of an expression.
-use Rattle.std.proofs.Common.{arith, ◌≡◌, ◌∙◌, ℕ, zero, suc, ◌+◌, ◌<◌, ◌≤◌, Bool, true, false, inl, inr, List, [], ◌∷◌, ◌++◌, map, length, get_or, Option, Some, None, IsSome, Result, Ok, Err, IfOk, refl, sym, ap, subst}
+use Rattle.std.proofs.Common.{arith, ◌≡◌, ◌∙◌, ℕ, zero, suc, ◌+◌, ◌<◌, ◌≤◌, Bool, true, false, inl, inr, List, [], ◌∷◌, ◌++◌, map, length, get_or, Option, Some, None, IsSome, Result, Ok, Err, IfOk, IfErr, refl, sym, ap, subst}
 use Rattle.std.proofs.Math.Path.{fun_ext}
 use Rattle.std.proofs.lemmas.Bool.{cases_lt}
 use Rattle.std.proofs.lemmas.List.{length-map}
@@ -24,8 +24,9 @@ use Rattle.c_results.specs.Standing.{sense_made, senses_made}
 use Rattle.c_results.specs.Parts.{core_in}
 use Rattle.c_tags.specs.declared.tag_numbers.tags.Tags.{Tags}
 use Rattle.c_tags.specs.tag_numbers.Known.{AreTags}
+use Rattle.c_lower.specs.refusal_laws.Refusals.{IsOtherFault, RowsAreBuilt}
 use Rattle.unit_walk.specs.Walked.{AreDense}
-use Rattle.unit_walk.specs.Stopping.{IsWalkedTo, RefusedThere, RefusedEarly}
+use Rattle.unit_walk.specs.Stopping.{IsWalkedTo, RefusedEarly}
 use Rattle.carried_trees.specs.carried_types.Terms.{IsIdIn, tag_type}
 use Rattle.carried_trees.specs.carried_types.Members.{AreTagged, tag_named}
 use Rattle.carried_trees.specs.Carried.{is_given_core}
@@ -42,10 +43,10 @@ use Rattle.c_check.specs.literal_entities.Entities.{literal_entity}
 use Rattle.c_check.specs.Expressed.{HasSense, HasTree, IsCarried, IsUnknown, HasNoTree, Answers, AreOwn, Expressed, IsAnswer, members_behind}
 
 -- the type of a tag by the number of the type
-type_by : (table : Table) (is_union : Bool) (known id : Option ℕ) → IsIdOf table is_union known id → IsTagType table is_union known (option_map (λ (i : ℕ). type_of table i) id)
-type_by table is_union None id h = ap (option_map (λ (i : ℕ). type_of table i)) h
-type_by table is_union (Some tag) None h = h
-type_by table is_union (Some tag) (Some id) h = h
+pub type_by : (table : Table) (is_union : Bool) (known id : Option ℕ) → IsIdOf table is_union known id → IsIdIn table id → IsTagType table is_union known (option_map (λ (i : ℕ). type_of table i) id)
+type_by table is_union None id h few = ap (option_map (λ (i : ℕ). type_of table i)) h
+type_by table is_union (Some tag) None h few = h
+type_by table is_union (Some tag) (Some id) h few = (h, record { id = id; few = few; is = h })
 
 module _ (s : Source) (first : ℕ → ℕ) (node : ℕ) (list : List (ℕ × Meaning)) (old new : Table) (kept : (id : ℕ) → id < length old.terms → type_of new id ≡ type_of old id) where
   id_kept : (o : Option ℕ) → IsIdIn old o → option_map (λ (i : ℕ). type_of new i) o ≡ option_map (λ (i : ℕ). type_of old i) o
@@ -55,7 +56,7 @@ module _ (s : Source) (first : ℕ → ℕ) (node : ℕ) (list : List (ℕ × Me
   given_by : (own : Bool) (t : Ctype) (is_union : Bool) (known before id : Option ℕ) → IsIdOf old is_union known before → IsIdIn old before → IsOpened own new t before id → IsTypeGiven own t old is_union known (option_map (λ (i : ℕ). type_of new i) id)
   given_by true t is_union known before id typed within h = ap (option_map (λ (i : ℕ). type_of new i)) h.1 ∙ ap Some h.2
   given_by false t is_union known before id typed within h =
-      subst (λ (o : Option Ctype). IsTagType old is_union known o) (sym (ap (option_map (λ (i : ℕ). type_of new i)) h ∙ id_kept before within)) (type_by old is_union known before typed)
+      subst (λ (o : Option Ctype). IsTagType old is_union known o) (sym (ap (option_map (λ (i : ℕ). type_of new i)) h ∙ id_kept before within)) (type_by old is_union known before typed within)
 
   -- a type that is given is that of a tag
   tagged_named : (is_union : Bool) (k : ℕ) → IsSome (tag_named (tagged is_union k))
@@ -69,20 +70,21 @@ module _ (s : Source) (first : ℕ → ℕ) (node : ℕ) (list : List (ℕ × Me
   named_by true is_union number known o h t e = subst (λ (x : Ctype). IsSome (tag_named x)) (some_one (sym h ∙ e)) (tagged_named is_union number)
   named_by false is_union number None o h t e = cc
   named_by false is_union number (Some k) None h t e = cc
-  named_by false is_union number (Some k) (Some x) h t e = subst (λ (y : Ctype). IsSome (tag_named y)) (some_one e) (subst (λ (y : Ctype). IsSome (tag_named y)) (sym h) (tagged_named is_union k))
+  named_by false is_union number (Some k) (Some x) h t e = subst (λ (y : Ctype). IsSome (tag_named y)) (some_one e) (subst (λ (y : Ctype). IsSome (tag_named y)) (sym h.0) (tagged_named is_union k))
 
   module _ (count : ℕ) (below : count ≡ tags_below s) (ids : List (Option ℕ)) (pairs : List (ℕ × Meaning)) (own : AreOwn s first node list count old new ids pairs) where
+    past_none : (xs : List (Option ℕ)) (k : ℕ) → length xs ≤ k → get_or xs k None ≡ None
+    past_none [] k h = refl
+    past_none (x ∷ xs) zero h = absurd (omega arith)
+    past_none (x ∷ xs) (suc k) h = past_none xs k (omega arith)
+
     pub types_given : AreTypesGiven s first node list old (tag_type new ids)
     types_given = record {
       each = λ k lt.
           let few : k < count = subst (λ (n : ℕ). k < n) (sym below) lt in
           given_by (is_own_first s node list (first k)) (tagged (is_union s (first k)) (own_number s first node list old.tags k)) (is_union s (first k)) (tag_known list (tag_declared s (first k))) (get_or own.known k None) (get_or ids k None) (own.typed k few) (own.within k) (own.opened.each k few);
+      past = λ k le. ap (option_map (λ (i : ℕ). type_of new i)) (past_none ids k (omega (arith, le, below, own.long)));
     }
-
-    past_none : (xs : List (Option ℕ)) (k : ℕ) → length xs ≤ k → get_or xs k None ≡ None
-    past_none [] k h = refl
-    past_none (x ∷ xs) zero h = absurd (omega arith)
-    past_none (x ∷ xs) (suc k) h = past_none xs k (omega arith)
 
     pub tags_tagged : AreTagged (tag_type new ids)
     tags_tagged k t e = elim (cases_lt k count) [
@@ -93,19 +95,19 @@ module _ (s : Source) (first : ℕ → ℕ) (node : ℕ) (list : List (ℕ × Me
         none_some : {x : Ctype} → ◌≡◌ {A = Option Ctype} None (Some x) → ⊥
         none_some h = cc
 
-firsts_there : (s : Source) (t : Tags) → AreTags s t → AreFirsts s (slice_index t.firsts.items)
+pub firsts_there : (s : Source) (t : Tags) → AreTags s t → AreFirsts s (slice_index t.firsts.items)
 firsts_there s t are = record {
   specifiers = λ k lt. (are.firsts_are k (subst (λ (n : ℕ). k < n) (sym are.count) lt)).0;
   numbers = λ k lt. (are.firsts_are k (subst (λ (n : ℕ). k < n) (sym are.count) lt)).1;
   least = are.least;
 }
 
-core_is : (x : Sense) (c : Core) → core_in x ≡ Some c → x ≡ IsCore c
+pub core_is : (x : Sense) (c : Core) → core_in x ≡ Some c → x ≡ IsCore c
 core_is (IsCore d) c e = let same : d ≡ c = cc in ap IsCore same
 core_is x c e = cc
 
 module _ (s : Source) (node : ℕ) (walked : Unit) (rs : List Made) (w : IsWalkedTo s (node + 1) walked rs) where
-  sense_there : (x : Sense) → sense_in (senses_made walked rs) node ≡ x → HasSense s node x
+  unfoldable pub sense_there : (x : Sense) → sense_in (senses_made walked rs) node ≡ x → HasSense s node x
   sense_there x e = record { senses = senses_made walked rs; are = w.made.senses; long = length-map rs (sense_made walked) ∙ w.long; last = e }
 
   pub no_tree : core_in (sense_in (senses_made walked rs) node) ≡ None → HasNoTree s node
@@ -181,17 +183,26 @@ module _ (s0 s : Source) (tag_number : ℕ → ℕ) (same : s ≡ numbered tag_n
   answered (Err OutOfMemory) h = tt
 
 -- refused on the way
-pub refused_early : (s : Source) (node end : ℕ) (list more : List (ℕ × Meaning)) (owner : Option ℕ) (old new : Unit) (fault : CheckFault) → end ≡ node + 1 → RefusedEarly s end fault → IsAnswer s node list more owner old new (Err fault)
-refused_early s node end list more owner old new (BadOperand named) e h =
-    let at : RefusedThere s (node + 1) (BadOperand named) = subst (λ (n : ℕ). RefusedThere s n (BadOperand named)) e h in
-    record { tag_number = at.tag_number; dense = at.dense; answer = inl at.refused }
-refused_early s node end list more owner old new (Unsupported kind named) e h =
-    let at : RefusedThere s (node + 1) (Unsupported kind named) = subst (λ (n : ℕ). RefusedThere s n (Unsupported kind named)) e h in
-    record { tag_number = at.tag_number; dense = at.dense; answer = inl at.refused }
-refused_early s node end list more owner old new OutOfMemory e h = tt
+pub refused_early : (s : Source) (node : ℕ) (list more : List (ℕ × Meaning)) (owner : Option ℕ) (old new : Unit) (fault : CheckFault) → RefusedEarly s (node + 1) fault → IsAnswer s node list more owner old new (Err fault)
+refused_early s node list more owner old new (BadOperand named) h = record { tag_number = h.tag_number; dense = h.dense; answer = inl h.refused }
+refused_early s node list more owner old new (Unsupported kind named) h = record { tag_number = h.tag_number; dense = h.dense; answer = h.refused }
+refused_early s node list more owner old new OutOfMemory h = tt
 
 pub memory_answers : (s : Source) (node : ℕ) (list more : List (ℕ × Meaning)) (owner : Option ℕ) (old new : Unit) (fault : CheckFault) → fault ≡ OutOfMemory → Answers s node list more owner old new (Err fault)
 memory_answers s node list more owner old new fault e = subst (λ (f : CheckFault). Answers s node list more owner old new (Err f)) (sym e) tt
+
+-- no refusal says that something isn't built
+module _ (rows : RowsAreBuilt) where
+  pub built_answer : (s : Source) (node : ℕ) (list more : List (ℕ × Meaning)) (owner : Option ℕ) (old new : Unit) (result : Result ℕ CheckFault) → Answers s node list more owner old new result → IfErr result IsOtherFault
+  built_answer s node list more owner old new (Ok i) h = tt
+  built_answer s node list more owner old new (Err (BadOperand named)) h = tt
+  built_answer s node list more owner old new (Err (Unsupported kind named)) h = rows.never s kind named h.refused
+  built_answer s node list more owner old new (Err OutOfMemory) h = tt
+
+  pub built_early : (s : Source) (end : ℕ) (fault : CheckFault) → RefusedEarly s end fault → IsOtherFault fault
+  built_early s end (BadOperand named) h = tt
+  built_early s end (Unsupported kind named) h = rows.never (numbered h.tag_number s) kind named h.refused.refused
+  built_early s end OutOfMemory h = tt
 
 -- by two clauses of one answer
 pub both_ok : {X : Type 0} (r : Result X CheckFault) (A B C : X → Type 0) → ((x : X) → A x → B x → C x) → IfOk r A → IfOk r B → IfOk r C

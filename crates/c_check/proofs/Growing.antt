@@ -1,5 +1,5 @@
 -- Units that gain entities.
-use Rattle.std.proofs.Common.{arith, ◌≡◌, ◌∙◌, ℕ, ◌<◌, ◌≤◌, inl, inr, List, [], All, take, length, get_or, slice_get, Option, Some, is_some, sym, ap, subst}
+use Rattle.std.proofs.Common.{arith, ◌≡◌, ◌∙◌, ℕ, ◌<◌, ◌≤◌, inl, inr, List, [], All, take, length, get_or, slice_get, Option, Some, is_some, refl, sym, ap, subst}
 use Rattle.std.proofs.Math.Seq.{take-length}
 use Rattle.std.proofs.lemmas.Option.{slice_get_within, slice_get_cases, get_or_from_slice_get}
 use Rattle.c_types.specs.Trees.{Ctype}
@@ -27,6 +27,18 @@ extends_grows a b e = record {
   parts = e.parts;
   extents = e.extents;
   entities = ap (take (length a.entities.items)) e.entities ∙ take-length a.entities.items;
+}
+
+pub grows_self : (u : Unit) → Grows u u
+grows_self u = record {
+  more = omega arith;
+  cores = λ i h. refl;
+  terms = omega arith;
+  types = λ id h. refl;
+  tags = omega arith;
+  parts = λ tag parts h. h;
+  extents = λ t e h. h;
+  entities = take-length u.entities.items;
 }
 
 -- the same nodes and types, with other entities

@@ -1,7 +1,7 @@
 -- What a call answers of an expression.
 use Rattle.std.specs.Prelude.{ℕ, ◌≡◌, ◌+◌, ◌<◌, ◌≤◌, ◌++◌, ◌⊎◌, ⊤, List, map, take, length, get_or, None, Some}
 use Rattle.std.specs.Prelude.{Option, Result, Ok, Err}
-use Rattle.pta_base.specs.declared.kind.Kind.TheVariants.{Operand, NotBuilt}
+use Rattle.pta_base.specs.declared.kind.Kind.TheVariants.{Operand}
 use Rattle.c_types.specs.Trees.{Ctype}
 use Rattle.c_types.specs.Layout.{Extent}
 use Rattle.c_types.specs.Table.{Table, type_of, extent_in}
@@ -103,9 +103,7 @@ abbrev pub Answers : Source
 Answers s node list more owner old new (Ok i) = IsCarried s node list more owner old new i
 Answers s node list more owner old new (Err (BadOperand named)) = RefusedWithin s (node + 1) Operand named
     ⊎ ((named ≡ node) × HasNoTree s node)
-Answers s node list more owner old new (Err (Unsupported kind named)) = RefusedWithin s
-    (node + 1) kind named
-    ⊎ ((kind ≡ NotBuilt) × (named ≡ node) × IsUnknown s node list old)
+Answers s node list more owner old new (Err (Unsupported kind named)) = RefusedWithin s (node + 1) kind named
 Answers s node list more owner old new (Err OutOfMemory) = ⊤
 
 -- The rows of a unit's nodes fit up to the expression's own, whose tree then stands in the unit; or the first one

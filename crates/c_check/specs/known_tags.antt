@@ -1,4 +1,5 @@
 pub mod Known
 pub mod Given
 pub mod Own
+pub mod Told
 pub mod Values

@@ -1,43 +1,45 @@
 // Whole expressions, by their nodes.
 ghost use Rattle.std.specs.Prelude.{◌≡◌, ◌<◌, ◌+◌, ◌++◌, ℕ, List, Some, length, slice_index};
-ghost use Rattle.std.specs.Prelude.{IfOk, IfSome, OnOk, OnErr, IsOkUnless, MatchOption};
+ghost use Rattle.std.specs.Prelude.{IfOk, IfErr, OnOk, OnErr, IsOkUnless};
 ghost use Rattle.c_lexer.specs.Cut.{IsTokens};
-ghost use Rattle.c_literals.specs.Laws.{AreBytes};
 ghost use Rattle.c_scope.specs.Resolves.{IsBound};
 ghost use Rattle.c_results.specs.Parts.{core_in};
 ghost use Rattle.c_results.specs.Standing.{senses_made};
 ghost use Rattle.c_senses.specs.Names.{source_of};
 ghost use Rattle.c_senses.specs.Sense.{sense_in};
 ghost use Rattle.c_parser.specs.c_units.Units.{IsUnit};
+ghost use Rattle.c_lower.specs.refusal_laws.Refusals.{IsOtherFault};
 ghost use Rattle.core_tree.specs.declared.node.Unit.{Unit as UnitSpec};
 ghost use Rattle.core_nodes.specs.Standing.{IsReady, core_at};
 ghost use Rattle.core_nodes.specs.kept_nodes.Keeps.{AllUnder};
 ghost use Rattle.sense_laws.specs.Senses.{ChildrenFirst};
 ghost use Rattle.tree_reads.specs.Sources.{source_read, source_in};
-ghost use Rattle.unit_walk.specs.unit_rows.Standing.{Stand};
-ghost use Rattle.unit_walk.specs.Ground.{IsGround, source_ground, nodes_ground};
-ghost use Rattle.unit_walk.specs.Stopping.{IsWalkedTo};
+ghost use Rattle.unit_walk.specs.Ground.{source_ground, nodes_ground};
 ghost use Rattle.carried_trees.specs.carried_types.Terms.{AreTagIds};
 ghost use Rattle.carried_trees.specs.Extends.{Extends, SameParts};
 ghost use Rattle.c_check.specs.declared.known_tags.known.Meaning.{Meaning as MeaningSpec};
 ghost use Rattle.c_check.specs.known_tags.Given.{AreGiven};
-ghost use Rattle.c_check.specs.Expressed.{Answers, AreOwn, AreOwnNames, Grows, IsAnswer, IsCarried, IsUnknown};
+ghost use Rattle.c_check.specs.known_tags.Values.{own_values};
+ghost use Rattle.c_check.specs.Expressed.{Answers, AreOwn, AreOwnNames, Grows, IsAnswer, IsCarried};
+ghost use Rattle.c_check.specs.Reached.{IsReached};
+ghost use Rattle.c_check.specs.Told.{IsTold, NoneUnknown};
 
 use crate::known_tags::{
     Given, Known, Meaning, OwnTags, given_of, known_types, nodes_under, own_types, own_values,
 };
 use crate::literal_entities::push_entities;
+use crate::reaching::reach;
 use c_grammar::Tree;
 use c_lexer::Tokens;
+use c_lower::refusal_laws::laws::rows_are_built;
 use c_results::node_at;
 use c_scope::Bound;
 use c_tags::tag_numbers::{Numbered, meanings};
 use carried_trees::carry_whole;
 use core_nodes::CheckFault;
 use core_tree::node::Unit;
-use pta_base::Kind;
 use std::alloc::Global;
-use unit_walk::{Walked, walk_to};
+use unit_walk::Walked;
 
 /// A tree that was carried into a unit: its node there, and what is known more of declarations.
 #[derive(Drop)]
@@ -45,11 +47,6 @@ pub(crate) struct CarriedTree {
     node: u32,
     pairs: Vec<(u32, Meaning)>,
 }
-
-// That the bytes of a text are below 256: it does nothing, and its contract is the fact.
-fn are_bytes(text: &[u8])
-    ensures { AreBytes text.now }
-{}
 
 // The numbers in a unit of the types of the tags of another, by what is known of their first declarations; the tags that an expression
 // itself declares are new ones.
@@ -112,7 +109,36 @@ fn append(list: &mut Vec<(u32, Meaning)>, pairs: &[(u32, Meaning)]) -> Result<()
     Ok(())
 }
 
-// The same, with the enumerators that the expression itself declares behind the pairs of its tags.
+// Puts the enumerators that the expression itself declares behind other pairs.
+fn add_values(
+    alloc: Global,
+    walked: &Walked,
+    given: &Given,
+    node: u32,
+    pairs: &mut Vec<(u32, Meaning)>,
+) -> Result<(), CheckFault>
+    requires node { node < nodes_ground walked.now.ground }
+    requires first { ChildrenFirst (source_read walked.now.ground.numbered.syntax) }
+    ensures added { OnOk result ((u : UnitSpec) (list : List (ℕ × MeaningSpec)) →
+        AreGiven given.now list →
+        pairs.new.items ≡ pairs.old.items ++ own_values (source_read walked.now.ground.numbered.syntax)
+        (sense_in (senses_made u walked.now.results)) node list node) }
+    ensures memory { IsOkUnless result CheckFault.OutOfMemory }
+{
+    let syntax = &walked.ground.numbered.syntax;
+    let flags = nodes_under(alloc, syntax, node)?;
+    let values = own_values(
+        alloc,
+        syntax,
+        &walked.results,
+        given,
+        flags.as_slice(),
+        node,
+    )?;
+    append(pairs, values.as_slice())
+}
+
+// The same as `own_tags`, with the enumerators that the expression itself declares behind the pairs of its tags.
 fn own_names(
     alloc: Global,
     unit: &mut Unit,
@@ -137,67 +163,46 @@ fn own_names(
         unit.old.types unit.new.types tags.ids.items tags.pairs.items) }
     ensures memory { IsOkUnless result CheckFault.OutOfMemory }
 {
-    let numbered = &walked.ground.numbered;
-    let own = own_tags(alloc, unit, bound, numbered, given, node)?;
-    let flags = nodes_under(alloc, &numbered.syntax, node)?;
-    let values = own_values(
-        alloc,
-        &numbered.syntax,
-        &walked.results,
-        given,
-        flags.as_slice(),
-        node,
-    )?;
-    let mut pairs = own.pairs;
-    append(&mut pairs, values.as_slice())?;
-    Ok(OwnTags {
-        ids: own.ids,
-        pairs,
-    })
+    let mut own = own_tags(alloc, unit, bound, &walked.ground.numbered, given, node)?;
+    add_values(alloc, walked, given, node, &mut own.pairs)?;
+    Ok(own)
 }
 
-// The tree of a core node of a walk, carried into a unit; None where it names what isn't known. Only memory may want.
+// The tree of a core node of a walk, carried into a unit, where nothing that it names is missing. Only memory may want.
 fn carried_tree(
     alloc: Global,
     unit: &mut Unit,
     bound: &Bound,
     list: &[(u32, Meaning)],
     owner: Option<u32>,
-    walked: Walked,
+    walked: &mut Walked,
     top: u32,
     node: u32,
-) -> Result<Option<CarriedTree>, CheckFault>
+) -> Result<CarriedTree, CheckFault>
     requires ready { IsReady unit.old }
-    requires bound { IsBound walked.ground.numbered.syntax.tokens.now walked.ground.numbered.syntax.tree.now bound.now }
-    requires ground { IsGround walked.ground bound.now }
-    requires walked { IsReady walked.unit }
-    requires top { top < length walked.unit.nodes.items }
-    requires node { node < nodes_ground walked.ground }
+    requires reached { IsReached bound.now node walked.old }
+    requires core { core_in (sense_in (senses_made walked.old.unit walked.old.results) node) ≡ Some (core_at walked.old.unit top) }
+    requires top { top < length walked.old.unit.nodes.items }
+    requires told { NoneUnknown (source_ground walked.old.ground bound.now) node list.now unit.old }
     ensures ready { IsReady unit.new }
     ensures grows { Grows unit.old unit.new }
-    ensures within { IfOk result (λ found. IfSome found (λ tree. tree.node < length unit.new.nodes.items)) }
-    ensures only { IfOk result (λ found. IfSome found (λ tree. AllUnder unit.new (length unit.old.nodes.items) tree.node)) }
-    ensures answer { let s = source_ground walked.entry.ground bound.now in
-        IsWalkedTo s (node + 1) walked.entry.unit walked.entry.results →
-        core_in (sense_in (senses_made walked.entry.unit walked.entry.results) node) ≡ Some (core_at walked.entry.unit top) →
-        IfOk result (λ found. MatchOption found
-        (IsUnknown s node list.now unit.old)
-        (λ tree. IsCarried s node list.now (list.now ++ tree.pairs.items) owner unit.old unit.new tree.node)) }
+    ensures within { IfOk result (λ tree. tree.node < length unit.new.nodes.items) }
+    ensures only { IfOk result (λ tree. AllUnder unit.new (length unit.old.nodes.items) tree.node) }
+    ensures answer { let s = source_ground walked.old.ground bound.now in
+        IfOk result (λ tree. IsCarried s node list.now (list.now ++ tree.pairs.items) owner unit.old unit.new tree.node) }
     ensures memory { IsOkUnless result CheckFault.OutOfMemory }
 {
     let given = given_of(alloc, list)?;
-    let own = own_names(alloc, unit, bound, &walked, &given, node)?;
+    let own = own_names(alloc, unit, bound, walked, &given, node)?;
     let found = carry_whole(
         alloc,
         unit,
-        walked.unit,
+        &mut walked.unit,
         top,
         &given.entities,
         own.ids.as_slice(),
     )?;
-    let Some(tree) = found else {
-        return Ok(None);
-    };
+    let Some(tree) = found else { unreachable!() };
     push_entities(
         alloc,
         &mut unit.entities,
@@ -207,10 +212,10 @@ fn carried_tree(
         unit.nodes.as_slice(),
         tree.literals.as_slice(),
     )?;
-    Ok(Some(CarriedTree {
+    Ok(CarriedTree {
         node: tree.node,
         pairs: own.pairs,
-    }))
+    })
 }
 
 // The tree that an expression's node stands for, carried into a unit.
@@ -220,21 +225,18 @@ fn carried(
     bound: &Bound,
     list: &mut Vec<(u32, Meaning)>,
     owner: Option<u32>,
-    walked: Walked,
+    walked: &mut Walked,
     node: u32,
 ) -> Result<u32, CheckFault>
     requires ready { IsReady unit.old }
-    requires bound { IsBound walked.ground.numbered.syntax.tokens.now walked.ground.numbered.syntax.tree.now bound.now }
-    requires ground { IsGround walked.ground bound.now }
-    requires stand { Stand (nodes_ground walked.ground) walked.unit walked.results }
-    requires node { node < nodes_ground walked.ground }
-    requires walked { IsWalkedTo (source_ground walked.ground bound.now) (node + 1) walked.unit walked.results }
+    requires reached { IsReached bound.now node walked.old }
+    requires told { NoneUnknown (source_ground walked.old.ground bound.now) node list.old.items unit.old }
     ensures ready { IsReady unit.new }
     ensures grows { Grows unit.old unit.new }
     ensures within { IfOk result (λ i. i < length unit.new.nodes.items) }
     ensures only { IfOk result (λ i. AllUnder unit.new (length unit.old.nodes.items) i) }
     ensures kept { OnErr result (list.new.items ≡ list.old.items) }
-    ensures answer { let s = source_ground walked.entry.ground bound.now in
+    ensures answer { let s = source_ground walked.old.ground bound.now in
         Answers s node list.old.items list.new.items owner unit.old unit.new result }
 {
     let Some(top) = node_at(&walked.results, node) else {
@@ -250,11 +252,10 @@ fn carried(
         top,
         node,
     ) {
-        Ok(Some(tree)) => {
+        Ok(tree) => {
             append(list, tree.pairs.as_slice())?;
             Ok(tree.node)
         }
-        Ok(None) => Err(CheckFault::Unsupported(Kind::NotBuilt, node)),
         Err(fault) => Err(fault),
     }
 }
@@ -278,12 +279,13 @@ fn carried(
 /// their nodes: without a name, at its opening parenthesis, with the type that its node has, of local linkage, and with its `Initialise`
 /// as its body. Within a function it lives with its block, and `owner` owns it; elsewhere it lives for the whole run, and none does.
 ///
-/// `Unsupported` with `NotBuilt` at the expression's node says that the caller hasn't told all: the tree itself names an entity, or has a
-/// type with a tag, that is declared elsewhere and isn't known, or a tag would get a member whose type has such a tag. What is only looked
-/// at on the way, as in the operand of `sizeof`, may be any. So is the answer for a node that is no expression and lists objects, as a
-/// block. All that stood in the unit goes on standing, and of the nodes and entities that were added none is left but those of the
-/// expression's tree. Want of memory, a node of the number 2^32 - 1, and a unit of 2^32 nodes or entities are `OutOfMemory`. After a
-/// refusal `known` is as it was, and the unit is only fit to be dropped.
+/// The caller has told all (`is_told`): each entity that the tree itself names is known, and each tag in its types that is declared
+/// elsewhere, and no tag gets a member whose type has a tag that isn't known. What is only looked at on the way, as in the operand of
+/// `sizeof`, may be any. Nor does the tree list objects, as that of a block does. So each refusal is that of a row, and none is `NotBuilt`.
+///
+/// All that stood in the unit goes on standing, and of the nodes and entities that were added none is left but those of the expression's
+/// tree. Want of memory, a node of the number 2^32 - 1, and a unit of 2^32 nodes or entities are `OutOfMemory`. After a refusal `known` is
+/// as it was, and the unit is only fit to be dropped.
 ///
 /// A call takes the time of a walk over the unit's nodes up to the expression.
 pub fn check_expression(
@@ -301,6 +303,7 @@ pub fn check_expression(
     requires first { ChildrenFirst (source_of tokens.now tree.now) }
     requires ready { IsReady unit.old }
     requires node { node < length tree.now.nodes.items }
+    requires told { IsTold (source_of tokens.now tree.now) node known.old.list.items unit.old }
     ensures ready { IsReady unit.new }
     ensures grows { Grows unit.old unit.new }
     ensures within { IfOk result (λ i. i < length unit.new.nodes.items) }
@@ -309,16 +312,24 @@ pub fn check_expression(
     ensures kept { OnErr result (known.new.list.items ≡ known.old.list.items) }
     ensures answer { let s = source_of tokens.now tree.now in
         IsAnswer s node known.old.list.items known.new.list.items known.old.owner unit.old unit.new result }
+
+    // No refusal is of the kind `NotBuilt`.
+    ensures built { IfErr result IsOtherFault }
 {
-    are_bytes(tokens.text);
-    let Some(end) = node.checked_add(1) else {
-        return Err(CheckFault::OutOfMemory);
-    };
-    match walk_to(alloc, tokens, tree, bound, end) {
-        Ok(walked) => {
+    rows_are_built();
+    match reach(alloc, tokens, tree, bound, node) {
+        Ok(mut walked) => {
             let owner = known.owner;
-            carried(alloc, unit, bound, &mut known.list, owner, walked, node)
-        },
+            carried(
+                alloc,
+                unit,
+                bound,
+                &mut known.list,
+                owner,
+                &mut walked,
+                node,
+            )
+        }
         Err(fault) => Err(fault),
     }
 }

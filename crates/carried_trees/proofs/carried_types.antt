@@ -1,4 +1,5 @@
 pub mod Numbers
 pub mod Membered
 pub mod Adding
+pub mod Flagging
 pub mod Widening

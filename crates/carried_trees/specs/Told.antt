@@ -1,20 +1,30 @@
--- A tree of which all that it names is told can be carried.
-use Rattle.std.specs.Prelude.{ℕ, ◌≡◌, ◌<◌, Bool, true, false, List, Option, None, get_or, is_some}
-use Rattle.c_types.specs.Trees.{Ctype}
+-- What is untold of a tree, before it is carried.
+use Rattle.std.specs.Prelude.{ℕ, ◌≡◌, ◌⊎◌, Bool, true, false, List, Option, Some, None, get_or}
+use Rattle.std.specs.Option.{option_map}
+use Rattle.c_types.specs.Trees.{Ctype, VoidType}
 use Rattle.c_types.specs.Table.{Table, members_in}
 use Rattle.c_inits.specs.Made.{Part}
 use Rattle.c_consts.specs.Core.{Core}
-use Rattle.core_tree.specs.declared.node.Unit.{Unit}
 use Rattle.core_nodes.specs.Standing.{parts_in}
-use Rattle.carried_trees.specs.Extends.{IsMissing}
+use Rattle.carried_trees.specs.carried_types.Members.{are_given_parts}
+use Rattle.carried_trees.specs.Carried.{is_given_core}
+use Rattle.carried_trees.specs.Literals.{has_literal}
 
--- Nothing is missing of a tree in whatever unit, where entities have these numbers, each marked tag has a type, and
--- each tag that has a type is flagged; the tags are those of a table.
-pub record IsTold (entity : ℕ → Option ℕ) (marks : List (Option ℕ)) (named : List Bool) (core : Core)
-    (from : Table) : Type 0 where
-  pub none : (old : Unit) (tag : ℕ → Option Ctype) (members : ℕ → Option (List Part))
-      → ((k : ℕ) → members k ≡ parts_in from (members_in from k))
-      → ((k : ℕ) → is_some (get_or marks k None) ≡ true → is_some (tag k) ≡ true)
-      → ((k : ℕ) → k < from.tags → is_some (tag k) ≡ true → get_or named k false ≡ true)
-      → IsMissing entity tag members core old
-      → ⊥
+-- a type for each tag that has a mark: which one doesn't count
+abbrev pub marked : List (Option ℕ) → ℕ → Option Ctype
+marked marks k = option_map (λ (id : ℕ). VoidType) (get_or marks k None)
+
+-- a tag of the table that is incomplete has a member whose type has a tag without a mark
+pub record LacksMark (marks : List (Option ℕ)) (incomplete : List Bool) (from : Table) : Type 0 where
+  pub own : ℕ
+  pub flag : get_or incomplete own false ≡ true
+  pub list : List Part
+  pub list_is : parts_in from (members_in from own) ≡ Some list
+  pub lacks : are_given_parts (marked marks) list ≡ false
+
+-- Something is untold of a tree: an entity that it names has no number, a tag in its types has no mark, it lists
+-- objects as a statement does, or it holds an initialiser of no compound literal in it; or an incomplete tag has
+-- such a member.
+abbrev pub IsUntold : (ℕ → Option ℕ) → List (Option ℕ) → List Bool → Core → Table → Type 0
+IsUntold entity marks incomplete core from =
+    (is_given_core entity (has_literal core) (marked marks) core ≡ false) ⊎ LacksMark marks incomplete from

@@ -77,29 +77,30 @@ fn next_number(length: usize) -> Result<u32, CheckFault>
     }
 }
 
-/// Carries a unit of one tree into another unit, in which entities have the numbers of a map, and types those of a list; its compound
-/// literals get the next numbers of the unit's entities, in the order of their nodes. The tree there, of whose nodes alone the unit has
-/// more; None exactly where the tree holds an entity without a number, a tag without a type, an initialiser of no compound literal in it,
-/// or a statement that has entities. Only memory may want. After None, or want of memory, the unit is only fit to be dropped.
+/// Carries the nodes of a unit of one tree into another unit, in which entities have the numbers of a map, and types those of a list; its
+/// compound literals get the next numbers of the unit's entities, in the order of their nodes. The tree there, of whose nodes alone the unit
+/// has more; None exactly where the tree holds an entity without a number, a tag without a type, an initialiser of no compound literal in
+/// it, or a statement that has entities. Only memory may want. The first unit is only fit to be dropped then, and after None, or want of
+/// memory, so is the other.
 pub(crate) fn carry(
     alloc: Global,
     unit: &mut Unit,
-    walked: Unit,
+    walked: &mut Unit,
     top: u32,
     entities: &LeafMap,
     types: &CarriedTypes,
 ) -> Result<Option<WholeTree>, CheckFault>
     requires ready { IsReady unit.old }
-    requires walked { IsReady walked }
-    requires top { top < length walked.nodes.items }
-    requires alone { AllUnder walked 0 top }
-    requires types { (tag : ℕ → Option Ctype) × AreTypes tag walked.types (length walked.types.terms) types.now.ids.items
+    requires walked { IsReady walked.old }
+    requires top { top < length walked.old.nodes.items }
+    requires alone { AllUnder walked.old 0 top }
+    requires types { (tag : ℕ → Option Ctype) × AreTypes tag walked.old.types (length walked.old.types.terms) types.now.ids.items
         types.now.given.items unit.old.types }
     ensures ready { IsReady unit.new }
     ensures builds { Builds unit.old unit.new }
     ensures tree { (tag : ℕ → Option Ctype) →
-        AreTypes tag walked.types (length walked.types.terms) types.now.ids.items types.now.given.items unit.old.types →
-        let core = core_at walked top in
+        AreTypes tag walked.old.types (length walked.old.types.terms) types.now.ids.items types.now.given.items unit.old.types →
+        let core = core_at walked.old top in
         IfOk result (λ found. MatchOption found
         (is_given_core (number_at entities.now) (has_literal core) tag core ≡ false)
         (λ whole. IsTree (number_at entities.now) tag core unit.old unit.new whole.node whole.literals.items)) }
@@ -110,15 +111,8 @@ pub(crate) fn carry(
     let from = next_number(unit.nodes.len())?;
     let first = next_number(unit.entities.len())?;
     let own = literals_of(alloc, walked.nodes.as_slice(), from, first)?;
-    let flags = carried_nodes(
-        alloc,
-        unit,
-        entities,
-        &own.numbers,
-        types,
-        from,
-        walked.nodes,
-    )?;
+    let nodes = std::mem::replace(&mut walked.nodes, Vec::new(alloc));
+    let flags = carried_nodes(alloc, unit, entities, &own.numbers, types, from, nodes)?;
     match placed(flags.as_slice(), from, top)? {
         Some(node) => Ok(Some(WholeTree {
             node,

@@ -1,9 +1,9 @@
 // Whether all that a tree names is told, before it is carried.
-ghost use Rattle.std.specs.Prelude.{◌≡◌, ◌<◌, true, length, IfOk, IsOkUnless};
+ghost use Rattle.std.specs.Prelude.{◌<◌, length, IfOk, IsOkUnless, MatchBool};
 ghost use Rattle.core_nodes.specs.Standing.{core_at, IsReady};
 ghost use Rattle.tree_reads.specs.leaf_maps.Numbers.{number_at};
 ghost use Rattle.carried_trees.specs.carried_types.Told.{AreMarks};
-ghost use Rattle.carried_trees.specs.Told.{IsTold};
+ghost use Rattle.carried_trees.specs.Told.{IsUntold};
 
 use crate::carried_types::are_parts_told;
 use crate::carrying::{add_types, carry};
@@ -35,39 +35,68 @@ fn scratch_unit(alloc: Global) -> Result<Unit, CheckFault>
     })
 }
 
-/// Whether `carry_whole` can carry the tree of a node of a unit: each entity that it names has a number in the map, each tag in its types
-/// is marked, and each member of a flagged tag has a type whose tags are marked. So nothing is missing of the tree in whatever unit these
-/// tags have types. The marks of tags are 0, and None for a tag without a type there. False also where the tree lists objects as a
-/// statement does, or holds an initialiser of no compound literal in it. Only memory may want. It takes the time and the memory of carrying
-/// the tree.
-pub fn is_tree_told(
+// Whether the tree of a node of a unit is told, by carrying it into a unit of one type.
+fn told_in(
     alloc: Global,
-    walked: Unit,
+    scratch: &mut Unit,
+    walked: &mut Unit,
     top: u32,
     entities: &LeafMap,
     marks: &[Option<u32>],
-    named: &[bool],
+    incomplete: &[bool],
 ) -> Result<bool, CheckFault>
-    requires walked { IsReady walked }
-    requires top { top < length walked.nodes.items }
+    requires scratch { IsReady scratch.old }
+    requires one { 0 < length scratch.old.types.terms }
+    requires walked { IsReady walked.old }
+    requires top { top < length walked.old.nodes.items }
     requires marks { AreMarks marks.now }
-    ensures told { IfOk result (λ told. told ≡ true →
-        IsTold (number_at entities.now) marks.now named.now (core_at walked top) walked.types) }
+    ensures told { let untold = IsUntold (number_at entities.now) marks.now incomplete.now (core_at walked.old top) walked.old.types in
+        IfOk result (λ told. MatchBool told (untold → ⊥) untold) }
     ensures memory { IsOkUnless result CheckFault.OutOfMemory }
 {
-    let mut kept = walked;
-    let node = keep_under(alloc, &mut kept, 0, top)?;
+    let node = keep_under(alloc, walked, 0, top)?;
 
     // (What every table keeps is told by its count.)
-    let _count = kept.types.type_count();
-    let mut scratch = scratch_unit(alloc)?;
-    let types = add_types(alloc, &mut scratch, &kept.types, marks)?;
-    if !are_parts_told(&kept.types, types.given.as_slice(), named) {
+    let _count = walked.types.type_count();
+    let types = add_types(alloc, scratch, &walked.types, marks)?;
+    if !are_parts_told(&walked.types, types.given.as_slice(), incomplete) {
         return Ok(false);
     }
-    let found = carry(alloc, &mut scratch, kept, node, entities, &types)?;
+    let found = carry(alloc, scratch, walked, node, entities, &types)?;
     match found {
         Some(_tree) => Ok(true),
         None => Ok(false),
     }
+}
+
+/// Whether `carry_whole` can carry the tree of a node of a unit: false exactly where an entity that it names has no number in the map, a
+/// tag in its types has no mark, or a member of an incomplete tag has a type with a tag without one, and where the tree lists objects as a
+/// statement does, or holds an initialiser of no compound literal in it. The mark of a tag is 0, and None where it has no type in the other
+/// unit; it is incomplete where it has a type there, but no members. Only memory may want. The unit is only fit to be dropped then. It takes
+/// the time and the memory of carrying the tree.
+pub fn is_tree_told(
+    alloc: Global,
+    walked: &mut Unit,
+    top: u32,
+    entities: &LeafMap,
+    marks: &[Option<u32>],
+    incomplete: &[bool],
+) -> Result<bool, CheckFault>
+    requires walked { IsReady walked.old }
+    requires top { top < length walked.old.nodes.items }
+    requires marks { AreMarks marks.now }
+    ensures told { let untold = IsUntold (number_at entities.now) marks.now incomplete.now (core_at walked.old top) walked.old.types in
+        IfOk result (λ told. MatchBool told (untold → ⊥) untold) }
+    ensures memory { IsOkUnless result CheckFault.OutOfMemory }
+{
+    let mut scratch = scratch_unit(alloc)?;
+    told_in(
+        alloc,
+        &mut scratch,
+        walked,
+        top,
+        entities,
+        marks,
+        incomplete,
+    )
 }

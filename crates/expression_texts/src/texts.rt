@@ -3,7 +3,7 @@
 ghost use Rattle.std.specs.Prelude.{◌≡◌, ◌<◌, IfOk, length};
 ghost use Rattle.core_nodes.specs.Standing.{IsReady};
 
-use c_check::{CheckFault, Known, Meaning, check_expression};
+use c_check::{CheckFault, Known, Meaning, check_expression, is_told};
 use c_grammar::Tree;
 use c_lexer::Tokens;
 use c_lexer::lexer::tokens;
@@ -239,8 +239,18 @@ fn column_of(found: &Tokens<'_>, tree: &Tree, node: u32) -> u32 {
     }
 }
 
-/// What a refusal says: its kind, and the column of the first token of the node that it names.
+/// What a refusal says: its kind, and the column of the first token of the node that it names. Where the expression names what isn't told,
+/// it isn't checked, and this is `NotBuilt` at the expression.
 pub type Refusal = (Kind, u32);
+
+// What a fault of a text says.
+fn refusal_of(found: &Tokens<'_>, tree: &Tree, fault: CheckFault) -> Result<Refusal, Fail> {
+    match fault {
+        CheckFault::BadOperand(at) => Ok((Kind::Operand, column_of(found, tree, at))),
+        CheckFault::Unsupported(kind, at) => Ok((kind, column_of(found, tree, at))),
+        CheckFault::OutOfMemory => Err(Fail::new("out of memory")),
+    }
+}
 
 // The unit with the core nodes of the expression under the last node of a production in a text, what is known afterwards, and a refusal
 // where there is one.
@@ -269,18 +279,20 @@ fn answer_under(
     }
     let mut unit = unit_of_objects(alloc)?;
     let mut known = known_names(alloc, &found, &tree, &bound, owner)?;
+    let Ok(told) = is_told(alloc, &found, &tree, &bound, node, &known, &unit) else {
+        return Err(Fail::new("out of memory"));
+    };
+    if !told {
+        let column = column_of(&found, &tree, node);
+        return Ok((unit, known, Some((Kind::NotBuilt, column))));
+    }
     let result = check_expression(alloc, &found, &tree, &bound, node, &mut known, &mut unit);
     match result {
         Ok(_) => Ok((unit, known, None)),
-        Err(CheckFault::BadOperand(at)) => {
-            let column = column_of(&found, &tree, at);
-            Ok((unit, known, Some((Kind::Operand, column))))
+        Err(fault) => {
+            let refusal = refusal_of(&found, &tree, fault)?;
+            Ok((unit, known, Some(refusal)))
         }
-        Err(CheckFault::Unsupported(kind, at)) => {
-            let column = column_of(&found, &tree, at);
-            Ok((unit, known, Some((kind, column))))
-        }
-        Err(CheckFault::OutOfMemory) => Err(Fail::new("out of memory")),
     }
 }
 

@@ -55,7 +55,7 @@ abbrev pub own_pairs : Source → (ℕ → ℕ) → ℕ → List (ℕ × Meaning
 own_pairs s first node list next count = numbered_from s first next (own_tags s first node list count)
 
 -- the type of a tag in a unit: an own one has that of its number, another one that of the number that is known,
--- where the table that was has it
+-- exactly where the table that was has it
 abbrev pub IsTypeGiven : Bool → Ctype → Table → Bool → Option ℕ → Option Ctype → Type 0
 IsTypeGiven true own table is_union known type = type ≡ Some own
 IsTypeGiven false own table is_union known type = IsTagType table is_union known type
@@ -67,6 +67,7 @@ pub record AreTypesGiven (s : Source) (first : ℕ → ℕ) (node : ℕ) (list :
       → IsTypeGiven (is_own_first s node list (first k))
       (tagged (is_union s (first k)) (own_number s first node list table.tags k)) table (is_union s (first k))
       (tag_known list (tag_declared s (first k))) (type k)
+  pub past : (k : ℕ) → tags_below s ≤ k → type k ≡ None
 
 -- the number of the type of a tag, when own tags are opened in a table
 abbrev pub id_at : List (Option ℕ) → ℕ → Option ℕ

@@ -39,8 +39,8 @@ pub(in crate::known_tags) fn flag_at(flags: &[bool], node: u32) -> bool
     }
 }
 
-// The number of the type of a tag.
-fn id_at(ids: &[Option<u32>], tag: u32) -> Option<u32>
+/// The number of the type of a tag.
+pub(in crate::known_tags) fn id_at(ids: &[Option<u32>], tag: u32) -> Option<u32>
     ensures { result ≡ own.id_at ids.now tag }
 {
     match ids.get(tag as usize) {
@@ -49,8 +49,8 @@ fn id_at(ids: &[Option<u32>], tag: u32) -> Option<u32>
     }
 }
 
-// Whether the tag of a first specifier is the expression's own.
-fn is_own(
+/// Whether the tag of a first specifier is the expression's own.
+pub(in crate::known_tags) fn is_own(
     numbered: &Numbered,
     declaring: &Declaring,
     given: &Given,

@@ -12,10 +12,15 @@ IsMark (Some id) = id ≡ 0
 abbrev pub AreMarks : List (Option ℕ) → Type 0
 AreMarks marks = (k : ℕ) → IsMark (get_or marks k None)
 
--- of the first so many tags, the flagged ones have members of types that are flagged
-pub record ArePartsTold (table : Table) (given named : List Bool) (count : ℕ) : Type 0 where
-  pub each : (k : ℕ) (members : List MemberTerm)
-      → k < count
-      → get_or named k false ≡ true
-      → members_in table k ≡ Some members
-      → are_flagged given members ≡ true
+-- a tag that is incomplete has a member of a type that isn't given
+pub record LacksFlag (table : Table) (given incomplete : List Bool) (tag : ℕ) : Type 0 where
+  pub flag : get_or incomplete tag false ≡ true
+  pub list : List MemberTerm
+  pub list_is : members_in table tag ≡ Some list
+  pub lacks : are_flagged given list ≡ false
+
+-- one of the first so many tags does
+pub record IsPartUntold (table : Table) (given incomplete : List Bool) (count : ℕ) : Type 0 where
+  pub own : ℕ
+  pub few : own < count
+  pub lacks : LacksFlag table given incomplete own

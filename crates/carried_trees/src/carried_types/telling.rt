@@ -1,9 +1,6 @@
 // Whether the members of tags have types that are given, before any is carried.
-ghost use Rattle.std.specs.Prelude.{◌≡◌, ◌<◌, true, false, Some, List, get_or, length};
-ghost use Rattle.c_types.specs.declared.term.MemberTerm.{MemberTerm};
-ghost use Rattle.c_types.specs.Table.{members_in};
-ghost use Rattle.carried_trees.specs.carried_types.Members.{are_flagged};
-ghost use Rattle.carried_trees.specs.carried_types.Told.{ArePartsTold};
+ghost use Rattle.std.specs.Prelude.{◌≡◌, ◌<◌, false, get_or, length, MatchBool};
+ghost use Rattle.carried_trees.specs.carried_types.Told.{LacksFlag, IsPartUntold};
 
 use crate::carried_types::completing::are_flagged;
 use c_types::table::TypeTable;
@@ -18,14 +15,13 @@ fn flag_of(flags: &[bool], tag: u32) -> bool
     }
 }
 
-// Whether the types of a tag's members are flagged, where the tag is.
-fn is_tag_told(types: &TypeTable, given: &[bool], named: &[bool], tag: u32) -> bool
+// Whether the types of a tag's members are given, where the tag is incomplete.
+fn is_tag_told(types: &TypeTable, given: &[bool], incomplete: &[bool], tag: u32) -> bool
     requires tag { tag < types.now.tags }
     requires given { length given.now ≡ length types.now.terms }
-    ensures { (members : List MemberTerm) → result ≡ true → get_or named.now tag false ≡ true →
-        members_in types.now tag ≡ Some members → are_flagged given.now members ≡ true }
+    ensures { let lacks = LacksFlag types.now given.now incomplete.now tag in MatchBool result (lacks → ⊥) lacks }
 {
-    if !flag_of(named, tag) {
+    if !flag_of(incomplete, tag) {
         return true;
     }
     match types.members(tag) {
@@ -34,14 +30,15 @@ fn is_tag_told(types: &TypeTable, given: &[bool], named: &[bool], tag: u32) -> b
     }
 }
 
-/// Whether the types of all members of each flagged tag of a table are flagged.
-pub fn are_parts_told(types: &TypeTable, given: &[bool], named: &[bool]) -> bool
+/// Whether the types of all members of each incomplete tag of a table are given: false exactly where one isn't. The flags say which tags
+/// are incomplete, and which types are given.
+pub fn are_parts_told(types: &TypeTable, given: &[bool], incomplete: &[bool]) -> bool
     requires given { length given.now ≡ length types.now.terms }
-    ensures { result ≡ true → ArePartsTold types.now given.now named.now types.now.tags }
+    ensures { let untold = IsPartUntold types.now given.now incomplete.now types.now.tags in MatchBool result (untold → ⊥) untold }
 {
     let count = types.tag_count();
     for tag in 0..count {
-        if !is_tag_told(types, given, named, tag) {
+        if !is_tag_told(types, given, incomplete, tag) {
             return false;
         }
     }

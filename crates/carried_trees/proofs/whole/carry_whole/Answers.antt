@@ -62,7 +62,7 @@ returns-clause-answer c = λ members are.
     let there = λ (k : ℕ). are k ∙ sym (c.keep_under.ensures.keeps.parts k) in
     let filled : AreFilled tag members mid full = subst (λ (f : ℕ → Option Ctype). AreFilled f members mid full) same (c.in_ok-complete_in.ensures.filled members there c.if-not-branch.false) in
     let entity = number_at c.args.entities.now in
-    let core : core_at c.keep_under.new.unit c.in_ok-node.node ≡ core_at c.args.walked c.args.top = c.in_ok-node.ensures.tree in
+    let core : core_at c.keep_under.new.unit c.in_ok-node.node ≡ core_at c.args.walked.now c.args.top = c.in_ok-node.ensures.tree in
     let nodes : full.nodes.items ≡ old.nodes.items = c.complete_in.ensures.nodes ∙ c.add_types.ensures.nodes in
     let entities : full.entities.items ≡ old.entities.items = c.complete_in.ensures.extends.entities ∙ c.add_types.ensures.builds.entities in
     subst (λ (t : Core). IfOk c.carry.result (λ (found : Option WholeTree). MatchOption found (IsMissing entity tag members t old) (λ (w : WholeTree). IsWhole entity tag members t old new w.node w.literals.items))) core

@@ -1,6 +1,6 @@
 use Rattle.std.proofs.Common.{arith, ◌<◌, ℕ, get_or, subst}
 use Rattle.std.proofs.lemmas.List.{get_or_default}
-use Rattle.c_check.proofs.expression.are_bytes.Goals as goal
+use Rattle.c_check.proofs.reaching.are_bytes.Goals as goal
 
 pub returns : goal.returns
 returns c = λ k d inside.
