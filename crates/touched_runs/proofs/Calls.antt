@@ -31,10 +31,10 @@ use Rattle.covering_laws.specs.covered_state.Items.{IsOwned, IsPending}
 use Rattle.covering_laws.specs.covered_state.State.{Covered}
 use Rattle.covering_laws.proofs.covered_memory.Firsts.{is_first}
 use Rattle.covered_steps.specs.Steps.{NoneBare}
-use Rattle.covered_statements.specs.Runnable.{IsRunnable}
-use Rattle.covered_effects.proofs.Effects.{contains_at}
-use Rattle.covered_effects.proofs.Backed.{quiet}
-use Rattle.covered_effects.proofs.Needs.{fact, needs_met}
+use Rattle.covered_steps.specs.covered_statements.Runnable.{IsRunnable}
+use Rattle.covered_steps.proofs.covered_effects.Effects.{contains_at}
+use Rattle.covered_steps.proofs.covered_effects.Backed.{quiet}
+use Rattle.covered_steps.proofs.covered_effects.Needs.{fact, needs_met}
 use Rattle.machine_sound.specs.Carried.{IsSteppable}
 use Rattle.touched_runs.specs.Accesses.{IsOfArgument, IsMaker, MadeBy, IsCell}
 use Rattle.touched_runs.specs.Touched.{IsTouchOf, AreNumbered, IsTouchedBy}

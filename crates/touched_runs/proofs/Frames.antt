@@ -25,12 +25,12 @@ use Rattle.covering_laws.specs.covered_state.Items.{Each, NodeIn, IsOwned, IsPen
 use Rattle.covering_laws.specs.covered_state.State.{CalledIn, BackIn, FrameIn}
 use Rattle.covered_steps.specs.Steps.{NoneBare}
 use Rattle.covered_steps.proofs.Steps.{own_frames, own_items, none_bare}
-use Rattle.covered_statements.specs.Stacked.{waits_next, PendingOn, Stacked, FramesStand}
-use Rattle.covered_effects.proofs.Backed.{row_quiet}
+use Rattle.covered_steps.specs.covered_statements.Stacked.{waits_next, PendingOn, Stacked, FramesStand}
+use Rattle.covered_steps.proofs.covered_effects.Backed.{row_quiet}
 use Rattle.machine_sound.specs.Carried.{IsSteppable}
 use Rattle.machine_sound.proofs.Frames.{stays, no_wait}
-use Rattle.called_frames.specs.Layers.{IsEntity, StandsOnCall, AreLayered, IsCalling, IsPendingOn, StandsOver, FramesLayered}
-use Rattle.called_frames.specs.Laws.{Layered}
+use Rattle.touched_runs.specs.called_frames.Layers.{IsEntity, StandsOnCall, AreLayered, IsCalling, IsPendingOn, StandsOver, FramesLayered}
+use Rattle.touched_runs.specs.called_frames.Laws.{Layered}
 use Rattle.touched_runs.specs.Accesses.{NodeAccesses, CallAccesses, MadeBy, ItemAccesses, ItemMakes, IsCell, FramesAccess}
 use Rattle.touched_runs.specs.Touched.{IsTouchOf, AreNumbered, IsTouchedBy, StepsTouch}
 use Rattle.touched_runs.proofs.Numbers.{callers_touch, back_touches, library_touches}

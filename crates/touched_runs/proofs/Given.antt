@@ -39,16 +39,16 @@ use Rattle.covering_laws.specs.covered_state.State.{Covered}
 use Rattle.covering_laws.proofs.covered_rows.Places.{held_cell}
 use Rattle.covering_laws.proofs.covered_library.Effects.{argument_is}
 use Rattle.covered_steps.specs.Steps.{NoneBare}
-use Rattle.covered_statements.specs.Stacked.{PendingOn, Stacked}
-use Rattle.covered_statements.specs.Runnable.{IsRunnable}
-use Rattle.covered_statements.proofs.Ways.{child_owned}
-use Rattle.covered_effects.specs.Served.{IsOfShape, Reaches}
-use Rattle.covered_effects.proofs.Effects.{call_kind, contains_at}
-use Rattle.covered_effects.proofs.Needs.{rows_below, of_call, fact, shape, has_argument}
-use Rattle.covered_effects.proofs.Told.{TakesPointer, takes_pointer, takes}
+use Rattle.covered_steps.specs.covered_statements.Stacked.{PendingOn, Stacked}
+use Rattle.covered_steps.specs.covered_statements.Runnable.{IsRunnable}
+use Rattle.covered_steps.proofs.covered_statements.Ways.{child_owned}
+use Rattle.covered_steps.specs.covered_effects.Served.{IsOfShape, Reaches}
+use Rattle.covered_steps.proofs.covered_effects.Effects.{call_kind, contains_at}
+use Rattle.covered_steps.proofs.covered_effects.Needs.{rows_below, of_call, fact, shape, has_argument}
+use Rattle.covered_steps.proofs.covered_effects.Told.{TakesPointer, takes_pointer, takes}
 use Rattle.machine_sound.specs.Carried.{IsSteppable}
-use Rattle.called_frames.specs.Looked.{looked_at, looked_in, looked_by}
-use Rattle.called_frames.specs.Layers.{LeadsBeside, AreBeside, AreLayered}
+use Rattle.touched_runs.specs.called_frames.Looked.{looked_at, looked_in, looked_by}
+use Rattle.touched_runs.specs.called_frames.Layers.{LeadsBeside, AreBeside, AreLayered}
 use Rattle.touched_runs.proofs.Numbers.{site_at}
 use Rattle.touched_runs.proofs.Pointed.{beside_spot}
 

@@ -22,7 +22,7 @@ use Rattle.row_numbers.specs.Functions.{functions_of, number_of}
 use Rattle.row_numbers.specs.Numbers.{type_number}
 use Rattle.row_numbers.specs.Setting.{Setting, row}
 use Rattle.normal_form.specs.SystemOf.{setting_of}
-use Rattle.touched_runs.proofs.Bodies.{body_stands}
+use Rattle.system_laws.proofs.demand_laws.Numbered.{body_stands}
 use Rattle.mod_ref.specs.declared.access.Access.{Access}
 use Rattle.mod_ref.specs.Direct.{accessed, IsInBody, NodeTouches, OwnTouches, Touches}
 use Rattle.mod_ref.specs.Places.{IsReachedBy}
@@ -32,10 +32,10 @@ use Rattle.covering_laws.proofs.grown_programs.Tables.{tables_grow}
 use Rattle.covering_laws.specs.covered_state.World.{World, trees_of, setting_in}
 use Rattle.covering_laws.specs.covered_state.Items.{IsOwned}
 use Rattle.covered_steps.proofs.Owned.{owner_is}
-use Rattle.covered_statements.specs.Runnable.{IsRunnable}
-use Rattle.covered_start.specs.Objects.{terms_behind, IsSolved}
-use Rattle.covered_start.specs.Start.{machine_world}
-use Rattle.covered_start.proofs.Types.{library_follow}
+use Rattle.covered_steps.specs.covered_statements.Runnable.{IsRunnable}
+use Rattle.machine_sound.specs.covered_start.Objects.{terms_behind, IsSolved}
+use Rattle.machine_sound.specs.covered_start.Start.{machine_world}
+use Rattle.machine_sound.proofs.covered_start.Types.{library_follow}
 use Rattle.touched_runs.specs.Touched.{AreNumbered}
 
 some_one : {X : Type 0} → {x y : X} → ◌≡◌ {A = Option X} (Some x) (Some y) → x ≡ y

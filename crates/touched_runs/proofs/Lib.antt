@@ -1,10 +1,10 @@
 pub mod Parts
 pub mod Pointed
+pub mod Spots
 pub mod Numbers
 pub mod Own
 pub mod Given
 pub mod Calls
 pub mod Frames
-pub mod Bodies
 pub mod Grown
 pub mod Runs

@@ -14,8 +14,8 @@ use Rattle.mod_ref.specs.declared.access.Access.{Access}
 use Rattle.covering_laws.specs.covered_state.World.{World, trees_of, view_in, setting_in, IsFunctionAt, IsTargetAt}
 use Rattle.covering_laws.specs.covered_state.Items.{IsOwned}
 use Rattle.covering_laws.specs.covered_state.State.{IsInGraph}
-use Rattle.covered_calls.proofs.Activations.{zip_at}
-use Rattle.covered_calls.proofs.Results.{begins_inv, found_passes, kept_at_place}
+use Rattle.covered_steps.proofs.covered_calls.Activations.{zip_at}
+use Rattle.covered_steps.proofs.covered_calls.Results.{begins_inv, found_passes, kept_at_place}
 use Rattle.touched_runs.specs.Touched.{IsTouchOf, AreNumbered, IsTouchedBy}
 
 -- the number of an object's first location among all functions

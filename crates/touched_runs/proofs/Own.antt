@@ -43,10 +43,10 @@ use Rattle.covering_laws.proofs.covered_memory.Access.{read_law, zero_kept}
 use Rattle.covering_laws.proofs.covered_rows.Demanded.{by_value, load_says}
 use Rattle.covering_laws.proofs.covered_rows.Lists.{first_has}
 use Rattle.covering_laws.proofs.covered_rows.Targets.{function_there}
-use Rattle.covered_values.proofs.Operands.{place_held}
-use Rattle.covered_values.proofs.Places.{named_inv, typed_one}
-use Rattle.covered_statements.specs.Runnable.{IsRunnable}
-use Rattle.covered_effects.proofs.Needs.{function_first}
+use Rattle.covered_steps.proofs.covered_values.Operands.{place_held}
+use Rattle.covered_steps.proofs.covered_values.Places.{named_inv, typed_one}
+use Rattle.covered_steps.specs.covered_statements.Runnable.{IsRunnable}
+use Rattle.covered_steps.proofs.covered_effects.Needs.{function_first}
 use Rattle.touched_runs.specs.Accesses.{IsNextOf, NodeAccesses, IsCell}
 use Rattle.touched_runs.specs.Touched.{IsTouchOf, AreNumbered, IsTouchedBy}
 use Rattle.touched_runs.proofs.Pointed.{instance_under, place_reached}

@@ -33,7 +33,7 @@ use Rattle.covering_laws.proofs.covered_memory.Anchors.{spot_is}
 use Rattle.covering_laws.proofs.covered_memory.Fields.{part_index, spot_index}
 use Rattle.covering_laws.proofs.covered_memory.Filled.{nowhere}
 use Rattle.covering_laws.proofs.covered_memory.Puts.{part_along}
-use Rattle.called_frames.specs.Layers.{AreBeside}
+use Rattle.touched_runs.specs.called_frames.Layers.{AreBeside}
 use Rattle.touched_runs.specs.Accesses.{IsOfPlace}
 use Rattle.touched_runs.proofs.Parts.{IsKnown, listed_known, repeated_known, part_known, part_sub, sub_under, object_start}
 
@@ -54,7 +54,7 @@ there None h = absurd (false≢true h)
 there (Some x) h = (x, refl)
 
 -- two elements of one array are one part, at one location
-beside_part : (table : Table) (o : Option Reached) (p q : List PathStep) → AreBeside p q → part_at table o p ≡ part_at table o q
+pub beside_part : (table : Table) (o : Option Reached) (p q : List PathStep) → AreBeside p q → part_at table o p ≡ part_at table o q
 beside_part table o p q (inl same) = ap (part_at table o) same
 beside_part table o p q (inr (front, i, j, p_is, q_is)) = ap (part_at table o) p_is ∙ (part_index table o front i j ∙ sym (ap (part_at table o) q_is))
 

@@ -16,13 +16,15 @@ use Rattle.mod_ref.specs.Direct.{Touches}
 use Rattle.mod_ref.specs.Touch.{IsClosedTouch, AreEffects}
 use Rattle.ref_state.specs.ref_types.Types.{id, types_with}
 use Rattle.ref_machine.specs.Run.{run}
-use Rattle.covered_start.specs.Objects.{IsSolved}
-use Rattle.covered_start.specs.Start.{machine_world}
-use Rattle.covered_statements.specs.Runnable.{IsRunnable}
+use Rattle.covering_laws.specs.covered_state.World.{sets_of}
+use Rattle.machine_sound.specs.covered_start.Objects.{IsSolved}
+use Rattle.machine_sound.specs.covered_start.Start.{machine_world}
+use Rattle.covered_steps.specs.covered_statements.Runnable.{IsRunnable}
 use Rattle.covered_programs.proofs.Programs.{scene}
-use Rattle.called_frames.proofs.Runs.{runs_layered}
+use Rattle.touched_runs.proofs.called_frames.Runs.{runs_layered}
 use Rattle.touched_runs.specs.Touched.{IsTouchOf, IsTouchedBy}
-use Rattle.touched_runs.specs.Runs.{rows_for, IsInRow, TouchCoversRuns}
+use Rattle.touched_runs.specs.Runs.{rows_for, IsInRow, TouchCoversRuns, CellsHaveSpots}
+use Rattle.touched_runs.proofs.Spots.{cell_spot}
 use Rattle.touched_runs.proofs.Frames.{steps_touch}
 use Rattle.touched_runs.proofs.Grown.{functions_one, are_numbered, touches_same}
 
@@ -48,3 +50,9 @@ touch_covers_runs units p system family made words n access key path location f 
     in_row p system family analysed.valid r.0 r.1.runs made effects access f.function location
     (steps_touch (machine_world p system family r.0) (id (length p.types.terms)) access (members (rows_for access made)) (run p words n) key path location f r.1
     (are_numbered p system family analysed.valid r.0 r.1.runs) (closed_grown p system family analysed.valid r.0 r.1.runs made effects access) (r.2 words n) accesses lands has)
+
+pub cells_have_spots : CellsHaveSpots
+unfolding types_with
+cells_have_spots units p system family words n i key path analysed c =
+    let r = runs_layered p system family (scene units p system family analysed) in
+    cell_spot (sets_of (machine_world p system family r.0)) system r.1.runs.stands.grounds (run p words n).memory (r.2 words n).carried.steady.covered.memory i key path c

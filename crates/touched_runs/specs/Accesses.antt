@@ -32,12 +32,12 @@ use Rattle.ref_state.specs.Values.{cell_in}
 use Rattle.ref_frames.specs.Running.{Running}
 use Rattle.ref_calls.specs.Library.{object_of}
 use Rattle.covering_laws.specs.covered_memory.Spots.{room, IsInTree}
-use Rattle.called_frames.specs.Looked.{looked_by}
-use Rattle.called_frames.specs.Layers.{AreBeside}
+use Rattle.touched_runs.specs.called_frames.Looked.{looked_by}
+use Rattle.touched_runs.specs.called_frames.Layers.{AreBeside}
 
 -- ---- nodes
--- A cell at a path of an instance lies in the place of a type: the place is there and of that type, and the path goes on
--- from its own. A structure's cells are those of its members.
+-- A cell at a path of an instance lies in the place of a type: the place is there and of that type, and the path goes
+-- on from its own. A structure's cells are those of its members.
 pub record IsOfPlace (table : Table) (memory : List Instance) (place : Cell) (t : Ctype) (i : ℕ)
     (path : List PathStep) : Type 0 where
   pub found : Ctype
@@ -53,8 +53,8 @@ abbrev pub IsNextOf : Table → List Instance → Cell → Ctype → ℕ → Lis
 IsNextOf table memory place t i path =
     (k : ℕ) × (read table memory place t ≡ Ok (one_cell (Pointer i (Index k ∷ []) false))) × (path ≡ Index k ∷ [])
 
--- What a node accesses in the step that computes it, from its operands' values: the place that its kind reads or writes;
--- all of the object that it fills, be it zero or set; and of a list also the argument that it takes.
+-- What a node accesses in the step that computes it, from its operands' values: the place that its kind reads or
+-- writes; all of the object that it fills, be it zero or set; and of a list also the argument that it takes.
 abbrev pub NodeAccesses : CoreTrees
     → List Instance
     → List ℕ
@@ -85,8 +85,8 @@ pub record IsOfArgument (argument : Cell) (i : ℕ) (path : List PathStep) : Typ
   pub below : List PathStep
   pub path_is : path ≡ beside ++ below
 
--- What a library function may access: it reads and writes only in the arrays in which the arguments point through which
--- it looks at objects.
+-- What a library function may access: it reads and writes only in the arrays in which the arguments point through
+-- which it looks at objects.
 abbrev pub CallAccesses : ℕ → List Value → ℕ → List PathStep → Type 0
 CallAccesses k arguments i path =
     (m : ℕ) × Contains (looked_by k) m × IsOfArgument (argument arguments m) i path
@@ -99,8 +99,8 @@ IsMaker (Makes Realloc) = Unit {0}
 IsMaker (Writes Duplicate) = Unit {0}
 IsMaker row = ⊥
 
--- an object that a library function, called at node n, makes and sets; and `<ctypes>`, the library's eighth object, each
--- cell of which `__ctype_b_loc`, its function of number 53, sets
+-- an object that a library function, called at node n, makes and sets; and `<ctypes>`, the library's eighth object,
+-- each cell of which `__ctype_b_loc`, its function of number 53, sets
 abbrev pub MadeBy : CoreTrees → ℕ → ℕ → ObjectKey → Type 0
 MadeBy u n k key =
     ((row : Row) × (slice_get rows k ≡ Some row) × IsMaker row × (key ≡ object_of u n k))
@@ -129,8 +129,8 @@ pub record IsCell (table : Table) (memory : List Instance) (i : ℕ) (key : Obje
   pub key_is : inst.key ≡ key
   pub in_tree : IsInTree table (whole_of table inst) (room inst) path
 
--- The step of a state reads or writes the cell at a path of an instance of an object. Only the top frame's items do:
--- entering and leaving functions and blocks, the program's start and its end access nothing.
+-- The step of a state reads or writes the cell at a path of an instance of an object. Only the top frame's items
+-- do: entering and leaving functions and blocks, the program's start and its end access nothing.
 abbrev pub FramesAccess : CoreTrees → List Instance → Access → List Frame → ObjectKey → List PathStep → Type 0
 FramesAccess u memory access [] key path = ⊥
 FramesAccess u memory access (f ∷ rest) key path =

@@ -1,3 +1,4 @@
 pub mod Accesses
 pub mod Touched
 pub mod Runs
+pub mod called_frames

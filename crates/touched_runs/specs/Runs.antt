@@ -1,5 +1,5 @@
 -- That what a program's functions may touch covers each of its runs.
-use Rattle.std.specs.Prelude.{◌≡◌, ℕ, List, Some, slice_get, Contains}
+use Rattle.std.specs.Prelude.{◌≡◌, ℕ, List, Some, IsSome, slice_get, Contains}
 use Rattle.c_types.specs.declared.key.ObjectKey.{ObjectKey}
 use Rattle.c_types.specs.declared.term.PathStep.{PathStep}
 use Rattle.core_tree.specs.declared.node.Program.{Program}
@@ -21,7 +21,7 @@ use Rattle.ref_machine.specs.Types.{running}
 use Rattle.ref_machine.specs.Run.{run}
 use Rattle.covering_laws.specs.covered_memory.Spots.{spot}
 use Rattle.covered_programs.specs.Programs.{IsAnalysed}
-use Rattle.touched_runs.specs.Accesses.{StepAccesses}
+use Rattle.touched_runs.specs.Accesses.{IsCell, StepAccesses}
 
 -- what the functions read, or what they write
 abbrev pub rows_for : Access → Effects → Rows
@@ -47,3 +47,12 @@ TouchCoversRuns =
     → spot (types_with p.types) (locations_in p) key path ≡ Some location
     → Contains (run p words n).frames f
     → IsInRow p (rows_for access made) f.function location
+
+-- Each cell of the memory of a state of a run has a location, so no cell is outside of what the sets speak of.
+abbrev pub CellsHaveSpots : Type 0
+CellsHaveSpots =
+    (units : List Unit) (p : Program) (system : System) (family : Family) (words : List ℕ) (n i : ℕ)
+    (key : ObjectKey) (path : List PathStep)
+    → IsAnalysed units p system family
+    → IsCell (types_with p.types) (run p words n).memory i key path
+    → IsSome (spot (types_with p.types) (locations_in p) key path)

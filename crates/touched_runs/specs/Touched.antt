@@ -15,9 +15,9 @@ use Rattle.ref_state.specs.declared.state.State.{State}
 use Rattle.covering_laws.specs.covered_memory.Spots.{spot}
 use Rattle.covering_laws.specs.covered_state.World.{World, trees_of, view_in, setting_in, IsFunctionAt}
 use Rattle.covering_laws.specs.covered_state.Items.{IsOwned}
-use Rattle.covered_statements.specs.Rows.{running_in}
+use Rattle.covered_steps.specs.covered_statements.Rows.{running_in}
 use Rattle.machine_sound.specs.Carried.{IsSteppable}
-use Rattle.called_frames.specs.Laws.{Layered}
+use Rattle.touched_runs.specs.called_frames.Laws.{Layered}
 use Rattle.touched_runs.specs.Accesses.{StepAccesses}
 
 -- a family has one set for each function: each has what the function touches itself, and that of each callee is inside

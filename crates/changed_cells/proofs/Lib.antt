@@ -1,0 +1,10 @@
+pub mod Puts
+pub mod Kept
+pub mod Values
+pub mod Statements
+pub mod Nodes
+pub mod Elements
+pub mod Texts
+pub mod Library
+pub mod Steps
+pub mod Runs

@@ -1,0 +1,15 @@
+//! Steps and runs write only what they may.
+ghost use Rattle.changed_cells.specs.Laws.{StepsWriteOnly, ChangesCovered};
+
+/// From a state that the sets cover, a step leaves each object of memory as the object that it was, with its type, and each of its cells
+/// with what it held, unless the step writes the cell or another one of its union (C11 6.2.5p20, 6.5.16p3). What an object without a type
+/// has listed stays too, unless the step writes the object.
+pub fn steps_write_only()
+    ensures { StepsWriteOnly }
+{}
+
+/// For every run of a linked program, whatever the words and however many steps: a cell that holds something else after a step than before
+/// it has a location, and that stands in what `mod_ref::effects` says that the function of each frame on the stack may write.
+pub fn changes_covered()
+    ensures { ChangesCovered }
+{}

@@ -1,0 +1,9 @@
+pub mod Fair
+pub mod FairValues
+pub mod FairRows
+pub mod FairTexts
+pub mod FairCalls
+pub mod Ends
+pub mod Types
+pub mod Strangers
+pub mod Runs
