@@ -3,8 +3,8 @@
 fail_alloc.py --kit [--case NAME..]
 
 Refuses each allocation of a run in turn, for each of a few small programs. A run must then end with status 9, an empty standard output and
-the line `out of memory`, or with the very answer that it gives where nothing is refused. A case whose words PTA doesn't know is passed
-over.
+the line `out of memory` (no line where its words found no room), or with the very answer that it gives where nothing is refused. A case
+whose words PTA doesn't know is passed over.
 
 The first form runs the program PTA with a library before the C library's that refuses the Nth call of malloc and the like (it is
 `hostile_alloc.c`, which `cc` compiles). It takes a few milliseconds for each allocation. With --on all calls from the Nth on are refused.
@@ -135,7 +135,8 @@ def answer(ended, whole):
     if (ended.status, ended.out, ended.err) == (whole.status, whole.out, whole.err):
         return "the whole answer"
     if ended.status == 9 and not ended.out:
-        return "out of memory" if ended.err == b"out of memory\n" else f"status 9 with the line {ended.err[:60]!r}"
+        # (where the words themselves find no room, nothing is written)
+        return "out of memory" if ended.err in (b"out of memory\n", b"") else f"status 9 with the line {ended.err[:60]!r}"
     return f"status {ended.status} with {len(ended.out)} bytes of out and the line {ended.err[:60]!r}"
 
 

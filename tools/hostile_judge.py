@@ -173,6 +173,9 @@ def refusal_faults(case, ended):
     found = []
     if ended.out and ended.status != 8:
         found.append("out isn't empty")
+    if ended.status == 9 and not ended.err:
+        # (the words themselves found no room)
+        return found
     match = LINES[ended.status].fullmatch(ended.err)
     if match is None:
         return found + ["err isn't the one line of this status"]

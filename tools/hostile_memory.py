@@ -4,8 +4,8 @@
 
 Runs the program PTA on one unit of SIZE bytes (a million) with less address space than it needs, as `ulimit -v` gives it: from 20 MB up in
 steps of 20, with 1, 4 and 64 workers, until N limits in a row (three) are enough. Each run must end with status 9, the line
-`out of memory` and an empty standard output, or with the report that it gives where there is no limit, byte for byte. Prints a line for
-each run; the status is 1 where a run ended otherwise.
+`out of memory` (no line where its words found no room) and an empty standard output, or with the report that it gives where there is no
+limit, byte for byte. Prints a line for each run; the status is 1 where a run ended otherwise.
 
 A system that lends more memory than it has ends a process by a signal when it wants it back; this script, and pta, know nothing of that."""
 import argparse
@@ -44,7 +44,8 @@ def ladder(pta, folder, workers, given, whole):
     for mega in range(given.first, given.last + 1, given.step):
         ended = limited(pta, folder, workers, mega, given.stack * 1024)
         enough = (ended.status, ended.out, ended.err) == (whole.status, whole.out, whole.err)
-        short = (ended.status, ended.out, ended.err) == (9, b"", b"out of memory\n")
+        # (where the words themselves find no room, nothing is written)
+        short = (ended.status, ended.out) == (9, b"") and ended.err in (b"out of memory\n", b"")
         other = f"FAIL, status {ended.status}, {len(ended.out)} bytes of out, {ended.err[:80]!r}"
         seen = "the report" if enough else "out of memory" if short else other
         print(f"{workers} workers, {mega} MB: {seen}", flush=True)

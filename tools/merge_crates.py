@@ -6,8 +6,9 @@ usage: merge_crates.py ROOT NEW OLD..      one group: the crates OLD.. become th
 
 An OLD that has the name NEW stays at the root of the new crate, with its paths as they are. Run it at the top of a clone, with nothing
 uncommitted. It moves src/, specs/, proofs/ and must-fail/ of each other crate below a module of its old name, and rewrites paths in all
-.rt, .antt and .edit files and crates.txt. It checks nothing: then run rt fmt in each crate that was touched, and rt check; a definition
-of specs/ that cites proofs/ of a crate which is now its own has to move. Programs and crates with data/ or tests' files stay where they are.
+.rt, .antt, .edit and .edit.md files and crates.txt. It checks nothing: then run rt fmt in each crate that was touched, and rt check; a
+definition of specs/ that cites proofs/ of a crate which is now its own has to move. Programs and crates with data/ or tests' files stay
+where they are.
 """
 import os
 import re
@@ -96,10 +97,10 @@ def rewrite(root, crates, names):
     for crate in crates:
         for at, folders, files in os.walk(f"{root}/crates/{crate}"):
             folders[:] = [it for it in folders if it != "out"]
-            for path in (f"{at}/{name}" for name in files if name.endswith((".rt", ".antt", ".edit"))):
+            for path in (f"{at}/{name}" for name in files if name.endswith((".rt", ".antt", ".edit", ".edit.md"))):
                 text = read(path)
                 made = names.antt(text) if path.endswith(".antt") else names.rust(text, crate)
-                if path.endswith(".edit") and crate in names.to and crate not in names.roots:
+                if path.endswith((".edit", ".edit.md")) and crate in names.to and crate not in names.roots:
                     made = moved_edit(made, crate)
                 if made != text:
                     write(path, made)

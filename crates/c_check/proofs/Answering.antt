@@ -24,7 +24,7 @@ use Rattle.c_results.specs.Standing.{sense_made, senses_made}
 use Rattle.c_results.specs.Parts.{core_in}
 use Rattle.c_tags.specs.declared.tag_numbers.tags.Tags.{Tags}
 use Rattle.c_tags.specs.tag_numbers.Known.{AreTags}
-use Rattle.c_lower.specs.refusal_laws.Refusals.{IsOtherFault, RowsAreBuilt}
+use Rattle.refusal_laws.specs.Refusals.{IsOtherFault, RowsAreBuilt}
 use Rattle.unit_walk.specs.Walked.{AreDense}
 use Rattle.unit_walk.specs.Stopping.{IsWalkedTo, RefusedEarly}
 use Rattle.carried_trees.specs.carried_types.Terms.{IsIdIn, tag_type}

@@ -5,7 +5,7 @@ ghost use Rattle.c_literals.specs.Laws.{AreBytes};
 ghost use Rattle.c_parser.specs.c_units.Units.{IsUnit};
 ghost use Rattle.c_scope.specs.Resolves.{IsBound};
 ghost use Rattle.c_senses.specs.Names.{source_of, numbered};
-ghost use Rattle.sense_laws.specs.Senses.{ChildrenFirst};
+ghost use Rattle.parsed_tree_laws.specs.sense_laws.Senses.{ChildrenFirst};
 ghost use Rattle.tree_reads.specs.Sources.{number_in};
 ghost use Rattle.unit_walk.specs.Ground.{source_ground};
 ghost use Rattle.unit_walk.specs.Walked.{AreDense};

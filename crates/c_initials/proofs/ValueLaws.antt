@@ -21,9 +21,9 @@ use Rattle.core_nodes.specs.declared.fault.CheckFault.{CheckFault}
 use Rattle.core_nodes.proofs.Growing.{knows_on}
 use Rattle.core_nodes.proofs.Failing.{follows, fits_core}
 use Rattle.c_conversions.specs.Constants.{HasRows}
-use Rattle.sense_laws.specs.Sound.{Gives}
-use Rattle.sense_laws.specs.row_trees.Trees.{RowsValue, RowsOf}
-use Rattle.sense_laws.proofs.row_trees.Conversions.{value_rows, conversion_rows}
+use Rattle.parsed_tree_laws.specs.sense_laws.Sound.{Gives}
+use Rattle.parsed_tree_laws.specs.sense_laws.row_trees.Trees.{RowsValue, RowsOf}
+use Rattle.parsed_tree_laws.proofs.sense_laws.row_trees.Conversions.{value_rows, conversion_rows}
 use Rattle.c_conversions.specs.constant_values.Constants.{HasConstants}
 use Rattle.c_conversions.proofs.constant_values.Valuing.{rows_read}
 use Rattle.c_results.specs.declared.made.Made.{Made as MadeNode}

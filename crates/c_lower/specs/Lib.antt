@@ -2,4 +2,3 @@ pub mod Laws
 pub mod PassedOn
 pub mod unit_lowering
 pub mod passed
-pub mod refusal_laws

@@ -3,7 +3,6 @@
 
 pub mod laws;
 mod lowering;
-pub mod refusal_laws;
 pub mod unit_lowering;
 
 pub use lowering::lower_unit;

@@ -5,10 +5,10 @@ ghost use Rattle.c_parser.specs.c_units.Units.{IsUnit};
 ghost use Rattle.c_scope.specs.Resolves.{IsBound};
 ghost use Rattle.core_nodes.specs.Once.{HasOnce};
 ghost use Rattle.c_senses.specs.Names.{source_of};
-ghost use Rattle.sense_laws.specs.Senses.{ChildrenFirst};
+ghost use Rattle.parsed_tree_laws.specs.sense_laws.Senses.{ChildrenFirst};
 ghost use Rattle.c_lower.specs.unit_lowering.PassedOn.{RefusedIn};
 ghost use Rattle.c_lower.specs.unit_lowering.Lowered.{IsLowered};
-ghost use Rattle.c_lower.specs.refusal_laws.Refusals.{IsOtherFault};
+ghost use Rattle.refusal_laws.specs.Refusals.{IsOtherFault};
 
 use crate::unit_lowering::lower;
 use c_grammar::Tree;

@@ -16,7 +16,7 @@ use c_results::{Derivation, Results, declarator_at, specified_at};
 use tree_reads::{Above, Syntax, nearest_above};
 
 // The nodes that give a name its type: its specifiers and its declarator, and its initialiser, if it has one.
-#[derive(Clone, Copy, Debug)]
+#[derive(Clone, Copy)]
 struct Parts {
     specifiers: u32,
     declarator: u32,

@@ -261,7 +261,7 @@ fn first_or(list: &[Declared], leaf: u32) -> u32
 }
 
 /// An entity, by a leaf, and whether it stays that whatever more is made.
-#[derive(Clone, Copy, Debug)]
+#[derive(Clone, Copy)]
 pub(crate) struct KeptEntity {
     pub(crate) leaf: u32,
     pub(crate) stays: bool,

@@ -44,7 +44,7 @@ pub struct Linkages {
 }
 
 // An answer, and whether it stays whatever more is made.
-#[derive(Clone, Copy, Debug)]
+#[derive(Clone, Copy)]
 pub(crate) struct Kept {
     pub(crate) flag: bool,
     pub(crate) stays: bool,

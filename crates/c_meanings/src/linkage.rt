@@ -86,7 +86,7 @@ pub fn linkage_of(names: &Names, syntax: &Syntax, results: &Results, leaf: u32) 
 }
 
 // The front of the list of a symbol's declarations in which the first one with internal linkage stands, or else a leaf.
-#[derive(Clone, Copy, Debug)]
+#[derive(Clone, Copy)]
 struct Front {
     last: Option<u32>,
     leaf: u32,

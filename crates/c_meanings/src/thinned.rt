@@ -26,7 +26,7 @@ use tree_reads::Syntax;
 const LONGEST_ROUND: u32 = 8;
 
 /// The end of a list that has been thinned, by its last link.
-#[derive(Clone, Copy, Debug)]
+#[derive(Clone, Copy)]
 pub(crate) struct End {
     pub(crate) last: Option<u32>,
 }

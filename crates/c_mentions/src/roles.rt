@@ -362,7 +362,7 @@ pub(crate) fn is_body(nodes: &[SyntaxNode], node: u32, role: Role) -> bool
 }
 
 /// How a node hands down its role, where that asks for nothing but its production.
-#[derive(Clone, Copy, Debug)]
+#[derive(Clone, Copy)]
 pub(crate) enum Handing {
     /// Its children stand elsewhere.
     Elsewhere,

@@ -93,7 +93,7 @@ pub(crate) fn is_parameter_complete(unit: &Unit, completed: &[bool], ty: TypeId)
 
 // What is asked of a declaration whose name needs a complete type: what it declares, whether it has an initialiser, and what is
 // known of its type.
-#[derive(Clone, Copy, Debug, PartialEq, Eq)]
+#[derive(Clone, Copy)]
 pub(crate) struct Completion {
     is_typedef: bool,
     is_function: bool,

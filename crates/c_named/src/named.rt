@@ -28,7 +28,7 @@ use std::alloc::Global;
 use tree_reads::Syntax;
 
 /// A declarator, the name that it declares, and the type that it gives it.
-#[derive(Clone, Copy, Debug, PartialEq, Eq)]
+#[derive(Clone, Copy)]
 pub(crate) struct Declared {
     pub(crate) at: u32,
     pub(crate) leaf: u32,

@@ -22,7 +22,7 @@ const WORD_STATIC: u8 = 25;
 
 // What a declaration is asked of its words: whether it has an initialiser; what it declares; whether it stands at file scope or
 // in a `for`, and defines a function; and its words.
-#[derive(Clone, Copy, Debug, PartialEq, Eq)]
+#[derive(Clone, Copy)]
 pub(crate) struct Wording {
     initialised: bool,
     is_typedef: bool,

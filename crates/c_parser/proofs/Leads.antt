@@ -1,5 +1,5 @@
 -- How what the open productions lead to goes on from step to step.
-use Rattle.std.proofs.Common.{◌≡◌, ℕ, ◌+◌, ◌≤◌, true, false, Some, None, Result, Ok, Err, List, [], ◌∷◌, ◌++◌, length, refl, sym, ap, ◌∙◌, subst, arith}
+use Rattle.std.proofs.Common.{◌≡◌, ℕ, zero, suc, ◌+◌, ◌≤◌, true, false, Option, Some, None, Result, Ok, Err, List, [], ◌∷◌, ◌++◌, length, refl, sym, ap, subst, arith}
 use Rattle.c_lexer.specs.declared.Token.{Token}
 use Rattle.c_grammar.specs.Names.{Names}
 use Rattle.c_grammar.specs.declared.trees.SyntaxNode.{SyntaxNode}
@@ -17,13 +17,36 @@ use Rattle.std.specs.Result.{MatchResult}
 use Rattle.c_grammar.specs.Notes.{noted, notes_begin}
 use Rattle.c_parser.specs.Parse.{state, Sees, Faults}
 use Rattle.c_parser.proofs.Steps.{own_begin, read_own, broken_own, helper, faults_map}
-use Rattle.c_parser.specs.Leads.{ended, ended_by, Passes, Ends, Leads, IsAdvanced, IsEntered, IsFaulty, IsTurned}
+use Rattle.c_parser.specs.Levels.{is_run, outside}
+use Rattle.c_parser.specs.Leads.{Kept, kept, ended, ended_by, Rises, Ended, Passes, Ends, Leads, IsAdvanced, IsEntered, IsFaulty, IsTurned}
 
 pub no_more : {A : Type 0} (xs : List A) → length xs ≡ 0 → xs ≡ []
 no_more [] e = refl
 no_more (x ∷ xs) e = absurd (omega arith)
 
+pub kept_own : (own : Option Own) (o : Own) → own ≡ Some o → kept own ≡ Some (o.children.items, noted o.notes)
+kept_own own o e = rw e refl
+
+-- outside of a production that is no level within others there is none
+pub outside_none : (outermost production : ℕ) → is_run outermost production ≡ false → outside outermost production ≡ 0
+outside_none outermost production e = rw e refl
+
 module _ (text : List ℕ) (tokens : List Token) where
+  -- a fault goes on to the outermost level
+  pub rises_fault : (n production depth token : ℕ) (own : Kept) (e : Fault) → Rises text tokens n production depth token own (Err e) (Err e)
+  rises_fault zero production depth token own e = refl
+  rises_fault (suc n) production depth token own e = refl
+
+  pub ended_fault : (f : Frame) (e : Fault) → Ended text tokens f (Err e) (Err e)
+  ended_fault f e = rises_fault (outside f.outermost f.production) f.production f.depth f.token (kept f.outer) e
+
+  -- a production that is no level within others gives its user what it gives
+  pub ended_alone : (outermost production depth token : ℕ) (own : Kept) (y : Result State Fault) → is_run outermost production ≡ false → Rises text tokens (outside outermost production) production depth token own y (ended production token own y)
+  ended_alone outermost production depth token own y e = subst (λ n. Rises text tokens n production depth token own y (ended production token own y)) (sym (outside_none outermost production e)) refl
+
+  pub alone_ended : (outermost production depth token : ℕ) (own : Kept) (y z : Result State Fault) → is_run outermost production ≡ false → Rises text tokens (outside outermost production) production depth token own y z → z ≡ ended production token own y
+  alone_ended outermost production depth token own y z e h = subst (λ n. Rises text tokens n production depth token own y z) (outside_none outermost production e) h
+
   -- what the innermost user passes on goes to those that use it
   pub ends_last : (fs : List Frame) (f : Frame) (x r : Result State Fault) → Ends text tokens (fs ++ f ∷ []) x r → (z : Result State Fault) × Passes text tokens f x z × Ends text tokens fs z r
   ends_last [] f x r (z, e, h) = (r, subst (λ w. Passes text tokens f w r) (sym e) h, refl)
@@ -36,7 +59,7 @@ module _ (text : List ℕ) (tokens : List Token) where
 
   -- a fault of the innermost production
   pub leads_fault : (p : Progress) (scopes : Names) (nodes : List SyntaxNode) (e : Fault) → Walks text tokens p.top.production p.top.at p.top.depth (state p.ahead.place scopes nodes p.own) (Err e) → Leads text tokens p scopes nodes (Err e)
-  leads_fault p scopes nodes e w = (Err e, w, ends_fault p.users.items e)
+  leads_fault p scopes nodes e w = (Err e, w, (Err e, ended_fault p.top e, ends_fault p.users.items e))
 
   pub faults_lead : (p : Progress) (scopes : Names) (nodes : List SyntaxNode) (e : ParseFault) → Faults (Walks text tokens p.top.production p.top.at p.top.depth (state p.ahead.place scopes nodes p.own)) e → Faults (Leads text tokens p scopes nodes) e
   faults_lead p scopes nodes (Malformed n) w = leads_fault p scopes nodes _ w
@@ -52,12 +75,8 @@ module _ (text : List ℕ) (tokens : List Token) where
 
   pub leads_through : (p : Progress) (scopes : Names) (nodes : List SyntaxNode) (q on : ℕ) → GoesThrough q on p (state p.ahead.place scopes nodes p.own) → (r x z : Result State Fault) → Opens text tokens q p.top.depth (state p.ahead.place scopes nodes p.own) x
       → Passes text tokens (record p.top { at = on }) x z → Ends text tokens p.users.items z r → Leads text tokens p scopes nodes r
-  leads_through p scopes nodes q on g r (Ok t) z o (y, w, e) h = (y, g.0 t y o w, subst (λ v. Ends text tokens p.users.items v r) (e ∙ ended_on y) h)
-    where
-      ended_on : (y : Result State Fault) → ended (record p.top { at = on }) y ≡ ended p.top y
-      ended_on (Ok t) = refl
-      ended_on (Err e) = refl
-  leads_through p scopes nodes q on g r (Err e) z o k h = (Err e, g.1 e o, subst (λ v. Ends text tokens p.users.items v r) k h)
+  leads_through p scopes nodes q on g r (Ok t) z o (y, w, e) h = (y, g.0 t y o w, (z, e, h))
+  leads_through p scopes nodes q on g r (Err e) z o k h = (Err e, g.1 e o, (Err e, ended_fault p.top e, subst (λ v. Ends text tokens p.users.items v r) k h))
 
   pub through_use : (p : Progress) (s : State) (q : ℕ) → item_of p.top.production p.top.at ≡ Some (item.Use q) → GoesThrough q (p.top.at + 1) p s
   through_use p s q i = (λ t y o w. use_of i o w, λ e o. no_use i o)
@@ -98,32 +117,28 @@ module _ (text : List ℕ) (tokens : List Token) where
       let after = state new.ahead.place scopes nodes' new.own in
       let f : Frame = record old.top { at = on } in
       let w = subst (λ (f : Frame). Walks text tokens f.production f.at f.depth after l.0) top l.1 in
-      let e = ap (λ (f : Frame). ended f l.0) top in
-      (Ok after, o, (ended new.top l.0, (l.0, w, e), subst (λ us. Ends text tokens us.items (ended new.top l.0) r) users l.2))
+      let e = subst (λ (f : Frame). Ended text tokens f l.0 l.2.0) top l.2.1 in
+      (Ok after, o, (l.2.0, (l.0, w, e), subst (λ us. Ends text tokens us.items l.2.0 r) users l.2.2))
 
   -- a production that makes a node has been opened, and one that makes none
   pub opens_own : (q d place : ℕ) (scopes : Names) (nodes : List SyntaxNode) (own new : Own) → d + nests q ≤ most_nested
       → refusal q (first text tokens (state place scopes nodes own)) (second text tokens (state place scopes nodes own)) ≡ None → makes_node q ≡ true
       → new.children.items ≡ [] → noted new.notes ≡ notes_begin q (noted own.notes) → (y : Result State Fault) → Walks text tokens q 0 (d + nests q) (state place scopes nodes new) y
-      → (f : Frame) → f.production ≡ q → f.token ≡ place → f.outer ≡ Some own → Opens text tokens q d (state place scopes nodes own) (ended f y)
-  opens_own q d place scopes nodes own new fits free makes e n (Ok t) w f a b o =
+      → Opens text tokens q d (state place scopes nodes own) (ended q place (Some (own.children.items, noted own.notes)) y)
+  opens_own q d place scopes nodes own new fits free makes e n (Ok t) w =
       let s = state place scopes nodes own in
       let start : state place scopes nodes new ≡ own_begin q s = cc in
-      let r = read_own text tokens q d s fits free t makes (subst (λ x. Walks text tokens q 0 (d + nests q) x (Ok t)) start w) in
-      let last : ◌≡◌ {A = State} (ended_by q place (Some own) t) (ended_by f.production f.token f.outer t) = rw (a, b, o) refl in
-      subst (λ v. Opens text tokens q d s (Ok v)) last r
-  opens_own q d place scopes nodes own new fits free makes e n (Err x) w f a b o =
+      read_own text tokens q d s fits free t makes (subst (λ x. Walks text tokens q 0 (d + nests q) x (Ok t)) start w)
+  opens_own q d place scopes nodes own new fits free makes e n (Err x) w =
       let s = state place scopes nodes own in
       let start : state place scopes nodes new ≡ own_begin q s = cc in
       broken_own text tokens q d s fits free x makes (subst (λ v. Walks text tokens q 0 (d + nests q) v (Err x)) start w)
 
   pub opens_helper : (q d place : ℕ) (scopes : Names) (nodes : List SyntaxNode) (own : Own) → d + nests q ≤ most_nested
       → refusal q (first text tokens (state place scopes nodes own)) (second text tokens (state place scopes nodes own)) ≡ None → makes_node q ≡ false
-      → (y : Result State Fault) → Walks text tokens q 0 (d + nests q) (state place scopes nodes own) y → (f : Frame) → f.outer ≡ None → Opens text tokens q d (state place scopes nodes own) (ended f y)
-  opens_helper q d place scopes nodes own fits free makes (Ok t) w f o =
-      let last : ◌≡◌ {A = State} t (ended_by f.production f.token f.outer t) = rw o refl in
-      subst (λ v. Opens text tokens q d (state place scopes nodes own) (Ok v)) last (helper text tokens q d (state place scopes nodes own) fits free (Ok t) makes w)
-  opens_helper q d place scopes nodes own fits free makes (Err x) w f o = helper text tokens q d (state place scopes nodes own) fits free (Err x) makes w
+      → (y : Result State Fault) → Walks text tokens q 0 (d + nests q) (state place scopes nodes own) y → Opens text tokens q d (state place scopes nodes own) (ended q place None y)
+  opens_helper q d place scopes nodes own fits free makes (Ok t) w = helper text tokens q d (state place scopes nodes own) fits free (Ok t) makes w
+  opens_helper q d place scopes nodes own fits free makes (Err x) w = helper text tokens q d (state place scopes nodes own) fits free (Err x) makes w
 
   -- what the innermost user passes on
   ends_add : (fs : List Frame) (f : Frame) (x z r : Result State Fault) → Passes text tokens f x z → Ends text tokens fs z r → Ends text tokens (fs ++ f ∷ []) x r
@@ -131,45 +146,54 @@ module _ (text : List ℕ) (tokens : List Token) where
   ends_add (g ∷ fs) f x z r k (v, e, h) = (v, ends_add fs f x z v k e, h)
 
   -- the innermost production has been read, and the one that uses it goes on; or it is the outermost
-  pub close_more : (old new : Progress) (scopes : Names) (nodes nodes' : List SyntaxNode) → item_of old.top.production old.top.at ≡ None → old.users.items ≡ new.users.items ++ new.top ∷ []
-      → state new.ahead.place scopes nodes' new.own ≡ ended_by old.top.production old.top.token old.top.outer (state old.ahead.place scopes nodes old.own)
+  pub close_more : (old new : Progress) (scopes : Names) (nodes nodes' : List SyntaxNode) → is_run old.top.outermost old.top.production ≡ false → item_of old.top.production old.top.at ≡ None → old.users.items ≡ new.users.items ++ new.top ∷ []
+      → state new.ahead.place scopes nodes' new.own ≡ ended_by old.top.production old.top.token (kept old.top.outer) (state old.ahead.place scopes nodes old.own)
       → (r : Result State Fault) → Leads text tokens new scopes nodes' r → Leads text tokens old scopes nodes r
-  close_more old new scopes nodes nodes' none users fin r (y, w, e) = (
-    Ok (state old.ahead.place scopes nodes old.own),
-    at_end none,
-    subst (λ fs. Ends text tokens fs (Ok (ended_by old.top.production old.top.token old.top.outer (state old.ahead.place scopes nodes old.own))) r) (sym users)
-        (ends_add new.users.items new.top (Ok (ended_by old.top.production old.top.token old.top.outer (state old.ahead.place scopes nodes old.own))) (ended new.top y) r
-        (y, subst (λ s. Walks text tokens new.top.production new.top.at new.top.depth s y) fin w, refl) e),
-  )
+  close_more old new scopes nodes nodes' alone none users fin r (y, w, (z, e, h)) =
+      let t = state old.ahead.place scopes nodes old.own in
+      let given = ended_by old.top.production old.top.token (kept old.top.outer) t in (
+        Ok t,
+        at_end none,
+        (
+          Ok given,
+          ended_alone old.top.outermost old.top.production old.top.depth old.top.token (kept old.top.outer) (Ok t) alone,
+          subst (λ fs. Ends text tokens fs (Ok given) r) (sym users) (ends_add new.users.items new.top (Ok given) z r (y, subst (λ s. Walks text tokens new.top.production new.top.at new.top.depth s y) fin w, e) h),
+        ),
+      )
 
-  pub close_last : (old : Progress) (scopes : Names) (nodes nodes' : List SyntaxNode) (place : ℕ) (own : Own) → item_of old.top.production old.top.at ≡ None → old.users.items ≡ []
-      → state place scopes nodes' own ≡ ended_by old.top.production old.top.token old.top.outer (state old.ahead.place scopes nodes old.own)
+  pub close_last : (old : Progress) (scopes : Names) (nodes nodes' : List SyntaxNode) (place : ℕ) (own : Own) → is_run old.top.outermost old.top.production ≡ false → item_of old.top.production old.top.at ≡ None → old.users.items ≡ []
+      → state place scopes nodes' own ≡ ended_by old.top.production old.top.token (kept old.top.outer) (state old.ahead.place scopes nodes old.own)
       → Leads text tokens old scopes nodes (Ok (state place scopes nodes' own))
-  close_last old scopes nodes nodes' place own none users fin = (
-    Ok (state old.ahead.place scopes nodes old.own),
-    at_end none,
-    subst (λ fs. Ends text tokens fs (Ok (ended_by old.top.production old.top.token old.top.outer (state old.ahead.place scopes nodes old.own))) (Ok (state place scopes nodes' own))) (sym users) (ap (λ (s : State). Ok s) (sym fin)),
-  )
-
-  ended_on : (f : Frame) (on : ℕ) (y : Result State Fault) → ended (record f { at = on }) y ≡ ended f y
-  ended_on f on (Ok t) = refl
-  ended_on f on (Err e) = refl
+  close_last old scopes nodes nodes' place own alone none users fin =
+      let t = state old.ahead.place scopes nodes old.own in
+      let given = ended_by old.top.production old.top.token (kept old.top.outer) t in (
+        Ok t,
+        at_end none,
+        (
+          Ok given,
+          ended_alone old.top.outermost old.top.production old.top.depth old.top.token (kept old.top.outer) (Ok t) alone,
+          subst (λ fs. Ends text tokens fs (Ok given) (Ok (state place scopes nodes' own))) (sym users) (ap (λ (s : State). Ok s) (sym fin)),
+        ),
+      )
 
   -- the innermost production goes on at a place of its row
   pub leads_on : (old new : Progress) (scopes scopes' : Names) (nodes nodes' : List SyntaxNode) (on : ℕ) → new.top ≡ record old.top { at = on } → new.users ≡ old.users
       → ((y : Result State Fault) → Walks text tokens old.top.production on old.top.depth (state new.ahead.place scopes' nodes' new.own) y → Walks text tokens old.top.production old.top.at old.top.depth (state old.ahead.place scopes nodes old.own) y)
       → (r : Result State Fault) → Leads text tokens new scopes' nodes' r → Leads text tokens old scopes nodes r
-  leads_on old new scopes scopes' nodes nodes' on top users g r (y, w, e) = (
+  leads_on old new scopes scopes' nodes nodes' on top users g r (y, w, (z, e, h)) = (
     y,
     g y (subst (λ (f : Frame). Walks text tokens f.production f.at f.depth (state new.ahead.place scopes' nodes' new.own) y) top w),
-    subst (λ x. Ends text tokens old.users.items x r) (ended_on old.top on y) (subst (λ (f : Frame). Ends text tokens old.users.items (ended f y) r) top (subst (λ us. Ends text tokens us.items (ended new.top y) r) users e)),
+    (z, subst (λ (f : Frame). Ended text tokens f y z) top e, subst (λ us. Ends text tokens us.items z r) users h),
   )
 
   -- a production has been entered
   pub enter_more : (old new : Progress) (used on : ℕ) (frame : Frame) → new.top ≡ frame → new.users.items ≡ old.users.items ++ (record old.top { at = on }) ∷ [] → (scopes : Names) (nodes : List SyntaxNode)
-      → ((y : Result State Fault) → Walks text tokens frame.production frame.at frame.depth (state new.ahead.place scopes nodes new.own) y → Opens text tokens used old.top.depth (state old.ahead.place scopes nodes old.own) (ended frame y))
+      → ((y z : Result State Fault) → Walks text tokens frame.production frame.at frame.depth (state new.ahead.place scopes nodes new.own) y → Ended text tokens frame y z → Opens text tokens used old.top.depth (state old.ahead.place scopes nodes old.own) z)
       → (r : Result State Fault) → Leads text tokens new scopes nodes r
       → (x : Result State Fault) × Opens text tokens used old.top.depth (state old.ahead.place scopes nodes old.own) x × ((z : Result State Fault) × Passes text tokens (record old.top { at = on }) x z × Ends text tokens old.users.items z r)
-  enter_more old new used on frame top users scopes nodes o r (y, w, e) =
-      let last = subst (λ us. Ends text tokens us (ended frame y) r) users (subst (λ (f : Frame). Ends text tokens new.users.items (ended f y) r) top e) in
-      (ended frame y, o y (subst (λ (f : Frame). Walks text tokens f.production f.at f.depth (state new.ahead.place scopes nodes new.own) y) top w), ends_last old.users.items (record old.top { at = on }) (ended frame y) r last)
+  enter_more old new used on frame top users scopes nodes o r (y, w, (z, e, h)) =
+      let last = subst (λ us. Ends text tokens us z r) users h in (
+        z,
+        o y z (subst (λ (f : Frame). Walks text tokens f.production f.at f.depth (state new.ahead.place scopes nodes new.own) y) top w) (subst (λ (f : Frame). Ended text tokens f y z) top e),
+        ends_last old.users.items (record old.top { at = on }) z r last,
+      )

@@ -2,7 +2,9 @@
 #![tactic(auto)]
 
 pub mod c_units;
+mod levels;
 mod lone;
+mod parts;
 mod reader;
 
 ghost use Rattle.c_grammar.specs.Productions.{p_declaration, p_expression, p_init, p_type_name};

@@ -40,7 +40,7 @@ fn is_operand(terminal: u32) -> bool
 
 /// Whether no level from a production on inwards goes on with a terminal.
 #[tactic(auto, unfolding(crate::specs::Lone::level_of))]
-fn ends_within(production: u32, terminal: u32) -> bool
+pub(crate) fn ends_within(production: u32, terminal: u32) -> bool
     ensures { result ≡ spec.ends_within production terminal }
 {
     terminal < 128 && LEVELS[terminal as usize] < production
@@ -57,7 +57,7 @@ pub(crate) fn is_lone(production: u32, first: u32, second: u32, depth: u32) -> b
 }
 
 /// Adds a node with one child, and answers its number.
-fn add_over(
+pub(crate) fn add_over(
     nodes: &mut Vec<SyntaxNode>,
     production: u32,
     token: u32,

@@ -6,15 +6,19 @@ ghost use Rattle.c_grammar.specs.Refusals as refuse;
 ghost use Rattle.c_grammar.specs.Table.{item_of};
 ghost use Rattle.c_parser.specs.Leads as leads;
 ghost use Rattle.c_parser.specs.Leads.{Leads, IsAdvanced, IsOpened, IsEntered, IsFaulty, IsTurned};
+ghost use Rattle.c_parser.specs.Levels.{is_chained, is_run};
 ghost use Rattle.c_parser.specs.Lone.{lone_taken};
 ghost use Rattle.c_parser.specs.Parse.{state, Answers, Faults, Sees, fault_seen};
 ghost use Rattle.std.specs.Prelude.{◌≡◌, ℕ, List, ◌+◌, ◌<◌, ◌≤◌, ◌^◌, length, map, [], ◌∷◌, ◌++◌, false, IfOk, OnOk, Some};
 ghost use Rattle.std.specs.Prelude.{None, MatchResult, true};
 
 use crate::ParseFault;
+use crate::levels::{Part, add_levels, is_chained, is_run, nested_within};
 use crate::lone::{add_lone, is_lone};
+use crate::parts::{is_nothing, is_word, passed};
 use c_grammar::looks::{chosen, fits, makes_node, nests, refusal, refused_token};
 use c_grammar::notes::Notes;
+use c_grammar::productions::CAST;
 use c_grammar::steps::step_scopes;
 use c_grammar::terminals::{takes, terminal};
 use c_grammar::{Children, Item, Scopes, SyntaxNode, Tree, item};
@@ -46,10 +50,12 @@ struct Ahead {
 }
 
 /// A production that is being read: the place in its row, its first token, how many constructs that nest are open within it, and,
-/// where it makes a node, what its user has of its own.
+/// where it makes a node, what its user has of its own. It stands for the levels of expressions from `outermost` to it, where that
+/// is another one: each is used by the one before as its first part, and has nothing of its own yet.
 #[derive(Drop)]
 struct Frame {
     production: u32,
+    outermost: u32,
     at: u32,
     token: u32,
     depth: u32,
@@ -113,19 +119,20 @@ fn add_node(
     Ok(())
 }
 
-/// Takes the next token as a leaf of the innermost production.
+/// Takes the next token as a leaf of the innermost production, or of a part of its row that makes no node.
 fn take_token(
     input: Input,
     progress: &mut Progress,
     scopes: &Scopes,
     nodes: &mut Vec<SyntaxNode>,
+    row: u32,
 ) -> Result<(), OutOfMemory>
     requires place { progress.old.ahead.place < 2 ^ 32 }
     requires sees { Sees input.text.now input.tokens.now scopes.now progress.old.ahead }
     ensures place { OnOk result (progress.new.ahead.place ≡ progress.old.ahead.place + 1) }
     ensures sees { OnOk result (Sees input.entry.text.now input.entry.tokens.now scopes.now progress.new.ahead) }
     ensures takes { OnOk result (state (progress.old.ahead.place + 1) scopes.now nodes.new.items progress.new.own
-        ≡ taken input.entry.text.now input.entry.tokens.now progress.old.top.production
+        ≡ taken input.entry.text.now input.entry.tokens.now row
         (state progress.old.ahead.place scopes.now nodes.old.items progress.old.own)) }
     ensures top { OnOk result (progress.new.top ≡ progress.old.top) }
     ensures users { OnOk result (progress.new.users ≡ progress.old.users) }
@@ -138,10 +145,7 @@ fn take_token(
         children: Children::none(),
     };
     add_node(nodes, &mut progress.own.children, leaf)?;
-    progress
-        .own
-        .notes
-        .token(progress.top.production, token, ahead.first);
+    progress.own.notes.token(row, token, ahead.first);
     progress.ahead = Ahead {
         place: ahead.place + 1,
         first: ahead.second,
@@ -215,7 +219,7 @@ fn finish(
     ensures { OnOk result
         ((place : ℕ) (scopes : leads.Names)
         → state place scopes nodes.new.items own.new
-        ≡ leads.ended_by production token outer (state place scopes nodes.old.items own.old)) }
+        ≡ leads.ended_by production token (leads.kept outer) (state place scopes nodes.old.items own.old)) }
 {
     let Some(outer) = outer else {
         return Ok(());
@@ -256,11 +260,64 @@ fn open(
     };
     Ok(Frame {
         production,
+        outermost: production,
         at: 0,
         token,
         depth: deeper,
         outer,
     })
+}
+
+/// Opens the levels of expressions from one down to a cast at a token, within `depth` open constructs.
+fn open_levels(
+    input: Input,
+    outermost: u32,
+    ahead: Ahead,
+    depth: u32,
+    own: &mut Own,
+) -> Result<Frame, ParseFault>
+    requires place { ahead.place < 2 ^ 32 }
+    requires chained { is_chained outermost depth ≡ true }
+    ensures { MatchResult result
+        (λ frame. IsOpened input.entry.text.now input.entry.tokens.now outermost ahead depth own.old own.new frame)
+        (λ fault. IsFaulty input.entry.text.now input.entry.tokens.now outermost ahead depth own.old fault) }
+{
+    let token = ahead.place as u32;
+    if let Some(kind) = refusal(CAST, ahead.first, ahead.second) {
+        return Err(ParseFault::Unsupported(kind, token));
+    }
+    let inner = Own {
+        children: Vec::new(input.alloc),
+        notes: Notes::new(input.alloc),
+    };
+    let outer = Some(std::mem::replace(own, inner));
+    Ok(Frame {
+        production: CAST,
+        outermost,
+        at: 0,
+        token,
+        depth: depth + nested_within(outermost),
+        outer,
+    })
+}
+
+/// Opens a production at a token, within `depth` open constructs; a level of expressions with the levels within it.
+fn begin(
+    input: Input,
+    production: u32,
+    ahead: Ahead,
+    depth: u32,
+    own: &mut Own,
+) -> Result<Frame, ParseFault>
+    requires { ahead.place < 2 ^ 32 }
+    ensures { MatchResult result
+        (λ frame. IsOpened input.entry.text.now input.entry.tokens.now production ahead depth own.old own.new frame)
+        (λ fault. IsFaulty input.entry.text.now input.entry.tokens.now production ahead depth own.old fault) }
+{
+    if is_chained(production, depth) {
+        return open_levels(input, production, ahead, depth, own);
+    }
+    open(input, production, ahead, depth, own)
 }
 
 /// Notes that a production uses another one.
@@ -279,7 +336,7 @@ fn enter(input: Input, progress: &mut Progress, used: u32, on: u32) -> Result<()
         (λ fault. IsFaulty input.entry.text.now input.entry.tokens.now used progress.old.ahead progress.old.top.depth
         progress.old.own fault) }
 {
-    let frame = match open(
+    let frame = match begin(
         input,
         used,
         progress.ahead,
@@ -298,7 +355,51 @@ fn enter(input: Input, progress: &mut Progress, used: u32, on: u32) -> Result<()
 }
 
 /// Reads a production that the innermost one uses, which goes on at a place of its row behind it: all at once where it is a level of
-/// expressions that has an operand alone. Any other one is opened.
+/// expressions that has an operand alone, or a part of a row with one token or none. Any other one is opened.
+fn read(
+    input: Input,
+    progress: &mut Progress,
+    scopes: &Scopes,
+    nodes: &mut Vec<SyntaxNode>,
+    used: u32,
+    on: u32,
+) -> Result<(), ParseFault>
+    requires tokens { length input.tokens.now < 2 ^ 32 }
+    requires within { progress.old.ahead.place ≤ length input.tokens.now }
+    requires sees { Sees input.text.now input.tokens.now scopes.now progress.old.ahead }
+    ensures goes { MatchResult result
+        (λ done. IsAdvanced input.entry.text.now input.entry.tokens.now used on progress.old scopes.now nodes.old.items
+        progress.new nodes.new.items)
+        (λ fault. IsFaulty input.entry.text.now input.entry.tokens.now used progress.old.ahead progress.old.top.depth
+        progress.old.own fault) }
+    ensures within { OnOk result (progress.new.ahead.place ≤ length input.entry.tokens.now) }
+    ensures sees { OnOk result (Sees input.entry.text.now input.entry.tokens.now scopes.now progress.new.ahead) }
+{
+    let ahead = progress.ahead;
+    let depth = progress.top.depth;
+    if is_lone(used, ahead.first, ahead.second, depth) {
+        progress.top.at = on;
+        return match take_lone(input, progress, scopes, nodes, used) {
+            Ok(()) => Ok(()),
+            Err(_) => Err(ParseFault::OutOfMemory),
+        };
+    }
+    if is_word(used, ahead.first, ahead.second, depth) {
+        progress.top.at = on;
+        return match take_token(input, progress, scopes, nodes, used) {
+            Ok(()) => Ok(()),
+            Err(_) => Err(ParseFault::OutOfMemory),
+        };
+    }
+    if is_nothing(used, ahead.first, ahead.second, depth) {
+        progress.top.at = on;
+        return Ok(());
+    }
+    enter(input, progress, used, on)
+}
+
+/// Reads a production that the innermost one uses, which goes on at a place of its row behind it; where its row has a choice alone,
+/// what is chosen in the end.
 fn advance(
     input: Input,
     progress: &mut Progress,
@@ -319,14 +420,75 @@ fn advance(
     ensures sees { OnOk result (Sees input.entry.text.now input.entry.tokens.now scopes.now progress.new.ahead) }
 {
     let ahead = progress.ahead;
-    if !is_lone(used, ahead.first, ahead.second, progress.top.depth) {
-        return enter(input, progress, used, on);
+    let depth = progress.top.depth;
+    match passed(used, ahead.first, ahead.second, depth, &progress.own.notes) {
+        Some(chosen) => read(input, progress, scopes, nodes, chosen, on),
+        None => Err(misfit(ahead.first, ahead.place)),
     }
-    progress.top.at = on;
-    match take_lone(input, progress, scopes, nodes, used) {
-        Ok(()) => Ok(()),
-        Err(_) => Err(ParseFault::OutOfMemory),
-    }
+}
+
+/// Adds a node, and answers its number.
+fn push_node(nodes: &mut Vec<SyntaxNode>, node: SyntaxNode) -> Result<u32, OutOfMemory>
+    ensures { IfOk result (λ number. (number ≡ length nodes.old.items)
+        × (map node_of nodes.new.items ≡ map node_of nodes.old.items ++ node_of node ∷ [])) }
+{
+    let Ok(number) = u32::try_from(nodes.len()) else {
+        return Err(OutOfMemory);
+    };
+    nodes.push(node)?;
+    Ok(number)
+}
+
+/// Makes the node of a level that has been read to its end.
+fn make_level(
+    production: u32,
+    token: u32,
+    children: Vec<u32>,
+    nodes: &mut Vec<SyntaxNode>,
+) -> Result<u32, OutOfMemory>
+    ensures { IfOk result (λ number. (number ≡ length nodes.old.items)
+        × (map node_of nodes.new.items
+        ≡ map node_of nodes.old.items ++ (record { production = production; token = token; children = children.items }) ∷ [])) }
+{
+    let alloc = *children.allocator();
+    let children = Children::of(alloc, children)?;
+    let node = SyntaxNode {
+        production,
+        token,
+        children,
+    };
+    push_node(nodes, node)
+}
+
+/// Ends the innermost production, a level of expressions that is the first part of others. Those of them that end behind it are
+/// ended too, and the innermost of the others goes on.
+fn climb(progress: &mut Progress, nodes: &mut Vec<SyntaxNode>) -> Result<(), OutOfMemory>
+    requires { is_run progress.old.top.outermost progress.old.top.production ≡ true }
+    ensures place { OnOk result (progress.new.ahead ≡ progress.old.ahead) }
+    ensures turns { OnOk result
+        ((text : List ℕ) (tokens : List leads.Token) (scopes : leads.Names)
+        → Sees text tokens scopes progress.old.ahead
+        → item_of progress.old.top.production progress.old.top.at ≡ None
+        → IsTurned text tokens true progress.old scopes nodes.old.items progress.new scopes nodes.new.items) }
+{
+    let alloc = *progress.own.children.allocator();
+    let children = std::mem::replace(&mut progress.own.children, Vec::new(alloc));
+    let production = progress.top.production;
+    let token = progress.top.token;
+    let number = make_level(production, token, children, nodes)?;
+    let from = Part {
+        level: production - 1,
+        depth: progress.top.depth.saturating_sub(nests(production)),
+        number,
+    };
+    let outermost = progress.top.outermost;
+    let to = add_levels(nodes, from, outermost, token, progress.ahead.first)?;
+    progress.own.children.push(to.number)?;
+    progress.own.notes = Notes::new(alloc);
+    progress.top.production = to.level;
+    progress.top.at = 1;
+    progress.top.depth = to.depth;
+    Ok(())
 }
 
 /// Ends the innermost production, whose row has been read, and answers whether one that uses it goes on.
@@ -334,9 +496,14 @@ fn close(progress: &mut Progress, nodes: &mut Vec<SyntaxNode>) -> Result<bool, O
     ensures place { OnOk result (progress.new.ahead ≡ progress.old.ahead) }
     ensures turns { IfOk result
         (λ goes. (text : List ℕ) (tokens : List leads.Token) (scopes : leads.Names)
+        → Sees text tokens scopes progress.old.ahead
         → item_of progress.old.top.production progress.old.top.at ≡ None
         → IsTurned text tokens goes progress.old scopes nodes.old.items progress.new scopes nodes.new.items) }
 {
+    if is_run(progress.top.outermost, progress.top.production) {
+        climb(progress, nodes)?;
+        return Ok(true);
+    }
     let outer = progress.top.outer.take();
     finish(
         progress.top.production,
@@ -382,7 +549,8 @@ fn step(
                 return Err(misfit(ahead.first, ahead.place));
             }
             progress.top.at = on;
-            match take_token(input, progress, scopes, nodes) {
+            let row = progress.top.production;
+            match take_token(input, progress, scopes, nodes, row) {
                 Ok(()) => Ok(()),
                 Err(_) => Err(ParseFault::OutOfMemory),
             }
@@ -397,7 +565,7 @@ fn step(
         Item::Repeat(repeated) => {
             if fits(repeated, ahead.first, ahead.second, &progress.own.notes) {
                 let at = progress.top.at;
-                return enter(input, progress, repeated, at);
+                return advance(input, progress, scopes, nodes, repeated, at);
             }
             progress.top.at = on;
             Ok(())

@@ -13,7 +13,7 @@ use std::collections::BTreeMap;
 
 /// The declarations of one name in one scope: the node of the latest, whether that declares a function or a function's type,
 /// and what all of them are to a further one: `Plain` where two of them differ.
-#[derive(Clone, Copy, Debug)]
+#[derive(Clone, Copy)]
 pub(crate) struct Entry {
     pub(crate) node: u32,
     pub(crate) kind: Kind,
@@ -24,7 +24,7 @@ pub(crate) struct Entry {
 pub(crate) type Places = BTreeMap<(u32, u32), Entry>;
 
 /// The declaration that a use means.
-#[derive(Clone, Copy, Debug)]
+#[derive(Clone, Copy)]
 pub(crate) struct Found {
     pub(crate) node: u32,
     pub(crate) is_function: bool,

@@ -33,11 +33,11 @@ use Rattle.covering_laws.proofs.covered_library.Copies.{IsTarget, target_inv}
 use Rattle.covering_laws.proofs.covered_library.Copying.{went}
 use Rattle.covering_laws.proofs.covered_library.Runs.{IsRun, found_inv}
 use Rattle.covering_laws.proofs.covered_library.Setting.{aimed_inv}
-use Rattle.touched_runs.specs.called_frames.Layers.{AreBeside}
-use Rattle.touched_runs.proofs.called_frames.Backs.{run_beside}
-use Rattle.touched_runs.proofs.Pointed.{beside_part}
+use Rattle.covered_runs.specs.touched_runs.called_frames.Layers.{AreBeside}
+use Rattle.covered_runs.proofs.touched_runs.called_frames.Backs.{run_beside}
+use Rattle.covered_runs.proofs.touched_runs.Pointed.{beside_part}
 use Rattle.changed_cells.proofs.Puts.{AreWritten}
-use Rattle.changed_cells.proofs.Kept.{Stays, Keeps, keeps_all, changed_keeps, parts_stay, with_all_keeps, write_keeps}
+use Rattle.changed_cells.proofs.Kept.{AreAllWritten, Stays, Keeps, keeps_all, changed_keeps, parts_stay, with_all_keeps, write_keeps}
 use Rattle.changed_cells.proofs.Values.{with_it}
 
 some_one : {X : Type 0} → {x y : X} → ◌≡◌ {A = Option X} (Some x) (Some y) → x ≡ y
@@ -82,7 +82,7 @@ module _ (table : Table) (memory : List Instance) (W : ℕ → List PathStep →
         ((λ below. through.writes i path past is part.0 below h.0, (r, beside_part table (Some (reached whole 0 false)) part.0 path h.0 ∙ r_is)), beside_written whole r r_is rest h.1)
 
     parts_written : (inst : Instance) → slice_get memory i ≡ Some inst → (parts : Parts) → AreBesideAll path parts
-        → ((whole : Ctype) → whole_of table inst ≡ Some whole → AreWritten table (W i) (Some (reached whole 0 false)) parts) × (inst.ty ≡ None → W i (Index 0 ∷ []))
+        → ((whole : Ctype) → whole_of table inst ≡ Some whole → AreWritten table (W i) (Some (reached whole 0 false)) parts) × (inst.ty ≡ None → AreAllWritten table (W i))
     parts_written inst at parts beside = (typed, untyped)
       where
         tree : IsInTree table (whole_of table inst) (room inst) path
@@ -93,10 +93,10 @@ module _ (table : Table) (memory : List Instance) (W : ℕ → List PathStep →
             let r = there (part_at table (Some (reached whole 0 false)) path) (subst (λ (w : Option Ctype). IsInTree table w (room inst) path) whole_is tree) in
             beside_written whole r.0 r.1 parts beside
 
-        untyped : inst.ty ≡ None → W i (Index 0 ∷ [])
-        untyped none =
+        untyped : inst.ty ≡ None → AreAllWritten table (W i)
+        untyped none k below =
             let own : IsInTree table None (room inst) path = subst (λ (w : Option Ctype). IsInTree table w (room inst) path) (ap (typed_whole table inst) none) tree in
-            through.writes i path past is (Index 0 ∷ []) [] (inr ([], 0, own.0, refl, own.1))
+            through.writes i path past is (Index k ∷ []) below (inr ([], k, own.0, refl, own.1))
 
     pub all_keep : (id : TypeId) (parts : Parts) → AreBesideAll path parts → Keeps table W memory (with_all table memory i id parts)
     all_keep id parts beside = with_all_keeps table W memory i id parts (λ inst at. parts_written inst at parts beside)
@@ -204,7 +204,8 @@ module _ (table : Table) (memory : List Instance) (W : ℕ → List PathStep →
           let h = parts_written (Pointer i path past) through i path past refl inst at [] tt in
           record {
             key = refl;
-            whole = λ t w. absurd (some_none (sym w ∙ whole_none));
+            bytes = refl;
+            ty = λ id is. absurd (some_none (sym is ∙ none));
             cells = λ q part part_is plain. absurd (some_none (sym part_is ∙ (ap (λ (o : Option Ctype). part_at table (whole_part o) q) whole_none ∙ nowhere table q)));
             bare = λ own. inr (h.1 own);
           }

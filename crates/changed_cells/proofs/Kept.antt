@@ -22,7 +22,7 @@ use Rattle.ref_elements.specs.Parts.{Parts, with_all}
 use Rattle.covering_laws.specs.covered_memory.Spots.{whole_part, part_in}
 use Rattle.covering_laws.proofs.covered_memory.Filled.{nowhere}
 use Rattle.covering_laws.proofs.covered_memory.Walks.{Reaches, reach_inv}
-use Rattle.touched_runs.specs.Accesses.{IsOfPlace}
+use Rattle.covered_runs.specs.touched_runs.Accesses.{IsOfPlace}
 use Rattle.changed_cells.specs.Cells.{IsPlain, held}
 use Rattle.changed_cells.proofs.Puts.{AreWritten, IsNearWritten, parts_keep}
 
@@ -87,17 +87,22 @@ ended_same memory i = by (slice_get memory i) refl
 
 module _ (table : Table) where
   -- ---- instances but for the cells at these paths
+  -- all that elements may hold is written
+  abbrev pub AreAllWritten : (List PathStep → Type 0) → Type 0
+  AreAllWritten W = (k : ℕ) (below : List PathStep) → W (Index k ∷ below)
+
   pub record Stays (W : List PathStep → Type 0) (a b : Instance) : Type 0 where
     pub key : b.key ≡ a.key
-    pub whole : (t : Ctype) → whole_of table a ≡ Some t → whole_of table b ≡ Some t
+    pub bytes : b.bytes ≡ a.bytes
+    pub ty : (id : TypeId) → a.ty ≡ Some id → b.ty ≡ Some id
     pub cells : (q : List PathStep) (part : Reached) → part_in table a q ≡ Some part → IsPlain part.ty → (held table b q part.ty ≡ held table a q part.ty) ⊎ IsNearWritten table W (whole_part (whole_of table a)) q
-    pub bare : a.ty ≡ None → ((b.cells ≡ a.cells) × (b.zero ≡ a.zero)) ⊎ W (Index 0 ∷ [])
+    pub bare : a.ty ≡ None → ((b.cells ≡ a.cells) × (b.zero ≡ a.zero)) ⊎ AreAllWritten W
 
   abbrev pub Keeps : (ℕ → List PathStep → Type 0) → List Instance → List Instance → Type 0
   Keeps W old new = (i : ℕ) (a : Instance) → slice_get old i ≡ Some a → (b : Instance) × (slice_get new i ≡ Some b) × Stays (W i) a b
 
   stays_so : (W : List PathStep → Type 0) (a : Instance) (l : Bool) → Stays W a (record a { live = l })
-  stays_so W a l = record { key = refl; whole = λ t h. h; cells = λ q part is plain. inl refl; bare = λ none. inl (refl, refl) }
+  stays_so W a l = record { key = refl; bytes = refl; ty = λ id h. h; cells = λ q part is plain. inl refl; bare = λ none. inl (refl, refl) }
 
   pub same_keeps : (W : ℕ → List PathStep → Type 0) (old new : List Instance) → Same old new → Keeps W old new
   same_keeps W old new h i a e = (let b = h i a e in (record a { live = b.0 }, b.1, stays_so (W i) a b.0))
@@ -109,7 +114,7 @@ module _ (table : Table) where
   keeps_then_same W old mid new f g i a e =
       let b = f i a e in
       let c = g i b.0 b.1 in
-      (record b.0 { live = c.0 }, c.1, record { key = b.2.key; whole = b.2.whole; cells = b.2.cells; bare = b.2.bare })
+      (record b.0 { live = c.0 }, c.1, record { key = b.2.key; bytes = b.2.bytes; ty = b.2.ty; cells = b.2.cells; bare = b.2.bare })
 
   -- one instance in place of another one
   pub set_keeps : (W : ℕ → List PathStep → Type 0) (memory : List Instance) (i : ℕ) (a b : Instance) → slice_get memory i ≡ Some a → Stays (W i) a b → Keeps W memory (set memory i b)
@@ -143,21 +148,29 @@ module _ (table : Table) where
   pub typed_stays : (W : List PathStep → Type 0) (a : Instance) (id : TypeId) → a.ty ≡ None → Stays W a (record a { ty = Some id })
   typed_stays W a id none = record {
     key = refl;
-    whole = λ t h. absurd (untyped_whole a none t h);
+    bytes = refl;
+    ty = λ own is. absurd (none_some (sym none ∙ is));
     cells = λ q part is plain. absurd (untyped_part a none q part is);
     bare = λ own. inl (refl, refl);
   }
 
   -- all of it is written
-  pub all_stays : (W : List PathStep → Type 0) (a b : Instance) → ((p : List PathStep) → W p) → b.key ≡ a.key → ((t : Ctype) → whole_of table a ≡ Some t → whole_of table b ≡ Some t) → Stays W a b
-  all_stays W a b writes key whole = record { key = key; whole = whole; cells = λ q part is plain. inr (inl (writes q)); bare = λ none. inr (writes (Index 0 ∷ [])) }
+  pub all_stays : (W : List PathStep → Type 0) (a b : Instance) → ((p : List PathStep) → W p) → b.key ≡ a.key → b.bytes ≡ a.bytes → b.ty ≡ a.ty → Stays W a b
+  all_stays W a b writes key bytes ty = record {
+    key = key;
+    bytes = bytes;
+    ty = λ id is. ty ∙ is;
+    cells = λ q part is plain. inr (inl (writes q));
+    bare = λ none. inr (λ k below. writes (Index k ∷ below));
+  }
 
   -- parts are put into it
-  pub parts_stay : (W : List PathStep → Type 0) (a : Instance) (parts : Parts) → ((whole : Ctype) → whole_of table a ≡ Some whole → AreWritten table W (Some (reached whole 0 false)) parts) → (a.ty ≡ None → W (Index 0 ∷ []))
+  pub parts_stay : (W : List PathStep → Type 0) (a : Instance) (parts : Parts) → ((whole : Ctype) → whole_of table a ≡ Some whole → AreWritten table W (Some (reached whole 0 false)) parts) → (a.ty ≡ None → AreAllWritten W)
       → Stays W a (with_parts table parts a)
   parts_stay W a parts written bare = record {
     key = refl;
-    whole = λ t h. h;
+    bytes = refl;
+    ty = λ id h. h;
     cells = λ q part is plain. by q part plain (whole_of table a) refl is;
     bare = λ none. inr (bare none);
   }
@@ -173,13 +186,14 @@ module _ (table : Table) where
 
   -- the same of one that gets a type where it has none
   pub typed_parts_stay : (W : List PathStep → Type 0) (a : Instance) (id : TypeId) (parts : Parts) → ((whole : Ctype) → whole_of table a ≡ Some whole → AreWritten table W (Some (reached whole 0 false)) parts)
-      → (a.ty ≡ None → W (Index 0 ∷ [])) → Stays W a (with_parts table parts (typed_as id a))
+      → (a.ty ≡ None → AreAllWritten W) → Stays W a (with_parts table parts (typed_as id a))
   typed_parts_stay W a id parts written bare = by a.ty refl
     where
       by : (o : Option TypeId) → a.ty ≡ o → Stays W a (with_parts table parts (typed_as id a))
       by None is = record {
         key = refl;
-        whole = λ t h. absurd (untyped_whole a is t h);
+        bytes = refl;
+        ty = λ own h. absurd (none_some (sym is ∙ h));
         cells = λ q part at plain. absurd (untyped_part a is q part at);
         bare = λ none. inr (bare none);
       }
@@ -188,7 +202,7 @@ module _ (table : Table) where
           subst (λ (x : Instance). Stays W a (with_parts table parts x)) same (parts_stay W a parts written bare)
 
   pub with_all_keeps : (W : ℕ → List PathStep → Type 0) (memory : List Instance) (i : ℕ) (id : TypeId) (parts : Parts)
-      → ((a : Instance) → slice_get memory i ≡ Some a → ((whole : Ctype) → whole_of table a ≡ Some whole → AreWritten table (W i) (Some (reached whole 0 false)) parts) × (a.ty ≡ None → W i (Index 0 ∷ [])))
+      → ((a : Instance) → slice_get memory i ≡ Some a → ((whole : Ctype) → whole_of table a ≡ Some whole → AreWritten table (W i) (Some (reached whole 0 false)) parts) × (a.ty ≡ None → AreAllWritten (W i)))
       → Keeps W memory (with_all table memory i id parts)
   with_all_keeps W memory i id parts each =
       changed_keeps W memory i (λ inst. with_parts table parts (typed_as id inst)) (λ a is. (let h = each a is in typed_parts_stay (W i) a id parts h.0 h.1))

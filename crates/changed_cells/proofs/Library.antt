@@ -33,8 +33,8 @@ use Rattle.ref_lib.specs.ref_alloc.Plain.{keep_row}
 use Rattle.ref_lib.specs.Effects.{rows, makes, moves, spells, answers, row_effect, effect}
 use Rattle.ref_lib.proofs.memory_laws.Steps.{either}
 use Rattle.covering_laws.proofs.covered_library.Named.{object_there}
-use Rattle.covered_steps.proofs.covered_effects.Effects.{contains_at}
-use Rattle.touched_runs.specs.called_frames.Looked.{looked_at, looked_in, looked_by}
+use Rattle.covered_runs.proofs.covered_steps.covered_effects.Called.{contains_at}
+use Rattle.covered_runs.specs.touched_runs.called_frames.Looked.{looked_at, looked_in, looked_by}
 use Rattle.changed_cells.proofs.Kept.{Same, then_same, more_same, ended_same, Keeps, keeps_all, same_keeps, set_keeps, all_stays}
 use Rattle.changed_cells.proofs.Elements.{Leaves, IsThrough, copy_leaves, set_leaves, search_leaves, strtol_leaves, sort_leaves, find_leaves}
 use Rattle.changed_cells.proofs.Texts.{length_leaves, compare_leaves, compare_part_leaves, copy_text_leaves, add_text_leaves, copy_part_leaves, duplicate_leaves, print_leaves, print_part_leaves, line_leaves, block_leaves}
@@ -148,7 +148,7 @@ module _ (table : Table) (memory : List Instance) (W : ℕ → List PathStep →
   classes_leaves n i place None is writes = tt
   classes_leaves n i place (Some inst) is writes =
       set_keeps table W memory i inst (record inst { cells = listed (all_number table n inst.ty) }) is
-      (all_stays table (W i) inst (record inst { cells = listed (all_number table n inst.ty) }) (writes inst is) refl (λ t h. h))
+      (all_stays table (W i) inst (record inst { cells = listed (all_number table n inst.ty) }) (writes inst is) refl refl refl)
 
   both_leaves : (n : ℕ) (o q : Option ℕ) → object_from 8 0 memory ≡ o → AreFilled → Leaves table memory W (ctype_in table memory n o q)
   both_leaves n (Some i) (Some place) is filled =

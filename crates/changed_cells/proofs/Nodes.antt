@@ -2,7 +2,6 @@
 use Rattle.std.proofs.Common.{◌≡◌, inl, inr, ℕ, Bool, true, false, List, [], ◌∷◌, length, Option, Some, None, Ok, Err, IfOk, slice_get, refl}
 use Rattle.c_types.specs.declared.key.ObjectKey.TheVariants.{Entity as EntityKey}
 use Rattle.c_types.specs.declared.term.PathStep.{PathStep}
-use Rattle.c_types.specs.Trees.{Ctype}
 use Rattle.core_tree.specs.declared.node.Node.{Node}
 use Rattle.core_tree.specs.declared.node.NodeKind.{NodeKind}
 use Rattle.core_tree.specs.declared.node.NodeKind.TheVariants.{Initialise}
@@ -12,7 +11,6 @@ use Rattle.mod_ref.specs.Direct.{filled_by}
 use Rattle.ref_cells.specs.declared.cells.Reason.TheVariants.{Unset as UnsetUse}
 use Rattle.ref_cells.specs.declared.cells.Value.{Value}
 use Rattle.ref_cells.specs.declared.instance.Instance.{Instance}
-use Rattle.ref_cells.specs.Wholes.{whole_of}
 use Rattle.ref_mem.specs.declared.writes.Initial.{Initial}
 use Rattle.ref_mem.specs.Writes.{initialised}
 use Rattle.ref_elements.specs.Outcomes.{Effect, gives}
@@ -29,7 +27,7 @@ use Rattle.ref_statements.specs.Rows.{Row, Move, goes_on, changes, computes}
 use Rattle.ref_statements.specs.Statements.{waits, begun_row, finished_row}
 use Rattle.ref_statements.specs.Initialisers.{parts, clears, initialised_at, initialise_by, initialise_row}
 use Rattle.ref_statements.specs.Nodes.{begun_value, begun_initialiser, begun_by, do_in, do_row, picked, first_value, choose_row, operand_at, part_left, taken_by, finish_row, wait_in, wait_row}
-use Rattle.touched_runs.specs.Accesses.{NodeAccesses}
+use Rattle.covered_runs.specs.touched_runs.Accesses.{NodeAccesses}
 use Rattle.changed_cells.proofs.Kept.{Same, same_memory, Keeps, same_keeps, changed_keeps, all_stays}
 use Rattle.changed_cells.proofs.Values.{Leaves, computed_leaves}
 use Rattle.changed_cells.proofs.Statements.{left_same, Moved, begun_moved, finished_moved}
@@ -61,15 +59,19 @@ module _ (u : CoreTrees) (memory : List Instance) (W : ℕ → List PathStep →
   initialised_key true list a = refl
   initialised_key false list a = refl
 
-  initialised_whole : (b : Bool) (list : List Initial) (a : Instance) (t : Ctype) → whole_of u.types a ≡ Some t → whole_of u.types (initialised u.types b list a) ≡ Some t
-  initialised_whole true list a t h = h
-  initialised_whole false list a t h = h
+  initialised_bytes : (b : Bool) (list : List Initial) (a : Instance) → (initialised u.types b list a).bytes ≡ a.bytes
+  initialised_bytes true list a = refl
+  initialised_bytes false list a = refl
+
+  initialised_ty : (b : Bool) (list : List Initial) (a : Instance) → (initialised u.types b list a).ty ≡ a.ty
+  initialised_ty true list a = refl
+  initialised_ty false list a = refl
 
   at_leaves : (o : Option ℕ) (paths : List (List PathStep)) (list : List Initial) → ((i : ℕ) → o ≡ Some i → (path : List PathStep) → W i path) → RowLeaves (initialised_at u memory f o paths list)
   at_leaves None paths list writes = tt
   at_leaves (Some i) paths list writes =
       changed_keeps u.types W memory i (initialised u.types (clears paths) list)
-      (λ a is. all_stays u.types (W i) a (initialised u.types (clears paths) list a) (writes i refl) (initialised_key (clears paths) list a) (initialised_whole (clears paths) list a))
+      (λ a is. all_stays u.types (W i) a (initialised u.types (clears paths) list a) (writes i refl) (initialised_key (clears paths) list a) (initialised_bytes (clears paths) list a) (initialised_ty (clears paths) list a))
 
   initial_by : (kind : NodeKind) (children : List ℕ) (values : List (ℕ × Value))
       → ((i e : ℕ) → filled_by Write kind ≡ Some e → instance_of memory f.instances (EntityKey e) ≡ Some i → (path : List PathStep) → W i path) → RowLeaves (initialise_by u memory f kind children values)

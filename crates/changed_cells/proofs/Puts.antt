@@ -146,7 +146,7 @@ on_way (Some (UnionOf tag)) t typed other (Member k) cells = absurd (other tag (
 on_way b t typed other s cells = refl
 
 -- a scalar has no parts
-never : (⊥ ⊎ ⊥) ⊎ ⊥ → ⊥
+pub never : (⊥ ⊎ ⊥) ⊎ ⊥ → ⊥
 never (inl (inl h)) = h
 never (inl (inr h)) = h
 never (inr h) = h

@@ -1,5 +1,5 @@
 -- A step leaves each instance of memory in its place, but for what it writes.
-use Rattle.std.proofs.Common.{arith, ◌≡◌, ◌∙◌, ◌⊎◌, inl, inr, ℕ, Bool, true, false, cond, List, [], ◌∷◌, ◌++◌, length, Option, Some, None, Result, Ok, Err, IfOk, IsSome, Contains, slice_get, refl, sym, ap, subst}
+use Rattle.std.proofs.Common.{◌≡◌, ◌∙◌, ◌⊎◌, inl, inr, ℕ, Bool, true, false, cond, List, [], ◌∷◌, ◌++◌, length, Option, Some, None, Result, Ok, Err, IfOk, IsSome, Contains, slice_get, refl, sym, ap, subst}
 use Rattle.std.proofs.lemmas.Bool.{false≢true}
 use Rattle.c_types.specs.declared.key.ObjectKey.{ObjectKey}
 use Rattle.c_types.specs.declared.key.ObjectKey.TheVariants.{Entity as EntityKey, Function as FunctionKey, Library as LibraryKey}
@@ -14,7 +14,7 @@ use Rattle.core_tree.specs.declared.node.NodeKind.{NodeKind}
 use Rattle.core_tree.specs.declared.node.NodeKind.TheVariants.{NextArg}
 use Rattle.core_tree.specs.Rows.{RowOf}
 use Rattle.core_tree.specs.Typed.{CoreTrees, type_at}
-use Rattle.obj_space.specs.Spots.{Reached, reached, part_at}
+use Rattle.obj_space.specs.Spots.{Reached, part_at}
 use Rattle.mod_ref.specs.declared.access.Access.TheVariants.{Write}
 use Rattle.mod_ref.specs.Direct.{place_of, accessed}
 use Rattle.row_numbers.specs.Objects.{library_id}
@@ -52,18 +52,17 @@ use Rattle.ref_machine.specs.Step.{placed, noted, called, call_row, calls, is_ne
 use Rattle.covering_laws.specs.covered_memory.Spots.{whole_part, part_in, room, IsInTree}
 use Rattle.covering_laws.specs.covered_state.World.{World, trees_of}
 use Rattle.covering_laws.specs.covered_state.Items.{Each, IsOwned, ItemIn}
-use Rattle.covering_laws.proofs.covered_memory.Filled.{nowhere}
-use Rattle.covered_steps.specs.Steps.{NoneBare}
-use Rattle.covered_steps.specs.covered_statements.Rows.{running_in}
-use Rattle.covered_steps.specs.covered_statements.Stacked.{PendingOn, Stacked, FramesStand}
-use Rattle.covered_steps.proofs.Steps.{own_items, none_bare}
-use Rattle.covered_steps.proofs.covered_values.Operands.{went, ok_one, err_ok}
-use Rattle.machine_sound.specs.Carried.{IsSteppable}
-use Rattle.touched_runs.specs.called_frames.Layers.{IsEntity, StandsOnCall, AreLayered, FramesLayered}
-use Rattle.touched_runs.specs.called_frames.Laws.{Layered}
-use Rattle.touched_runs.specs.called_frames.Looked.{looked_by}
-use Rattle.touched_runs.specs.Accesses.{IsOfPlace, ItemAccesses, IsCell}
-use Rattle.touched_runs.proofs.Given.{looked}
+use Rattle.covered_runs.specs.covered_steps.Steps.{NoneBare}
+use Rattle.covered_runs.specs.covered_steps.covered_statements.Rows.{running_in}
+use Rattle.covered_runs.specs.covered_steps.covered_statements.Stacked.{PendingOn, Stacked, FramesStand}
+use Rattle.covered_runs.proofs.covered_steps.Steps.{own_items, none_bare}
+use Rattle.covered_runs.proofs.covered_steps.covered_values.Operands.{went, ok_one, err_ok}
+use Rattle.covered_runs.specs.machine_sound.Carried.{IsSteppable}
+use Rattle.covered_runs.specs.touched_runs.called_frames.Layers.{IsEntity, StandsOnCall, AreLayered, FramesLayered}
+use Rattle.covered_runs.specs.touched_runs.called_frames.Laws.{Layered}
+use Rattle.covered_runs.specs.touched_runs.called_frames.Looked.{looked_by}
+use Rattle.covered_runs.specs.touched_runs.Accesses.{IsOfPlace, ItemAccesses, MayHold}
+use Rattle.covered_runs.proofs.touched_runs.Given.{looked}
 use Rattle.changed_cells.specs.Cells.{ItemFills, FramesWrite, IsWritten, StaysBut}
 use Rattle.changed_cells.specs.Laws.{StepsWriteOnly}
 use Rattle.changed_cells.proofs.Puts.{IsNearWritten}
@@ -76,9 +75,6 @@ use Rattle.changed_cells.proofs.Library.{effect_leaves}
 
 some_one : {X : Type 0} → {x y : X} → ◌≡◌ {A = Option X} (Some x) (Some y) → x ≡ y
 some_one h = cc
-
-none_some : {X : Type 0} → {x : X} → ◌≡◌ {A = Option X} None (Some x) → ⊥
-none_some h = cc
 
 goes_one : {a b : State} → Goes a ≡ Goes b → a ≡ b
 goes_one h = cc
@@ -364,33 +360,33 @@ module _ (world : World) (characters : TypeId) (h : IsSteppable world characters
   step_kept e = item_kept f.items refl (sym (ap (λ (frames : List Frame). frames_step w state frames word) frames_are) ∙ e)
 
   -- ---- as cells of the machine
-  in_tree : (o : Option Ctype) (most : ℕ) (p : List PathStep) (r : Reached) → part_at world.program.types (whole_part o) p ≡ Some r → IsInTree world.program.types o most p
-  in_tree None most p r is = absurd (none_some (sym (nowhere world.program.types p) ∙ is))
-  in_tree (Some t) most p r is = subst (λ (o : Option Reached). IsSome o) (sym is) refl
+  holds : (o : Option Ctype) (p : List PathStep) (r : Reached) → part_at world.program.types (whole_part o) p ≡ Some r → MayHold world.program.types o p
+  holds None p r is = tt
+  holds (Some t) p r is = subst (λ (o : Option Reached). IsSome o) (sym is) refl
 
   module _ (i : ℕ) (old : Instance) (at : slice_get state.memory i ≡ Some old) where
-    cell_at : (p : List PathStep) → IsInTree world.program.types (whole_of world.program.types old) (room old) p → IsCell world.program.types state.memory i old.key p
-    cell_at p tree = record { inst = old; there = at; key_is = refl; in_tree = tree }
-
-    written : (p : List PathStep) → IsInTree world.program.types (whole_of world.program.types old) (room old) p → IsOwnWrite i p → FramesWrite (trees_of world) state.memory (f ∷ rest) i old.key p
-    written p tree (inl accesses) = inl (accesses, cell_at p tree)
-    written p tree (inr (inst, inst_at, fills)) = inr (subst (λ (x : Instance). ItemFills f.items x.key) (some_one (sym inst_at ∙ at)) fills)
+    written : (p : List PathStep) → MayHold world.program.types (whole_of world.program.types old) p → IsOwnWrite i p → FramesWrite (trees_of world) state.memory (f ∷ rest) i old.key p
+    written p may (inl accesses) = inl (accesses, record { inst = old; there = at; key_is = refl; may_hold = may })
+    written p may (inr (inst, inst_at, fills)) = inr (subst (λ (x : Instance). ItemFills f.items x.key) (some_one (sym inst_at ∙ at)) fills)
 
     near : (path : List PathStep) (part : Reached) → part_in world.program.types old path ≡ Some part → IsNearWritten world.program.types (IsOwnWrite i) (whole_part (whole_of world.program.types old)) path
         → IsWritten (trees_of world) state.memory (f ∷ rest) i old path
-    near path part part_is (inl own) = record { cell = path; written = written path (in_tree (whole_of world.program.types old) (room old) path part part_is) own; same = inl refl }
-    near path part part_is (inr (p, own, (r, r_is), union)) = record { cell = p; written = written p (in_tree (whole_of world.program.types old) (room old) p r r_is) own; same = inr union }
+    near path part part_is (inl own) = record { cell = path; written = written path (holds (whole_of world.program.types old) path part part_is) own; same = inl refl }
+    near path part part_is (inr (p, own, (r, r_is), union)) = record { cell = p; written = written p (holds (whole_of world.program.types old) p r r_is) own; same = inr union }
 
-    bare_tree : old.ty ≡ None → IsInTree world.program.types (whole_of world.program.types old) (room old) (Index 0 ∷ [])
-    bare_tree untyped =
-        subst (λ (o : Option Ctype). IsInTree world.program.types o (room old) (Index 0 ∷ [])) (sym (ap (typed_whole world.program.types old) untyped)) (0, refl, omega arith)
+    bare_holds : old.ty ≡ None → (p : List PathStep) → MayHold world.program.types (whole_of world.program.types old) p
+    bare_holds untyped p = subst (λ (o : Option Ctype). MayHold world.program.types o p) (sym (ap (typed_whole world.program.types old) untyped)) tt
 
     stays_but : (new : Instance) → Stays world.program.types (IsOwnWrite i) old new → StaysBut (trees_of world) state.memory (f ∷ rest) i old new
     stays_but new s = record {
       key = s.key;
-      whole = s.whole;
+      bytes = s.bytes;
+      ty = s.ty;
       cells = λ path part part_is plain. elim (s.cells path part part_is plain) [ inl same ↦ inl same | inr close ↦ inr (near path part part_is close) ];
-      bare = λ untyped. elim (s.bare untyped) [ inl same ↦ inl same | inr own ↦ inr (written (Index 0 ∷ []) (bare_tree untyped) own) ];
+      bare = λ untyped. elim (s.bare untyped) [
+        | inl same ↦ inl same
+        | inr own ↦ inr (λ k path. written (Index k ∷ path) (bare_holds untyped (Index k ∷ path)) (own k path))
+      ];
     }
 
     pub step_stays : step w state word ≡ Goes next → (new : Instance) × (slice_get next.memory i ≡ Some new) × StaysBut (trees_of world) state.memory state.frames i old new

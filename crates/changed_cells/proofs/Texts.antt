@@ -24,7 +24,7 @@ use Rattle.ref_texts.specs.Reading.{later_as, later, later_place, place_at, text
 use Rattle.ref_texts.specs.Texts.{length_row, compare_row, compare_part_row, copy_text_row, add_text_row, copy_part_row, duplicated, duplicate_row, print_row, print_part_row, line_row, block_of, blocks_in, block_row}
 use Rattle.ref_texts.specs.Writing.{push_text, text_parts, with_text, writes, closed, filled_up, text_cells, text_of}
 use Rattle.ref_lib.proofs.memory_laws.Steps.{after_any, either}
-use Rattle.touched_runs.specs.called_frames.Layers.{AreBeside}
+use Rattle.covered_runs.specs.touched_runs.called_frames.Layers.{AreBeside}
 use Rattle.changed_cells.proofs.Kept.{Keeps, keeps_all, same_keeps, more_same}
 use Rattle.changed_cells.proofs.Values.{with_it}
 use Rattle.changed_cells.proofs.Elements.{AreBesideAll, Leaves, IsThrough, put_keep}

@@ -32,7 +32,7 @@ use Rattle.ref_places.specs.Places.{decay_row, upcast_row}
 use Rattle.ref_state.specs.Values.{value_in, cell_in, cell_of}
 use Rattle.ref_values.specs.Memory.{assign_row, pointee, complete_only, type_given, typed_by, pointer_converted, number_converted, scalar_converted, converted_to, convert_row, pointer_moved, cell_updated, update_written, update_row, is_union, is_empty, value_within, member_of_value_row}
 use Rattle.ref_values.specs.Values.{cell_given, one_row, two_row, lacks, uses_all, one_of, two_of, gives_cell, cell_computed, one_computed, two_computed, pair_computed, value_computed, computed_by, computed}
-use Rattle.touched_runs.specs.Accesses.{IsOfPlace}
+use Rattle.covered_runs.specs.touched_runs.Accesses.{IsOfPlace}
 use Rattle.changed_cells.proofs.Kept.{Keeps, keeps_all, changed_keeps, typed_stays, write_keeps}
 
 some_one : {X : Type 0} → {x y : X} → ◌≡◌ {A = Option X} (Some x) (Some y) → x ≡ y

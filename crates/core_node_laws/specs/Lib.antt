@@ -7,3 +7,4 @@ pub mod standing_laws
 pub mod marked_trees
 pub mod passed
 pub mod count_laws
+pub mod built_unit_laws

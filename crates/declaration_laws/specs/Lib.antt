@@ -5,3 +5,5 @@ pub mod whole_types
 pub mod agreed_types
 pub mod passed
 pub mod function_laws
+pub mod definition_laws
+pub mod declared_type_laws

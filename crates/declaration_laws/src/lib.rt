@@ -3,6 +3,8 @@
 #![tactic(auto)]
 
 pub mod agreed_types;
+pub mod declared_type_laws;
+pub mod definition_laws;
 pub mod function_laws;
 pub mod joined_types;
 pub mod label_names;

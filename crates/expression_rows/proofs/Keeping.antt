@@ -29,12 +29,12 @@ use Rattle.expression_rows.specs.c_rows.Named.{IsNamed, IsNamedWithin, NameFits}
 use Rattle.expression_rows.specs.c_rows.Lists.{LeafFits, NamesLast, SecondFits, named_leaf}
 use Rattle.expression_rows.specs.declared.around.Around.{Around}
 use Rattle.expression_rows.specs.Fitting.{IdentifierFits}
-use Rattle.sense_laws.specs.Sound.{Gives}
-use Rattle.sense_laws.proofs.Giving.{if_given}
-use Rattle.sense_laws.proofs.Literals.{integer_holds, character_holds}
-use Rattle.sense_laws.specs.row_trees.Trees.{SenseHasRows, ValuesFit}
-use Rattle.sense_laws.proofs.row_trees.Objects.{text_rows, name_rows}
-use Rattle.sense_laws.proofs.row_trees.Expressions.{as_sense_rows, list_row_rows}
+use Rattle.parsed_tree_laws.specs.sense_laws.Sound.{Gives}
+use Rattle.parsed_tree_laws.proofs.sense_laws.Giving.{if_given}
+use Rattle.parsed_tree_laws.proofs.sense_laws.Literals.{integer_holds, character_holds}
+use Rattle.parsed_tree_laws.specs.sense_laws.row_trees.Trees.{SenseHasRows, ValuesFit}
+use Rattle.parsed_tree_laws.proofs.sense_laws.row_trees.Objects.{text_rows, name_rows}
+use Rattle.parsed_tree_laws.proofs.sense_laws.row_trees.Expressions.{as_sense_rows, list_row_rows}
 
 named_meaning : Unit → Named → Option Meaning
 named_meaning u Undeclared = None

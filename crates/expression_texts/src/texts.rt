@@ -12,8 +12,8 @@ use c_scope::{Bound, resolve};
 use c_types::table::TypeTable;
 use c_types::term::{Form, Term, TypeId, TypeList};
 use core_tree::node::{Entity, Linkage, NodeKind, Op, Storage, Unit};
+use parsed_tree_laws::sense_laws::parsed_laws::laws::children_first;
 use pta_base::{Kind, Place, Text};
-use sense_laws::parsed_laws::laws::children_first;
 use std::alloc::Global;
 use std::test::Fail;
 

@@ -15,7 +15,7 @@ use Rattle.core_nodes.specs.Standing.{parts_in, Knows}
 use Rattle.core_nodes.specs.declared.fault.CheckFault.{CheckFault}
 use Rattle.c_results.specs.declared.made.Made.{Made}
 use Rattle.c_results.specs.Standing.{sense_made, Rowed}
-use Rattle.sense_laws.specs.Sound.{Gives}
+use Rattle.parsed_tree_laws.specs.sense_laws.Sound.{Gives}
 use Rattle.statement_rows.specs.Kept.{HasAllRows}
 use Rattle.name_places.specs.Named.{IsNamedIn, IsNamedSense}
 use Rattle.name_places.proofs.Naming.{named_from_sense}

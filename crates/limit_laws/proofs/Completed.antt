@@ -16,7 +16,7 @@ use Rattle.c_senses.specs.Tags.{is_union, tag_of, tag_fits, tag_declared, named_
 use Rattle.c_senses.specs.Limits.{is_small}
 use Rattle.c_senses.specs.Right.{is_tag, TagsDiffer}
 use Rattle.c_senses.specs.Rows.{world_at, AreSenses}
-use Rattle.sense_laws.specs.Senses.{ChildrenFirst}
+use Rattle.parsed_tree_laws.specs.sense_laws.Senses.{ChildrenFirst}
 use Rattle.parsed_tree_laws.specs.family_laws.Families.{Families}
 use Rattle.unit_worlds.specs.Growing.{completed_at}
 use Rattle.unit_worlds.proofs.Entries.{completed_more}

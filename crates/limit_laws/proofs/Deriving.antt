@@ -10,8 +10,8 @@ use Rattle.c_senses.specs.World.{World, extent, has_size}
 use Rattle.c_senses.specs.Limits.{is_small, within_limits, all_within_limits}
 use Rattle.c_senses.specs.Declarators.{derived_once, derived, may_derive, all_derive, adjusted}
 use Rattle.c_senses.specs.Sense.{Derivation, Pointing, Elements, Returning, Sense, IsType, IsSpecified, IsDeclarator, IsDerivation, IsParameter}
-use Rattle.sense_laws.specs.Laws.{Grows}
-use Rattle.sense_laws.proofs.Giving.{and_left, and_right}
+use Rattle.parsed_tree_laws.specs.sense_laws.Laws.{Grows}
+use Rattle.parsed_tree_laws.proofs.sense_laws.Giving.{and_left, and_right}
 
 -- the types of parameters, in one derivation and in several
 abbrev pub step_within : World → Derivation → Bool

@@ -24,8 +24,8 @@ use Rattle.c_senses.specs.Tags.{aggregate_type, tag_of, is_union}
 use Rattle.c_senses.specs.Right.{TagsDiffer}
 use Rattle.c_senses.specs.Sense.{Sense, Nothing, IsCore, IsType, IsSpecified, IsDeclarator, IsDerivation, IsParameter, IsMembers, IsValue, IsRun, IsInitial, Derivation, Pointing, Elements, Returning, sense_in}
 use Rattle.c_senses.specs.Rows.{world_at, AreSenses}
-use Rattle.sense_laws.specs.Senses.{ChildrenFirst}
-use Rattle.sense_laws.specs.Sound.{Gives}
+use Rattle.parsed_tree_laws.specs.sense_laws.Senses.{ChildrenFirst}
+use Rattle.parsed_tree_laws.specs.sense_laws.Sound.{Gives}
 use Rattle.parsed_tree_laws.specs.family_laws.Families.{Families}
 use Rattle.parsed_tree_laws.proofs.family_laws.Reading.{units_families}
 use Rattle.parsed_tree_laws.proofs.placed_laws.Rows.{declarators}

@@ -15,9 +15,9 @@ use Rattle.c_senses.specs.Declarators.{derived, all_derive, type_fits, derives_w
 use Rattle.c_senses.specs.Entities.{specified, is_typedef, is_parameter, declaration_of, initialiser_of, length_given_by, with_length, parameter_type, derived_type, own_type, object_or_function, entity_of, named_by, type_behind, declared_meaning, enumerated, meaning_of, meaning_at}
 use Rattle.c_senses.specs.Sense.{Sense, Nothing, IsSpecified, IsDeclarator, IsParameter, IsValue, Specified, Derivation, sense_in}
 use Rattle.c_senses.specs.Rows.{world_at, row_of, declarator_row, AreSenses}
-use Rattle.sense_laws.specs.Senses.{ChildrenFirst}
-use Rattle.sense_laws.specs.Sound.{Gives}
-use Rattle.sense_laws.proofs.Giving.{and_left, and_right}
+use Rattle.parsed_tree_laws.specs.sense_laws.Senses.{ChildrenFirst}
+use Rattle.parsed_tree_laws.specs.sense_laws.Sound.{Gives}
+use Rattle.parsed_tree_laws.proofs.sense_laws.Giving.{and_left, and_right}
 use Rattle.parsed_tree_laws.specs.family_laws.Families.{Families}
 use Rattle.parsed_tree_laws.proofs.placed_laws.Climbing.{IsNamedPart, Grown}
 use Rattle.limit_laws.proofs.Reading.{found, parent_is, side_of, taken_sense, taken_past, before, around, row_whole, grows_to}

@@ -11,9 +11,9 @@ use Rattle.c_senses.specs.Tree.{Source, is_a, first_where, numbers_from, childre
 use Rattle.c_senses.specs.World.{World}
 use Rattle.c_senses.specs.Sense.{Sense, Nothing, sense_in}
 use Rattle.c_senses.specs.Rows.{world_at, row, row_of, AreSenses}
-use Rattle.sense_laws.specs.Senses.{ChildrenFirst}
-use Rattle.sense_laws.specs.Laws.{Grows}
-use Rattle.sense_laws.proofs.Completing.{grown_by_one}
+use Rattle.parsed_tree_laws.specs.sense_laws.Senses.{ChildrenFirst}
+use Rattle.parsed_tree_laws.specs.sense_laws.Laws.{Grows}
+use Rattle.parsed_tree_laws.proofs.sense_laws.Completing.{grown_by_one}
 use Rattle.parsed_tree_laws.specs.family_laws.Families.{IsChild, Families}
 
 -- ---- what a row that fits says

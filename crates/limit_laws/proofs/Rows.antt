@@ -25,9 +25,9 @@ use Rattle.c_senses.specs.Declarators.{derived, adjusted, specified_at, suffixes
 use Rattle.c_senses.specs.Statements.{assert_row, statement_row, leaf_statement, expression_statement}
 use Rattle.c_senses.specs.Initialised.{designator_row}
 use Rattle.c_senses.specs.Rows.{declarator_row, declaring_row, row_of}
-use Rattle.sense_laws.specs.Sound.{Gives}
-use Rattle.sense_laws.proofs.Giving.{then_gives, if_given, some_given, if_holds}
-use Rattle.sense_laws.proofs.Types.{anything}
+use Rattle.parsed_tree_laws.specs.sense_laws.Sound.{Gives}
+use Rattle.parsed_tree_laws.proofs.sense_laws.Giving.{then_gives, if_given, some_given, if_holds}
+use Rattle.parsed_tree_laws.proofs.sense_laws.Types.{anything}
 use Rattle.limit_laws.proofs.Deriving.{step_within, StepsWithin, Within, steps_append, steps_reversed, adjusted_within}
 use Rattle.limit_laws.proofs.Expressions.{expressions_give}
 use Rattle.limit_laws.proofs.Shapes.{declarators_give, inits_give, items_give}

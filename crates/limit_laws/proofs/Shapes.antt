@@ -18,9 +18,9 @@ use Rattle.c_inits.specs.Made.{shape_for}
 use Rattle.c_inits.specs.View as view
 use Rattle.c_senses.specs.Places.{own_place}
 use Rattle.c_senses.specs.Rows.{declarator_row, at_its_name}
-use Rattle.sense_laws.specs.Sound.{Gives}
-use Rattle.sense_laws.proofs.Giving.{if_given, some_given, then_gives, if_holds}
-use Rattle.sense_laws.proofs.Seen.{seen_gives}
+use Rattle.parsed_tree_laws.specs.sense_laws.Sound.{Gives}
+use Rattle.parsed_tree_laws.proofs.sense_laws.Giving.{if_given, some_given, then_gives, if_holds}
+use Rattle.parsed_tree_laws.proofs.sense_laws.Seen.{seen_gives}
 
 -- what holds of a declarator's name and derivations, where it derives well, holds of what its row gives
 module _ (K : Sense → Type 0) (w : World) (s : Source) (sense : ℕ → Sense) where

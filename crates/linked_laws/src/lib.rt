@@ -15,4 +15,5 @@ pub mod node_laws;
 pub mod return_laws;
 pub mod row_laws;
 pub mod sized_laws;
+pub mod system_laws;
 pub mod valid_laws;

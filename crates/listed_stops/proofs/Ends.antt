@@ -51,7 +51,7 @@ pub record IsBadAt (world : World) (n : ℕ) : Type 0 where
   pub bad : HasStranger world.system world.family site ⊎ ReachesEnder world.system world.family site
 
 -- ---- the number of a call is that of the calls before it
-abbrev call_of : List Node → ℕ → Option ℕ
+abbrev pub call_of : List Node → ℕ → Option ℕ
 call_of nodes j = call_if j (slice_get nodes j)
 
 kind_call : (kind : NodeKind) → is_call kind ≡ true → kind ≡ CallNode
@@ -69,13 +69,13 @@ call_in nodes s m h = by (slice_get nodes s) refl h
         by_kind true k g = (node, is, kind_call node.kind k, some_one g)
         by_kind false k g = absurd (none_some g)
 
-record IsPlaced (nodes : List Node) (s k n : ℕ) : Type 0 where
-  node : Node
-  there : slice_get nodes n ≡ Some node
-  kind : node.kind ≡ CallNode
-  before : ℕ
-  at : n ≡ s + before
-  count : k ≡ length (filter_map (call_of nodes) (range_with_len s before))
+pub record IsPlaced (nodes : List Node) (s k n : ℕ) : Type 0 where
+  pub node : Node
+  pub there : slice_get nodes n ≡ Some node
+  pub kind : node.kind ≡ CallNode
+  pub before : ℕ
+  pub at : n ≡ s + before
+  pub count : k ≡ length (filter_map (call_of nodes) (range_with_len s before))
 
 placed : (nodes : List Node) (s c k n : ℕ) → slice_get (filter_map (call_of nodes) (range_with_len s c)) k ≡ Some n → IsPlaced nodes s k n
 placed nodes s zero k n h = absurd (none_some h)
@@ -109,10 +109,10 @@ placed nodes s (suc c) k n h = by (call_of nodes s) refl k h (λ j g. placed nod
         }
 
 module _ (world : World) (n call : ℕ) (h : IsCallAt world call n) where
-  place : IsPlaced (trees_of world).nodes 0 call n
+  pub place : IsPlaced (trees_of world).nodes 0 call n
   place = placed (trees_of world).nodes 0 (length (trees_of world).nodes) call n h
 
-  number_of_call : call ≡ length (calls_upto (trees_of world).nodes n)
+  pub number_of_call : call ≡ length (calls_upto (trees_of world).nodes n)
   number_of_call = place.count ∙ ap (λ (j : ℕ). length (calls_upto (trees_of world).nodes j)) (let e = place.at in let same : place.before ≡ n = omega arith in same)
 
   -- a call that has a stranger or an ender stands as a bad one

@@ -46,8 +46,8 @@ use Rattle.ref_calls.specs.Library.{object_of, result_in, term_in, performed_as,
 use Rattle.ref_calls.specs.Lists.{argument_node, is_argument, points, held_value, argument_value, argument_at, list_from, taken_by, taken, put_back, taken_over, taken_at, settled_by, next_row}
 use Rattle.ref_start.specs.Begin.{main_of, main_entry, with_texts, made_by, main_made, begun, begins_at, begins_with, begins, begin}
 use Rattle.ref_start.specs.Entries.{Given, given_to, with_given, entered_given, enters_or_ends, starts_by, starts}
-use Rattle.covered_steps.specs.covered_effects.Traces.{MayCall, MayGo}
-use Rattle.covered_steps.proofs.covered_effects.Traces.{effects_traced}
+use Rattle.covered_runs.specs.covered_steps.covered_effects.Traces.{MayCall, MayGo}
+use Rattle.covered_runs.proofs.covered_steps.covered_effects.Traces.{effects_traced}
 use Rattle.listed_stops.proofs.Fair.{Fair, after_fair, then_fair, either_fair, read_fair, write_fair, scalar_fair, live_fair}
 use Rattle.listed_stops.proofs.FairTexts.{is_ender, effect_fair}
 

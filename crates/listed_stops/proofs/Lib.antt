@@ -1,3 +1,9 @@
+pub mod Free
+pub mod FreeNodes
+pub mod Jumps
+pub mod FreeRows
+pub mod FreeCalls
+pub mod Walkers
 pub mod Fair
 pub mod FairValues
 pub mod FairRows
@@ -7,3 +13,4 @@ pub mod Ends
 pub mod Types
 pub mod Strangers
 pub mod Runs
+pub mod Mismatches

@@ -42,16 +42,16 @@ use Rattle.covering_laws.proofs.grown_programs.Listed.{function_there}
 use Rattle.covering_laws.specs.covered_state.World.{World, trees_of, view_in, IsFunctionAt}
 use Rattle.covering_laws.specs.covered_state.Items.{Each, NodeIn}
 use Rattle.covering_laws.specs.covered_state.State.{KeptIn}
-use Rattle.covered_steps.proofs.Steps.{each_at, own_items}
-use Rattle.covered_steps.specs.covered_effects.Steps.{HasReached}
-use Rattle.covered_steps.proofs.covered_effects.Reaching.{reached_covered}
-use Rattle.covered_steps.specs.covered_statements.Rows.{running_in}
-use Rattle.machine_sound.specs.covered_start.Objects.{IsSolved}
-use Rattle.machine_sound.specs.covered_start.Start.{machine_world}
-use Rattle.machine_sound.specs.Carried.{Carried, IsSteppable}
-use Rattle.machine_sound.proofs.Rows.{IsCall, call_here}
-use Rattle.machine_sound.proofs.Scenes.{solved, steppable, carried}
-use Rattle.covered_programs.proofs.Programs.{scene}
+use Rattle.covered_runs.proofs.covered_steps.Steps.{each_at, own_items}
+use Rattle.covered_runs.specs.covered_steps.covered_effects.Steps.{HasReached}
+use Rattle.covered_runs.proofs.covered_steps.covered_effects.Reaching.{reached_covered}
+use Rattle.covered_runs.specs.covered_steps.covered_statements.Rows.{running_in}
+use Rattle.covered_runs.specs.machine_sound.covered_start.Objects.{IsSolved}
+use Rattle.covered_runs.specs.machine_sound.covered_start.Start.{machine_world}
+use Rattle.covered_runs.specs.machine_sound.Carried.{Carried, IsSteppable}
+use Rattle.covered_runs.proofs.machine_sound.Rows.{IsCall, call_here}
+use Rattle.covered_runs.proofs.machine_sound.Scenes.{solved, steppable, carried}
+use Rattle.covered_runs.proofs.covered_programs.Programs.{scene}
 use Rattle.listed_stops.specs.Listed.{CallsNumber, TellsTypes, BadCallsListed}
 use Rattle.listed_stops.proofs.Fair.{Fair, not_fair, either_fair}
 use Rattle.listed_stops.proofs.FairRows.{do_fair, wait_fair}

@@ -34,7 +34,7 @@ use Rattle.call_sites.specs.Signatures.{called_type, calling_type}
 use Rattle.call_sites.specs.Calls.{head_of, rest_of, ids_of, IsCallSite}
 use Rattle.normal_form.specs.Assignments.{row_in}
 use Rattle.normal_form.specs.Facts.{IsFunctionFact}
-use Rattle.system_laws.proofs.Compact.{zip_right}
+use Rattle.linked_laws.proofs.system_laws.Compact.{zip_right}
 use Rattle.ref_cells.specs.declared.cells.Reason.{Reason}
 use Rattle.ref_cells.specs.declared.cells.Reason.TheVariants.{BadCall}
 use Rattle.ref_cells.specs.declared.cells.Cell.{Cell}
@@ -60,13 +60,13 @@ use Rattle.covering_laws.proofs.covered_rows.Places.{start_spot, held_cell}
 use Rattle.covering_laws.proofs.grown_programs.Listed.{IsFunctionKey, function_there}
 use Rattle.covering_laws.specs.covered_state.World.{World, trees_of, view_in, sets_of, setting_in, IsFunctionAt}
 use Rattle.covering_laws.specs.covered_state.Items.{Each, NodeIn}
-use Rattle.covered_steps.specs.covered_effects.Served.{IsServed}
-use Rattle.covered_steps.proofs.covered_effects.Needs.{function_first}
-use Rattle.covered_steps.proofs.covered_effects.Reaching.{IsSiteOf, site_of, held_head}
-use Rattle.covered_steps.specs.covered_statements.Runnable.{IsRunnable}
-use Rattle.covered_steps.proofs.covered_statements.Keys.{function_body}
-use Rattle.machine_sound.specs.covered_start.Objects.{IsSolved}
-use Rattle.machine_sound.specs.covered_start.Start.{machine_world}
+use Rattle.covered_runs.specs.covered_steps.covered_effects.Served.{IsServed}
+use Rattle.covered_runs.proofs.covered_steps.covered_effects.Needs.{function_first}
+use Rattle.covered_runs.proofs.covered_steps.covered_effects.Reaching.{IsSiteOf, site_of, held_head}
+use Rattle.covered_runs.specs.covered_steps.covered_statements.Runnable.{IsRunnable}
+use Rattle.covered_runs.proofs.covered_steps.covered_statements.Keys.{function_body}
+use Rattle.covered_runs.specs.machine_sound.covered_start.Objects.{IsSolved}
+use Rattle.covered_runs.specs.machine_sound.covered_start.Start.{machine_world}
 use Rattle.listed_stops.specs.Listed.{TellsTypes}
 use Rattle.listed_stops.proofs.Ends.{IsBadAt, bad_at}
 use Rattle.listed_stops.proofs.Types.{called_id, same_types}

@@ -29,13 +29,13 @@ use Rattle.covering_laws.proofs.grown_programs.Numbers.{key_known, key_id_same, 
 use Rattle.covering_laws.proofs.covered_state.Stays.{each_append, each_change}
 use Rattle.covering_laws.specs.covered_state.World.{World, trees_of, view_in, IsFunctionAt}
 use Rattle.covering_laws.specs.covered_state.Items.{Each}
-use Rattle.covered_steps.specs.covered_effects.Served.{IsServed}
-use Rattle.covered_steps.proofs.covered_effects.Needs.{called_listed, function_first}
-use Rattle.covered_steps.specs.covered_statements.Runnable.{IsRunnable}
-use Rattle.covered_steps.proofs.covered_statements.Keys.{IsInRole, in_role, ordered_from, function_body}
-use Rattle.machine_sound.specs.covered_start.Objects.{terms_behind, machine_table, IsSolved}
-use Rattle.machine_sound.specs.covered_start.Start.{machine_world}
-use Rattle.machine_sound.proofs.covered_start.Types.{library_follow, longer}
+use Rattle.covered_runs.specs.covered_steps.covered_effects.Served.{IsServed}
+use Rattle.covered_runs.proofs.covered_steps.covered_effects.Needs.{called_listed, function_first}
+use Rattle.covered_runs.specs.covered_steps.covered_statements.Runnable.{IsRunnable}
+use Rattle.covered_runs.proofs.covered_steps.covered_statements.Keys.{IsInRole, in_role, ordered_from, function_body}
+use Rattle.covered_runs.specs.machine_sound.covered_start.Objects.{terms_behind, machine_table, IsSolved}
+use Rattle.covered_runs.specs.machine_sound.covered_start.Start.{machine_world}
+use Rattle.covered_runs.proofs.machine_sound.covered_start.Types.{library_follow, longer}
 use Rattle.listed_stops.specs.Listed.{TellsTypes}
 
 -- ---- a function of the library has one of its first 55 numbers
@@ -50,7 +50,7 @@ low_numbers : (a n : ℕ) → a + n ≡ 55 → Each IsLow (map (λ k. FunctionKe
 low_numbers a zero e = tt
 low_numbers a (suc n) e = ((omega (arith, e)), low_numbers (a + 1) n (omega (arith, e)))
 
-function_low : (u : CoreTrees) (s : SpaceView) (number k : ℕ) → slice_get (functions_of u s) number ≡ Some (FunctionKey k) → k < 55
+pub function_low : (u : CoreTrees) (s : SpaceView) (number k : ℕ) → slice_get (functions_of u s) number ≡ Some (FunctionKey k) → k < 55
 unfolding functions_below
 function_low u s number k at =
     (ordered_from s IsLow (function_keys u) s.count number (FunctionKey k)

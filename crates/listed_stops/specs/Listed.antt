@@ -23,7 +23,7 @@ use Rattle.ref_calls.specs.Outcomes.{Stops}
 use Rattle.ref_machine.specs.Types.{running}
 use Rattle.ref_machine.specs.Step.{step}
 use Rattle.ref_machine.specs.Run.{run}
-use Rattle.covered_programs.specs.Programs.{IsAnalysed}
+use Rattle.covered_runs.specs.covered_programs.Programs.{IsAnalysed}
 
 -- The top item of a state is the call at node n, all of whose operands are there, and what it calls is a number. No
 -- expression makes a number of a pointer; that no run has such a state is not said here.

@@ -19,7 +19,7 @@ use Rattle.row_numbers.specs.Setting.{width, widths, result_nodes, result_widths
 use Rattle.normal_form.specs.Facts.{IsFunctionFact, number_if, location_fact}
 use Rattle.covering_laws.proofs.covered_memory.Firsts.{is_first}
 use Rattle.covering_laws.specs.covered_state.World.{World, trees_of, view_in}
-use Rattle.covered_steps.proofs.covered_effects.Needs.{function_first}
+use Rattle.covered_runs.proofs.covered_steps.covered_effects.Needs.{function_first}
 use Rattle.machine_covers.specs.Frames.{numbered, width_in, width_of, result_start}
 
 none_some : {X : Type 0} → {x : X} → ◌≡◌ {A = Option X} None (Some x) → ⊥

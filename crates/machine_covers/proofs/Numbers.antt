@@ -15,7 +15,7 @@ use Rattle.normal_form.specs.Facts.{IsFunctionFact}
 use Rattle.covering_laws.proofs.covered_memory.Firsts.{is_first}
 use Rattle.covering_laws.proofs.covered_rows.Targets.{function_there}
 use Rattle.covering_laws.specs.covered_state.World.{World, trees_of, view_in, IsFunctionAt}
-use Rattle.covered_steps.proofs.covered_effects.Needs.{function_first}
+use Rattle.covered_runs.proofs.covered_steps.covered_effects.Needs.{function_first}
 use Rattle.row_covers.specs.Targets.{function_in}
 
 some_one : {X : Type 0} → {x y : X} → ◌≡◌ {A = Option X} (Some x) (Some y) → x ≡ y

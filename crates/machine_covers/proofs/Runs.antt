@@ -4,8 +4,8 @@ use Rattle.ref_state.specs.declared.state.State.{State}
 use Rattle.ref_state.specs.ref_types.Types.{types_with}
 use Rattle.ref_machine.specs.Run.{run}
 use Rattle.covering_laws.specs.covered_state.State.{Covered}
-use Rattle.covered_programs.specs.passed.machine_sound.covered_start.Start.{machine_world}
-use Rattle.covered_programs.proofs.Programs.{programs_covered}
+use Rattle.covered_runs.specs.covered_programs.passed.machine_sound.covered_start.Start.{machine_world}
+use Rattle.covered_runs.proofs.covered_programs.Programs.{programs_covered}
 use Rattle.machine_covers.specs.Runs.{RunsAccepted}
 use Rattle.machine_covers.proofs.Covers.{covered_is_covered}
 use Rattle.machine_covers.proofs.Whole.{state_exact}

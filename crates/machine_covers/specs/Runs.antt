@@ -8,7 +8,7 @@ use Rattle.obj_space.specs.Space.{locations_in}
 use Rattle.ref_machine.specs.declared.machine.Machine.{Machine}
 use Rattle.ref_machine.specs.Machines.{IsMachineOf}
 use Rattle.ref_machine.specs.Run.{run}
-use Rattle.covered_programs.specs.Programs.{IsAnalysed}
+use Rattle.covered_runs.specs.covered_programs.Programs.{IsAnalysed}
 use Rattle.machine_covers.specs.Decided.{StateBy, sight_over}
 
 -- whatever the words and however many steps, of a program that is linked from units

@@ -15,14 +15,14 @@ use std::alloc::Global;
 use std::collections::BTreeMap;
 
 /// The list of the declarations of one name in one scope, behind a list of those of the scopes around.
-#[derive(Clone, Copy, Debug)]
+#[derive(Clone, Copy)]
 pub(crate) struct Joined {
     pub(crate) base: Option<u32>,
     pub(crate) last: Option<u32>,
 }
 
 /// The declarations of one name in one scope: the list of them, and where all have linkage that list behind another.
-#[derive(Clone, Copy, Debug)]
+#[derive(Clone, Copy)]
 pub(crate) struct Chain {
     pub(crate) own: Option<u32>,
     pub(crate) joined: Option<Joined>,

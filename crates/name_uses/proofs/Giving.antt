@@ -26,8 +26,8 @@ use Rattle.c_results.specs.Standing.{sense_made, senses_made, Rowed}
 use Rattle.expression_rows.specs.c_rows.Literals.{character_core, built_integer, built_text}
 use Rattle.expression_rows.specs.c_rows.Built.{built_primary, built_primary_of}
 use Rattle.expression_rows.specs.Built.{built_row}
-use Rattle.sense_laws.specs.Sound.{Gives}
-use Rattle.sense_laws.proofs.Giving.{if_holds}
+use Rattle.parsed_tree_laws.specs.sense_laws.Sound.{Gives}
+use Rattle.parsed_tree_laws.proofs.sense_laws.Giving.{if_holds}
 use Rattle.name_places.specs.Named.{IsNamedIn, IsNamedSense}
 use Rattle.name_places.proofs.Naming.{named_from_sense, named_to_sense}
 

@@ -4,7 +4,7 @@ use Rattle.std.specs.Prelude.{◌&&◌, ⊤, if◌then◌else◌}
 use Rattle.std.proofs.lemmas.Bool.{eqb-true, lt-ltb}
 use Rattle.std.proofs.lemmas.Option.{get_or_from_slice_get}
 use Rattle.pta_base.specs.declared.kind.Kind.TheVariants.{Operand}
-use Rattle.sense_laws.proofs.Types.{anything}
+use Rattle.parsed_tree_laws.proofs.sense_laws.Types.{anything}
 use Rattle.c_types.specs.Trees.{Ctype}
 use Rattle.c_grammar.specs.declared.trees.SyntaxNode.{SyntaxNode}
 use Rattle.c_grammar.specs.Productions.{p_enumerator, p_conditional, p_primary}
@@ -20,8 +20,8 @@ use Rattle.c_senses.specs.Constants.{constant_in}
 use Rattle.c_senses.specs.Tags.{enumerator_row, enumerator_of, enumerator_named, before_enumerator, value_before}
 use Rattle.c_senses.specs.Rows.{world_at, row_of, AreSenses}
 use Rattle.c_senses.specs.Entities.{keep, first_of, last_of, internal_among, is_internal, is_internal_of, entity_of, named_by, has_earlier_length, object_or_function, declared_meaning, is_typedef, own_type, type_behind, enumerated, meaning_of, meaning_at}
-use Rattle.sense_laws.specs.Sound.{Gives}
-use Rattle.sense_laws.proofs.Giving.{if_holds, if_given, then_gives}
+use Rattle.parsed_tree_laws.specs.sense_laws.Sound.{Gives}
+use Rattle.parsed_tree_laws.proofs.sense_laws.Giving.{if_holds, if_given, then_gives}
 use Rattle.name_uses.specs.Built.{is_int, is_strange, alone_is_strange, first_is_strange, names_strangely}
 
 -- declarations by nodes of a tree of so many

@@ -10,3 +10,4 @@ pub mod grown_parts
 pub mod sign_parts
 pub mod passed
 pub mod reading_laws
+pub mod sense_laws

@@ -9,6 +9,7 @@ pub mod nesting_laws;
 pub mod ordered_parts;
 pub mod placed_laws;
 pub mod reading_laws;
+pub mod sense_laws;
 pub mod sign_parts;
 pub mod span_laws;
 pub mod statement_shapes;

@@ -2,7 +2,7 @@
 // run of it, or the summary of a generated program.
 #![tactic(auto)]
 
-use pta_base::{FileUnits, Gate, Sink, StreamSink};
+use pta_base::{FileUnits, Gate, StreamSink};
 use report_cli::analyse;
 use std::env;
 use std::io::ErrorKind;
@@ -37,18 +37,12 @@ fn words<R: Env + AllocGlobal>(rt: &R) -> Result<Vec<String>, u8> {
 }
 
 fn main(rt: HostRuntime) -> ExitCode {
-    let mut err = StreamSink::new(rt.stderr());
     let list = match words(&rt) {
         Ok(list) => list,
-        Err(status) => {
-            if status == OUT_OF_MEMORY {
-                // A line that can't be written leaves the status to tell it.
-                let _said = err.write(b"out of memory\n");
-            }
-            return ExitCode::from(status);
-        }
+        Err(status) => return ExitCode::from(status),
     };
     let mut units = FileUnits::new(&rt);
+    let mut err = StreamSink::new(rt.stderr());
     let mut out = StreamSink::new(rt.stdout());
     let mut kept = None;
     let status = analyse(

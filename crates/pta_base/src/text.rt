@@ -41,11 +41,4 @@ impl Text {
     {
         self.string.as_str()
     }
-
-    /// The text as a string.
-    pub fn into_string(self) -> String
-        ensures { string_bytes result ≡ self }
-    {
-        self.string
-    }
 }

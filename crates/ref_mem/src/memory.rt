@@ -6,12 +6,10 @@ ghost use Rattle.c_types.specs.Trees.{PointerTo, VoidType};
 ghost use Rattle.ref_cells.specs.Answers.{Gives, Agrees};
 ghost use Rattle.ref_cells.specs.Places.{AreKnown};
 ghost use Rattle.ref_cells.specs.Values.{elements, filled};
-ghost use Rattle.ref_mem.specs.Arguments as made;
 ghost use Rattle.ref_mem.specs.Reads.{content, read, read_character};
 ghost use Rattle.ref_cells.specs.declared.instance.Instance.{Instance};
 ghost use Rattle.ref_mem.specs.Writes.{write, changed, typed_as, with_parts, character_part};
 
-use crate::arguments::arguments_object;
 use crate::reads::{content, read, read_character};
 use crate::writes::{character_part, put_all, put_typed, write, write_pointer};
 use c_types::key::ObjectKey;
@@ -89,29 +87,6 @@ impl Memory {
             zero,
             cells: Cells::none(self.alloc),
         };
-        match self.instances.push(instance) {
-            Ok(()) => Ok(number),
-            Err(_) => Err(OutOfMemory),
-        }
-    }
-
-    /// Makes the instance of what a function is passed past its parameters, and gives its number: live, without a type, its `bytes` the
-    /// number of arguments, the cells of argument i under Index i. Want of memory leaves the memory as it was.
-    pub fn make_arguments(
-        &mut self,
-        key: ObjectKey,
-        arguments: &[Value],
-    ) -> Result<u32, OutOfMemory>
-        requires { length arguments.now < 2 ^ 63 }
-        ensures number { IfOk result (λ n. n ≡ length self.old) }
-        ensures ok { OnOk result (self.new ≡ self.old ++ made.arguments_object key arguments.now ∷ []) }
-        ensures err { OnErr result (self.new ≡ self.old) }
-    {
-        if self.instances.len() >= u32::MAX as usize {
-            return Err(OutOfMemory);
-        }
-        let number = self.instances.len() as u32;
-        let instance = arguments_object(self.alloc, key, arguments)?;
         match self.instances.push(instance) {
             Ok(()) => Ok(number),
             Err(_) => Err(OutOfMemory),

@@ -1,16 +1,22 @@
--- The least sets of what is told cover each run of its program.
+-- The least sets of what is told cover each run of its program, and so do its effects.
 use Rattle.std.proofs.Common.{◌≡◌, ℕ, List, [], ◌∷◌, ◌++◌, map, take, length, Option, Some, None, option_map, ap, sym, subst, refl, arith, append-nil}
 use Rattle.std.specs.Prelude.{zip}
 use Rattle.std.specs.Borrow.{Bor}
 use Rattle.std.proofs.lemmas.List.{length-map}
 use Rattle.core_tree.specs.declared.node.Program.{Program}
 use Rattle.sol_model.specs.declared.system.System.{System}
+use Rattle.sol_model.specs.Systems.{IsValid}
 use Rattle.obj_space.specs.declared.location.Location.{Location}
+use Rattle.row_share.specs.share_laws.Renumbering.{new_row}
+use Rattle.row_share.proofs.share_laws.Leasts.{gives_least}
+use Rattle.unit_report.specs.declared.solving.Solved.{Solved}
+use Rattle.unit_report.specs.Solved.{IsKept, IsSolvedShared}
 use Rattle.unit_report.specs.unit_system.Of.{IsSystemOf}
 use Rattle.command_line.specs.declared.command.Command.{Command}
 use Rattle.command_line.specs.Distinct.{AreDistinct}
-use Rattle.covered_reports.specs.Reports.{AreRunsCovered}
-use Rattle.covered_reports.proofs.Reports.{reports_covered}
+use Rattle.report_cli.specs.covered_reports.Reports.{HasLeast, AreRunsCovered, AreEffectsCovered}
+use Rattle.report_cli.specs.covered_reports.Stops.{AreBadCallsListed}
+use Rattle.report_cli.proofs.covered_reports.Reports.{reports_covered, effects_covered, bad_calls_covered}
 use Rattle.text_units.specs.Answers.{NamedText, names_of}
 use Rattle.report_cli.specs.declared.form.Form.{Form}
 use Rattle.report_cli.specs.Words.{side_name, with_side}
@@ -27,11 +33,25 @@ system_printed form (with_questions script) program system text status ((short, 
 system_printed form (with_words steps words) program system text status h = (h.space, h.system_of)
 
 pub printed_covered : (told : Told) (program : Program) (system : System) (text : List ℕ) (status : ℕ) → AreDistinct (map (λ (unit : NamedText). unit.0) told.units) → Denotes told.entries told.units program
-    → IsPrinted told.form told.side program system text status → AreRunsCovered program system
+    → IsPrinted told.form told.side program system text status
+    → AreRunsCovered program system × AreEffectsCovered program system × AreBadCallsListed program system
 unfolding Denotes
 printed_covered told program system text status distinct (units, right, of) printed =
-    let own = system_printed told.form told.side program system text status printed in
-    reports_covered told.entries told.units units program own.0 system distinct right of own.1
+    let own = system_printed told.form told.side program system text status printed in (
+      reports_covered told.entries told.units units program own.0 system distinct right of own.1,
+      effects_covered told.entries told.units units program own.0 system distinct right of own.1,
+      bad_calls_covered told.entries told.units units program own.0 system distinct right of own.1,
+    )
+
+-- what is kept of a system was solved, so the system has a least solution
+least_shared : (system : System) (kept : Solved) → IsValid system → IsSolvedShared system kept → HasLeast system
+least_shared system kept valid h =
+    (λ old location. h.solved.family (new_row h.shared.row old) location, gives_least system kept.system h.shared.of h.shared.row valid h.shared.classes h.shared.reduced h.solved.family h.solved.least)
+
+pub least_kept : (told : Told) (program : Program) (system : System) (text : List ℕ) (status : ℕ) (kept : Option Solved) → IsPrinted told.form told.side program system text status → IsKept system kept → HasLeast system
+least_kept told program system text status None printed h = absurd h
+least_kept told program system text status (Some kept) printed h =
+    let own = system_printed told.form told.side program system text status printed in least_shared system kept own.1.valid h
 
 -- ---- the names of the units that are told
 

@@ -14,7 +14,7 @@ use Rattle.linked_laws.specs.location_laws.name_shapes.Bytes.{is_unit_byte, IsMa
 use Rattle.linked_laws.proofs.location_laws.name_shapes.Cutting.{and}
 use Rattle.linked_laws.specs.location_laws.named_laws.Units.{IsNamedUnit, AreNamedUnits}
 use Rattle.linked_laws.specs.location_laws.named_laws.Whole.{IsWhole}
-use Rattle.declared_type_laws.proofs.named_rest.Whole.{named_whole}
+use Rattle.declaration_laws.proofs.declared_type_laws.named_rest.Whole.{named_whole}
 use Rattle.command_line.specs.Distinct.{AreDistinct}
 use Rattle.command_line.specs.Rules.{HasUnits, IsUnitWord}
 use Rattle.command_line.specs.Rules as word
@@ -23,7 +23,7 @@ use Rattle.report_cli.specs.Words.{AreUnitNames}
 use Rattle.text_units.specs.Lowered.{IsRightText, AreRightTexts}
 use Rattle.text_units.proofs.Texts.{some_same}
 use Rattle.text_units.proofs.Lowering.{cut_tokens}
-use Rattle.covered_reports.proofs.Linkable.{IsUnitOf, unit_of}
+use Rattle.report_cli.proofs.covered_reports.Linkable.{IsUnitOf, unit_of}
 
 -- a byte of a word is none that stands between the parts of a location's name
 off : (k : ℕ) → word.is_unit_byte k ≡ false → (c : ℕ) → word.is_unit_byte c ≡ true → nat_eq c k ≡ false

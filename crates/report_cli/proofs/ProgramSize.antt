@@ -21,7 +21,7 @@ use Rattle.twin_report_laws.proofs.outcome_laws.text_faults.Texts.{right_twins}
 use Rattle.twin_report_laws.specs.outcome_laws.twin_programs.One.{AreAllRooted}
 use Rattle.twin_report_laws.proofs.outcome_laws.twin_words.Whole.{one_word_total}
 use Rattle.report_cli.proofs.Twins.{one_text_units, same_texts}
-use Rattle.covered_reports.proofs.Linkable.{IsUnitOf, unit_of}
+use Rattle.report_cli.proofs.covered_reports.Linkable.{IsUnitOf, unit_of}
 
 alike : (number : ℕ) (text : NamedText) (u v : Unit) → IsRightText number text u → IsRightText number text v → AreAlike u v
 alike number text u v h k =

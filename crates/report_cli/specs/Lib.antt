@@ -8,3 +8,4 @@ pub mod Outside
 pub mod Faults
 pub mod Scripts
 pub mod Laws
+pub mod covered_reports

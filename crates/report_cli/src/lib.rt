@@ -1,6 +1,7 @@
 // The top call: from the words of the command line to a report.
 #![tactic(auto)]
 
+pub mod covered_reports;
 mod form;
 mod input;
 pub mod laws;

@@ -7,7 +7,8 @@ ghost use Rattle.sol_model.specs.declared.system.System.{System};
 ghost use Rattle.command_line.specs.Rules.{AreRight};
 ghost use Rattle.command_line.specs.Distinct.{AreDistinct};
 ghost use Rattle.text_units.specs.Answers.{names_of, Answer};
-ghost use Rattle.covered_reports.specs.Reports.{AreRunsCovered};
+ghost use Rattle.report_cli.specs.covered_reports.Reports.{AreEffectsCovered, AreRunsCovered, HasLeast};
+ghost use Rattle.report_cli.specs.covered_reports.Stops.{AreBadCallsListed};
 ghost use Rattle.report_cli.specs.Words.{entries_read, names_read, steps_read, texts_of, AreUnitNames};
 ghost use Rattle.report_cli.specs.Told.{form_for, generated, names_for, read_as, told_as, told_for};
 ghost use Rattle.report_cli.specs.Printed.{IsPrinted};
@@ -340,12 +341,16 @@ pub fn analyse<R: Threads + Wait + Sync, U: Units, O: Sink, E: Sink, G: Gate + S
     // Status 0 means that the bytes written are the report of the least solution of the constraints of the program that
     // the units denote, or with a script the answers to its questions by that solution, with `--gen` the summary of it,
     // with `--run` the text of a run of the program in which no step stopped, with `--effects` what each function may
-    // read and write by that solution, or with `--stops` the places that stand as a mismatch or a bad call by it; and that
-    // in every run of defined steps of the reference machine on that program, each pointer held in memory and each
-    // function called through a pointer stands in the sets of that solution.
+    // read and write by that solution, or with `--stops` the places that stand as a mismatch or a bad call by it; that
+    // there is such a solution, and that the table which is left was solved for its system; that in every run of defined
+    // steps of the reference machine on that program, each pointer held in memory and each function called through a
+    // pointer stands in the sets of that solution, and the location of each cell that a step reads, writes or changes in
+    // what `--effects` prints of the function of each frame on the stack; and that where a step stops for a bad call, it
+    // does so at a node of which `--stops` prints the place, or calls a number.
     ensures headline { result ≡ 0 → IfSome (told_for (U.text units.old) (texts_of words.now)) (λ told.
         (program : Program) × (system : System) × (text : List ℕ) × Denotes told.entries told.units program
-        × IsPrinted told.form told.side program system text 0 × AreRunsCovered program system
+        × IsPrinted told.form told.side program system text 0 × IsKept system kept.new × HasLeast system
+        × AreRunsCovered program system × AreEffectsCovered program system × AreBadCallsListed program system
         × Grows (O.written out.old) (O.written out.new) text) }
 
     // Status 11 means that the bytes written are the text of a run whose last step stopped; words without `--run` don't
@@ -376,12 +381,9 @@ pub fn analyse<R: Threads + Wait + Sync, U: Units, O: Sink, E: Sink, G: Gate + S
         ⊎ ((result ≡ 7) ⊎ ((result ≡ 8) ⊎ (result ≡ 9))))) }
     ensures unwritten { (IsWritten result → ⊥) → result ≢ 8 → O.written out.new ≡ O.written out.old }
 
-    // With status 0 the program's own system, with one row for all rows of a class, was solved on the table that is left, by its seat and
-    // those split from it, which were joined into it; with any other status nothing is left.
-    ensures solved { result ≡ 0 → IfSome (told_for (U.text units.old) (texts_of words.now)) (λ told.
-        (program : Program) × (system : System) × (text : List ℕ) × Denotes told.entries told.units program
-        × IsPrinted told.form told.side program system text 0
-        × Grows (O.written out.old) (O.written out.new) text × IsKept system kept.new) }
+    // With status 0 a system, with one row for all rows of a class, was solved on the table that is left, by its seat and those split from
+    // it, which were joined into it; where the texts are told it is the program's own (`headline`). With any other status nothing is left.
+    ensures solved { result ≡ 0 → (system : System) × IsKept system kept.new }
     ensures unsolved { result ≢ 0 → kept.new ≡ None }
 
     // Where the words are right, each text is that of a unit in which no name is undeclared or redeclared, and the outside doesn't fail,

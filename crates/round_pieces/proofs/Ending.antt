@@ -19,9 +19,9 @@ use Rattle.sol_model.proofs.Words.{words_inside}
 use Rattle.sol_model.specs.Words.{full}
 use Rattle.set_rows.specs.declared.view.View.{View}
 use Rattle.set_rows.specs.Views.{half_kept, half_given, met, known, shutting, reading}
-use Rattle.delta_prop.specs.declared.turn.Turn.{Turn}
-use Rattle.delta_prop.specs.Deltas.{AllDemanded, IsSound}
-use Rattle.delta_prop.proofs.Carries.{edge_more}
+use Rattle.round_pieces.specs.declared.delta_prop.turn.Turn.{Turn}
+use Rattle.round_pieces.specs.delta_prop.Deltas.{AllDemanded, IsSound}
+use Rattle.round_pieces.proofs.delta_prop.Carries.{edge_more}
 use Rattle.new_members.specs.News.{Extends, IsFact}
 use Rattle.round_pieces.specs.Rounds.{AreCarried, HasWorked, HasClosed, IsRest, IsSettled, IsTurnOf, IsTakenIn, IsWorked}
 use Rattle.round_pieces.specs.declared.joining.Told.{Told}

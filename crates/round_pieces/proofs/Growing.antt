@@ -10,7 +10,7 @@ use Rattle.sol_model.specs.declared.rows.Rows.{Rows}
 use Rattle.sol_model.specs.Families.{Has, members}
 use Rattle.sol_model.specs.Systems.{Fits, location_count, width_of}
 use Rattle.sol_model.proofs.Shown.{bit_shown}
-use Rattle.delta_prop.specs.Deltas.{new_bits, gained}
+use Rattle.round_pieces.specs.delta_prop.Deltas.{new_bits, gained}
 use Rattle.new_members.specs.News.{IsIn, words_at}
 use Rattle.round_pieces.specs.Work.{count_below, size}
 use Rattle.round_pieces.proofs.Counts.{count_add, count_cut, count_split, ones_counted}

@@ -6,7 +6,7 @@ use Rattle.std.proofs.lemmas.Option.{slice_get_within, get_or_from_slice_get}
 use Rattle.std.proofs.lemmas.List.{map-append}
 use Rattle.std.proofs.lemmas.List.Elements.{Contains-get_or}
 use Rattle.std.proofs.lemmas.List.Quantifiers.{all_pairs_push}
-use Rattle.delta_prop.specs.declared.turn.Turn.{Turn}
+use Rattle.round_pieces.specs.declared.delta_prop.turn.Turn.{Turn}
 use Rattle.round_pieces.specs.Turns.{row_of, all_of}
 use Rattle.round_pieces.specs.Rounds.{AreRowsApart}
 use Rattle.round_pieces.proofs.Sums.{In, IsApart, in_append, apart_append}

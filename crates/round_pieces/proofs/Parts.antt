@@ -8,8 +8,8 @@ use Rattle.sol_model.specs.Words.{Within}
 use Rattle.sol_model.proofs.Words.{within_or, from_or}
 use Rattle.set_rows.specs.Views.{united, OnlyAdded, known, SamePart, half_kept, half_given, met}
 use Rattle.set_rows.proofs.Adding.{known_more, nothing_added}
-use Rattle.delta_prop.specs.Deltas.{IsSound}
-use Rattle.delta_prop.proofs.Carries.{edge_more}
+use Rattle.round_pieces.specs.delta_prop.Deltas.{IsSound}
+use Rattle.round_pieces.proofs.delta_prop.Carries.{edge_more}
 use Rattle.round_pieces.specs.Rounds.{IsReady, HasWorked, HasClosed}
 use Rattle.sol_model.specs.declared.rows.Rows.{Rows}
 use Rattle.sol_model.specs.Families.{Has, shown}

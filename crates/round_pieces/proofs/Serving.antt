@@ -15,9 +15,9 @@ use Rattle.sol_model.proofs.Words.{bit_member}
 use Rattle.set_rows.specs.declared.view.View.{View}
 use Rattle.set_rows.specs.Views.{OnlyAdded, known}
 use Rattle.set_rows.proofs.Adding.{nothing_added, added_twice, known_more}
-use Rattle.delta_prop.specs.declared.turn.Turn.{Turn}
-use Rattle.delta_prop.specs.Deltas.{IsSeenOf}
-use Rattle.delta_prop.specs.Turns.{IsTurn}
+use Rattle.round_pieces.specs.declared.delta_prop.turn.Turn.{Turn}
+use Rattle.round_pieces.specs.delta_prop.Deltas.{IsSeenOf}
+use Rattle.round_pieces.specs.delta_prop.Turns.{IsTurn}
 use Rattle.new_members.specs.News.{IsIn}
 use Rattle.round_pieces.specs.Rounds.{IsPiece, HasServed}
 use Rattle.round_pieces.specs.Turns.{AreTurns, row_of}

@@ -15,16 +15,16 @@ use Rattle.round_pieces.proofs.Growing.{word_at}
 use Rattle.std.specs.Int.{bit_at}
 use Rattle.sol_model.proofs.Shown.{shown_from_bit}
 use Rattle.edge_book.proofs.Targets.{only_one}
-use Rattle.delta_prop.specs.Turns.{IsTurn}
+use Rattle.round_pieces.specs.delta_prop.Turns.{IsTurn}
 use Rattle.set_rows.specs.declared.view.View.{View}
 use Rattle.set_rows.specs.Views.{half_kept, half_given, met, OnlyAdded}
 use Rattle.set_rows.proofs.Adding.{known_more}
 use Rattle.set_rows.proofs.Samples.{met_first, met_second}
-use Rattle.delta_prop.specs.declared.turn.Turn.{Turn}
+use Rattle.round_pieces.specs.declared.delta_prop.turn.Turn.{Turn}
 use Rattle.round_pieces.specs.Rounds.{AreRowsApart, HasServed, IsChange, IsPiece}
 use Rattle.round_pieces.specs.Turns.{all_of, row_of, AreTurns, IsShare, HasShares}
 use Rattle.round_pieces.specs.Balance.{spent}
-use Rattle.delta_prop.specs.Deltas.{gained}
+use Rattle.round_pieces.specs.delta_prop.Deltas.{gained}
 use Rattle.edge_book.specs.Leaving.{targets_of}
 use Rattle.std.proofs.lemmas.List.Sums.{sum_by-append, sum_by-cons}
 use Rattle.round_pieces.proofs.Once.{shares_apart}

@@ -4,8 +4,8 @@ use Rattle.std.specs.Prelude.{ℕ, ◌+◌, ◌*◌, List, length, Contains, sum
 use Rattle.sol_model.specs.declared.system.System.{System}
 use Rattle.sol_model.specs.declared.rows.Rows.{Rows}
 use Rattle.sol_model.specs.Families.{members}
-use Rattle.delta_prop.specs.declared.turn.Turn.{Turn}
-use Rattle.delta_prop.specs.Deltas.{gained}
+use Rattle.round_pieces.specs.declared.delta_prop.turn.Turn.{Turn}
+use Rattle.round_pieces.specs.delta_prop.Deltas.{gained}
 use Rattle.edge_book.specs.Edges.{AreApart}
 use Rattle.edge_book.specs.Leaving.{targets_of}
 use Rattle.new_members.specs.News.{IsFact}

@@ -3,3 +3,4 @@ pub mod Orders
 pub mod Rounds
 pub mod Turns
 pub mod Work
+pub mod delta_prop

@@ -9,8 +9,8 @@ use Rattle.sol_model.specs.Systems.{IsRow, IsLocation, Fits, width_of}
 use Rattle.sol_model.specs.Words.{Within}
 use Rattle.set_rows.specs.declared.view.View.{View}
 use Rattle.set_rows.specs.Views.{known, SamePart}
-use Rattle.delta_prop.specs.declared.turn.Turn.{Turn}
-use Rattle.delta_prop.specs.Deltas.{AllDemanded, IsSound}
+use Rattle.round_pieces.specs.declared.delta_prop.turn.Turn.{Turn}
+use Rattle.round_pieces.specs.delta_prop.Deltas.{AllDemanded, IsSound}
 use Rattle.new_members.specs.News.{AreAmong, IsIn, IsFact, Renews}
 
 -- no row stands twice

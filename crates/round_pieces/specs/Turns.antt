@@ -7,8 +7,8 @@ use Rattle.sol_model.specs.Families.{IsInside}
 use Rattle.sol_model.specs.Systems.{width_of}
 use Rattle.set_rows.specs.declared.view.View.{View}
 use Rattle.set_rows.specs.Views.{known, OnlyAdded}
-use Rattle.delta_prop.specs.declared.turn.Turn.{Turn}
-use Rattle.delta_prop.specs.Turns.{IsTurn}
+use Rattle.round_pieces.specs.declared.delta_prop.turn.Turn.{Turn}
+use Rattle.round_pieces.specs.delta_prop.Turns.{IsTurn}
 use Rattle.new_members.specs.News.{words_at}
 use Rattle.round_pieces.specs.declared.joining.Told.{Told}
 use Rattle.round_pieces.specs.Rounds.{HasServed}

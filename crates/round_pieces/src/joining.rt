@@ -2,7 +2,7 @@
 ghost use Rattle.std.specs.Prelude.{IfOk};
 ghost use Rattle.round_pieces.specs.Turns.{AreTogether};
 
-use delta_prop::{Span, Turn, joined};
+use crate::delta_prop::{Span, Turn, joined};
 use pta_base::OutOfMemory;
 
 /// What workers tell of a round.

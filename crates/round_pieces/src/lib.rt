@@ -3,6 +3,7 @@
 #![tactic(auto)]
 
 mod dealing;
+pub mod delta_prop;
 mod joining;
 mod ordering;
 mod pieces;

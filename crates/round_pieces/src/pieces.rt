@@ -3,12 +3,12 @@ ghost use Rattle.std.specs.Prelude.{◌≡◌, ℕ, ◌+◌, ◌*◌, ◌^◌, �
 ghost use Rattle.sol_model.specs.Systems.{IsValid, IsRow, width_of};
 ghost use Rattle.set_rows.specs.Views.{OnlyAdded};
 ghost use Rattle.set_rows.specs.Calls.{system_of, view, IsOf};
-ghost use Rattle.delta_prop.specs.Deltas.{IsSound};
+ghost use Rattle.round_pieces.specs.delta_prop.Deltas.{IsSound};
 ghost use Rattle.new_members.specs.News.{words_at};
 ghost use Rattle.round_pieces.specs.Rounds.{IsReady};
 ghost use Rattle.round_pieces.specs.Turns.{AreTurns, row_of};
 
-use delta_prop::{NO_SPAN, Span, Turn, joined, propagate};
+use crate::delta_prop::{NO_SPAN, Span, Turn, joined, propagate};
 use edge_book::PairBook;
 use new_members::row_words;
 use pta_base::{Gate, OutOfMemory};

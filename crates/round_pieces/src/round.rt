@@ -4,13 +4,13 @@ ghost use Rattle.std.specs.Thread.{IsSync};
 ghost use Rattle.sol_model.specs.Systems.{IsValid, IsRow};
 ghost use Rattle.set_rows.specs.Calls.{system_of, view, IsOf};
 ghost use Rattle.set_rows.specs.Views.{OnlyAdded};
-ghost use Rattle.delta_prop.specs.Deltas.{IsSound};
+ghost use Rattle.round_pieces.specs.delta_prop.Deltas.{IsSound};
 ghost use Rattle.round_pieces.specs.Rounds.{IsReady, HasWorked};
 ghost use Rattle.round_pieces.specs.Turns.{HasShares};
 
+use crate::delta_prop::NO_SPAN;
 use crate::joining::{Told, together};
 use crate::pieces::{Round, serve};
-use delta_prop::NO_SPAN;
 use pta_base::{Gate, OutOfMemory};
 use set_rows::RowSeat;
 use std::alloc::Global;

@@ -3,7 +3,7 @@ use Rattle.std.proofs.Common.{◌≡◌, ℕ, suc, ◌+◌, ◌*◌, ◌≤◌, 
 use Rattle.std.specs.List.{sum_by, filter}
 use Rattle.std.proofs.lemmas.Bool.{cases_Bool}
 use Rattle.std.proofs.lemmas.List.Sums.{sum_by-cons}
-use Rattle.delta_prop.specs.declared.turn.Turn.{Turn}
+use Rattle.round_pieces.specs.declared.delta_prop.turn.Turn.{Turn}
 use Rattle.edge_book.specs.Leaving.{targets_of}
 use Rattle.round_pieces.specs.Turns.{row_of}
 use Rattle.round_pieces.proofs.Sums.{In, IsApart}

@@ -7,7 +7,7 @@ use Rattle.std.proofs.lemmas.Option.{none-some}
 use Rattle.sol_model.specs.declared.rows.Rows.{Rows}
 use Rattle.sol_model.specs.Families.{Has, members}
 use Rattle.sol_model.specs.Words.{Within}
-use Rattle.delta_prop.specs.declared.turn.Turn.{Turn}
+use Rattle.round_pieces.specs.declared.delta_prop.turn.Turn.{Turn}
 use Rattle.new_members.specs.News.{AreAmong, IsIn}
 use Rattle.round_settling.specs.declared.extent.Extent.{Extent}
 use Rattle.round_settling.specs.Extents.{AreExtents, IsOutside, IsWidened}

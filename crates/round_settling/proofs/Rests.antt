@@ -13,8 +13,8 @@ use Rattle.sol_model.proofs.Words.{bit_member}
 use Rattle.set_rows.specs.declared.view.View.{View}
 use Rattle.set_rows.specs.Views.{OnlyLooked, known}
 use Rattle.set_rows.proofs.Adding.{known_more}
-use Rattle.delta_prop.specs.Deltas.{IsAllOf, IsSound, new_bits}
-use Rattle.delta_prop.proofs.Going.{looked_adds}
+use Rattle.round_pieces.specs.delta_prop.Deltas.{IsAllOf, IsSound, new_bits}
+use Rattle.round_pieces.proofs.delta_prop.Going.{looked_adds}
 use Rattle.new_members.specs.News.{IsIn}
 use Rattle.round_pieces.specs.Rounds.{IsSettled}
 use Rattle.round_pieces.proofs.Growing.{new_small, new_there, new_lacked}

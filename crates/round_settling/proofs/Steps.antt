@@ -17,9 +17,9 @@ use Rattle.sol_model.proofs.Shown.{within_shown, bit_shown, shown_from_bit}
 use Rattle.sol_model.proofs.Words.{set_has, adds_or, locations_fit, place_below}
 use Rattle.set_rows.specs.declared.view.View.{View}
 use Rattle.set_rows.specs.Views.{known, added}
-use Rattle.delta_prop.specs.declared.turn.Turn.{Turn}
-use Rattle.delta_prop.specs.Deltas.{IsSeenOf}
-use Rattle.delta_prop.proofs.Carries.{edge_more}
+use Rattle.round_pieces.specs.declared.delta_prop.turn.Turn.{Turn}
+use Rattle.round_pieces.specs.delta_prop.Deltas.{IsSeenOf}
+use Rattle.round_pieces.proofs.delta_prop.Carries.{edge_more}
 use Rattle.new_members.specs.News.{IsIn, IsFact, Renews}
 use Rattle.round_pieces.specs.Rounds.{IsTakenIn}
 use Rattle.round_pieces.proofs.Serving.{known_as}

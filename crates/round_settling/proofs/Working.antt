@@ -16,9 +16,9 @@ use Rattle.sol_model.specs.Places.{field_of}
 use Rattle.sol_model.specs.Systems.{IsValid, Fits, location_count, width_of}
 use Rattle.set_rows.specs.declared.view.View.{View}
 use Rattle.set_rows.specs.Views.{known}
-use Rattle.delta_prop.specs.declared.turn.Turn.{Turn}
-use Rattle.delta_prop.specs.Deltas.{gained}
-use Rattle.delta_prop.proofs.Carries.{edge_more}
+use Rattle.round_pieces.specs.declared.delta_prop.turn.Turn.{Turn}
+use Rattle.round_pieces.specs.delta_prop.Deltas.{gained}
+use Rattle.round_pieces.proofs.delta_prop.Carries.{edge_more}
 use Rattle.new_members.specs.News.{Extends, words_at}
 use Rattle.round_pieces.specs.Rounds.{IsRest, IsSettled, IsTakenIn}
 use Rattle.round_pieces.specs.Turns.{row_of}

@@ -4,12 +4,12 @@ ghost use Rattle.sol_model.specs.Families.{Has, members};
 ghost use Rattle.sol_model.specs.Systems.{IsValid, Fits};
 ghost use Rattle.set_rows.specs.Views.{OnlyLooked, known};
 ghost use Rattle.set_rows.specs.Calls.{system_of, view, IsOf};
-ghost use Rattle.delta_prop.specs.Deltas.{IsSound};
+ghost use Rattle.round_pieces.specs.delta_prop.Deltas.{IsSound};
 ghost use Rattle.round_pieces.specs.Rounds.{IsRest};
 
-use delta_prop::{Span, has_more, is_empty, widen};
 use new_members::row_words;
 use pta_base::OutOfMemory;
+use round_pieces::delta_prop::{Span, has_more, is_empty, widen};
 use set_rows::{RowSeat, RowTable};
 use sol_model::Rows;
 use std::alloc::Global;

@@ -3,12 +3,12 @@ ghost use Rattle.std.specs.Prelude.{◌≡◌, ℕ, true, false, ◌+◌, ◌⊎
 ghost use Rattle.sol_model.specs.Families.{Has, IsInside, members};
 ghost use Rattle.sol_model.specs.Solutions.{IsEdge};
 ghost use Rattle.sol_model.specs.declared.rows.Rows.{Rows};
-ghost use Rattle.delta_prop.specs.declared.turn.Turn.{Turn};
+ghost use Rattle.round_pieces.specs.declared.delta_prop.turn.Turn.{Turn};
 ghost use Rattle.set_rows.specs.declared.view.View.{View};
 ghost use Rattle.sol_model.specs.Systems.{IsValid, IsRow, IsLocation, Fits, width_of};
 ghost use Rattle.set_rows.specs.Views.{OnlyAdded, known};
 ghost use Rattle.set_rows.specs.Calls.{system_of, view, IsOf};
-ghost use Rattle.delta_prop.specs.Deltas.{AllDemanded, IsSound};
+ghost use Rattle.round_pieces.specs.delta_prop.Deltas.{AllDemanded, IsSound};
 ghost use Rattle.edge_book.specs.Edges.{AreApart, Gains};
 ghost use Rattle.new_members.specs.News.{Extends, IsFact, IsIn, IsReader, Renews, words_at};
 ghost use Rattle.round_pieces.specs.Rounds.{AreCarried, IsChange, IsSettled, IsTakenIn, IsTurnOf, IsWorked};
@@ -17,10 +17,10 @@ ghost use Rattle.round_pieces.specs.Work.{edge_work};
 ghost use Rattle.round_settling.specs.Extents.{AreExtents};
 
 use crate::extent::{Extent, done_words, widen_extent};
-use delta_prop::{Span, Turn, carry, list_news, span_of, widen};
 use edge_book::{PairBook, PairSet};
 use new_members::{Grown, renew, row_words, start};
 use pta_base::OutOfMemory;
+use round_pieces::delta_prop::{Span, Turn, carry, list_news, span_of, widen};
 use set_rows::{RowSeat, RowTable};
 use sol_model::{Rows, System};
 use std::alloc::Global;

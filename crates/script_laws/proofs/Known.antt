@@ -7,7 +7,7 @@ use Rattle.command_line.specs.Rules.{AreRight, gen_word}
 use Rattle.text_units.specs.Answers.{NamedText, told_units}
 use Rattle.text_units.specs.Lowered.{AreRightTexts}
 use Rattle.text_units.proofs.Lowering.{cut_tokens}
-use Rattle.covered_reports.proofs.Linkable.{IsUnitOf, unit_of, linkable, tables, filled}
+use Rattle.report_cli.proofs.covered_reports.Linkable.{IsUnitOf, unit_of, linkable, tables, filled}
 use Rattle.valid_unit_laws.proofs.plain_functions.Whole.{functions_plain}
 use Rattle.twin_report_laws.specs.linked.Linked.{AreKnown}
 use Rattle.twin_report_laws.proofs.apart.Units.{right_apart}

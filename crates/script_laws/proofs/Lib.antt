@@ -1,3 +1,4 @@
 mod Settings
 mod Known
+mod Asked
 pub mod Whole

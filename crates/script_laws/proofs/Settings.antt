@@ -22,7 +22,7 @@ use Rattle.twin_report_laws.proofs.outcome_laws.twin_scripts.Whole.{twin_scripts
 use Rattle.text_units.specs.Answers.{NamedText}
 use Rattle.text_units.specs.Lowered.{AreRightTexts}
 use Rattle.report_cli.specs.Outcome.{Denotes}
-use Rattle.covered_reports.proofs.Linkable.{IsUnitOf, unit_of}
+use Rattle.report_cli.proofs.covered_reports.Linkable.{IsUnitOf, unit_of}
 use Rattle.report_cli.proofs.Twins.{same_texts}
 
 -- each node of a right unit is a body or a child, and each initialiser its entity's body

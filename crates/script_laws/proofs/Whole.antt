@@ -23,9 +23,11 @@ use Rattle.report_cli.proofs.Taken.{words_taken_or_refused}
 use Rattle.report_cli.proofs.Linked.{formed}
 use Rattle.report_cli.proofs.Together.{one_outcome}
 use Rattle.report_cli.proofs.Naming.{are_named}
-use Rattle.script_laws.specs.Scripted.{OneScript, SameStatus, AreNamedTexts, SameOut, SameFate, OneFate}
+use Rattle.command_line.specs.Rules.{AreRight}
+use Rattle.script_laws.specs.Scripted.{OneScript, SameStatus, AreNamedTexts, SameOut, SameFate, AskTheSame, OneFate}
 use Rattle.script_laws.proofs.Settings.{one_program, same_scripts, within}
 use Rattle.script_laws.proofs.Known.{known, words_named}
+use Rattle.script_laws.proofs.Asked.{same_told}
 
 taken : (entries : List (List ℕ)) (texts : List NamedText) (p q : Program) (space : List Location) (system : System) (side : Side) → Denotes entries texts p → Denotes entries texts q → IsSystemOf p space system
     → TakesSide p side → TakesSide q side
@@ -233,5 +235,16 @@ bytes_so text_of words told one other e (inl h) (inl k) = same_out told one.out 
 bytes_so text_of words told one other e (inl h) (inr k) = absurd (h.0 k.0)
 bytes_so text_of words told one other e (inr h) k = (words_so words told one other (inr h) k).out (words_named text_of words told e h.0)
 
+-- right words that ask for the same have one fate
+right_outcome : (words : List (List ℕ)) (told : Told) (answer : Answer) → AreRight words → Outcome words told answer → OutcomeOf told answer
+right_outcome words told answer right (inl h) = absurd (h.0 right)
+right_outcome words told answer right (inr h) = h.1
+
+workers_so : (text_of : List ℕ → Option (List ℕ)) (words others : List (List ℕ)) (told : Told) (one other : Answer) → AreRight words → AreRight others → AskTheSame words others → told_for text_of words ≡ Some told
+    → Outcome words told one → Outcome others told other → SameFate told one other × SameOut told one.out other.out
+workers_so text_of words others told one other right too same e h k =
+    let fate : SameFate told one other = told_so told one other (right_outcome words told one right h) (right_outcome others told other too k) in
+    (fate, fate.out (words_named text_of words told e right))
+
 pub one_fate : OneFate
-one_fate = record { refused = told_refused; printed = printed; accepted = accepted; told = told_so; words = words_so; bytes = bytes_so }
+one_fate = record { refused = told_refused; printed = printed; accepted = accepted; told = told_so; words = words_so; bytes = bytes_so; asked = same_told; workers = workers_so }

@@ -1,10 +1,13 @@
 -- What is told has one status, one line and one text, whatever program its units denote.
-use Rattle.std.specs.Prelude.{◌≡◌, ◌⊎◌, ℕ, Bool, false, List, Option, Some, map}
+use Rattle.std.specs.Prelude.{◌≡◌, ◌⊎◌, ℕ, Bool, false, List, Option, Some, codes, map}
 use Rattle.core_tree.specs.declared.node.Program.{Program}
 use Rattle.sol_model.specs.declared.system.System.{System}
 use Rattle.obj_space.specs.declared.location.Location.{Location}
 use Rattle.unit_report.specs.unit_system.Of.{IsSystemOf}
 use Rattle.command_line.specs.Distinct.{AreDistinct}
+use Rattle.command_line.specs.Language.{found_in}
+use Rattle.command_line.specs.Meaning.{number_of}
+use Rattle.command_line.specs.Rules.{AreRight, asks_effects, asks_json, asks_stops, entry_names, script_word, unit_words}
 use Rattle.text_units.specs.Answers.{NamedText, Answer}
 use Rattle.report_cli.specs.Words.{AreUnitNames}
 use Rattle.report_cli.specs.Told.{Side, no_side, with_questions, with_words, Told, form_of, generated, told_for}
@@ -55,6 +58,18 @@ pub record SameFate (told : Told) (one other : Answer) : Type 0 where
   pub err : one.err ≡ other.err
   pub out : AreNamedTexts told.units → SameOut told one.out other.out
 
+-- two lists of words ask for the same: clap finds the same units, script, form, numbers and entries. Of the number of
+-- workers, and of whether questions go over a desk, it isn't asked.
+pub record AskTheSame (words others : List (List ℕ)) : Type 0 where
+  pub units : unit_words (found_in others) ≡ unit_words (found_in words)
+  pub script : script_word (found_in others) ≡ script_word (found_in words)
+  pub json : asks_json (found_in others) ≡ asks_json (found_in words)
+  pub number : number_of (codes "gen") (found_in others) ≡ number_of (codes "gen") (found_in words)
+  pub steps : number_of (codes "run") (found_in others) ≡ number_of (codes "run") (found_in words)
+  pub effects : asks_effects (found_in others) ≡ asks_effects (found_in words)
+  pub stops : asks_stops (found_in others) ≡ asks_stops (found_in words)
+  pub entries : entry_names (found_in others) ≡ entry_names (found_in words)
+
 -- What is told, and words with it.
 pub record OneFate : Type 0 where
   -- two refusals of what is told are one answer
@@ -79,3 +94,16 @@ pub record OneFate : Type 0 where
       → Outcome words told one
       → Outcome words told other
       → SameOut told one.out other.out
+  -- words that ask for the same, by as many workers as they may, are told the same; and so two calls of such words, if
+  -- both are right, have one fate and print the same bytes: no number of workers changes them
+  pub asked : (text_of : List ℕ → Option (List ℕ)) (words others : List (List ℕ))
+      → AskTheSame words others
+      → told_for text_of others ≡ told_for text_of words
+  pub workers : (text_of : List ℕ → Option (List ℕ)) (words others : List (List ℕ)) (told : Told) (one other : Answer)
+      → AreRight words
+      → AreRight others
+      → AskTheSame words others
+      → told_for text_of words ≡ Some told
+      → Outcome words told one
+      → Outcome others told other
+      → SameFate told one other × SameOut told one.out other.out

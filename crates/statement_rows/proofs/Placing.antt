@@ -14,7 +14,7 @@ use Rattle.c_senses.specs.World.{World}
 use Rattle.c_senses.specs.Sense.{Sense, IsDeclarator}
 use Rattle.c_senses.specs.Entities.{is_typedef, is_parameter, declares_function, is_defined, has_storage, initialiser_for, is_static_object, is_at_file, specified, own_type, parameter_type, derived_type, with_length, length_given_by, initialiser_of}
 use Rattle.c_senses.specs.Statements.{is_automatic_object, automatic_name, objects_among, objects_in_rest, objects_declared, objects_in}
-use Rattle.sense_laws.specs.Senses.{ChildrenFirst}
+use Rattle.parsed_tree_laws.specs.sense_laws.Senses.{ChildrenFirst}
 use Rattle.c_statements.specs.Parts.{gathered}
 use Rattle.statement_rows.specs.Parts.{name_in, is_placed, object_at, objects_at}
 

@@ -18,12 +18,12 @@ use Rattle.c_senses.specs.Places.{own_place}
 use Rattle.c_senses.specs.Sense.{Sense, IsCore, IsRun, IsInitial, core_of, value_in, fits}
 use Rattle.c_senses.specs.Statements.{statement, one, appended, with_some, ForParts, cores_in, block_row, condition_of, statements_among, body_of, other_body, expression_in, labelled, switch_around, switched, is_case_again, case_row, default_row, if_row, switch_row, while_row, do_row, for_parts, expression_statement, for_first, for_condition, for_after, for_of, for_row, break_row, continue_row, goto_row, returned_type, return_row, of_word, leaf_statement, statement_row, runs_initialiser, initials_among, rest_row, run_in, declaration_row}
 use Rattle.c_conversions.specs.Constants.{HasRows, HaveRows}
-use Rattle.sense_laws.specs.Sound.{Gives}
-use Rattle.sense_laws.proofs.Giving.{then_gives, if_given, some_given, if_holds}
-use Rattle.sense_laws.proofs.Conversions.{whole_integer}
-use Rattle.sense_laws.specs.row_trees.Trees.{AllHaveRows, RowsValue, RowsOf}
-use Rattle.sense_laws.proofs.row_trees.Conversions.{promotion_value, conversion_rows}
-use Rattle.sense_laws.proofs.row_trees.Expressions.{core_rows, value_in_rows}
+use Rattle.parsed_tree_laws.specs.sense_laws.Sound.{Gives}
+use Rattle.parsed_tree_laws.proofs.sense_laws.Giving.{then_gives, if_given, some_given, if_holds}
+use Rattle.parsed_tree_laws.proofs.sense_laws.Conversions.{whole_integer}
+use Rattle.parsed_tree_laws.specs.sense_laws.row_trees.Trees.{AllHaveRows, RowsValue, RowsOf}
+use Rattle.parsed_tree_laws.proofs.sense_laws.row_trees.Conversions.{promotion_value, conversion_rows}
+use Rattle.parsed_tree_laws.proofs.sense_laws.row_trees.Expressions.{core_rows, value_in_rows}
 use Rattle.statement_rows.specs.Kept.{RunHasRows, HasAllRows}
 
 whole_sort : (x : OperandSort) → is_whole x ≡ true → x ≡ Whole

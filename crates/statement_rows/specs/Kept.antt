@@ -6,8 +6,8 @@ use Rattle.c_senses.specs.World.{World}
 use Rattle.c_senses.specs.Sense.{Sense, IsRun, IsInitial}
 use Rattle.c_senses.specs.Statements.{statement_row, block_row, declaration_row, rest_row}
 use Rattle.c_conversions.specs.Constants.{HasRows}
-use Rattle.sense_laws.specs.Sound.{Gives}
-use Rattle.sense_laws.specs.row_trees.Trees.{SenseHasRows, AllHaveRows}
+use Rattle.parsed_tree_laws.specs.sense_laws.Sound.{Gives}
+use Rattle.parsed_tree_laws.specs.sense_laws.row_trees.Trees.{SenseHasRows, AllHaveRows}
 use Rattle.c_results.specs.declared.made.Made.{Made}
 use Rattle.c_results.specs.Standing.{sense_made}
 

@@ -7,7 +7,7 @@ ghost use Rattle.c_senses.specs.Tree.{Source};
 ghost use Rattle.c_senses.specs.Entities as entities;
 ghost use Rattle.c_senses.specs.Sense.{Sense, sense_in};
 ghost use Rattle.c_senses.specs.Statements as spec;
-ghost use Rattle.sense_laws.specs.Senses.{ChildrenFirst};
+ghost use Rattle.parsed_tree_laws.specs.sense_laws.Senses.{ChildrenFirst};
 ghost use Rattle.core_tree.specs.declared.node.Unit.{Unit as UnitSpec};
 ghost use Rattle.core_nodes.specs.Standing.{IsReady, Builds};
 ghost use Rattle.c_results.specs.Standing.{senses_made, IsWithin, TypeSeen};

@@ -5,7 +5,7 @@ ghost use Rattle.c_senses.specs.World.{World};
 ghost use Rattle.c_senses.specs.Rows.{declaring_row};
 ghost use Rattle.c_senses.specs.Sense.{sense_in};
 ghost use Rattle.c_senses.specs.Statements as spec;
-ghost use Rattle.sense_laws.specs.Senses.{ChildrenFirst};
+ghost use Rattle.parsed_tree_laws.specs.sense_laws.Senses.{ChildrenFirst};
 ghost use Rattle.core_nodes.specs.Standing.{IsReady, Builds, Knows};
 ghost use Rattle.c_results.specs.Standing.{senses_made, IsWithin, Rowed};
 ghost use Rattle.c_conversions.specs.constant_values.Constants.{HasConstants};

@@ -18,8 +18,8 @@ use Rattle.c_senses.specs.Places.{own_place}
 use Rattle.c_mentions.specs.Syntax.{token_at}
 use Rattle.c_scope.specs.declared.kinds.NameFault.{NameFault}
 use Rattle.c_scope.specs.declared.kinds.NameFault.TheVariants as names
-use Rattle.c_lower.specs.refusal_laws.Refusals.{IsOther}
-use Rattle.c_lower.proofs.refusal_laws.Rows.{rows_built}
+use Rattle.refusal_laws.specs.Refusals.{IsOther}
+use Rattle.refusal_laws.proofs.Rows.{rows_built}
 use Rattle.text_units.specs.Answers.{NamedText, Answer, place_text}
 use Rattle.text_units.specs.Answers as answers
 use Rattle.text_units.specs.Alone.{IsRefusedAlone, lexical_refusal, token_place, syntax_refusal, name_refusal}

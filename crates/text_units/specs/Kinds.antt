@@ -4,7 +4,7 @@ use Rattle.pta_base.specs.Kind.{name_of}
 use Rattle.pta_base.specs.declared.kind.Kind.{Kind}
 use Rattle.c_lexer.specs.declared.Token.{Token}
 use Rattle.c_grammar.specs.Reads.{State, Fault, unsupported, Opens}
-use Rattle.c_lower.specs.refusal_laws.Refusals.{IsOther}
+use Rattle.refusal_laws.specs.Refusals.{IsOther}
 use Rattle.text_units.specs.Answers.{NamedText, Answer, refusal}
 use Rattle.text_units.specs.Alone.{IsRefusedAlone}
 use Rattle.text_units.specs.Lowered.{IsRefusedRow}

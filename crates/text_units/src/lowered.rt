@@ -10,8 +10,8 @@ use crate::fault::UnitsFault;
 use crate::rows::row_refusal;
 use c_lower::lower_unit;
 use core_tree::Unit;
+use parsed_tree_laws::sense_laws::parsed_laws::laws::children_first;
 use pta_base::{Gate, Listing, Text};
-use sense_laws::parsed_laws::laws::children_first;
 use std::alloc::Global;
 use std::thread::{Threads, join};
 

@@ -7,3 +7,4 @@ pub mod apart
 pub mod rows
 pub mod linked
 pub mod outcome_laws
+pub mod order_laws

@@ -5,6 +5,7 @@
 pub mod answers;
 pub mod apart;
 pub mod linked;
+pub mod order_laws;
 pub mod orders;
 pub mod outcome_laws;
 pub mod prints;

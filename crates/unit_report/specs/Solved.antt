@@ -3,12 +3,18 @@ use Rattle.std.specs.Prelude.{◌≡◌, ℕ, ◌+◌, ◌≤◌, List, Option, 
 use Rattle.sol_model.specs.declared.system.System.{System}
 use Rattle.sol_model.specs.Families.{Family}
 use Rattle.sol_model.specs.Solutions.{IsLeast}
+use Rattle.set_rows.specs.declared.table.RowTable.{RowTable}
+use Rattle.set_rows.specs.declared.seat.RowSeat.{RowSeat}
 use Rattle.set_rows.specs.Views.{fresh, SamePart}
 use Rattle.set_rows.specs.Calls.{system_of, view, IsOf}
 use Rattle.round_pieces.specs.Work.{IsWork}
 use Rattle.row_share.specs.share_laws.Classes.{AreClasses}
 use Rattle.row_share.specs.share_laws.Renumbering.{IsReduced}
 use Rattle.unit_report.specs.declared.solving.Solved.{Solved}
+
+-- what is kept of a system that was solved on a table, with a seat of it
+abbrev pub solved_on : System → RowTable → RowSeat → Solved
+solved_on system table seat = record { system = system; table = table; seat = seat }
 
 -- The system was solved on that table. The seat has read the closing word as 1, so the table's rows are the least
 -- solution; its part is the whole, so every seat of the table was joined into it; and its steps that set bits are

@@ -3,13 +3,14 @@
 ghost use Rattle.std.specs.Prelude.{◌≡◌, ◌<◌, ◌≤◌, IfErr, IfOk, length};
 ghost use Rattle.sol_model.specs.declared.system.System.{System};
 ghost use Rattle.sol_model.specs.Families.{members};
+ghost use Rattle.sol_model.specs.Solutions.{IsLeast};
 ghost use Rattle.sol_model.specs.Systems.{IsValid, Fits, location_count};
 ghost use Rattle.link_model.specs.filled_units.Filled.{AreFilled};
 ghost use Rattle.unit_link.specs.Needs.{AreLinkable};
 ghost use Rattle.unit_report.specs.unit_system.Of.{IsSystemOf};
 ghost use Rattle.unit_report.specs.unit_system.Faults.{IsFaultOf};
 ghost use Rattle.unit_report.specs.Reported.{IsProgramReport, IsReportAs, IsUnitReport};
-ghost use Rattle.unit_report.specs.Solved.{IsSolvedShared};
+ghost use Rattle.unit_report.specs.Solved.{IsShared, IsSolvedShared};
 
 use crate::names::strings_of;
 use crate::report_json::json_report;
@@ -17,7 +18,7 @@ use crate::report_text::report;
 use crate::sharing::shared;
 use crate::solving::{Solved, solve_on_rows};
 use crate::unit_system::{UnitFault, UnitSystem, linked_system};
-use core_tree::Unit;
+use core_tree::{Program, Unit};
 use obj_space::Space;
 use pta_base::{Gate, OutOfMemory, Text};
 use sol_model::{Rows, System};
@@ -44,6 +45,48 @@ fn report_as(
     }
 }
 
+/// The report of a program by the least solution of the system with one row for each class of its system's rows.
+fn program_text(
+    alloc: Global,
+    json: bool,
+    program: &Program,
+    space: &Space,
+    system: &System,
+    rows: &Rows,
+) -> Result<Vec<u8>, OutOfMemory>
+    requires valid { IsValid system.now }
+    requires fits { Fits system.now rows.now }
+    requires count { length space.now ≡ location_count system.now }
+    ensures { IfOk result (λ text. (made : System) → IsSystemOf program.now space.now made → IsShared made system.now →
+        IsLeast system.now (members rows.now) → IsProgramReport json program.now space.now made text.items) }
+{
+    let names = strings_of(alloc, program.names.as_slice())?;
+    let text = report_as(alloc, json, space, names.as_slice(), system, rows)?;
+    Ok(text)
+}
+
+/// The report of a program by its system, with the system that was solved for it by so many workers on shared rows.
+fn report_by<R: Threads + Sync, G: Gate + Sync>(
+    rt: &R,
+    alloc: Global,
+    json: bool,
+    program: &Program,
+    space: &Space,
+    system: System,
+    workers: u32,
+    gate: &G,
+) -> Result<(Vec<u8>, Solved), OutOfMemory>
+    requires system { IsSystemOf program.now space.now system }
+    requires workers { (0 < workers) × (workers ≤ 64) }
+    ensures reported { IfOk result (λ found. IsProgramReport json program.now space.now system found.0.items) }
+    ensures solved { IfOk result (λ found. IsSolvedShared system found.1) }
+{
+    let reduced = shared(alloc, system)?;
+    let (rows, solved) = solve_on_rows(rt, alloc, reduced, workers, gate)?;
+    let text = program_text(alloc, json, program, space, &solved.system, &rows)?;
+    Ok((text, solved))
+}
+
 /// The report of a program whose system was made, as JSON or as lines, with the system that was solved for it by so many workers on shared
 /// rows, each of whom passes the gate before each of its pieces. That system has one row for all rows of a class (`row_share`). Only
 /// memory may want.
@@ -65,11 +108,7 @@ pub fn report_of_system<R: Threads + Sync, G: Gate + Sync>(
         space,
         system,
     } = made;
-    let names = strings_of(alloc, program.names.as_slice())?;
-    let reduced = shared(alloc, system)?;
-    let (rows, solved) = solve_on_rows(rt, alloc, reduced, workers, gate)?;
-    let text = report_as(alloc, json, &space, names.as_slice(), &solved.system, &rows)?;
-    Ok((text, solved))
+    report_by(rt, alloc, json, &program, &space, system, workers, gate)
 }
 
 /// The report of the program that valid units of distinct names are, which initialise only objects that they define, with the system that

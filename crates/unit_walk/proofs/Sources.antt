@@ -14,7 +14,7 @@ use Rattle.c_results.specs.declared.made.Made.{Made}
 use Rattle.name_uses.specs.name_sayings.Listed.{AreListed}
 use Rattle.name_uses.specs.name_sayings.Opening.{IsNotOpened}
 use Rattle.name_chains.specs.declared.symbol_lists.lists.SymbolLists.{SymbolLists}
-use Rattle.sense_laws.specs.Senses.{ChildrenFirst}
+use Rattle.parsed_tree_laws.specs.sense_laws.Senses.{ChildrenFirst}
 use Rattle.parsed_tree_laws.specs.reading_laws.source_laws.Bound.{AreBefore}
 use Rattle.parsed_tree_laws.proofs.reading_laws.source_laws.Bound.{bound_stand}
 use Rattle.parsed_tree_laws.proofs.reading_laws.source_laws.Spelled.{names_spelled}

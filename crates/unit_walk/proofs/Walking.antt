@@ -11,7 +11,7 @@ use Rattle.c_senses.specs.Tree.{Source, production_at, children_at}
 use Rattle.c_senses.specs.Tags.{tags_below}
 use Rattle.c_senses.specs.Sense.{Sense, sense_in}
 use Rattle.c_senses.specs.Rows.{world_at, row_of, AreSenses}
-use Rattle.sense_laws.specs.Senses.{ChildrenFirst}
+use Rattle.parsed_tree_laws.specs.sense_laws.Senses.{ChildrenFirst}
 use Rattle.core_nodes.specs.Standing.{parts_in, IsReady, Knows}
 use Rattle.c_results.specs.declared.made.Made.{Made}
 use Rattle.c_results.specs.Standing.{sense_made, senses_made, IsWithin}

@@ -10,7 +10,7 @@ ghost use Rattle.c_senses.specs.Names.{source_of, numbered};
 ghost use Rattle.name_uses.specs.passed.expression_rows.Readable.{IsReadable};
 ghost use Rattle.parsed_tree_laws.specs.family_laws.Families.{Families};
 ghost use Rattle.limit_laws.specs.Limits.{AlwaysLimited};
-ghost use Rattle.sense_laws.specs.Senses.{ChildrenFirst};
+ghost use Rattle.parsed_tree_laws.specs.sense_laws.Senses.{ChildrenFirst};
 ghost use Rattle.struct_rows.specs.Built.{HasTagTypes};
 ghost use Rattle.c_tags.specs.tag_numbers.Known.{AreTags};
 ghost use Rattle.c_tags.specs.tag_numbers.Ordered.{AreInOrder};

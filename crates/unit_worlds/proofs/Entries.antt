@@ -7,7 +7,7 @@ use Rattle.c_inits.specs.Made.{TagParts}
 use Rattle.c_senses.specs.Tree.{Source, is_a, children_at, child_of, first_where}
 use Rattle.c_senses.specs.Sense.{Sense, Nothing, IsMembers, sense_in}
 use Rattle.c_senses.specs.Tags.{tag_of, completed_from}
-use Rattle.sense_laws.specs.Senses.{ChildrenFirst}
+use Rattle.parsed_tree_laws.specs.sense_laws.Senses.{ChildrenFirst}
 use Rattle.unit_worlds.specs.Growing.{completed_at}
 
 first_found : (test : ℕ → Bool) (xs : List ℕ) (c : ℕ) → first_where test xs ≡ Some c → (k : ℕ) × (slice_get xs k ≡ Some c)

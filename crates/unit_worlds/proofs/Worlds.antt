@@ -12,7 +12,7 @@ use Rattle.c_senses.specs.Tree.{Source}
 use Rattle.c_senses.specs.Sense.{Sense, sense_in}
 use Rattle.c_senses.specs.Tags.{members_under, look_of, types_of_parts, completed_from}
 use Rattle.c_senses.specs.Rows.{world_at, world_over}
-use Rattle.sense_laws.specs.Senses.{ChildrenFirst}
+use Rattle.parsed_tree_laws.specs.sense_laws.Senses.{ChildrenFirst}
 use Rattle.unit_worlds.specs.Growing.{Completes, Grows, completed_at}
 use Rattle.unit_worlds.specs.Laws.{KnownOn}
 use Rattle.unit_worlds.proofs.Entries.{AreFew, few_at, completed_more}

@@ -2,7 +2,7 @@
 use Rattle.std.specs.Prelude.{ℕ, ◌≡◌, ◌<◌, ◌++◌, List, [], ◌∷◌, length}
 use Rattle.core_tree.specs.declared.node.Unit.{Unit}
 use Rattle.c_results.specs.passed.core_nodes.Standing.{Knows}
-use Rattle.sense_laws.specs.Senses.{ChildrenFirst}
+use Rattle.parsed_tree_laws.specs.sense_laws.Senses.{ChildrenFirst}
 use Rattle.c_senses.specs.Given.{Fits}
 use Rattle.c_senses.specs.Tree.{Source, production_at, children_at}
 use Rattle.c_senses.specs.Sense.{Sense, sense_in}

@@ -5,3 +5,4 @@ pub mod passed
 pub mod plain_functions
 pub mod object_size_laws
 pub mod body_node_laws
+pub mod object_initialiser_laws

@@ -5,6 +5,7 @@
 pub mod body_node_laws;
 pub mod built_valid;
 pub mod lowered_laws;
+pub mod object_initialiser_laws;
 pub mod object_size_laws;
 pub mod plain_functions;
 pub mod specified_types;

@@ -6,7 +6,7 @@ use Rattle.std.proofs.lemmas.Bool.{eqb-true, ltb-false}
 use Rattle.std.proofs.lemmas.Bool.Decides.{eqb_tells}
 use Rattle.c_grammar.specs.Terminals.{contains}
 use Rattle.c_senses.specs.Tree.{Source, children_at, first_where, parent_of, all_nodes, above_within}
-use Rattle.sense_laws.specs.Senses.{ChildrenFirst}
+use Rattle.parsed_tree_laws.specs.sense_laws.Senses.{ChildrenFirst}
 use Rattle.tree_reads.proofs.Marks.{parent_within}
 use Rattle.c_check.specs.known_tags.Own.{is_under, flag_at, by_parent}
 

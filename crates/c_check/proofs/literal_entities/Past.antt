@@ -9,7 +9,7 @@ use Rattle.c_senses.specs.Tree.{Source, is_a, child_of, children_of, children_at
 use Rattle.c_grammar.specs.Productions.{p_external, p_block}
 use Rattle.c_senses.specs.Sense.{Sense}
 use Rattle.c_senses.specs.Entities.{defined_name, function_around}
-use Rattle.sense_laws.specs.Senses.{ChildrenFirst}
+use Rattle.parsed_tree_laws.specs.sense_laws.Senses.{ChildrenFirst}
 
 there : (list : List ℕ) (i : ℕ) → contains list i ≡ true → (k : ℕ) × (slice_get list k ≡ Some i)
 there [] i h = cc

@@ -1,7 +1,7 @@
 // The nodes of a syntax tree under one.
 ghost use Rattle.std.specs.Prelude.{◌≡◌, ◌<◌, ℕ, false, length, get_or, IfOk, IsOkUnless};
 ghost use Rattle.c_senses.specs.Tree as tree;
-ghost use Rattle.sense_laws.specs.Senses.{ChildrenFirst};
+ghost use Rattle.parsed_tree_laws.specs.sense_laws.Senses.{ChildrenFirst};
 ghost use Rattle.tree_reads.specs.Sources.{source_read};
 ghost use Rattle.c_check.specs.known_tags.Own.{AreUnder};
 ghost use Rattle.c_check.specs.known_tags.Own as spec;

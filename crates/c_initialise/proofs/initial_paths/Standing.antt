@@ -18,8 +18,8 @@ use Rattle.c_senses.specs.Entities.{with_length}
 use Rattle.c_senses.specs.Initialised.{type_below, type_along, new_length, most_elements, outcome_of}
 use Rattle.c_senses.specs.Sense.{Sense, sense_in}
 use Rattle.c_senses.specs.Rows.{world_at}
-use Rattle.sense_laws.specs.Sound.{type_of_part, step_type, step_below, type_down, Gives}
-use Rattle.sense_laws.specs.Asked.{PlacedStands, AllStand}
+use Rattle.parsed_tree_laws.specs.sense_laws.Sound.{type_of_part, step_type, step_below, type_down, Gives}
+use Rattle.parsed_tree_laws.specs.sense_laws.Asked.{PlacedStands, AllStand}
 use Rattle.c_initialise.specs.placed_paths.Within.{Members, part_type, step_in, step_under, type_in, AreShapes, Knows, GoesWithin, AllGoWithin, sized}
 use Rattle.c_initialise.proofs.placed_paths.Lasting.{shape_is, go_within}
 use Rattle.c_initialise.specs.initial_paths.Within.{PathsStand, InitialsWithin}

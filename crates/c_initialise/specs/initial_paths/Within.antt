@@ -10,8 +10,8 @@ use Rattle.c_senses.specs.Entities.{with_length}
 use Rattle.c_senses.specs.Initialised.{new_length, most_elements, outcome_of}
 use Rattle.c_senses.specs.Sense.{Sense}
 use Rattle.c_senses.specs.Rows.{world_at}
-use Rattle.sense_laws.specs.Sound.{Gives}
-use Rattle.sense_laws.specs.Asked.{AllStand}
+use Rattle.parsed_tree_laws.specs.sense_laws.Sound.{Gives}
+use Rattle.parsed_tree_laws.specs.sense_laws.Asked.{AllStand}
 
 -- all that lasts goes to parts of an object of type t, with the length that the initialiser gives it
 abbrev pub PathsStand : World → Source → (ℕ → Sense) → Ctype → Outcome → Type 0

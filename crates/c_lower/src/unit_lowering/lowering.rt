@@ -11,7 +11,7 @@ ghost use Rattle.c_scope.specs.Resolves.{IsBound};
 ghost use Rattle.c_senses.specs.Names.{source_of};
 ghost use Rattle.c_senses.specs.Right.{Right};
 ghost use Rattle.c_results.specs.Standing.{senses_made};
-ghost use Rattle.sense_laws.specs.Senses.{ChildrenFirst};
+ghost use Rattle.parsed_tree_laws.specs.sense_laws.Senses.{ChildrenFirst};
 ghost use Rattle.tree_reads.specs.Sources.{source_read, source_in};
 ghost use Rattle.name_places.specs.Named.{IsNamedIn};
 ghost use Rattle.c_meanings.specs.Known.{AreNamed};

@@ -17,9 +17,9 @@ use Rattle.c_senses.specs.Names.{source_of, numbered}
 use Rattle.c_senses.specs.Tree.{Source}
 use Rattle.c_senses.specs.World.{World}
 use Rattle.c_senses.specs.Sense.{Sense, IsRun, sense_in}
-use Rattle.sense_laws.specs.Senses.{SoundSense}
-use Rattle.sense_laws.proofs.parsed_laws.InOrder.{children_first}
-use Rattle.sense_laws.proofs.statement_laws.Grammar.{statements_parsed}
+use Rattle.parsed_tree_laws.specs.sense_laws.Senses.{SoundSense}
+use Rattle.parsed_tree_laws.proofs.sense_laws.parsed_laws.InOrder.{children_first}
+use Rattle.parsed_tree_laws.proofs.sense_laws.statement_laws.Grammar.{statements_parsed}
 use Rattle.parsed_tree_laws.proofs.family_laws.Reading.{units_families}
 use Rattle.parsed_tree_laws.proofs.nesting_laws.Nesting.{units_nest}
 use Rattle.parsed_tree_laws.proofs.counted_parts.Read.{parts_are_counted}
@@ -27,7 +27,7 @@ use Rattle.parsed_tree_laws.proofs.statement_shapes.Rows.{statements_shaped}
 use Rattle.declaration_laws.proofs.label_names.Binding.{labels_bound}
 use Rattle.declaration_laws.specs.function_laws.body_returns.Returns.{IsReturnOf}
 use Rattle.declaration_laws.proofs.function_laws.body_returns.Built.{returns_fit}
-use Rattle.definition_laws.specs.passed.built_unit_laws.built_units.Built.{IsBuilt}
+use Rattle.declaration_laws.specs.definition_laws.passed.built_unit_laws.built_units.Built.{IsBuilt}
 use Rattle.declaration_laws.specs.passed.core_node_laws.standing_laws.Standing.{IsGrown, IsMade, RunsOf, RunsInitialise}
 use Rattle.declaration_laws.proofs.passed.core_node_laws.standing_laws.Bodies.{function_block}
 use Rattle.declaration_laws.specs.function_laws.Functions.{HasLabel, GotosFit, FunctionsFit}

@@ -17,7 +17,7 @@ use Rattle.c_senses.specs.Sense.{Sense, IsCore, sense_in, fits}
 use Rattle.c_senses.specs.Rows.{AreSenses}
 use Rattle.c_senses.specs.Statements.{statements_among, statement_row, leaf_statement, expression_statement}
 use Rattle.parsed_tree_laws.specs.family_laws.Families.{IsChild}
-use Rattle.sense_laws.specs.Sound.{Gives}
+use Rattle.parsed_tree_laws.specs.sense_laws.Sound.{Gives}
 use Rattle.parsed_tree_laws.specs.counted_parts.Counted.{CountedParts}
 use Rattle.parsed_tree_laws.specs.ordered_parts.Ordered.{Beneath, itself, under}
 use Rattle.parsed_tree_laws.specs.statement_shapes.Shaped.{is_part, of_word, allowed, ShapedStatements}

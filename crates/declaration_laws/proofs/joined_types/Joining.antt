@@ -7,7 +7,7 @@ use Rattle.c_types.specs.Trees.{Ctype, Ctypes, VoidType, BoolType, IntegerType, 
 use Rattle.core_tree.specs.Rows.{Agree}
 use Rattle.core_nodes.proofs.SameTypes.{type_sound}
 use Rattle.c_senses.specs.Entities.{agree, fuller, together, all_together}
-use Rattle.sense_laws.proofs.Giving.{if_holds}
+use Rattle.parsed_tree_laws.proofs.sense_laws.Giving.{if_holds}
 use Rattle.declaration_laws.specs.joined_types.Joined.{Below, AllAgree, AllBelow, TypesJoined}
 
 some_one : {X : Type 0} → {x y : X} → ◌≡◌ {A = Option X} (Some x) (Some y) → x ≡ y

@@ -34,8 +34,8 @@ use Rattle.c_senses.specs.Names.{source_of, numbered}
 use Rattle.c_senses.specs.Tree.{Source, production_of, children_of, production_at, children_at, kind_of_token, token_of, is_a, is_name, is_identifier, spelling_of, spelling_at, first_where}
 use Rattle.core_node_laws.proofs.passed.parsed_tree_laws.family_laws.Reading.{units_families}
 use Rattle.core_node_laws.proofs.passed.parsed_tree_laws.nesting_laws.Nesting.{units_nest}
-use Rattle.sense_laws.proofs.parsed_laws.InOrder.{children_first}
-use Rattle.sense_laws.proofs.statement_laws.Grammar.{statements_parsed}
+use Rattle.parsed_tree_laws.proofs.sense_laws.parsed_laws.InOrder.{children_first}
+use Rattle.parsed_tree_laws.proofs.sense_laws.statement_laws.Grammar.{statements_parsed}
 use Rattle.core_node_laws.specs.standing_laws.Standing.{IsGrown}
 use Rattle.core_node_laws.proofs.standing_laws.Climbing.{list_in, in_list}
 use Rattle.core_node_laws.specs.passed.parsed_tree_laws.ordered_parts.Ordered.{IsPart, Beneath, itself, under}

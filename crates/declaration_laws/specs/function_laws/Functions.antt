@@ -18,8 +18,8 @@ use Rattle.core_tree.specs.Valid.{InRows, Bodied, LabelOnce, InFunctions}
 use Rattle.c_senses.specs.Names.{source_of, numbered}
 use Rattle.c_senses.specs.World.{World}
 use Rattle.c_senses.specs.Sense.{sense_in}
-use Rattle.sense_laws.specs.Senses.{SoundSense}
-use Rattle.definition_laws.specs.passed.built_unit_laws.built_units.Built.{IsBuilt}
+use Rattle.parsed_tree_laws.specs.sense_laws.Senses.{SoundSense}
+use Rattle.declaration_laws.specs.definition_laws.passed.built_unit_laws.built_units.Built.{IsBuilt}
 
 -- a goto has its label in a body exactly once
 abbrev pub HasLabel : CoreTrees → ℕ → NodeKind → Type 0

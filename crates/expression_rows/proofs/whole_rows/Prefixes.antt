@@ -21,7 +21,7 @@ use Rattle.core_nodes.specs.declared.fault.CheckFault.TheVariants.{BadOperand, U
 use Rattle.c_conversions.specs.Constants.{HasRows}
 use Rattle.c_results.specs.declared.made.Made.{Made}
 use Rattle.c_results.specs.Standing.{sense_made, Rowed}
-use Rattle.sense_laws.specs.Sound.{Gives}
+use Rattle.parsed_tree_laws.specs.sense_laws.Sound.{Gives}
 use Rattle.expression_rows.specs.whole_rows.Constants.{SenseHasRows}
 use Rattle.expression_rows.specs.whole_rows.Prefix.{sized_part, begun}
 

@@ -10,7 +10,7 @@ use Rattle.c_senses.specs.Tree.{Source}
 use Rattle.c_senses.specs.World.{World}
 use Rattle.core_nodes.specs.Standing.{core_at, parts_in, Knows, Made}
 use Rattle.core_nodes.specs.declared.fault.CheckFault.{CheckFault}
-use Rattle.sense_laws.specs.Sound.{Gives}
+use Rattle.parsed_tree_laws.specs.sense_laws.Sound.{Gives}
 
 pub bare_world : Unit → World
 bare_world u = record {

@@ -10,7 +10,7 @@ use Rattle.c_grammar.specs.Table.{item_of}
 use Rattle.c_grammar.specs.Terminals.{contains, terminal, takes}
 use Rattle.c_grammar.specs.Tree.{makes_node}
 use Rattle.c_grammar.specs.Reads.{State, Fault, Node, leaf, first, second, scoped, opened, closed, Walks, Opens, at_end, token, no_token, use_of, no_use, choice, no_choice, no_alternative, again, no_again, scope, enough, deep, refused, whole, broken}
-use Rattle.sense_laws.proofs.statement_laws.Rows.{one_of}
+use Rattle.parsed_tree_laws.proofs.sense_laws.statement_laws.Rows.{one_of}
 use Rattle.limit_laws.proofs.literal_laws.Texts.{IsText, IsOther, text_taken, other_taken}
 use Rattle.limit_laws.proofs.literal_laws.Rows.{text_rows, other_rows, inner_rows, choice_rows, is_part, is_text, takes_other, chooses, text_no_node, other_no_node, inner_no_node, text_item, other_item, other_some, choice_item, choice_some, choice_end, part_is}
 

@@ -21,7 +21,7 @@ use Rattle.c_senses.specs.Literals.{bytes_of_string}
 use Rattle.c_senses.specs.Tree.{Source, production_of, children_of, kind_at, spelling_at, kind_of_token, token_of, spelling_of}
 use Rattle.c_literals.specs.Laws.{AreBytes, LiteralFits}
 use Rattle.c_literals.proofs.Literals.{fits}
-use Rattle.sense_laws.proofs.parsed_laws.Constants.{constants_fit}
+use Rattle.parsed_tree_laws.proofs.sense_laws.parsed_laws.Constants.{constants_fit}
 use Rattle.expression_rows.specs.Readable.{LiteralsFit}
 use Rattle.limit_laws.specs.literal_laws.Units.{UnitsAreReadable}
 use Rattle.limit_laws.proofs.literal_laws.Parts.{IsString, IsNone, Strings, Shape, Good, AllGood, opens_good}

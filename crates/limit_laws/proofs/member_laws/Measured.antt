@@ -1,5 +1,5 @@
 -- Values have sizes, since members are complete.
-use Rattle.built_unit_laws.proofs.value_laws.Values.{values_sized}
+use Rattle.core_node_laws.proofs.built_unit_laws.value_laws.Values.{values_sized}
 use Rattle.limit_laws.specs.member_laws.Measured.{ValuesHaveSizes}
 use Rattle.limit_laws.proofs.member_laws.Members.{members_complete}
 

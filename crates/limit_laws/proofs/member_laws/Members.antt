@@ -18,13 +18,13 @@ use Rattle.c_senses.specs.World.{World, extent}
 use Rattle.c_senses.specs.Sense.{Sense, IsMembers, sense_in}
 use Rattle.c_senses.specs.Tags.{is_union, tag_of, completed_from, members_under}
 use Rattle.c_senses.specs.Rows.{world_at, row, AreSenses}
-use Rattle.sense_laws.specs.Laws.{Grows}
-use Rattle.sense_laws.specs.Senses.{ChildrenFirst}
+use Rattle.parsed_tree_laws.specs.sense_laws.Laws.{Grows}
+use Rattle.parsed_tree_laws.specs.sense_laws.Senses.{ChildrenFirst}
 use Rattle.parsed_tree_laws.specs.family_laws.Families.{Families}
 use Rattle.limit_laws.specs.struct_laws.PassedOn.{bits_fit, is_none_left, is_flexible, type_fits, takes_member, takes}
 use Rattle.limit_laws.proofs.struct_laws.Members.{never_untaken}
 use Rattle.limit_laws.proofs.struct_laws.Lists.{found}
-use Rattle.built_unit_laws.specs.built_units.Built.{IsBuilt}
+use Rattle.core_node_laws.specs.built_unit_laws.built_units.Built.{IsBuilt}
 use Rattle.limit_laws.specs.member_laws.Members.{MembersAreComplete}
 use Rattle.limit_laws.proofs.member_laws.Growing.{grows_to}
 

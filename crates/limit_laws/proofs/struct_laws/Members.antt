@@ -22,9 +22,9 @@ use Rattle.c_senses.specs.Sense.{Sense, Nothing, IsType, IsDeclarator, IsMembers
 use Rattle.c_senses.specs.Tags.{is_union, tag_of, tag_leaf, tag_fits, named_tag, aggregate_type, laid, struct_type, members_in_sense, members_among, untagged_in, type_in_sense, unnamed_member, member_specs, is_in_union, in_union, is_before, earlier_parts, declares_members, has_untagged, is_last_in, is_last_field, is_flexible_end, may_be_member, bit_field, bits_in, width_fits, field_name, is_new_name, named_field, field_typed, field_of, completed_from, completions_of, types_of_parts}
 use Rattle.c_senses.specs.Limits.{is_small, ends_flexible}
 use Rattle.c_senses.specs.Rows.{world_at, row, row_of, AreSenses}
-use Rattle.sense_laws.specs.Senses.{ChildrenFirst}
-use Rattle.sense_laws.specs.Laws.{Grows}
-use Rattle.sense_laws.proofs.Completing.{grown_by_one}
+use Rattle.parsed_tree_laws.specs.sense_laws.Senses.{ChildrenFirst}
+use Rattle.parsed_tree_laws.specs.sense_laws.Laws.{Grows}
+use Rattle.parsed_tree_laws.proofs.sense_laws.Completing.{grown_by_one}
 use Rattle.struct_rows.specs.Taken.{bits_fit, width_in, is_flexible, takes}
 use Rattle.parsed_tree_laws.specs.family_laws.Families.{IsChild, Ascend, Families}
 use Rattle.limit_laws.specs.struct_laws.Untaken.{IsUntaken}

@@ -6,9 +6,9 @@ use Rattle.core_tree.specs.Typed.{trees_of}
 use Rattle.core_tree.specs.Range.{EachNode}
 use Rattle.core_tree.specs.Valid.{InRows, ValueSized}
 use Rattle.c_senses.specs.Tree.{Source}
-use Rattle.sense_laws.specs.Senses.{ChildrenFirst}
+use Rattle.parsed_tree_laws.specs.sense_laws.Senses.{ChildrenFirst}
 use Rattle.parsed_tree_laws.specs.family_laws.Families.{Families}
-use Rattle.built_unit_laws.specs.built_units.Built.{IsBuilt}
+use Rattle.core_node_laws.specs.built_unit_laws.built_units.Built.{IsBuilt}
 
 -- where nodes stand in their rows, and structures and unions have a size if they are complete
 abbrev pub ValuesHaveSizes : Type 0

@@ -7,7 +7,7 @@ use Rattle.c_senses.specs.Sense.{Sense, IsMembers, sense_in}
 use Rattle.c_senses.specs.Tags.{tag_of, tag_fits}
 use Rattle.c_senses.specs.Right.{TagsDiffer}
 use Rattle.c_senses.specs.Rows.{world_at, AreSenses}
-use Rattle.sense_laws.specs.Senses.{ChildrenFirst}
+use Rattle.parsed_tree_laws.specs.sense_laws.Senses.{ChildrenFirst}
 
 -- the tag of a specifier with a list, which fits, has no members before it
 abbrev pub TagsStayOpen : Type 0

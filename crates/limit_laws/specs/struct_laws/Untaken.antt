@@ -10,7 +10,7 @@ use Rattle.c_senses.specs.Sense.{Sense, IsMembers, sense_in}
 use Rattle.c_senses.specs.Tags.{is_union, tag_of, tag_fits}
 use Rattle.c_senses.specs.Right.{TagsDiffer}
 use Rattle.c_senses.specs.Rows.{world_at, AreSenses}
-use Rattle.sense_laws.specs.Senses.{ChildrenFirst}
+use Rattle.parsed_tree_laws.specs.sense_laws.Senses.{ChildrenFirst}
 use Rattle.struct_rows.specs.Built.{agree, first_is_union, built_struct}
 use Rattle.struct_rows.specs.Taken.{takes}
 

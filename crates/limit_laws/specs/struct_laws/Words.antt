@@ -8,7 +8,7 @@ use Rattle.c_senses.specs.Given.{Refuses}
 use Rattle.c_senses.specs.Sense.{Sense, sense_in}
 use Rattle.c_senses.specs.Right.{TagsDiffer}
 use Rattle.c_senses.specs.Rows.{world_at, AreSenses}
-use Rattle.sense_laws.specs.Senses.{ChildrenFirst}
+use Rattle.parsed_tree_laws.specs.sense_laws.Senses.{ChildrenFirst}
 use Rattle.struct_rows.specs.Built.{built_struct}
 use Rattle.limit_laws.specs.struct_laws.Untaken.{IsOtherKeyword, IsUntaken}
 

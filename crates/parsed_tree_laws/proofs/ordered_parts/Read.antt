@@ -7,7 +7,7 @@ use Rattle.c_grammar.specs.Reads.{node_of}
 use Rattle.c_parser.specs.Parse.{begin}
 use Rattle.c_senses.specs.Names.{source_of, numbered}
 use Rattle.c_senses.specs.Tree.{Source, children_of}
-use Rattle.sense_laws.proofs.parsed_laws.InOrder.{children_first}
+use Rattle.parsed_tree_laws.proofs.sense_laws.parsed_laws.InOrder.{children_first}
 use Rattle.parsed_tree_laws.specs.ordered_parts.Ordered.{IsPart, Beneath, itself, under, PartsFollow}
 use Rattle.parsed_tree_laws.proofs.ordered_parts.Cuts.{IsIn, Part, Cut, AllGood, all_good}
 

@@ -16,7 +16,7 @@ use Rattle.c_senses.specs.Sense.{Sense, sense_in}
 use Rattle.c_senses.specs.Right.{Declared, sense_of, declares_entity, is_declaring, stands_in_declaration, is_tentative, is_definition_at, of_internal, representative, entity_type, declared_as, declared_name}
 use Rattle.core_node_laws.proofs.count_laws.Rooms.{apart}
 use Rattle.core_node_laws.proofs.count_laws.once_nodes.Rooted.{found_where}
-use Rattle.object_initialiser_laws.specs.internal_name_laws.representative_names.Representatives.{IsKnown}
+use Rattle.valid_unit_laws.specs.object_initialiser_laws.internal_name_laws.representative_names.Representatives.{IsKnown}
 use Rattle.core_node_laws.proofs.count_laws.named_units.Standing.{IsOpening}
 
 pub none_some : {X : Type 0} → {x : X} → ◌≡◌ {A = Option X} None (Some x) → ⊥

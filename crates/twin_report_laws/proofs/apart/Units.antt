@@ -37,10 +37,10 @@ use Rattle.core_node_laws.proofs.count_laws.named_units.Expressions.{OfSense}
 use Rattle.core_node_laws.proofs.count_laws.named_units.All.{all_kept}
 use Rattle.core_node_laws.proofs.count_laws.named_units.Parts.{HasToken}
 use Rattle.core_node_laws.proofs.count_laws.named_units.Openers.{opener}
-use Rattle.object_initialiser_laws.specs.internal_name_laws.representative_names.Representatives.{IsKnown}
-use Rattle.object_initialiser_laws.proofs.internal_name_laws.representative_names.Standing.{representatives_known}
-use Rattle.definition_laws.proofs.block_laws.Whole.{blocks_differ}
-use Rattle.declared_type_laws.proofs.right_nodes.Whole.{right_laid}
+use Rattle.valid_unit_laws.specs.object_initialiser_laws.internal_name_laws.representative_names.Representatives.{IsKnown}
+use Rattle.valid_unit_laws.proofs.object_initialiser_laws.internal_name_laws.representative_names.Standing.{representatives_known}
+use Rattle.declaration_laws.proofs.definition_laws.block_laws.Whole.{blocks_differ}
+use Rattle.declaration_laws.proofs.declared_type_laws.right_nodes.Whole.{right_laid}
 use Rattle.core_node_laws.proofs.count_laws.single_nodes.Places.{IsPlaced, is_placed, one_place}
 use Rattle.twin_report_laws.specs.apart.Apart.{RightApart}
 use Rattle.twin_report_laws.proofs.apart.Makers.{makers_once}

@@ -54,7 +54,7 @@ use Rattle.twin_report_laws.proofs.outcome_laws.twin_words.Options.{any_one}
 use Rattle.twin_report_laws.proofs.outcome_laws.twin_words.Members.{Member, member_at, at_member, member_split, member_map, member_flat, member_filter, find_member, find_some, at_range}
 use Rattle.twin_report_laws.proofs.outcome_laws.twin_words.Library.{IsOwn, all_own, member_own, begins, location_key, library_view, library_external, one_name}
 use Rattle.twin_report_laws.proofs.outcome_laws.twin_locations.Options.{and_then_some, number_is}
-use Rattle.system_laws.specs.item_laws.Items.{HasPlace, IsPlacedIn, IsPlacedAt, KindPlaced}
+use Rattle.linked_laws.specs.system_laws.item_laws.Items.{HasPlace, IsPlacedIn, IsPlacedAt, KindPlaced}
 use Rattle.linked_laws.specs.alike_laws.Plain.{IsPlain, DefinesPlain}
 use Rattle.twin_report_laws.specs.rows.Ready.{IsReady, HasId, HasCalled}
 use Rattle.twin_report_laws.proofs.rows.Views.{begins_view, in_role}

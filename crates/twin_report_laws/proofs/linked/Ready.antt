@@ -32,7 +32,7 @@ use Rattle.obj_space.specs.Spots.{HasWholes}
 use Rattle.obj_space.proofs.Begins.{all_begin}
 use Rattle.sol_model.specs.declared.system.System.{System}
 use Rattle.sol_model.specs.Systems.{IsValid, location_count}
-use Rattle.system_laws.proofs.filled_laws.Placed.{linked_placed}
+use Rattle.linked_laws.proofs.system_laws.filled_laws.Placed.{linked_placed}
 use Rattle.unit_report.proofs.unit_system.Rightness.{right_of}
 use Rattle.unit_report.proofs.unit_system.Validity.{some_located}
 use Rattle.twin_report_laws.specs.rows.Ready.{IsReady}

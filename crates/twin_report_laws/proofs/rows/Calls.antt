@@ -36,8 +36,8 @@ use Rattle.row_numbers.specs.Objects.{library_number}
 use Rattle.row_numbers.specs.Setting.{row, rest_row, value_rows, Setting}
 use Rattle.call_sites.specs.Calls.{is_call, call_if, calls_upto, head_of, rest_of, name_of, name_at, under_decay, decayed_at, ids_of, named_callee, named_library, giver_in, givers_in, is_named, object_by, fresh_by, fresh_in, fresh_of, caller_by, variadic_count, rows_past, argument_rows, IsCallSite}
 use Rattle.normal_form.specs.SystemOf.{setting_of}
-use Rattle.system_laws.proofs.Compact.{found_at, stands_at}
-use Rattle.system_laws.proofs.Calls.{fresh_valid}
+use Rattle.linked_laws.proofs.system_laws.Compact.{found_at, stands_at}
+use Rattle.linked_laws.proofs.system_laws.Calls.{fresh_valid}
 use Rattle.twin_report_laws.specs.outcome_laws.twin_programs.One.{Numbers, SameNode}
 use Rattle.twin_report_laws.specs.outcome_laws.twin_locations.Same.{key_moved}
 use Rattle.twin_report_laws.specs.systems.Systems.{Maps, SameCall}

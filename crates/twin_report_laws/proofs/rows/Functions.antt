@@ -30,9 +30,9 @@ use Rattle.row_numbers.specs.Functions.{is_parameter, keys_in, begins_at, object
 use Rattle.row_numbers.specs.Setting.{none_row, result_row, result_nodes, takes_further}
 use Rattle.call_sites.specs.Signatures.{comparison, at_end, IsSignature, compares, ends, known, unknown, called_type}
 use Rattle.normal_form.specs.Facts.{cell_list, parameter_rows, further_rows, parameters_by, library_by, effects_by, IsFunctionFact, AreFunctions}
-use Rattle.system_laws.proofs.parameter_laws.Contents.{content_of}
-use Rattle.system_laws.proofs.parameter_laws.Fitting.{is_first, all_nodes}
-use Rattle.system_laws.proofs.Functions.{HasPlace, place_of}
+use Rattle.linked_laws.proofs.system_laws.parameter_laws.Contents.{content_of}
+use Rattle.linked_laws.proofs.system_laws.parameter_laws.Fitting.{is_first, all_nodes}
+use Rattle.linked_laws.proofs.system_laws.Functions.{HasPlace, place_of}
 use Rattle.twin_report_laws.specs.outcome_laws.twin_programs.One.{Numbers}
 use Rattle.twin_report_laws.specs.outcome_laws.twin_locations.Same.{key_moved}
 use Rattle.twin_report_laws.specs.systems.Systems.{Maps, SameFunction}

@@ -16,7 +16,7 @@ use Rattle.type_rules.specs.Members.{in_list, IsMemberOf}
 use Rattle.row_numbers.specs.Kept.{nodes_in, nodes_of, member_node, is_kept, kept_from, kept_count}
 use Rattle.normal_form.specs.Assignments.{is_union_type, part_first}
 use Rattle.linked_laws.specs.merged_laws.Merged.{TagsFit}
-use Rattle.system_laws.proofs.fact_laws.Nodes.{structure_nodes_is, member_within}
+use Rattle.linked_laws.proofs.system_laws.fact_laws.Nodes.{structure_nodes_is, member_within}
 
 some_one : {X : Type 0} → {x y : X} → ◌≡◌ {A = Option X} (Some x) (Some y) → x ≡ y
 some_one h = cc

@@ -24,7 +24,7 @@ use Rattle.row_numbers.specs.Objects.{library_id}
 use Rattle.row_numbers.specs.Functions.{begins_at, object_at, objects_at, function_keys, functions_of, functions_below, type_or_void, key_type}
 use Rattle.row_numbers.specs.Setting.{width_by, own_width, lead, lead_in, trail, trail_at, calls_further, width, widths, result_nodes, result_widths, row, list_row, rest_row, result_row, none_row, value_rows}
 use Rattle.row_numbers.proofs.KeptLemmas.{count_more}
-use Rattle.system_laws.proofs.Rows.{kept_fewer}
+use Rattle.linked_laws.proofs.system_laws.Rows.{kept_fewer}
 use Rattle.twin_report_laws.specs.outcome_laws.twin_programs.One.{Numbers}
 use Rattle.twin_report_laws.specs.outcome_laws.twin_locations.Same.{key_moved}
 use Rattle.twin_report_laws.proofs.outcome_laws.twin_words.Sums.{some_one, none_some, sum-cons, sum_same}

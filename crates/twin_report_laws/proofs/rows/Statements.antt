@@ -34,8 +34,8 @@ use Rattle.row_numbers.specs.Functions.{number_of, type_or_void}
 use Rattle.row_numbers.specs.Objects.{location_of}
 use Rattle.row_numbers.specs.Setting.{result_row, Setting}
 use Rattle.linked_laws.specs.initial_laws.Initials.{Fills, AllFill}
-use Rattle.system_laws.specs.item_laws.Items.{HasPlace, KindPlaced}
-use Rattle.system_laws.proofs.item_laws.Spots.{IsPut, item_put, entity_of}
+use Rattle.linked_laws.specs.system_laws.item_laws.Items.{HasPlace, KindPlaced}
+use Rattle.linked_laws.proofs.system_laws.item_laws.Spots.{IsPut, item_put, entity_of}
 use Rattle.normal_form.specs.declared.normal.Assignment.{Assignment}
 use Rattle.normal_form.specs.Assignments.{copies, given_type, returned_by, return_row, path_node, target_node, spot, put_at, item_row, initialise_row, place_of_kind, value_of_kind, statement_of_kind, row_of_kind, node_assignments}
 use Rattle.twin_report_laws.specs.outcome_laws.twin_programs.One.{Numbers, SameNode}

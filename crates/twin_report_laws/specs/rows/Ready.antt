@@ -15,7 +15,7 @@ use Rattle.linked_laws.specs.merged_laws.Merged.{TagsFit}
 use Rattle.linked_laws.specs.call_laws.Values.{AreCallsOfValues}
 use Rattle.linked_laws.specs.initial_laws.Initials.{HasInitials}
 use Rattle.linked_laws.specs.return_laws.Returns.{HasReturns}
-use Rattle.system_laws.specs.item_laws.Items.{ArePlaced}
+use Rattle.linked_laws.specs.system_laws.item_laws.Items.{ArePlaced}
 use Rattle.obj_space.specs.Space.{locations_in}
 use Rattle.obj_space.specs.Spots.{HasWholes}
 use Rattle.obj_space.specs.View.{view_of}

@@ -7,7 +7,7 @@ use Rattle.c_grammar.specs.Terminals.{contains}
 use Rattle.c_senses.specs.Tree.{Source, is_a, parent_of, children_at, first_where, numbers_from}
 use Rattle.c_senses.specs.Keys.{is_inner, first_free, names_with, specs_around, declaration_with, member_around, list_around, key_within, key_of}
 use Rattle.c_senses.specs.Sense.{Sense}
-use Rattle.sense_laws.specs.Senses.{ChildrenFirst}
+use Rattle.parsed_tree_laws.specs.sense_laws.Senses.{ChildrenFirst}
 use Rattle.unit_keys.specs.Placed.{ParentsBehind}
 use Rattle.unit_keys.specs.given_keys.Keyed.{key_by}
 

@@ -10,7 +10,7 @@ ghost use Rattle.c_senses.specs.Right as right;
 ghost use Rattle.c_senses.specs.Right.{KeysRight};
 ghost use Rattle.c_senses.specs.Sense.{Sense, sense_in};
 ghost use Rattle.c_results.specs.Standing.{senses_made};
-ghost use Rattle.sense_laws.specs.Senses.{ChildrenFirst};
+ghost use Rattle.parsed_tree_laws.specs.sense_laws.Senses.{ChildrenFirst};
 ghost use Rattle.tree_reads.specs.Sources.{source_in, source_read};
 ghost use Rattle.tree_reads.specs.node_roles.Roles.{AreRoles};
 ghost use Rattle.c_tags.specs.tag_numbers.Known.{AreTags};

@@ -6,7 +6,7 @@ ghost use Rattle.core_tree.specs.declared.node.Unit.{Unit as UnitSpec};
 ghost use Rattle.c_senses.specs.Keys as keys;
 ghost use Rattle.c_senses.specs.Sense.{sense_in};
 ghost use Rattle.c_results.specs.Standing.{senses_made};
-ghost use Rattle.sense_laws.specs.Senses.{ChildrenFirst};
+ghost use Rattle.parsed_tree_laws.specs.sense_laws.Senses.{ChildrenFirst};
 ghost use Rattle.tree_reads.specs.Sources.{source_in, source_read};
 ghost use Rattle.unit_keys.specs.Placed.{ArePositions};
 ghost use Rattle.unit_keys.specs.Specifiers as specifiers;

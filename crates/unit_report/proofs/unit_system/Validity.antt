@@ -11,10 +11,10 @@ use Rattle.obj_space.specs.View.{view_of}
 use Rattle.normal_form.specs.SystemOf.{SystemOf}
 use Rattle.constraints.specs.System.{IsSized, AreLocated}
 use Rattle.linked_laws.proofs.main_laws.Objects.{body_located}
-use Rattle.system_laws.proofs.parameter_laws.Deciding.{typed_decide}
-use Rattle.system_laws.proofs.demand_laws.Demands.{demands_fit}
-use Rattle.system_laws.specs.filled_laws.PassedOn.{ArePlaced}
-use Rattle.system_laws.proofs.filled_laws.PassedOn.{items_fit}
+use Rattle.linked_laws.proofs.system_laws.parameter_laws.Deciding.{typed_decide}
+use Rattle.linked_laws.proofs.system_laws.demand_laws.Demands.{demands_fit}
+use Rattle.linked_laws.specs.system_laws.filled_laws.PassedOn.{ArePlaced}
+use Rattle.linked_laws.proofs.system_laws.filled_laws.PassedOn.{items_fit}
 use Rattle.unit_report.specs.unit_system.Right.{IsRight}
 
 -- it has a location

@@ -3,7 +3,7 @@ use Rattle.std.specs.Prelude.{All}
 use Rattle.core_tree.specs.declared.node.Program.{Program}
 use Rattle.core_tree.specs.Typed.{trees_in}
 use Rattle.core_tree.specs.Valid.{IsEntryAt}
-use Rattle.system_laws.specs.Parts.{HasBody}
+use Rattle.linked_laws.specs.system_laws.Parts.{HasBody}
 use Rattle.linked_laws.specs.call_laws.Values.{AreCallsOfValues}
 use Rattle.linked_laws.specs.merged_laws.Merged.{TagsFit}
 use Rattle.linked_laws.specs.node_laws.Rows.{HasRows}

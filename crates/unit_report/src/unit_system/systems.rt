@@ -11,7 +11,7 @@ ghost use Rattle.obj_space.specs.View.{view_of};
 ghost use Rattle.unit_link.specs.Needs.{AreLinkable};
 ghost use Rattle.linked_laws.specs.location_laws.named_laws.Units.{AreNamedUnits};
 ghost use Rattle.linked_laws.specs.location_laws.named_laws.Whole.{IsWhole};
-ghost use Rattle.system_laws.specs.filled_laws.PassedOn.{ArePlaced};
+ghost use Rattle.linked_laws.specs.system_laws.filled_laws.PassedOn.{ArePlaced};
 ghost use Rattle.constraints.specs.System.{IsFaultOf as IsSystemFault};
 ghost use Rattle.unit_report.specs.unit_system.Of.{AreLinkedAs, IsSystemOf};
 ghost use Rattle.unit_report.specs.unit_system.Right.{IsRight};

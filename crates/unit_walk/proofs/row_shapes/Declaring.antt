@@ -19,8 +19,8 @@ use Rattle.c_senses.specs.Statements.{assert_row, statement_row, statement_of, l
 use Rattle.c_senses.specs.Tags.{tag_fits, named_tag, enum_row, enumerator_row, enumerator_named, enumerator_of, is_int, value_before, before_enumerator, struct_row, struct_type, aggregate_type, laid, is_union, members_in_sense, members_row, member_declaration, member_specs, unnamed_member, untagged_in, type_in_sense, members_among, is_in_union, field_row, field_of, field_typed, may_be_member, is_new_name, field_name, named_field, bits_in, bit_field, width_fits}
 use Rattle.c_senses.specs.Initialised.{designator_row}
 use Rattle.c_senses.specs.Limits.{is_small, ends_flexible}
-use Rattle.sense_laws.specs.Sound.{Gives}
-use Rattle.sense_laws.proofs.Giving.{if_given, some_given, then_gives, if_holds}
+use Rattle.parsed_tree_laws.specs.sense_laws.Sound.{Gives}
+use Rattle.parsed_tree_laws.proofs.sense_laws.Giving.{if_given, some_given, then_gives, if_holds}
 use Rattle.unit_walk.specs.row_shapes.Kept.{Keeps}
 
 anything : {A : Type 0} (g : Given A) → Gives (λ x. ⊤) g

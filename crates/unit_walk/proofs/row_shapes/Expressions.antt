@@ -13,8 +13,8 @@ use Rattle.c_senses.specs.Sense.{Sense, IsCore, last_of}
 use Rattle.c_senses.specs.Tree.{left_of}
 use Rattle.c_senses.specs.Operators.{between}
 use Rattle.c_senses.specs.Expressions.{as_sense, passed, binary_of, binary_row, primary_of, primary_row, indexed, dotted, pointed, called, counted_after, post_of, post_signed, post_row, prefixed, sized, aligned, worded, unary_of, unary_row, cast_over, cast_last, cast_of, cast_row_of, conditional_row, assignment_row, is_binary, expression_row}
-use Rattle.sense_laws.specs.Sound.{Gives}
-use Rattle.sense_laws.proofs.Giving.{if_holds}
+use Rattle.parsed_tree_laws.specs.sense_laws.Sound.{Gives}
+use Rattle.parsed_tree_laws.proofs.sense_laws.Giving.{if_holds}
 
 module _ (K : Sense → Type 0) (core : (c : Core) → K (IsCore c)) where
   pub cores_give : (g : Given Core) → Gives K (as_sense g)

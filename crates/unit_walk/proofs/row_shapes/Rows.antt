@@ -12,11 +12,11 @@ use Rattle.c_senses.specs.Initialised.{init_row, items_row, designator_row}
 use Rattle.c_senses.specs.Expressions.{expression_row}
 use Rattle.c_senses.specs.Statements.{statement_row, block_row, rest_row, declaration_row}
 use Rattle.name_places.specs.Named.{IsNamedSense}
-use Rattle.sense_laws.specs.row_trees.Trees.{SenseHasRows}
+use Rattle.parsed_tree_laws.specs.sense_laws.row_trees.Trees.{SenseHasRows}
 use Rattle.statement_rows.specs.Kept.{RunHasRows, HasAllRows}
 use Rattle.statement_rows.proofs.Stand.{statement_kept, block_kept, declaration_kept, rest_kept}
-use Rattle.sense_laws.specs.Sound.{Gives}
-use Rattle.sense_laws.proofs.Giving.{if_holds}
+use Rattle.parsed_tree_laws.specs.sense_laws.Sound.{Gives}
+use Rattle.parsed_tree_laws.proofs.sense_laws.Giving.{if_holds}
 use Rattle.unit_walk.specs.row_shapes.Kept.{Keeps, RowsKeep, is_initial, is_declarator, is_expression}
 use Rattle.unit_walk.proofs.row_shapes.Expressions.{expressions_give}
 use Rattle.unit_walk.proofs.row_shapes.Named.{declarators_give, inits_give, items_give}

@@ -11,7 +11,7 @@ use Rattle.struct_rows.specs.Built.{built_struct}
 use Rattle.struct_rows.proofs.Building.{struct_part}
 use Rattle.limit_laws.proofs.struct_laws.Members.{never_unbuilt}
 use Rattle.parsed_tree_laws.specs.family_laws.Families.{Families}
-use Rattle.sense_laws.specs.Senses.{ChildrenFirst}
+use Rattle.parsed_tree_laws.specs.sense_laws.Senses.{ChildrenFirst}
 use Rattle.c_senses.specs.Right.{TagsDiffer}
 use Rattle.c_conversions.specs.constant_values.Constants as constants
 use Rattle.name_places.specs.Named.{IsNamedSense, IsNamedIn}
@@ -39,11 +39,11 @@ use Rattle.c_senses.specs.World.{World}
 use Rattle.c_senses.specs.Sense.{Sense, Nothing, IsCore, IsType, IsSpecified, IsDeclarator, IsDerivation, IsParameter, IsMembers, IsValue, IsRun, IsInitial, sense_in}
 use Rattle.c_senses.specs.Rows.{row_of, declaring_row, declarator_row, world_at, AreSenses}
 use Rattle.c_senses.specs.Expressions.{expression_row}
-use Rattle.sense_laws.specs.row_trees.Trees.{SenseHasRows}
+use Rattle.parsed_tree_laws.specs.sense_laws.row_trees.Trees.{SenseHasRows}
 use Rattle.unit_walk.specs.row_shapes.Kept.{Keeps}
 use Rattle.unit_walk.specs.row_shapes.Kept as shapes
 use Rattle.unit_walk.proofs.row_shapes.Rows.{rows_keep}
-use Rattle.sense_laws.specs.Sound.{Gives}
+use Rattle.parsed_tree_laws.specs.sense_laws.Sound.{Gives}
 use Rattle.statement_rows.specs.Told.{IsStatementPart}
 use Rattle.unit_worlds.specs.Growing.{Grows, completed_at}
 use Rattle.unit_worlds.proofs.Sensing.{none_at}

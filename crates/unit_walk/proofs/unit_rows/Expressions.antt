@@ -19,7 +19,7 @@ use Rattle.name_uses.specs.PassedOn.{built_row}
 use Rattle.name_uses.specs.PassedOn.{IsReadable}
 use Rattle.name_uses.proofs.PassedOn.{built_whole}
 use Rattle.name_places.specs.Named.{IsNamedSense, IsNamedIn}
-use Rattle.sense_laws.specs.row_trees.Trees.{SenseHasRows}
+use Rattle.parsed_tree_laws.specs.sense_laws.row_trees.Trees.{SenseHasRows}
 use Rattle.unit_walk.specs.row_shapes.Kept.{Keeps}
 use Rattle.unit_walk.specs.row_shapes.Kept as shapes
 use Rattle.unit_walk.specs.unit_rows.Built.{lists, lists_others, is_expression}

@@ -6,9 +6,9 @@ use Rattle.c_senses.specs.Tree.{Source}
 use Rattle.c_senses.specs.World.{World}
 use Rattle.c_senses.specs.Sense.{Sense}
 use Rattle.c_senses.specs.Rows.{row_of}
-use Rattle.sense_laws.specs.Sound.{Gives}
+use Rattle.parsed_tree_laws.specs.sense_laws.Sound.{Gives}
 use Rattle.name_places.specs.Named.{IsNamedSense}
-use Rattle.sense_laws.specs.row_trees.Trees.{SenseHasRows}
+use Rattle.parsed_tree_laws.specs.sense_laws.row_trees.Trees.{SenseHasRows}
 use Rattle.statement_rows.specs.Kept.{RunHasRows, HasAllRows}
 
 -- in a tree of so many nodes

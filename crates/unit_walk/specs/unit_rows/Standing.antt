@@ -6,7 +6,7 @@ use Rattle.c_results.specs.declared.made.Made.{Made}
 use Rattle.c_results.specs.Standing.{sense_made, senses_made, IsWithin}
 use Rattle.c_meanings.specs.Known.{AreNamed, ArePaired}
 use Rattle.name_uses.specs.name_sayings.Listed.{AreListed}
-use Rattle.sense_laws.specs.Senses.{ChildrenFirst}
+use Rattle.parsed_tree_laws.specs.sense_laws.Senses.{ChildrenFirst}
 use Rattle.statement_rows.specs.Kinds.{AreKinds}
 use Rattle.statement_rows.specs.Told.{AreSpelled, IsTold}
 use Rattle.c_tags.specs.tag_numbers.Known.{AreTags}

@@ -1,2 +1,2 @@
 -- What this crate passes on, from those below it to those above it.
-pub use Rattle.object_initialiser_laws.proofs.internal_name_laws.internal_names.Reading.{internals_fit}
+pub use Rattle.valid_unit_laws.proofs.object_initialiser_laws.internal_name_laws.internal_names.Reading.{internals_fit}

@@ -9,25 +9,25 @@ use Rattle.c_senses.specs.Names.{source_of, numbered}
 use Rattle.c_senses.specs.Tree.{Source}
 use Rattle.c_senses.specs.Sense.{Sense, sense_in}
 use Rattle.c_senses.specs.Rows.{AreSenses, world_at}
-use Rattle.sense_laws.specs.Senses.{SoundSense}
-use Rattle.sense_laws.proofs.All.{asked_sound}
-use Rattle.built_unit_laws.specs.align_laws.Aligns.{AskedElseFit}
-use Rattle.built_unit_laws.proofs.align_laws.Fitting.{asked_aligns_fit}
-use Rattle.sense_laws.proofs.parsed_laws.InOrder.{children_first}
-use Rattle.sense_laws.proofs.parsed_laws.Constants.{constants_fit}
-use Rattle.sense_laws.proofs.statement_laws.Grammar.{statements_parsed}
+use Rattle.parsed_tree_laws.specs.sense_laws.Senses.{SoundSense}
+use Rattle.parsed_tree_laws.proofs.sense_laws.All.{asked_sound}
+use Rattle.core_node_laws.specs.built_unit_laws.align_laws.Aligns.{AskedElseFit}
+use Rattle.core_node_laws.proofs.built_unit_laws.align_laws.Fitting.{asked_aligns_fit}
+use Rattle.parsed_tree_laws.proofs.sense_laws.parsed_laws.InOrder.{children_first}
+use Rattle.parsed_tree_laws.proofs.sense_laws.parsed_laws.Constants.{constants_fit}
+use Rattle.parsed_tree_laws.proofs.sense_laws.statement_laws.Grammar.{statements_parsed}
 use Rattle.parsed_tree_laws.proofs.family_laws.Reading.{units_families}
 use Rattle.parsed_tree_laws.proofs.nesting_laws.Nesting.{units_nest}
 use Rattle.core_node_laws.specs.standing_laws.Standing.{IsGrown}
 use Rattle.parsed_tree_laws.proofs.grown_parts.Reading.{units_bring}
-use Rattle.object_initialiser_laws.specs.internal_name_laws.text_rows.Texts.{TypesFit}
-use Rattle.object_initialiser_laws.proofs.internal_name_laws.text_rows.Fitting.{asked_fit}
-use Rattle.object_initialiser_laws.proofs.internal_name_laws.text_rows.Linked.{types_fit, tree_grown}
+use Rattle.valid_unit_laws.specs.object_initialiser_laws.internal_name_laws.text_rows.Texts.{TypesFit}
+use Rattle.valid_unit_laws.proofs.object_initialiser_laws.internal_name_laws.text_rows.Fitting.{asked_fit}
+use Rattle.valid_unit_laws.proofs.object_initialiser_laws.internal_name_laws.text_rows.Linked.{types_fit, tree_grown}
 use Rattle.declaration_laws.proofs.name_order.Ordered.{units_ordered}
-use Rattle.built_unit_laws.specs.built_rows.Rows.{types_declared}
-use Rattle.declared_type_laws.proofs.owner_laws.passed.definition_laws.own_initialisers.Standing.{initialisers_stand}
+use Rattle.core_node_laws.specs.built_unit_laws.built_rows.Rows.{types_declared}
+use Rattle.declaration_laws.proofs.declared_type_laws.owner_laws.passed.definition_laws.own_initialisers.Standing.{initialisers_stand}
 use Rattle.valid_unit_laws.specs.object_size_laws.passed.object_initialiser_laws.bodies_fit.PassedOn.{InternalFit}
-use Rattle.object_initialiser_laws.proofs.internal_name_laws.internal_names.Reading.{internals_fit}
+use Rattle.valid_unit_laws.proofs.object_initialiser_laws.internal_name_laws.internal_names.Reading.{internals_fit}
 use Rattle.valid_unit_laws.proofs.object_size_laws.passed.object_initialiser_laws.bodies_fit.PassedOn.{linked_fit}
 use Rattle.parsed_tree_laws.proofs.placed_laws.Climbing.{Grown}
 

@@ -26,48 +26,48 @@ use Rattle.c_senses.specs.Tree.{Source}
 use Rattle.c_senses.specs.World.{World}
 use Rattle.c_senses.specs.Sense.{Sense, sense_in}
 use Rattle.c_senses.specs.Rows.{world_at}
-use Rattle.sense_laws.specs.Senses.{SoundSense}
-use Rattle.sense_laws.proofs.parsed_laws.Constants.{constants_fit}
+use Rattle.parsed_tree_laws.specs.sense_laws.Senses.{SoundSense}
+use Rattle.parsed_tree_laws.proofs.sense_laws.parsed_laws.Constants.{constants_fit}
 use Rattle.core_node_laws.specs.standing_laws.Standing.{IsGrown, IsMade, BodiesKnown, StatementStands}
-use Rattle.built_unit_laws.specs.built_units.Built.{IsBuilt}
-use Rattle.built_unit_laws.proofs.built_laws.Range.{in_range}
-use Rattle.built_unit_laws.proofs.built_laws.Keys.{keyed}
-use Rattle.built_unit_laws.proofs.built_laws.Uses.{uses_right}
-use Rattle.built_unit_laws.specs.built_rows.Rows.{types_declared}
-use Rattle.built_unit_laws.proofs.built_rows.Placed.{rows_asked}
-use Rattle.built_unit_laws.proofs.built_standing.Built.{statements_built}
-use Rattle.declared_type_laws.proofs.owner_laws.passed.definition_laws.linkage_laws.Unlinked.{entities_unlinked}
-use Rattle.object_initialiser_laws.proofs.internal_name_laws.passed.declared_type_laws.declared_uses.Reading.{uses_declared}
-use Rattle.built_unit_laws.proofs.unlinked_laws.Unlinked.{literals_unlinked}
-use Rattle.object_initialiser_laws.specs.internal_name_laws.passed.function_laws.body_laws.Bodies.{BodiesInitialise, BodiesApart}
-use Rattle.object_initialiser_laws.proofs.internal_name_laws.passed.function_laws.body_laws.Apart.{one_body_each}
-use Rattle.object_initialiser_laws.proofs.internal_name_laws.passed.function_laws.Functions.{functions_fit}
-use Rattle.object_initialiser_laws.proofs.internal_name_laws.passed.function_laws.case_laws.Cases.{cases_differ}
-use Rattle.built_unit_laws.proofs.lasting_literals.Lasting.{literals_last}
+use Rattle.core_node_laws.specs.built_unit_laws.built_units.Built.{IsBuilt}
+use Rattle.core_node_laws.proofs.built_unit_laws.built_laws.Range.{in_range}
+use Rattle.core_node_laws.proofs.built_unit_laws.built_laws.Keys.{keyed}
+use Rattle.core_node_laws.proofs.built_unit_laws.built_laws.Uses.{uses_right}
+use Rattle.core_node_laws.specs.built_unit_laws.built_rows.Rows.{types_declared}
+use Rattle.core_node_laws.proofs.built_unit_laws.built_rows.Placed.{rows_asked}
+use Rattle.core_node_laws.proofs.built_unit_laws.built_standing.Built.{statements_built}
+use Rattle.declaration_laws.proofs.declared_type_laws.owner_laws.passed.definition_laws.linkage_laws.Unlinked.{entities_unlinked}
+use Rattle.valid_unit_laws.proofs.object_initialiser_laws.internal_name_laws.passed.declared_type_laws.declared_uses.Reading.{uses_declared}
+use Rattle.core_node_laws.proofs.built_unit_laws.unlinked_laws.Unlinked.{literals_unlinked}
+use Rattle.valid_unit_laws.specs.object_initialiser_laws.internal_name_laws.passed.function_laws.body_laws.Bodies.{BodiesInitialise, BodiesApart}
+use Rattle.valid_unit_laws.proofs.object_initialiser_laws.internal_name_laws.passed.function_laws.body_laws.Apart.{one_body_each}
+use Rattle.valid_unit_laws.proofs.object_initialiser_laws.internal_name_laws.passed.function_laws.Functions.{functions_fit}
+use Rattle.valid_unit_laws.proofs.object_initialiser_laws.internal_name_laws.passed.function_laws.case_laws.Cases.{cases_differ}
+use Rattle.core_node_laws.proofs.built_unit_laws.lasting_literals.Lasting.{literals_last}
 use Rattle.core_node_laws.specs.count_laws.once_nodes.Once.{IsLaid}
-use Rattle.declared_type_laws.proofs.owner_laws.passed.definition_laws.block_laws.Whole.{blocks_differ}
+use Rattle.declaration_laws.proofs.declared_type_laws.owner_laws.passed.definition_laws.block_laws.Whole.{blocks_differ}
 use Rattle.core_node_laws.proofs.count_laws.single_nodes.Whole.{literals_once}
 use Rattle.valid_unit_laws.specs.object_size_laws.passed.object_initialiser_laws.owners_known.Known.{OwnersRight}
 use Rattle.valid_unit_laws.proofs.object_size_laws.passed.object_initialiser_laws.owners_known.Known.{owners_known}
 use Rattle.valid_unit_laws.proofs.object_size_laws.passed.object_initialiser_laws.all_listed.Whole.{units_list}
-use Rattle.declared_type_laws.specs.owner_laws.Owners.{Forward}
+use Rattle.declaration_laws.specs.declared_type_laws.owner_laws.Owners.{Forward}
 use Rattle.valid_unit_laws.proofs.object_size_laws.passed.object_initialiser_laws.all_listed.PassedOn.{initialisers_owned}
-use Rattle.object_initialiser_laws.specs.internal_name_laws.passed.function_laws.function_bodies.Bodies.{FunctionFits}
-use Rattle.object_initialiser_laws.proofs.internal_name_laws.passed.function_laws.function_bodies.Reading.{functions_stand}
-use Rattle.object_initialiser_laws.proofs.internal_name_laws.passed.function_laws.named_definitions.Naming.{definitions_named}
-use Rattle.object_initialiser_laws.proofs.internal_name_laws.passed.function_laws.result_laws.Results.{results_sized}
-use Rattle.object_initialiser_laws.proofs.static_value_laws.static_literals.PassedOn.{fixed_whole}
-use Rattle.object_initialiser_laws.proofs.static_value_laws.static_literals.Whole.{literals_built}
+use Rattle.valid_unit_laws.specs.object_initialiser_laws.internal_name_laws.passed.function_laws.function_bodies.Bodies.{FunctionFits}
+use Rattle.valid_unit_laws.proofs.object_initialiser_laws.internal_name_laws.passed.function_laws.function_bodies.Reading.{functions_stand}
+use Rattle.valid_unit_laws.proofs.object_initialiser_laws.internal_name_laws.passed.function_laws.named_definitions.Naming.{definitions_named}
+use Rattle.valid_unit_laws.proofs.object_initialiser_laws.internal_name_laws.passed.function_laws.result_laws.Results.{results_sized}
+use Rattle.valid_unit_laws.proofs.object_initialiser_laws.static_value_laws.static_literals.PassedOn.{fixed_whole}
+use Rattle.valid_unit_laws.proofs.object_initialiser_laws.static_value_laws.static_literals.Whole.{literals_built}
 use Rattle.type_rules.specs.Sizes.{TagsHaveSizes}
-use Rattle.built_unit_laws.specs.tag_sizes.Sizes.{TagsSpecified}
-use Rattle.built_unit_laws.proofs.tag_sizes.Sizes.{tags_sized}
+use Rattle.core_node_laws.specs.built_unit_laws.tag_sizes.Sizes.{TagsSpecified}
+use Rattle.core_node_laws.proofs.built_unit_laws.tag_sizes.Sizes.{tags_sized}
 use Rattle.valid_unit_laws.specs.object_size_laws.passed.object_initialiser_laws.bodies_fit.PassedOn.{InternalFit}
 use Rattle.valid_unit_laws.proofs.object_size_laws.entity_sizes.Whole.{entities_sized}
 use Rattle.valid_unit_laws.proofs.object_size_laws.passed.limit_laws.member_laws.Measured.{values_have_sizes}
 use Rattle.valid_unit_laws.proofs.object_size_laws.passed.object_initialiser_laws.bodies_fit.Fitting.{bodies_fit}
-use Rattle.declared_type_laws.proofs.owner_laws.internal_laws.Reading as internal_laws
-use Rattle.object_initialiser_laws.proofs.static_value_laws.built_filled.Filling.{built_are_filled}
-use Rattle.built_unit_laws.proofs.built_standing.Built.{parameters_built}
+use Rattle.declaration_laws.proofs.declared_type_laws.owner_laws.internal_laws.Reading as internal_laws
+use Rattle.valid_unit_laws.proofs.object_initialiser_laws.static_value_laws.built_filled.Filling.{built_are_filled}
+use Rattle.core_node_laws.proofs.built_unit_laws.built_standing.Built.{parameters_built}
 use Rattle.link_model.proofs.calling_laws.Calls.{calls_stand}
 use Rattle.valid_unit_laws.specs.built_valid.Whole.{BuiltIsValid}
 use Rattle.valid_unit_laws.proofs.built_valid.Sound.{senses_grown, senses_internal, senses_asked, senses_sound}

@@ -10,26 +10,26 @@ use Rattle.c_senses.specs.Names.{source_of, numbered}
 use Rattle.c_senses.specs.Rows.{AreSenses}
 use Rattle.c_senses.specs.Right.{InitialisesOnce}
 use Rattle.c_senses.specs.Sense.{Sense}
-use Rattle.sense_laws.proofs.parsed_laws.InOrder.{children_first}
-use Rattle.sense_laws.proofs.statement_laws.Grammar.{statements_parsed}
+use Rattle.parsed_tree_laws.proofs.sense_laws.parsed_laws.InOrder.{children_first}
+use Rattle.parsed_tree_laws.proofs.sense_laws.statement_laws.Grammar.{statements_parsed}
 use Rattle.parsed_tree_laws.proofs.family_laws.Reading.{units_families}
 use Rattle.parsed_tree_laws.proofs.nesting_laws.Nesting.{units_nest}
 use Rattle.core_node_laws.specs.standing_laws.Standing.{IsGrown}
 use Rattle.parsed_tree_laws.proofs.grown_parts.Reading.{units_bring}
 use Rattle.declaration_laws.proofs.name_order.Ordered.{units_ordered}
-use Rattle.declared_type_laws.proofs.owner_laws.passed.definition_laws.own_initialisers.Standing.{initialisers_stand}
-use Rattle.object_initialiser_laws.proofs.internal_name_laws.initialised_rows.Owning.{linked_fit}
+use Rattle.declaration_laws.proofs.declared_type_laws.owner_laws.passed.definition_laws.own_initialisers.Standing.{initialisers_stand}
+use Rattle.valid_unit_laws.proofs.object_initialiser_laws.internal_name_laws.initialised_rows.Owning.{linked_fit}
 use Rattle.valid_unit_laws.proofs.built_valid.PassedOn.{internals_fit}
 use Rattle.parsed_tree_laws.proofs.placed_laws.Climbing.{Grown}
-use Rattle.object_initialiser_laws.specs.internal_name_laws.initialised_rows.PassedOn.{TypesFit}
-use Rattle.object_initialiser_laws.proofs.internal_name_laws.initialised_rows.PassedOn.{types_fit, tree_grown}
-use Rattle.built_unit_laws.specs.tag_sizes.Sizes.{TagsSpecified}
+use Rattle.valid_unit_laws.specs.object_initialiser_laws.internal_name_laws.initialised_rows.PassedOn.{TypesFit}
+use Rattle.valid_unit_laws.proofs.object_initialiser_laws.internal_name_laws.initialised_rows.PassedOn.{types_fit, tree_grown}
+use Rattle.core_node_laws.specs.built_unit_laws.tag_sizes.Sizes.{TagsSpecified}
 use Rattle.valid_unit_laws.proofs.specified_types.Specified.{types_specified}
 use Rattle.unit_finish.specs.declared.planted_nodes.planting.Planted.{Planted}
 use Rattle.unit_finish.specs.planted_nodes.Planted.{IsPlanted}
 use Rattle.unit_finish.specs.Complete.{IsNamedWhole, IsMadeOf, MakesUnits}
-use Rattle.built_unit_laws.specs.built_parts.Parts.{ArePut, IsPut}
-use Rattle.built_unit_laws.proofs.built_parts.Building.{parts_built}
+use Rattle.core_node_laws.specs.built_unit_laws.built_parts.Parts.{ArePut, IsPut}
+use Rattle.core_node_laws.proofs.built_unit_laws.built_parts.Building.{parts_built}
 use Rattle.valid_unit_laws.proofs.built_valid.Whole.{built_is_valid}
 use Rattle.valid_unit_laws.specs.body_node_laws.known_initials.PassedOn.{AreParts as AreNamedParts}
 use Rattle.valid_unit_laws.proofs.body_node_laws.known_initials.PassedOn.{parts_known}

@@ -25,9 +25,9 @@ use Rattle.c_senses.specs.Entities.{all_together, types_of, own_type, is_paramet
 use Rattle.c_senses.specs.Rows.{world_at}
 use Rattle.c_senses.specs.Right.{Right, Declared, IsDeclaredAt, IsLiteralOf, IsEntityOf, declared_as, declares_entity, entity_type, internal_type, literal_as, representative, of_internal, with_one}
 use Rattle.c_senses.specs.Sense.{Sense, sense_in}
-use Rattle.sense_laws.specs.Sound.{IsProper}
-use Rattle.sense_laws.proofs.Names.{SomeProper, own_proper}
-use Rattle.built_unit_laws.specs.built_rows.Rows.{types_declared}
+use Rattle.parsed_tree_laws.specs.sense_laws.Sound.{IsProper}
+use Rattle.parsed_tree_laws.proofs.sense_laws.Names.{SomeProper, own_proper}
+use Rattle.core_node_laws.specs.built_unit_laws.built_rows.Rows.{types_declared}
 use Rattle.linked_laws.specs.alike_laws.Plain.{IsPlain}
 use Rattle.valid_unit_laws.specs.plain_functions.Plain.{FunctionsPlain}
 use Rattle.valid_unit_laws.proofs.built_valid.Sound.{senses_sound}

@@ -18,7 +18,7 @@ use Rattle.c_senses.specs.Right.{is_tag}
 use Rattle.struct_rows.specs.Built.{HasTagTypes, is_of_tag, first_specifier, union_by, first_is_union}
 use Rattle.struct_rows.proofs.Building.{stands_type, stands_below}
 use Rattle.c_tags.proofs.tag_numbers.Listing.{any_found}
-use Rattle.built_unit_laws.specs.tag_sizes.Sizes.{IsSpecified, TagsSpecified}
+use Rattle.core_node_laws.specs.built_unit_laws.tag_sizes.Sizes.{IsSpecified, TagsSpecified}
 use Rattle.type_rules.proofs.term_types.Grown.{types_grown}
 use Rattle.valid_unit_laws.specs.specified_types.Specified.{TypesSpecified}
 

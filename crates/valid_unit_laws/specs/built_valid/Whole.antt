@@ -9,8 +9,8 @@ use Rattle.core_tree.specs.Valid.{ValidUnit}
 use Rattle.c_scope.specs.declared.resolving.Bound.{Bound}
 use Rattle.c_scope.specs.Resolves.{IsBound}
 use Rattle.c_senses.specs.Names.{source_of, numbered}
-use Rattle.built_unit_laws.specs.tag_sizes.Sizes.{TagsSpecified}
-use Rattle.built_unit_laws.specs.built_units.Built.{IsBuilt}
+use Rattle.core_node_laws.specs.built_unit_laws.tag_sizes.Sizes.{TagsSpecified}
+use Rattle.core_node_laws.specs.built_unit_laws.built_units.Built.{IsBuilt}
 
 abbrev pub BuiltIsValid : Type 0
 BuiltIsValid =

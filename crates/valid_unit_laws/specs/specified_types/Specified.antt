@@ -5,7 +5,7 @@ use Rattle.c_types.specs.Made.{IsMade, AreNamed}
 use Rattle.c_senses.specs.Tree.{Source}
 use Rattle.c_senses.specs.Right.{is_tag}
 use Rattle.struct_rows.specs.Built.{HasTagTypes}
-use Rattle.built_unit_laws.specs.tag_sizes.Sizes.{TagsSpecified}
+use Rattle.core_node_laws.specs.built_unit_laws.tag_sizes.Sizes.{TagsSpecified}
 
 abbrev pub TypesSpecified : Type 0
 TypesSpecified =

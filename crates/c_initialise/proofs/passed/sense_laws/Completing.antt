@@ -1,1 +1,1 @@
-pub use Rattle.sense_laws.proofs.Completing.{grown_by_one}
+pub use Rattle.parsed_tree_laws.proofs.sense_laws.Completing.{grown_by_one}

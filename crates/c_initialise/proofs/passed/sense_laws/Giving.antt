@@ -1,1 +1,1 @@
-pub use Rattle.sense_laws.proofs.Giving.{then_gives, if_given, and_left, and_right}
+pub use Rattle.parsed_tree_laws.proofs.sense_laws.Giving.{then_gives, if_given, and_left, and_right}

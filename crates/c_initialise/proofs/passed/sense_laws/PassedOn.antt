@@ -1,1 +1,1 @@
-pub use Rattle.sense_laws.proofs.PassedOn.{core_is}
+pub use Rattle.parsed_tree_laws.proofs.sense_laws.PassedOn.{core_is}

@@ -1,1 +1,1 @@
-pub use Rattle.sense_laws.proofs.Standing.{node_stands}
+pub use Rattle.parsed_tree_laws.proofs.sense_laws.Standing.{node_stands}

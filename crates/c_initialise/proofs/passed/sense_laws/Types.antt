@@ -1,1 +1,1 @@
-pub use Rattle.sense_laws.proofs.Types.{anything}
+pub use Rattle.parsed_tree_laws.proofs.sense_laws.Types.{anything}

@@ -1,1 +1,1 @@
-pub use Rattle.sense_laws.specs.Asked.{OutcomeStands, FirstFits, InitialAsks, AskedFit}
+pub use Rattle.parsed_tree_laws.specs.sense_laws.Asked.{OutcomeStands, FirstFits, InitialAsks, AskedFit}

@@ -1,1 +1,1 @@
-pub use Rattle.sense_laws.specs.Laws.{SensesFit, Grows, Backs}
+pub use Rattle.parsed_tree_laws.specs.sense_laws.Laws.{SensesFit, Grows, Backs}

@@ -1,1 +1,1 @@
-pub use Rattle.sense_laws.specs.PassedOn.{core_at, cores_at, IsReady}
+pub use Rattle.parsed_tree_laws.specs.sense_laws.PassedOn.{core_at, cores_at, IsReady}

@@ -1,2 +1,2 @@
-pub use Rattle.sense_laws.specs.Senses.{ChildrenFirst, ConstantsFit, StatementGrammar, SoundSense, RunsIn}
-pub use Rattle.sense_laws.specs.Senses.{InitialisersFit, AreProperParts}
+pub use Rattle.parsed_tree_laws.specs.sense_laws.Senses.{ChildrenFirst, ConstantsFit, StatementGrammar, SoundSense, RunsIn}
+pub use Rattle.parsed_tree_laws.specs.sense_laws.Senses.{InitialisersFit, AreProperParts}

@@ -1,4 +1,4 @@
-use Rattle.c_lower.proofs.refusal_laws.Faults.{none_unbuilt}
+use Rattle.c_lower.proofs.Faults.{none_unbuilt}
 use Rattle.c_lower.proofs.unit_lowering.Ending.{lowered_once}
 use Rattle.c_lower.proofs.lowering.lower_unit.Goals as goal
 

@@ -1,46 +1,21 @@
-use Rattle.std.proofs.Common.{◌≡◌, length, true, Ok, inl, inr, sym, ap, ◌∙◌, subst, arith}
-use Rattle.std.proofs.lemmas.Bool.{cases_lt}
-use Rattle.c_grammar.specs.Reads.{State, Opens, first, second}
+use Rattle.std.proofs.Common.{sym, refl}
+use Rattle.c_grammar.specs.Reads.{Opens, misfit}
 use Rattle.c_parser.specs.Parse.{state}
-use Rattle.c_parser.specs.Lone.{is_lone, lone_taken}
-use Rattle.c_parser.proofs.Leads.{entered_advances, read_advances}
-use Rattle.c_parser.proofs.Operands.{lone_parts, lone_opens, not_nothing}
-use Rattle.c_parser.proofs.Steps.{terminal_past}
+use Rattle.c_parser.proofs.Steps.{faults_told}
+use Rattle.c_parser.proofs.AtOnce.{as_advances}
 use Rattle.c_parser.proofs.reader.advance.Goals as goal
 
-pub returns-then-not-is_lone-clause-goes : goal.returns-then-not-is_lone-clause-goes
-returns-then-not-is_lone-clause-goes c =
-    let i = c.args.input in
-    entered_advances i.text.now i.tokens.now c.args.progress.now c.enter.new.progress c.args.scopes.now c.args.nodes.now.items c.args.used c.args.on c.requires.sees c.enter.result c.enter.ensures
-
-pub take_lone-requires-clause-from : goal.take_lone-requires-clause-from
-take_lone-requires-clause-from c = let p = c.args.progress.now in (lone_parts c.args.used p.ahead.first p.ahead.second p.top.depth (sym c.is_lone.ensures ∙ c.if-not-is_lone.false)).0
-
-pub take_lone-requires-clause-to : goal.take_lone-requires-clause-to
-take_lone-requires-clause-to c = let p = c.args.progress.now in (lone_parts c.args.used p.ahead.first p.ahead.second p.top.depth (sym c.is_lone.ensures ∙ c.if-not-is_lone.false)).1
-
-pub returns-in-Ok-clause-goes : goal.returns-in-Ok-clause-goes
-returns-in-Ok-clause-goes c =
+pub returns-in-Some-clause-goes : goal.returns-in-Some-clause-goes
+returns-in-Some-clause-goes c =
     let i = c.args.input in
     let p = c.args.progress.now in
-    let new = c.take_lone.new.progress in
-    let s = state p.ahead.place c.args.scopes.now c.args.nodes.now.items p.own in
-    let a = c.requires.sees.0 in
-    let b = c.requires.sees.1 in
-    let e : is_lone c.args.used (first i.text.now i.tokens.now s) (second i.text.now i.tokens.now s) p.top.depth ≡ true = cc in
-    let o = lone_opens i.text.now i.tokens.now c.args.used p.top.depth s e in
-    let n : state new.ahead.place c.args.scopes.now c.take_lone.new.nodes.items new.own ≡ lone_taken c.args.used s =
-    ap (λ place. state place c.args.scopes.now c.take_lone.new.nodes.items new.own) c.in-Ok.ensures.place ∙ c.in-Ok.ensures.takes in
-    read_advances i.text.now i.tokens.now p new c.args.scopes.now c.args.nodes.now.items c.take_lone.new.nodes.items c.args.used c.args.on c.in-Ok.ensures.top c.in-Ok.ensures.users
-    (subst (λ (t : State). Opens i.text.now i.tokens.now c.args.used p.top.depth s (Ok t)) (sym n) o)
+    as_advances i.text.now i.tokens.now p c.read.new.progress c.args.scopes.now c.args.nodes.now.items c.read.new.nodes.items c.args.used c.in-Some.chosen c.args.on c.requires.sees c.in-Some.ensures c.read.result c.read.ensures.goes
 
-pub returns-in-Ok-clause-within : goal.returns-in-Ok-clause-within
-returns-in-Ok-clause-within c =
+pub returns-in-None-clause-goes : goal.returns-in-None-clause-goes
+returns-in-None-clause-goes c = λ scopes nodes sees.
     let i = c.args.input in
     let p = c.args.progress.now in
-    let parts = lone_parts c.args.used p.ahead.first p.ahead.second p.top.depth (sym c.is_lone.ensures ∙ c.if-not-is_lone.false) in
-    let e = c.in-Ok.ensures.place in
-    elim (cases_lt p.ahead.place (length i.tokens.now)) [
-      | inl h ↦ omega (arith, e)
-      | inr h ↦ absurd (not_nothing p.ahead.first parts.2 (c.requires.sees.0 ∙ terminal_past i.text.now i.tokens.now c.args.scopes.now p.ahead.place h))
-    ]
+    let s = state p.ahead.place scopes nodes p.own in
+    let a = sees.0 in
+    let m = rw a at c.misfit.ensures in
+    faults_told (Opens i.text.now i.tokens.now c.args.used p.top.depth s) c.misfit.result (misfit i.text.now i.tokens.now s) m (c.in-None.ensures i.text.now i.tokens.now s (sym sees.0) (sym sees.1) refl)

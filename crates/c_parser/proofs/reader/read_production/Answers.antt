@@ -6,7 +6,7 @@ use Rattle.c_parser.specs.declared.reader.Own.{Own}
 use Rattle.c_lexer.specs.declared.Token.{Token}
 use Rattle.c_grammar.specs.Notes.{noted, no_notes}
 use Rattle.c_parser.specs.Parse.{state, begin, Faults}
-use Rattle.c_parser.specs.Leads.{ended, Ends, IsTurned}
+use Rattle.c_parser.specs.Leads.{Ends, IsTurned}
 use Rattle.c_parser.proofs.reader.read_production.Goals as goal
 
 start_is : (place at : ℕ) (scopes : Names) (nodes : List SyntaxNode) (own : Own) → place ≡ at → own.children.items ≡ [] → noted own.notes ≡ no_notes → state place scopes nodes own ≡ begin at scopes nodes
@@ -33,9 +33,9 @@ turns-init c =
       within = omega (arith, c.requires.within, c.look-ahead.ensures.place, ap (λ (xs : List Token). length xs) c.deref.ensures.value);
       sees = c.look-ahead.ensures.sees;
       leads = λ r l.
-          let o = c.in-Ok.ensures c.args.scopes.now nodes c.look-ahead.ensures.sees l.0 l.1 in
-          let e : ended c.in-Ok.top l.0 ≡ r = subst (λ us. Ends text ts us (ended c.in-Ok.top l.0) r) c.new-3.ensures.items l.2 in
-          subst (λ x. Opens text ts c.args.production c.args.depth (begin c.args.at c.args.scopes.now nodes) x) e (subst (λ s. Opens text ts c.args.production c.args.depth s (ended c.in-Ok.top l.0)) start o);
+          let o = c.in-Ok.ensures c.args.scopes.now nodes c.look-ahead.ensures.sees l.0 l.2.0 l.1 l.2.1 in
+          let e : l.2.0 ≡ r = subst (λ us. Ends text ts us l.2.0 r) c.new-3.ensures.items l.2.2 in
+          subst (λ x. Opens text ts c.args.production c.args.depth (begin c.args.at c.args.scopes.now nodes) x) e (subst (λ s. Opens text ts c.args.production c.args.depth s l.2.0) start o);
       unit = refl;
       root = refl;
     }

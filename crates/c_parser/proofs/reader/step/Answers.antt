@@ -5,7 +5,7 @@ use Rattle.c_grammar.specs.Terminals.{takes}
 use Rattle.c_parser.specs.declared.reader.Own.{Own}
 use Rattle.c_parser.specs.declared.reader.Progress.{Progress}
 use Rattle.c_parser.specs.Parse.{state}
-use Rattle.c_parser.proofs.Leads.{faults_lead, through_use, through_choice, through_again, advanced_turns, entered_turns, leads_on}
+use Rattle.c_parser.proofs.Leads.{faults_lead, through_use, through_choice, through_again, advanced_turns, leads_on}
 use Rattle.c_parser.proofs.Steps.{terminal_past, faults_told, scoped_state}
 use Rattle.c_parser.proofs.reader.step.Goals as goal
 
@@ -41,7 +41,8 @@ returns-then-fits-clause-steps c =
     let a = c.requires.sees.0 in
     let b = c.requires.sees.1 in
     let e : fits_at i.text.now i.tokens.now c.in-Repeat.repeated s ≡ true = cc in
-    entered_turns i.text.now i.tokens.now p c.enter.new.progress c.args.scopes.now c.args.nodes.now.items c.in-Repeat.repeated p.top.at c.requires.sees (through_again i.text.now i.tokens.now p s c.in-Repeat.repeated (cc) e) c.enter.result c.enter.ensures
+    advanced_turns i.text.now i.tokens.now p c.advance-then-fits.new.progress c.args.scopes.now c.args.nodes.now.items c.advance-then-fits.new.nodes.items c.in-Repeat.repeated p.top.at
+    (through_again i.text.now i.tokens.now p s c.in-Repeat.repeated (cc) e) c.requires.sees c.advance-then-fits.result c.advance-then-fits.ensures.goes
 
 pub returns-in-Use-clause-steps : goal.returns-in-Use-clause-steps
 returns-in-Use-clause-steps c =

@@ -11,7 +11,7 @@ use Rattle.core_tree.specs.Typed.{trees_of}
 use Rattle.core_tree.specs.Rows.{InitialisesEntity, InitialisesIn}
 use Rattle.core_tree.specs.Range.{entity_at}
 use Rattle.c_senses.specs.Tree.{Source}
-use Rattle.definition_laws.specs.passed.built_unit_laws.built_units.Built.{IsBuilt}
+use Rattle.declaration_laws.specs.definition_laws.passed.built_unit_laws.built_units.Built.{IsBuilt}
 use Rattle.declaration_laws.specs.function_laws.body_laws.Bodies.{BodiesInitialise, OneBodyEach}
 
 is_function : (s : Storage) → (s ≡ FunctionBody) ⊎ (s ≡ FunctionBody → ⊥)

@@ -30,7 +30,7 @@ use Rattle.c_senses.specs.Statements.{one, returned_type}
 use Rattle.c_senses.specs.Sense.{Sense, IsDeclarator, sense_in}
 use Rattle.c_senses.specs.Right.{Numbering, AllStandBy}
 use Rattle.parsed_tree_laws.specs.family_laws.Families.{IsChild as IsPart}
-use Rattle.sense_laws.specs.parsed_laws.PassedOn.{Gives}
+use Rattle.parsed_tree_laws.specs.sense_laws.parsed_laws.PassedOn.{Gives}
 use Rattle.declaration_laws.specs.passed.core_node_laws.standing_laws.Standing.{IsGrown, IsMade, RunsInitialise}
 use Rattle.declaration_laws.proofs.passed.core_node_laws.standing_laws.Kept.{is_plain, block_part, RowGood, KeptSense}
 use Rattle.declaration_laws.proofs.passed.core_node_laws.standing_laws.Rows.{acts, acts_in}

@@ -25,9 +25,9 @@ use Rattle.c_senses.specs.Tree.{Source, is_a}
 use Rattle.c_senses.specs.World.{World}
 use Rattle.c_senses.specs.Sense.{Sense, IsCore, IsRun, sense_in}
 use Rattle.c_senses.specs.Right.{Numbering, StandsBy, AllStandBy}
-use Rattle.sense_laws.specs.Senses.{SoundSense}
-use Rattle.sense_laws.proofs.parsed_laws.InOrder.{children_first}
-use Rattle.sense_laws.proofs.statement_laws.Grammar.{statements_parsed}
+use Rattle.parsed_tree_laws.specs.sense_laws.Senses.{SoundSense}
+use Rattle.parsed_tree_laws.proofs.sense_laws.parsed_laws.InOrder.{children_first}
+use Rattle.parsed_tree_laws.proofs.sense_laws.statement_laws.Grammar.{statements_parsed}
 use Rattle.parsed_tree_laws.proofs.family_laws.Reading.{units_families}
 use Rattle.parsed_tree_laws.proofs.nesting_laws.Nesting.{units_nest}
 use Rattle.parsed_tree_laws.specs.counted_parts.Counted.{CountedParts}
@@ -36,7 +36,7 @@ use Rattle.parsed_tree_laws.specs.ordered_parts.Ordered.{Follows}
 use Rattle.parsed_tree_laws.proofs.ordered_parts.Read.{parts_follow}
 use Rattle.parsed_tree_laws.specs.statement_shapes.Shaped.{ShapedStatements}
 use Rattle.parsed_tree_laws.proofs.statement_shapes.Rows.{statements_shaped}
-use Rattle.definition_laws.specs.passed.built_unit_laws.built_units.Built.{IsBuilt}
+use Rattle.declaration_laws.specs.definition_laws.passed.built_unit_laws.built_units.Built.{IsBuilt}
 use Rattle.declaration_laws.specs.passed.core_node_laws.standing_laws.Standing.{IsGrown, IsMade, RunsOf, RunsInitialise, BodiesKnown}
 use Rattle.declaration_laws.proofs.passed.core_node_laws.standing_laws.Rows.{acts, acts_in}
 use Rattle.declaration_laws.proofs.passed.core_node_laws.standing_laws.Bodies.{Above, above, FunctionBlock, function_block}

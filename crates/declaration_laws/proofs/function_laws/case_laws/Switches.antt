@@ -19,7 +19,7 @@ use Rattle.c_senses.specs.Sense.{Sense, Nothing, IsCore, sense_in, fits}
 use Rattle.c_senses.specs.Rows.{AreSenses}
 use Rattle.c_senses.specs.Statements.{statement_row, leaf_statement, expression_statement, expression_in, switched, case_value, is_default, in_switch, is_case_again, is_default_again}
 use Rattle.parsed_tree_laws.specs.family_laws.Families.{IsChild, Ascend}
-use Rattle.sense_laws.specs.Sound.{Gives}
+use Rattle.parsed_tree_laws.specs.sense_laws.Sound.{Gives}
 use Rattle.parsed_tree_laws.specs.counted_parts.Counted.{count, CountedParts}
 use Rattle.parsed_tree_laws.specs.ordered_parts.Ordered.{Beneath, itself, under, Follows}
 use Rattle.parsed_tree_laws.specs.statement_shapes.Shaped.{ShapedStatements}

@@ -20,8 +20,8 @@ use Rattle.c_senses.specs.Constants.{constant_in, is_whole}
 use Rattle.c_senses.specs.Places.{own_place}
 use Rattle.c_senses.specs.Sense.{Sense, IsCore, value_in}
 use Rattle.c_senses.specs.Statements.{statement, one, two, condition_of, statements_among, body_of, other_body, expression_in, labelled, switch_around, switched, is_case_again, is_default_again, case_row, default_row, if_row, switch_row, while_row, do_row, expression_statement, ForParts, for_parts, for_first, for_condition, for_after, for_of, for_row, is_loop, is_statement_of, goto_row, returned_type, return_row, of_word, leaf_statement}
-use Rattle.sense_laws.specs.Sound.{Gives}
-use Rattle.sense_laws.proofs.Giving.{then_gives, if_given, some_given, if_holds}
+use Rattle.parsed_tree_laws.specs.sense_laws.Sound.{Gives}
+use Rattle.parsed_tree_laws.proofs.sense_laws.Giving.{then_gives, if_given, some_given, if_holds}
 use Rattle.declaration_laws.proofs.passed.core_node_laws.marked_trees.Marks.{first_or}
 
 -- something is given

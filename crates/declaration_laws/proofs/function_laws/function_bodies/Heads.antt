@@ -9,7 +9,7 @@ use Rattle.c_grammar.specs.Reads.{State, Node, leaf, first, second, scoped, Walk
 use Rattle.parsed_tree_laws.proofs.placed_laws.Rows.{one_chosen, rows_bring, row_brings}
 use Rattle.parsed_tree_laws.proofs.placed_laws.Once.{Extends, opens_extend}
 use Rattle.parsed_tree_laws.proofs.placed_laws.Adding.{All, all_on, all_both, part_adds}
-use Rattle.definition_laws.proofs.linkage_laws.Inverting.{tokened, used, chose, stepped_on, ended, read, plain_opened, plain_closed, node_closed}
+use Rattle.declaration_laws.proofs.definition_laws.linkage_laws.Inverting.{tokened, used, chose, stepped_on, ended, read, plain_opened, plain_closed, node_closed}
 
 abbrev pub no_block : Node → Bool
 no_block n = not (nat_eq n.production 29)

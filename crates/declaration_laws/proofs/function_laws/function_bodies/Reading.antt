@@ -33,18 +33,18 @@ use Rattle.c_senses.specs.Sense.{Sense}
 use Rattle.c_senses.specs.Tree.{Source, production_of, children_of, children_at, is_a, first_where}
 use Rattle.c_senses.specs.Declarators.{is_declarator}
 use Rattle.c_senses.specs.Right.{Numbering, StandsBy, SameKind, SameBody}
-use Rattle.definition_laws.specs.Definitions.{is_definition}
+use Rattle.declaration_laws.specs.definition_laws.Definitions.{is_definition}
 use Rattle.parsed_tree_laws.proofs.placed_laws.Once.{Extends}
 use Rattle.parsed_tree_laws.proofs.placed_laws.Adding.{All}
-use Rattle.definition_laws.specs.passed.built_unit_laws.built_units.Built.{IsBuilt}
-use Rattle.definition_laws.proofs.linkage_laws.Every.{every}
-use Rattle.definition_laws.proofs.linkage_laws.Inverting.{node_opened}
-use Rattle.definition_laws.proofs.linkage_laws.Seen.{nodes, no_both, production_is}
-use Rattle.definition_laws.proofs.linkage_laws.Linked.{stands_linked}
-use Rattle.definition_laws.proofs.linkage_laws.Reading.{tree_is}
-use Rattle.definition_laws.proofs.linkage_laws.Unlinked.{made, Made}
-use Rattle.definition_laws.proofs.function_definitions.Reading.{definitions_declare, heads}
-use Rattle.definition_laws.proofs.function_definitions.Whole as whole_of
+use Rattle.declaration_laws.specs.definition_laws.passed.built_unit_laws.built_units.Built.{IsBuilt}
+use Rattle.declaration_laws.proofs.definition_laws.linkage_laws.Every.{every}
+use Rattle.declaration_laws.proofs.definition_laws.linkage_laws.Inverting.{node_opened}
+use Rattle.declaration_laws.proofs.definition_laws.linkage_laws.Seen.{nodes, no_both, production_is}
+use Rattle.declaration_laws.proofs.definition_laws.linkage_laws.Linked.{stands_linked}
+use Rattle.declaration_laws.proofs.definition_laws.linkage_laws.Reading.{tree_is}
+use Rattle.declaration_laws.proofs.definition_laws.linkage_laws.Unlinked.{made, Made}
+use Rattle.declaration_laws.proofs.definition_laws.function_definitions.Reading.{definitions_declare, heads}
+use Rattle.declaration_laws.proofs.definition_laws.function_definitions.Whole as whole_of
 use Rattle.declaration_laws.proofs.function_laws.function_bodies.Heads.{Heads, Parts, heads_on, external_read, no_block}
 use Rattle.declaration_laws.proofs.function_laws.function_bodies.Standing.{stored, Stored}
 use Rattle.declaration_laws.specs.function_laws.function_bodies.Bodies.{FunctionFits, FunctionsStand}

@@ -35,18 +35,18 @@ use Rattle.c_senses.specs.Statements.{objects_in, cores_in, statement}
 use Rattle.c_senses.specs.Rows.{AreSenses, row_of, world_at}
 use Rattle.c_senses.specs.Sense.{Sense, IsCore, IsDeclarator, sense_in}
 use Rattle.c_senses.specs.Right.{Declared as Declares, IsDeclaredAt, is_declaring, declares_entity, declared_as, entity_type, internal_type, representative, core_of_sense, block_for, body_at, of_internal, with_one, is_tentative, is_definition_at}
-use Rattle.definition_laws.specs.Definitions.{is_definition}
+use Rattle.declaration_laws.specs.definition_laws.Definitions.{is_definition}
 use Rattle.parsed_tree_laws.proofs.placed_laws.Climbing.{row_at, found_where}
 use Rattle.parsed_tree_laws.proofs.placed_laws.Adding.{All}
-use Rattle.definition_laws.specs.linkage_laws.Linked.{StandsLinked}
-use Rattle.definition_laws.proofs.linkage_laws.Origins.{HasOrigin, origin}
-use Rattle.definition_laws.proofs.linkage_laws.Seen.{nodes, some_same, none_some, no_both, production_is, node_within, apart, parent_holds}
-use Rattle.definition_laws.proofs.linkage_laws.Roles as roles
-use Rattle.definition_laws.proofs.linkage_laws.Chains.{either_is, declaring, name_reached}
-use Rattle.definition_laws.proofs.linkage_laws.Linked.{Tree}
-use Rattle.definition_laws.proofs.linkage_laws.Unlinked.{stands_for}
-use Rattle.definition_laws.specs.function_definitions.Defined.{Defines}
-use Rattle.definition_laws.proofs.function_definitions.Declaring.{outer_is, Declares as declares_role}
+use Rattle.declaration_laws.specs.definition_laws.linkage_laws.Linked.{StandsLinked}
+use Rattle.declaration_laws.proofs.definition_laws.linkage_laws.Origins.{HasOrigin, origin}
+use Rattle.declaration_laws.proofs.definition_laws.linkage_laws.Seen.{nodes, some_same, none_some, no_both, production_is, node_within, apart, parent_holds}
+use Rattle.declaration_laws.proofs.definition_laws.linkage_laws.Roles as roles
+use Rattle.declaration_laws.proofs.definition_laws.linkage_laws.Chains.{either_is, declaring, name_reached}
+use Rattle.declaration_laws.proofs.definition_laws.linkage_laws.Linked.{Tree}
+use Rattle.declaration_laws.proofs.definition_laws.linkage_laws.Unlinked.{stands_for}
+use Rattle.declaration_laws.specs.definition_laws.function_definitions.Defined.{Defines}
+use Rattle.declaration_laws.proofs.definition_laws.function_definitions.Declaring.{outer_is, Declares as declares_role}
 use Rattle.declaration_laws.proofs.function_laws.function_bodies.Heads.{Parts, body_part}
 
 found_above : (s : Source) (test : ℕ → Bool) (fuel d : ℕ) (o : Option ℕ) → above_within s test fuel o ≡ Some d → test d ≡ true

@@ -17,15 +17,15 @@ use Rattle.c_senses.specs.Names.{source_of, numbered, ordinary_at, has_linkage}
 use Rattle.c_senses.specs.Entities.{declaration_of, entity_of, function_around, defined_name, is_linked, is_internal, is_internal_of, internal_among, keep, first_of, linkage_of, is_typedef}
 use Rattle.c_senses.specs.Right.{is_declaring, stands_in_declaration, representative, of_internal, is_tentative, is_definition_at}
 use Rattle.c_senses.specs.Sense.{Sense, sense_in}
-use Rattle.definition_laws.specs.Definitions.{is_definition}
-use Rattle.definition_laws.specs.linkage_laws.Linked.{StandsLinked}
-use Rattle.definition_laws.proofs.linkage_laws.Origins.{HasOrigin, origin, origins}
-use Rattle.definition_laws.proofs.linkage_laws.Seen.{nodes, some_same, none_some, parent_is}
-use Rattle.definition_laws.proofs.linkage_laws.Linked.{Tree, stands_linked}
-use Rattle.definition_laws.proofs.linkage_laws.Reading.{tree_is}
-use Rattle.definition_laws.specs.function_definitions.Defined.{Defines}
-use Rattle.definition_laws.proofs.function_definitions.Declaring.{sign_is}
-use Rattle.definition_laws.proofs.function_definitions.Reading.{definitions_declare}
+use Rattle.declaration_laws.specs.definition_laws.Definitions.{is_definition}
+use Rattle.declaration_laws.specs.definition_laws.linkage_laws.Linked.{StandsLinked}
+use Rattle.declaration_laws.proofs.definition_laws.linkage_laws.Origins.{HasOrigin, origin, origins}
+use Rattle.declaration_laws.proofs.definition_laws.linkage_laws.Seen.{nodes, some_same, none_some, parent_is}
+use Rattle.declaration_laws.proofs.definition_laws.linkage_laws.Linked.{Tree, stands_linked}
+use Rattle.declaration_laws.proofs.definition_laws.linkage_laws.Reading.{tree_is}
+use Rattle.declaration_laws.specs.definition_laws.function_definitions.Defined.{Defines}
+use Rattle.declaration_laws.proofs.definition_laws.function_definitions.Declaring.{sign_is}
+use Rattle.declaration_laws.proofs.definition_laws.function_definitions.Reading.{definitions_declare}
 use Rattle.declaration_laws.proofs.function_laws.function_bodies.Standing.{named_by}
 use Rattle.declaration_laws.proofs.function_laws.function_bodies.Reading.{parts_of, declarators_of}
 use Rattle.declaration_laws.specs.function_laws.named_definitions.Named.{BlocksNamed, DefinitionsAreNamed}

@@ -12,9 +12,9 @@ use Rattle.c_senses.specs.World.{World, extent, has_size}
 use Rattle.c_senses.specs.Limits.{is_small, within_limits}
 use Rattle.c_senses.specs.Rows.{world_at}
 use Rattle.c_senses.specs.Sense.{Sense}
-use Rattle.sense_laws.specs.Laws.{Grows}
-use Rattle.sense_laws.specs.Senses.{ChildrenFirst}
-use Rattle.sense_laws.proofs.Completing.{grown_by_one}
+use Rattle.parsed_tree_laws.specs.sense_laws.Laws.{Grows}
+use Rattle.parsed_tree_laws.specs.sense_laws.Senses.{ChildrenFirst}
+use Rattle.parsed_tree_laws.proofs.sense_laws.Completing.{grown_by_one}
 
 take_one : (xs : List Sense) (n : ℕ) → suc n ≤ length xs → (x : Sense) × (take (suc n) xs ≡ take n xs ++ x ∷ [])
 take_one [] n h = absurd (omega (arith, h))

@@ -7,7 +7,7 @@ use Rattle.core_tree.specs.Rows.{Initialises}
 use Rattle.core_tree.specs.Range.{EachEntity}
 use Rattle.core_tree.specs.Valid.{OnlyBody}
 use Rattle.c_senses.specs.Tree.{Source}
-use Rattle.definition_laws.specs.passed.built_unit_laws.built_units.Built.{IsBuilt}
+use Rattle.declaration_laws.specs.definition_laws.passed.built_unit_laws.built_units.Built.{IsBuilt}
 
 -- an object's body is its own Initialise
 abbrev pub BodiesInitialise : Unit → Type 0

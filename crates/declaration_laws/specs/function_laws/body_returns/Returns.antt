@@ -16,8 +16,8 @@ use Rattle.core_tree.specs.Valid.{InRows, Bodied, ReturnsRight}
 use Rattle.c_senses.specs.Names.{source_of, numbered}
 use Rattle.c_senses.specs.World.{World}
 use Rattle.c_senses.specs.Sense.{sense_in}
-use Rattle.sense_laws.specs.parsed_laws.PassedOn.{SoundSense}
-use Rattle.definition_laws.specs.passed.built_unit_laws.built_units.Built.{IsBuilt}
+use Rattle.parsed_tree_laws.specs.sense_laws.parsed_laws.PassedOn.{SoundSense}
+use Rattle.declaration_laws.specs.definition_laws.passed.built_unit_laws.built_units.Built.{IsBuilt}
 
 -- a return in that function
 abbrev pub IsReturnOf : CoreTrees → Entity → NodeKind → List ℕ → Type 0

@@ -11,9 +11,9 @@ use Rattle.core_tree.specs.Valid.{InRows, DistinctCases}
 use Rattle.c_senses.specs.Names.{source_of, numbered}
 use Rattle.c_senses.specs.World.{World}
 use Rattle.c_senses.specs.Sense.{sense_in}
-use Rattle.sense_laws.specs.Senses.{SoundSense}
+use Rattle.parsed_tree_laws.specs.sense_laws.Senses.{SoundSense}
 use Rattle.declaration_laws.specs.passed.core_node_laws.standing_laws.Standing.{BodiesKnown}
-use Rattle.definition_laws.specs.passed.built_unit_laws.built_units.Built.{IsBuilt}
+use Rattle.declaration_laws.specs.definition_laws.passed.built_unit_laws.built_units.Built.{IsBuilt}
 
 -- where all senses are sound, nodes stand in their rows and bodies are known, the cases of each switch differ
 abbrev pub CasesDiffer : Type 0

@@ -11,7 +11,7 @@ use Rattle.core_tree.specs.Typed.{CoreTrees, trees_of}
 use Rattle.core_tree.specs.Range.{EachEntity, node_at}
 use Rattle.core_tree.specs.Valid.{IsFunctionEntity, IsBlockIn}
 use Rattle.c_senses.specs.Names.{source_of, numbered}
-use Rattle.definition_laws.specs.passed.built_unit_laws.built_units.Built.{IsBuilt}
+use Rattle.declaration_laws.specs.definition_laws.passed.built_unit_laws.built_units.Built.{IsBuilt}
 
 -- what is stored as a function's body is a function, whose body is a block
 abbrev pub FunctionFits : CoreTrees → Entity → Option ℕ → Type 0

@@ -1,2 +1,2 @@
 -- What this crate passes on, from those below it to those above it.
-pub use Rattle.definition_laws.specs.function_definitions.Defined.{Defines}
+pub use Rattle.declaration_laws.specs.definition_laws.function_definitions.Defined.{Defines}

@@ -9,7 +9,7 @@ use Rattle.core_tree.specs.Typed.{CoreTrees, trees_of}
 use Rattle.core_tree.specs.Range.{EachEntity}
 use Rattle.core_tree.specs.Valid.{Bodied, ResultSized}
 use Rattle.c_senses.specs.Names.{source_of, numbered}
-use Rattle.definition_laws.specs.passed.built_unit_laws.built_units.Built.{IsBuilt}
+use Rattle.declaration_laws.specs.definition_laws.passed.built_unit_laws.built_units.Built.{IsBuilt}
 
 -- each function with a body gives nothing, or what has a size
 abbrev pub ResultsHaveSizes : CoreTrees → Type 0

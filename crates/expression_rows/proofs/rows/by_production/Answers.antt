@@ -7,7 +7,7 @@ use Rattle.c_senses.specs.World.{World}
 use Rattle.c_senses.specs.Sense.{Sense, sense_in}
 use Rattle.c_results.specs.Standing.{senses_made, Rowed}
 use Rattle.tree_reads.specs.Sources.{source_read}
-use Rattle.sense_laws.proofs.row_trees.Expressions.{post_rows, cast_row_rows, conditional_rows, assignment_rows, binary_rows}
+use Rattle.parsed_tree_laws.proofs.sense_laws.row_trees.Expressions.{post_rows, cast_row_rows, conditional_rows, assignment_rows, binary_rows}
 use Rattle.expression_rows.proofs.whole_rows.Keeping.{sense_rows}
 use Rattle.expression_rows.proofs.whole_rows.Prefixes.{made_rows}
 use Rattle.expression_rows.specs.Built.{built_row}

@@ -5,7 +5,7 @@ use Rattle.std.proofs.lemmas.List.{length-map}
 use Rattle.command_line.specs.Distinct.{AreDistinct}
 use Rattle.text_units.specs.Answers.{names_of}
 use Rattle.text_units.proofs.Refused.{zip_names}
-use Rattle.covered_reports.proofs.Linkable.{linkable, filled}
+use Rattle.report_cli.proofs.covered_reports.Linkable.{linkable, filled}
 use Rattle.memory_cases.proofs.watched.program_of.Goals as goal
 
 -- a list of one has no repetition

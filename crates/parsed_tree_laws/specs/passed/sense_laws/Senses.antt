@@ -1,2 +1,2 @@
-pub use Rattle.sense_laws.specs.Senses.{AllInitialise, RunsIn, ChildrenFirst, StatementGrammar, AreInitialisers}
-pub use Rattle.sense_laws.specs.Senses.{is_block_part, IsInitialiser}
+pub use Rattle.parsed_tree_laws.specs.sense_laws.Senses.{AllInitialise, RunsIn, ChildrenFirst, StatementGrammar, AreInitialisers}
+pub use Rattle.parsed_tree_laws.specs.sense_laws.Senses.{is_block_part, IsInitialiser}

@@ -1,1 +1,1 @@
-pub use Rattle.sense_laws.specs.Sound.{Gives}
+pub use Rattle.parsed_tree_laws.specs.sense_laws.Sound.{Gives}

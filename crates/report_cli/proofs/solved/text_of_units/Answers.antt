@@ -10,7 +10,7 @@ use Rattle.report_cli.specs.Faults.{IsFaultOfTold}
 use Rattle.report_cli.specs.Told.{with_questions, with_words}
 use Rattle.report_cli.specs.Scripts.{named, named_side, told_with}
 use Rattle.text_units.proofs.Refused.{zip_names}
-use Rattle.covered_reports.proofs.Linkable.{linkable, filled}
+use Rattle.report_cli.proofs.covered_reports.Linkable.{linkable, filled}
 use Rattle.report_cli.proofs.Naming.{are_named}
 use Rattle.report_cli.proofs.Scripted.{both_ok, on_fault, side_told, units_told}
 use Rattle.report_cli.proofs.solved.text_of_units.Goals as goal

@@ -14,7 +14,7 @@ use Rattle.report_cli.proofs.Lifted.{IsStatus, entry_asked, names_asked, run_ask
 use Rattle.report_cli.proofs.Exclusion.{told_read}
 use Rattle.report_cli.proofs.OneOutcome.{told_right}
 use Rattle.report_cli.proofs.Together.{accepted_or_refused}
-use Rattle.report_cli.proofs.Covering.{distinct_told, printed_covered}
+use Rattle.report_cli.proofs.Covering.{distinct_told, least_kept, printed_covered}
 use Rattle.report_cli.proofs.Naming.{distinct_units, few_units, formed_units, unit_names}
 use Rattle.report_cli.proofs.Answered.{not_risen, grows_nothing, receives_nothing, always, same_name, number_of_workers, number_generated, few_names}
 use Rattle.report_cli.proofs.top.analyse.Goals as goal
@@ -171,13 +171,18 @@ returns-clause-headline g c zero =
     let units : AreDistinct (names_of command.units.items) =
     subst D (sym c.in-Ok.ensures.ok.says.units) (distinct_units (gen_word (found_in (texts_of c.args.words.now))) (unit_words (found_in (texts_of c.args.words.now))) c.in-Ok.ensures.ok.right.rules.units) in
     with_told_for (g.U.Units.text c.args.units.now) (texts_of c.args.words.now) command _ _ texts _ c.in-Ok.ensures.ok.says named c.as_slice.ensures.value c.in-Ok-read_units.ensures.texts
-    (λ told read. let given = c.answer_units.ensures.delivered zero in (
+    (λ told read. let given = c.answer_units.ensures.delivered zero in
+    let covered = printed_covered (told_as command texts) given.0 given.1 given.2 0 (distinct_told command texts count units) given.3 given.4 in (
       given.0,
       given.1,
       given.2,
       told_denotes _ told given.0 read given.3,
       told_prints _ told given.0 given.1 given.2 0 read given.4,
-      printed_covered (told_as command texts) given.0 given.1 given.2 0 (distinct_told command texts count units) given.3 given.4,
+      given.7,
+      least_kept (told_as command texts) given.0 given.1 given.2 0 c.answer_units.new.kept given.4 given.7,
+      covered.0,
+      covered.1,
+      covered.2,
       given.5,
     ))
 
@@ -334,11 +339,7 @@ returns-clause-accepted g c =
     ])
 
 pub returns-clause-solved : goal.returns-clause-solved
-returns-clause-solved g c zero =
-    with_told_for (g.U.Units.text c.args.units.now) (texts_of c.args.words.now) c.in-Ok.command _ _ c.as_slice.result.now _ c.in-Ok.ensures.ok.says
-    (ap names_of c.as_slice-all.ensures.value ∙ c.in-Ok-names_for.ensures) c.as_slice.ensures.value c.in-Ok-read_units.ensures.texts
-    (λ told read. let given = c.answer_units.ensures.delivered zero in
-    (given.0, given.1, given.2, told_denotes _ told given.0 read given.3, told_prints _ told given.0 given.1 given.2 0 read given.4, given.5, given.7))
+returns-clause-solved g c zero = (let given = c.answer_units.ensures.delivered zero in (given.1, given.7))
 
 pub returns-clause-said : goal.returns-clause-said
 returns-clause-said g c two = elim c.answer_units.ensures.listed [

@@ -1,46 +1,41 @@
-use Rattle.std.proofs.Common.{◌≡◌, ℕ, ◌+◌, ◌*◌, ◌/◌, ◌%◌, ◌<◌, ◌≤◌, List, length, sym, subst, arith, mul-add, mul-le-mul_right}
-use Rattle.std.proofs.lemmas.Nat.{mod_below}
-use Rattle.round_pieces.proofs.Blocks.{OfNumbers, numbers_none, numbers_next, numbers_all, numbers_fresh}
-use Rattle.round_pieces.proofs.Once.{none_twice}
+use Rattle.std.proofs.Common.{◌≡◌, ℕ, ◌+◌, ◌*◌, ◌/◌, ◌%◌, ◌<◌, List, length, get_or, Some, slice_get, sym, subst, arith}
+use Rattle.std.proofs.lemmas.Option.{slice_get-get_or}
 use Rattle.round_pieces.specs.Rounds.{AreRowsApart}
+use Rattle.round_pieces.proofs.Blocks.{OfPieces, pieces_all, pieces_next, pieces_once, place_below, place_of}
 use Rattle.round_pieces.proofs.dealing.dealt.Goals as goal
 
-pub loop-at-init : goal.loop-at-init
-loop-at-init c = record {
-  rows = subst (λ (xs : List ℕ). OfNumbers xs c.args.todo.now (length c.args.todo.now / c.args.workers + 1) c.args.workers 0) (sym c.new-out.ensures.items) (numbers_none c.args.todo.now (length c.args.todo.now / c.args.workers + 1) c.args.workers);
-  once = λ all. subst AreRowsApart (sym c.new-out.ensures.items) none_twice;
-}
+pub bounds-todo-worker : goal.bounds-todo-worker
+bounds-todo-worker c =
+    let i : ℕ = c.loop-i.i in
+    let lt : i < length c.args.todo.now = (let t = c.loop-i-test.true in omega arith) in
+    let m = c.min.ensures in
+    let below = place_below (length c.args.todo.now) c.args.workers i lt c.requires.workers.0 in omega arith
 
-pub deal-requires : goal.deal-requires
-deal-requires c =
-    let n : ℕ = length c.args.todo.now in
-    let w : ℕ = c.args.workers in
-    let q : ℕ = n / w in
-    let some = c.requires.workers.0 in
-    let m : 1 * q ≤ w * q = mul-le-mul_right q (let h : 1 ≤ w = omega arith in h) in
-    let f : w * q + n % w ≡ n = omega arith in
-    let few = c.requires.few in
-    let less = c.loop-at-test.true in
-    ((omega arith), (omega arith), c.requires.workers.1)
-
-pub loop-at-preserved : goal.loop-at-preserved
-loop-at-preserved c =
+pub loop-i-preserved : goal.loop-i-preserved
+loop-i-preserved c =
     let todo = c.args.todo.now in
-    let block : ℕ = length todo / c.args.workers + 1 in
-    let inv = c.loop-at.invariant in
-    let lt : c.loop-at.at < block = (let l = c.loop-at-test.true in omega arith) in record {
-      rows = numbers_next c.loop-at.out.items c.deal.new.out.items todo block c.args.workers c.loop-at.at inv.rows c.in_ok-deal.ensures.rows;
-      once = λ all. c.in_ok-deal.ensures.once lt all (inv.once all) (numbers_fresh c.loop-at.out.items todo block c.args.workers c.loop-at.at inv.rows lt all);
+    let mid = c.loop-i.out.items in
+    let w : ℕ = c.args.workers in
+    let i : ℕ = c.loop-i.i in
+    let inv = c.loop-i.invariant in
+    let some = c.requires.workers.0 in
+    let lt : i < length todo = (let t = c.loop-i-test.true in omega arith) in
+    let at : ℕ = i % w * (length todo / w) + c.min.result + i / w in
+    let same : at ≡ place_of (length todo) w i = (let m = c.min.ensures in omega arith) in
+    let below : at < length todo = (let l = place_below (length todo) w i lt some in omega arith) in
+    let x : ℕ = get_or todo at 0 in
+    let here : slice_get todo (place_of (length todo) w i) ≡ Some x = subst (λ (k : ℕ). slice_get todo k ≡ Some x) same (slice_get-get_or todo at 0 below) in
+    let P : List ℕ → Type 0 = λ xs. record {
+      rows : OfPieces xs todo w (i + 1);
+      once : AreRowsApart todo → AreRowsApart xs;
+    } in
+    subst P (sym c.in_ok-push.ensures.items) record {
+      rows = pieces_next mid todo w i x here inv.rows;
+      once = λ all. pieces_once mid todo w i x some lt here inv.rows all (inv.once all);
     }
 
 pub returns-clause-rows : goal.returns-clause-rows
 returns-clause-rows c =
-    let q : ℕ = length c.args.todo.now / c.args.workers in
-    let block : ℕ = q + 1 in
-    let long : length c.args.todo.now ≤ c.args.workers * block = (let w = c.requires.workers.0 in let e = mul-add c.args.workers q 1 in let f : c.args.workers * q + length c.args.todo.now % c.args.workers ≡ length c.args.todo.now = omega arith in let g = mod_below (length c.args.todo.now) c.args.workers w in omega arith) in
-    let n = c.loop-at-test.false in
-    let m = c.loop-at.auto.at-end in
-    numbers_all c.loop-at.out.items c.args.todo.now block c.args.workers long (subst (OfNumbers c.loop-at.out.items c.args.todo.now block c.args.workers) (omega arith) c.loop-at.invariant.rows)
-
-pub returns-clause-once : goal.returns-clause-once
-returns-clause-once c = c.loop-at.invariant.once
+    let n = c.loop-i-test.false in
+    let m = c.loop-i.auto.i-end in
+    pieces_all c.loop-i.out.items c.args.todo.now c.args.workers c.requires.workers.0 (subst (OfPieces c.loop-i.out.items c.args.todo.now c.args.workers) (omega arith) c.loop-i.invariant.rows)

@@ -8,9 +8,9 @@ use Rattle.set_rows.specs.declared.view.View.{View}
 use Rattle.set_rows.specs.Views.{known}
 use Rattle.set_rows.specs.Calls.{system_of, view}
 use Rattle.set_rows.proofs.Adding.{added_twice}
-use Rattle.delta_prop.specs.declared.turn.Turn.{Turn}
-use Rattle.delta_prop.specs.Deltas.{IsSeenOf}
-use Rattle.delta_prop.specs.Turns.{IsTurn}
+use Rattle.round_pieces.specs.declared.delta_prop.turn.Turn.{Turn}
+use Rattle.round_pieces.specs.delta_prop.Deltas.{IsSeenOf}
+use Rattle.round_pieces.specs.delta_prop.Turns.{IsTurn}
 use Rattle.new_members.specs.News.{words_at}
 use Rattle.round_pieces.specs.Turns.{AreTurns, row_of}
 use Rattle.round_pieces.proofs.Parts.{ready_more}

@@ -2,7 +2,7 @@ use Rattle.std.proofs.Common.{◌≡◌, ℕ, ◌+◌, ◌-◌, ◌*◌, ◌<◌
 use Rattle.sol_model.specs.Systems.{width_of}
 use Rattle.set_rows.specs.Views.{OnlyAdded}
 use Rattle.set_rows.specs.Calls.{system_of, view, IsOf}
-use Rattle.delta_prop.specs.Deltas.{IsSound}
+use Rattle.round_pieces.specs.delta_prop.Deltas.{IsSound}
 use Rattle.new_members.specs.News.{words_at}
 use Rattle.round_pieces.specs.Turns.{AreTurns, row_of}
 use Rattle.round_pieces.proofs.pieces.serve.Given as goal

@@ -1,7 +1,7 @@
 use Rattle.std.proofs.Common.{ℕ, ◌+◌, List, sym, subst, arith}
 use Rattle.set_rows.specs.Calls.{system_of, view}
 use Rattle.set_rows.proofs.Adding.{added_twice, nothing_added}
-use Rattle.delta_prop.specs.declared.turn.Turn.{Turn}
+use Rattle.round_pieces.specs.declared.delta_prop.turn.Turn.{Turn}
 use Rattle.round_pieces.specs.Turns.{HasShares}
 use Rattle.round_pieces.proofs.Parts.{ready_more}
 use Rattle.round_pieces.proofs.Sharing.{alone, no_shares, shares_after}

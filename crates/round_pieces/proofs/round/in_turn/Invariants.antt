@@ -1,6 +1,6 @@
 use Rattle.set_rows.specs.Views.{OnlyAdded}
 use Rattle.set_rows.specs.Calls.{system_of, view, IsOf}
-use Rattle.delta_prop.specs.Deltas.{IsSound}
+use Rattle.round_pieces.specs.delta_prop.Deltas.{IsSound}
 use Rattle.round_pieces.specs.Turns.{HasShares}
 use Rattle.round_pieces.proofs.round.in_turn.Given as goal
 

@@ -4,8 +4,8 @@ use Rattle.set_rows.specs.declared.view.View.{View}
 use Rattle.set_rows.specs.Views.{OnlyAdded, known, words_of}
 use Rattle.set_rows.specs.Calls.{system_of, view}
 use Rattle.set_rows.proofs.Adding.{add_only_adds}
-use Rattle.delta_prop.specs.Deltas.{IsSound}
-use Rattle.delta_prop.proofs.Sounding.{sound_add_by}
+use Rattle.round_pieces.specs.delta_prop.Deltas.{IsSound}
+use Rattle.round_pieces.proofs.delta_prop.Sounding.{sound_add_by}
 use Rattle.round_settling.proofs.Steps.{one_bit, fact_licence, fact_word, fact_added}
 use Rattle.round_settling.proofs.settling.add_fact.Goals as goal
 

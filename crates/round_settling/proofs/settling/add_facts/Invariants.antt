@@ -3,7 +3,7 @@ use Rattle.edge_book.specs.Edges.{AreApart, Gains}
 use Rattle.sol_model.specs.Families.{Has}
 use Rattle.set_rows.specs.Views.{OnlyAdded, known}
 use Rattle.set_rows.specs.Calls.{view, IsOf}
-use Rattle.delta_prop.specs.Deltas.{IsSound}
+use Rattle.round_pieces.specs.delta_prop.Deltas.{IsSound}
 use Rattle.new_members.proofs.Through.{Through}
 use Rattle.round_settling.proofs.settling.add_facts.Given as goal
 

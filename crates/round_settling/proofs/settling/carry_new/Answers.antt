@@ -13,11 +13,11 @@ use Rattle.set_rows.specs.declared.seat.RowSeat.{RowSeat}
 use Rattle.set_rows.specs.Views.{OnlyAdded, known}
 use Rattle.set_rows.specs.Calls.{system_of, view, IsOf}
 use Rattle.set_rows.proofs.Adding.{added_twice, known_more, nothing_added}
-use Rattle.delta_prop.specs.Deltas.{AreNews, IsSeenOf, IsSound, gained}
+use Rattle.round_pieces.specs.delta_prop.Deltas.{AreNews, IsSeenOf, IsSound, gained}
 use Rattle.round_pieces.specs.Work.{edge_work}
 use Rattle.round_pieces.proofs.Growing.{edge_pays}
 use Rattle.round_settling.proofs.Working.{edge_paid}
-use Rattle.delta_prop.proofs.Carries.{edge_more, news_seen}
+use Rattle.round_pieces.proofs.delta_prop.Carries.{edge_more, news_seen}
 use Rattle.round_pieces.proofs.Serving.{seen_at, in_seen}
 use Rattle.round_settling.proofs.Extents.{nothing_outside}
 use Rattle.round_settling.proofs.Steps.{nothing_seen}

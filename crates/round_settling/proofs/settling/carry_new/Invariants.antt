@@ -2,7 +2,7 @@ use Rattle.std.proofs.Common.{◌≡◌, ℕ, ◌+◌, ◌<◌, ◌≤◌, take,
 use Rattle.sol_model.specs.Families.{Has, members}
 use Rattle.set_rows.specs.Views.{OnlyAdded, known}
 use Rattle.set_rows.specs.Calls.{system_of, view, IsOf}
-use Rattle.delta_prop.specs.Deltas.{IsSound}
+use Rattle.round_pieces.specs.delta_prop.Deltas.{IsSound}
 use Rattle.round_pieces.specs.Work.{edge_work}
 use Rattle.round_settling.proofs.settling.carry_new.Given as goal
 

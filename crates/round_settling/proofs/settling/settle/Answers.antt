@@ -5,7 +5,7 @@ use Rattle.sol_model.specs.Systems.{IsRow, IsLocation, Fits, width_of}
 use Rattle.set_rows.specs.Views.{known}
 use Rattle.set_rows.specs.Calls.{view}
 use Rattle.set_rows.proofs.Adding.{known_more}
-use Rattle.delta_prop.specs.Deltas.{AllDemanded}
+use Rattle.round_pieces.specs.delta_prop.Deltas.{AllDemanded}
 use Rattle.new_members.specs.News.{IsFact, words_at}
 use Rattle.round_pieces.specs.Rounds.{IsTakenIn}
 use Rattle.round_pieces.proofs.Ending.{turns_of, after_inside, facts_demanded, facts_known, more_demanded, first_carried, settled_again, fact_more, worked_known}

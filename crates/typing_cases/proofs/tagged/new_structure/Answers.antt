@@ -1,7 +1,8 @@
 use Rattle.std.proofs.Common.{◌∙◌, ap, subst, sym, inl, length, ◌<◌, ◌++◌, ◌∷◌, []}
 use Rattle.c_types.specs.declared.term.Term.TheVariants.{Structure}
 use Rattle.c_types.specs.Table.{Table, extent_in, type_of}
-use Rattle.c_types.proofs.Plain.{plain_members, last_term}
+use Rattle.c_types.proofs.Plain.{last_term}
+use Rattle.typing_cases.proofs.tagged.Members.{fit_members}
 use Rattle.typing_cases.proofs.tagged.new_structure.Goals as goal
 
 pub complete-requires-clause-incomplete : goal.complete-requires-clause-incomplete
@@ -15,7 +16,7 @@ complete-requires-clause-stands c =
 pub complete-requires-clause-members : goal.complete-requires-clause-members
 complete-requires-clause-members c =
     let same = c.in_ok-tag.ensures.ok in
-    plain_members c.args.table.now c.add.new.self (Structure c.in_ok-tag.tag) c.in_ok-tag.tag c.args.members.items
+    fit_members c.args.table.now c.add.new.self (Structure c.in_ok-tag.tag) c.in_ok-tag.tag c.args.members.items
     (ap (λ (t : Table). t.terms) c.in_ok-id.ensures.ok ∙ ap (λ (t : Table). t.terms ++ Structure c.in_ok-tag.tag ∷ []) same)
     (λ i lt. c.in_ok-id.ensures.kept i (subst (λ (t : Table). i < length t.terms) (sym same) lt) ∙ ap (λ (t : Table). type_of t i) same)
     (λ x. c.in_ok-id.ensures.extents x ∙ ap (λ (t : Table). extent_in t x) same) c.requires

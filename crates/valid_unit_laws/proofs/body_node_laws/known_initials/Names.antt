@@ -19,17 +19,17 @@ use Rattle.c_senses.specs.Right.{is_defined_parameter, stands_in_declaration}
 use Rattle.parsed_tree_laws.proofs.family_laws.Reading.{units_families}
 use Rattle.parsed_tree_laws.proofs.sign_parts.Reading as signs
 use Rattle.parsed_tree_laws.proofs.grown_parts.Reading.{units_bring}
-use Rattle.declared_type_laws.specs.declared_leaves.Leaves.{IsDeclaredBy}
-use Rattle.declared_type_laws.proofs.declared_leaves.Climbing.{leaves_declared}
-use Rattle.declared_type_laws.proofs.known_entities.Known.{entities_known}
+use Rattle.declaration_laws.specs.declared_type_laws.declared_leaves.Leaves.{IsDeclaredBy}
+use Rattle.declaration_laws.proofs.declared_type_laws.declared_leaves.Climbing.{leaves_declared}
+use Rattle.declaration_laws.proofs.declared_type_laws.known_entities.Known.{entities_known}
 use Rattle.declaration_laws.proofs.function_laws.passed.definition_laws.linkage_laws.Seen.{some_same, no_both, apart, node_within, parent_holds}
 use Rattle.declaration_laws.proofs.function_laws.passed.definition_laws.linkage_laws.Linked as linked
 use Rattle.declaration_laws.proofs.function_laws.passed.definition_laws.linkage_laws.Reading.{tree_is}
 use Rattle.declaration_laws.proofs.function_laws.passed.definition_laws.single_initialisers.Apart.{stands_outermost}
 use Rattle.declaration_laws.proofs.function_laws.passed.definition_laws.own_initialisers.Standing.{initialisers_stand}
 use Rattle.declaration_laws.specs.function_laws.passed.definition_laws.earlier_initialisers.Earlier.{StandsDeclaring}
-use Rattle.object_initialiser_laws.proofs.passed.internal_name_laws.internal_types.Asked.{declarator_asked}
-use Rattle.object_initialiser_laws.proofs.passed.internal_name_laws.internal_types.Initials.{initialised_words}
+use Rattle.valid_unit_laws.proofs.object_initialiser_laws.passed.internal_name_laws.internal_types.Asked.{declarator_asked}
+use Rattle.valid_unit_laws.proofs.object_initialiser_laws.passed.internal_name_laws.internal_types.Initials.{initialised_words}
 use Rattle.valid_unit_laws.proofs.body_node_laws.own_initials.Rests.{Place, beside, above, place_of, rest_in}
 use Rattle.core_node_laws.specs.literal_initials.Placed.{IsInitialised}
 use Rattle.valid_unit_laws.specs.body_node_laws.parts_named.Named.{IsDeclared}

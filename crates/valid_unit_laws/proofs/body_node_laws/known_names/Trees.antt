@@ -29,13 +29,13 @@ use Rattle.core_node_laws.proofs.standing_laws.Climbing.{list_in}
 use Rattle.declaration_laws.specs.function_laws.passed.definition_laws.scope_laws.Beneath.{Beneath, part, deeper}
 use Rattle.declaration_laws.specs.function_laws.passed.definition_laws.scope_laws.Scoped.{IsPart, Rooted, DeclaredOnce}
 use Rattle.declaration_laws.proofs.function_laws.passed.definition_laws.scope_laws.Whole.{names_declared_once}
-use Rattle.declared_type_laws.proofs.passed.owner_laws.Naming.{own_leaf}
+use Rattle.declaration_laws.proofs.declared_type_laws.passed.owner_laws.Naming.{own_leaf}
 use Rattle.core_node_laws.proofs.count_laws.once_nodes.Rooted.{OfBlock, OfInitial, body_is, body_by, block_in, found_where}
-use Rattle.built_unit_laws.specs.built_laws.Placed.{IsInBody}
+use Rattle.core_node_laws.specs.built_unit_laws.built_laws.Placed.{IsInBody}
 use Rattle.declaration_laws.proofs.function_laws.passed.definition_laws.linkage_laws.Seen.{some_same, none_some, no_both, parent_holds}
 use Rattle.declaration_laws.proofs.function_laws.passed.definition_laws.linkage_laws.Linked as linked
 use Rattle.declaration_laws.proofs.function_laws.passed.definition_laws.linkage_laws.Reading.{tree_is}
-use Rattle.object_initialiser_laws.proofs.placed_initialisers.Whole.{units_place}
+use Rattle.valid_unit_laws.proofs.object_initialiser_laws.placed_initialisers.Whole.{units_place}
 
 found_above : (s : Source) (test : ℕ → Bool) (fuel d : ℕ) (o : Option ℕ) → above_within s test fuel o ≡ Some d → test d ≡ true
 found_above s test zero d o e = absurd (none_some e)

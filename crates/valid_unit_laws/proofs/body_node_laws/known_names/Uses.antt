@@ -16,7 +16,7 @@ use Rattle.c_scope.specs.Resolves.{bindings}
 use Rattle.c_senses.specs.Names.{entry_of}
 use Rattle.c_senses.specs.Tree.{Source, production_at, is_a, paired}
 use Rattle.c_senses.specs.Declarators.{is_declarator, outermost_of}
-use Rattle.declared_type_laws.specs.declared_leaves.Leaves.{IsNamed, Own, Inner}
+use Rattle.declaration_laws.specs.declared_type_laws.declared_leaves.Leaves.{IsNamed, Own, Inner}
 use Rattle.parsed_tree_laws.proofs.placed_laws.Climbing.{Grown}
 use Rattle.declaration_laws.specs.function_laws.passed.definition_laws.scope_laws.Beneath.{Beneath}
 use Rattle.declaration_laws.specs.function_laws.passed.definition_laws.scope_laws.Scoped.{IsPart}
@@ -26,7 +26,7 @@ use Rattle.declaration_laws.proofs.function_laws.passed.definition_laws.scope_la
 use Rattle.declaration_laws.proofs.function_laws.passed.definition_laws.linkage_laws.Standings.{HasParent, parents}
 use Rattle.declaration_laws.proofs.function_laws.passed.definition_laws.linkage_laws.Seen.{nodes, some_same, no_both, production_is, production_same, children_are, child_is, node_has}
 use Rattle.declaration_laws.proofs.function_laws.passed.definition_laws.linkage_laws.Roles.{opens}
-use Rattle.object_initialiser_laws.proofs.block_uses.Making.{maker_is}
+use Rattle.valid_unit_laws.proofs.object_initialiser_laws.block_uses.Making.{maker_is}
 use Rattle.valid_unit_laws.proofs.body_node_laws.known_names.Scopes.{around_below}
 
 entry_in : (ds : List Declared) (leaf : ℕ) (d : Declared) → entry_of ds leaf ≡ Some d → In ds d × (d.node ≡ leaf)

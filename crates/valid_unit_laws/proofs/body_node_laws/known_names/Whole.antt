@@ -29,9 +29,9 @@ use Rattle.c_senses.specs.Declarators.{is_declarator, is_outermost, outermost_of
 use Rattle.c_senses.specs.Entities.{is_typedef, is_parameter, is_internal, is_linked, linkage_of, declaration_of, specified, specified_of, derived_type, own_type, length_given_by, parameter_type, first_of, internal_among, initialiser_for, with_length, entity_of}
 use Rattle.c_senses.specs.Right.{declared_as, declared_name, declares_entity, is_declaring, is_defined_parameter, stands_in_declaration, entity_type, internal_type}
 use Rattle.c_senses.specs.Right as right
-use Rattle.built_unit_laws.specs.built_laws.Placed.{IsInBody}
-use Rattle.declared_type_laws.specs.declared_leaves.Leaves.{IsNamed, Own, Inner, IsDeclaredBy}
-use Rattle.declared_type_laws.proofs.declared_leaves.Climbing.{leaves_declared}
+use Rattle.core_node_laws.specs.built_unit_laws.built_laws.Placed.{IsInBody}
+use Rattle.declaration_laws.specs.declared_type_laws.declared_leaves.Leaves.{IsNamed, Own, Inner, IsDeclaredBy}
+use Rattle.declaration_laws.proofs.declared_type_laws.declared_leaves.Climbing.{leaves_declared}
 use Rattle.parsed_tree_laws.specs.grown_parts.Parts.{IsBrought}
 use Rattle.parsed_tree_laws.proofs.grown_parts.Reading.{units_bring}
 use Rattle.declaration_laws.specs.name_order.Order.{declaring, IsNameOf, Declares, Enumerates, Names, Rises, IsOrdered}

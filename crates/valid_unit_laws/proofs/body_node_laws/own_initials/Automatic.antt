@@ -30,17 +30,17 @@ use Rattle.declaration_laws.proofs.function_laws.passed.definition_laws.linkage_
 use Rattle.declaration_laws.proofs.function_laws.passed.definition_laws.linkage_laws.Linked as linked
 use Rattle.declaration_laws.proofs.function_laws.passed.definition_laws.linkage_laws.Reading.{tree_is}
 use Rattle.declaration_laws.proofs.function_laws.passed.definition_laws.linkage_laws.Unlinked.{lives, local}
-use Rattle.declared_type_laws.proofs.passed.owner_laws.Whole.{grown_of}
+use Rattle.declaration_laws.proofs.declared_type_laws.passed.owner_laws.Whole.{grown_of}
 use Rattle.declaration_laws.proofs.function_laws.passed.definition_laws.initialiser_laws.Found.{initialisers_found}
-use Rattle.object_initialiser_laws.specs.placed_initialisers.PassedOn.{IsPlaced}
-use Rattle.object_initialiser_laws.proofs.placed_initialisers.Whole.{units_place}
-use Rattle.object_initialiser_laws.specs.initial_entities.Own.{IsOwnInitial}
-use Rattle.object_initialiser_laws.proofs.initial_entities.Rows.{initialisers_own}
-use Rattle.declared_type_laws.specs.passed.owner_laws.held_runs.PassedOn.{IsHeld}
-use Rattle.declared_type_laws.proofs.passed.owner_laws.held_runs.PassedOn.{units_hold_parts}
-use Rattle.declared_type_laws.specs.passed.owner_laws.held_runs.Runs.{BlockWith}
-use Rattle.declared_type_laws.proofs.passed.owner_laws.held_runs.Whole.{climb}
-use Rattle.declared_type_laws.proofs.passed.owner_laws.automatic_runs.Whole.{automatic_runs}
+use Rattle.valid_unit_laws.specs.object_initialiser_laws.placed_initialisers.PassedOn.{IsPlaced}
+use Rattle.valid_unit_laws.proofs.object_initialiser_laws.placed_initialisers.Whole.{units_place}
+use Rattle.valid_unit_laws.specs.object_initialiser_laws.initial_entities.Own.{IsOwnInitial}
+use Rattle.valid_unit_laws.proofs.object_initialiser_laws.initial_entities.Rows.{initialisers_own}
+use Rattle.declaration_laws.specs.declared_type_laws.passed.owner_laws.held_runs.PassedOn.{IsHeld}
+use Rattle.declaration_laws.proofs.declared_type_laws.passed.owner_laws.held_runs.PassedOn.{units_hold_parts}
+use Rattle.declaration_laws.specs.declared_type_laws.passed.owner_laws.held_runs.Runs.{BlockWith}
+use Rattle.declaration_laws.proofs.declared_type_laws.passed.owner_laws.held_runs.Whole.{climb}
+use Rattle.declaration_laws.proofs.declared_type_laws.passed.owner_laws.automatic_runs.Whole.{automatic_runs}
 use Rattle.valid_unit_laws.proofs.body_node_laws.own_initials.Trees.{Marks}
 use Rattle.valid_unit_laws.proofs.body_node_laws.own_initials.Names.{both}
 

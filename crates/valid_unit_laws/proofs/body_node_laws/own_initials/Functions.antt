@@ -38,11 +38,11 @@ use Rattle.declaration_laws.proofs.function_laws.passed.definition_laws.linkage_
 use Rattle.declaration_laws.proofs.function_laws.passed.definition_laws.linkage_laws.Unlinked.{all_internal}
 use Rattle.parsed_tree_laws.proofs.grown_parts.Reading.{units_bring}
 use Rattle.declaration_laws.proofs.name_order.Ordered.{units_ordered}
-use Rattle.declared_type_laws.proofs.passed.owner_laws.Whole.{grown_of}
-use Rattle.object_initialiser_laws.specs.passed.internal_name_laws.representative_names.Representatives.{IsKnown}
-use Rattle.object_initialiser_laws.proofs.passed.internal_name_laws.representative_names.Declaring.{linked_declares}
-use Rattle.object_initialiser_laws.proofs.passed.internal_name_laws.representative_names.Standing.{representatives_known}
-use Rattle.declared_type_laws.proofs.passed.owner_laws.internal_laws.Reading.{definitions_known}
+use Rattle.declaration_laws.proofs.declared_type_laws.passed.owner_laws.Whole.{grown_of}
+use Rattle.valid_unit_laws.specs.object_initialiser_laws.passed.internal_name_laws.representative_names.Representatives.{IsKnown}
+use Rattle.valid_unit_laws.proofs.object_initialiser_laws.passed.internal_name_laws.representative_names.Declaring.{linked_declares}
+use Rattle.valid_unit_laws.proofs.object_initialiser_laws.passed.internal_name_laws.representative_names.Standing.{representatives_known}
+use Rattle.declaration_laws.proofs.declared_type_laws.passed.owner_laws.internal_laws.Reading.{definitions_known}
 use Rattle.valid_unit_laws.proofs.body_node_laws.own_initials.Names.{both}
 
 or_left : (a b : Bool) → a ≡ true → (a || b) ≡ true

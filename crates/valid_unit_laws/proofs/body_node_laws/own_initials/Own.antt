@@ -20,7 +20,7 @@ use Rattle.parsed_tree_laws.proofs.family_laws.Reading.{units_families}
 use Rattle.parsed_tree_laws.proofs.span_laws.Whole.{units_are_spanned}
 use Rattle.parsed_tree_laws.proofs.grown_parts.Reading.{units_bring}
 use Rattle.parsed_tree_laws.proofs.sign_parts.Reading as signs
-use Rattle.declared_type_laws.proofs.declared_leaves.Climbing.{leaves_declared}
+use Rattle.declaration_laws.proofs.declared_type_laws.declared_leaves.Climbing.{leaves_declared}
 use Rattle.declaration_laws.proofs.function_laws.passed.definition_laws.linkage_laws.Seen.{none_some}
 use Rattle.declaration_laws.proofs.function_laws.passed.definition_laws.linkage_laws.Linked as linked
 use Rattle.declaration_laws.proofs.function_laws.passed.definition_laws.linkage_laws.Reading.{tree_is}
@@ -28,8 +28,8 @@ use Rattle.declaration_laws.proofs.function_laws.passed.definition_laws.own_init
 use Rattle.declaration_laws.proofs.function_laws.passed.definition_laws.single_initialisers.Apart.{stands_outermost}
 use Rattle.core_node_laws.specs.count_laws.Counting.{sum_below, bodies, seen_at, world_of, Makes}
 use Rattle.core_node_laws.proofs.count_laws.Main.{counting}
-use Rattle.object_initialiser_laws.specs.once_initialised.Once.{initialises}
-use Rattle.object_initialiser_laws.proofs.once_initialised.Whole.{initialised_once}
+use Rattle.valid_unit_laws.specs.object_initialiser_laws.once_initialised.Once.{initialises}
+use Rattle.valid_unit_laws.proofs.object_initialiser_laws.once_initialised.Whole.{initialised_once}
 use Rattle.valid_unit_laws.specs.body_node_laws.own_initials.Own.{InitialisesOwn, UnitsInitialiseOwn}
 use Rattle.valid_unit_laws.proofs.body_node_laws.own_initials.Trees.{Marks, stands, within, further, one_in, same_in}
 use Rattle.valid_unit_laws.proofs.body_node_laws.own_initials.Names.{opening_differs, own_name}

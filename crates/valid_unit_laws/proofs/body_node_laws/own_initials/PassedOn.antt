@@ -1,2 +1,2 @@
 -- What this crate passes on, from those below it to those above it.
-pub use Rattle.object_initialiser_laws.proofs.initial_entities.Rows.{initialisers_own}
+pub use Rattle.valid_unit_laws.proofs.object_initialiser_laws.initial_entities.Rows.{initialisers_own}

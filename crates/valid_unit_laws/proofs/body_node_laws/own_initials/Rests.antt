@@ -10,7 +10,7 @@ use Rattle.c_senses.specs.Entities.{initialised_by}
 use Rattle.c_senses.specs.Sense.{Sense, IsDeclarator, Derivation, sense_in}
 use Rattle.declaration_laws.proofs.function_laws.passed.definition_laws.linkage_laws.Seen.{some_same, none_some, parent_is, parent_holds}
 use Rattle.declaration_laws.proofs.function_laws.passed.definition_laws.linkage_laws.Linked.{Tree}
-use Rattle.built_unit_laws.proofs.run_laws.Running.{first_in, last_found}
+use Rattle.core_node_laws.proofs.built_unit_laws.run_laws.Running.{first_in, last_found}
 use Rattle.parsed_tree_laws.specs.sign_parts.Parts.{IsBrought}
 use Rattle.core_node_laws.proofs.standing_laws.Climbing.{found_where}
 use Rattle.declaration_laws.proofs.function_laws.passed.definition_laws.single_initialisers.Parts.{member, Holds, in_rest, in_other, holder, inner_holder, item_in, no_declarator_in}

@@ -29,16 +29,16 @@ use Rattle.parsed_tree_laws.specs.family_laws.Families.{IsChild}
 use Rattle.core_node_laws.specs.count_laws.count_rows.Counts.{count_in, count_of}
 use Rattle.core_node_laws.specs.count_laws.count_rows.Covers.{stays}
 use Rattle.core_node_laws.specs.count_laws.Counting.{sum_below, of_block, bodies}
-use Rattle.object_initialiser_laws.specs.once_initialised.Once.{initialises}
+use Rattle.valid_unit_laws.specs.object_initialiser_laws.once_initialised.Once.{initialises}
 use Rattle.core_node_laws.proofs.count_laws.once_nodes.Rooted.{OfBlock, OfInitial, body_is, body_by, block_in}
 use Rattle.core_node_laws.proofs.standing_laws.Climbing.{in_list}
 use Rattle.core_node_laws.proofs.standing_laws.Descending.{sense_before, child_before}
-use Rattle.declared_type_laws.proofs.passed.owner_laws.Whole.{grown_of}
+use Rattle.declaration_laws.proofs.declared_type_laws.passed.owner_laws.Whole.{grown_of}
 use Rattle.declaration_laws.proofs.function_laws.passed.definition_laws.linkage_laws.Seen.{some_same, no_both, apart, node_within, parent_holds}
 use Rattle.declaration_laws.proofs.function_laws.passed.definition_laws.linkage_laws.Linked as linked
 use Rattle.declaration_laws.proofs.function_laws.passed.definition_laws.linkage_laws.Reading.{tree_is}
 use Rattle.declaration_laws.proofs.function_laws.passed.definition_laws.linkage_laws.Unlinked.{stands_for}
-use Rattle.declared_type_laws.proofs.passed.owner_laws.automatic_runs.PassedOn.{units_run_initialisers}
+use Rattle.declaration_laws.proofs.declared_type_laws.passed.owner_laws.automatic_runs.PassedOn.{units_run_initialisers}
 use Rattle.valid_unit_laws.proofs.body_node_laws.own_initials.Trees.{within}
 use Rattle.valid_unit_laws.proofs.body_node_laws.own_initials.Names.{both}
 use Rattle.valid_unit_laws.proofs.body_node_laws.own_initials.Rests.{name_in, seen_later, Place, place_of, rest_in}

@@ -10,8 +10,8 @@ use Rattle.c_senses.specs.Tree.{Source}
 use Rattle.c_senses.specs.Sense.{Sense}
 use Rattle.c_senses.specs.Right.{Within, Itself, Below}
 use Rattle.core_node_laws.specs.count_laws.count_rows.Counts.{own_weight, unless_left_out, count_in, count_under}
-use Rattle.declared_type_laws.specs.passed.owner_laws.held_runs.PassedOn.{StandsIn, InSome}
-use Rattle.object_initialiser_laws.specs.once_initialised.Once.{initialises}
+use Rattle.declaration_laws.specs.declared_type_laws.passed.owner_laws.held_runs.PassedOn.{StandsIn, InSome}
+use Rattle.valid_unit_laws.specs.object_initialiser_laws.once_initialised.Once.{initialises}
 
 module _ (s : Source) (senses : List Sense) where
   itself : (x : Core) → StandsIn x x

@@ -35,9 +35,9 @@ use Rattle.core_node_laws.specs.count_laws.count_rows.Covers.{stays}
 use Rattle.core_node_laws.specs.count_laws.Counting.{sum_below, bodies}
 use Rattle.core_node_laws.proofs.count_laws.once_nodes.Found.{some_one, Found, top, found_stands, found_under, one_found, two_found, part_of, all_under}
 use Rattle.core_node_laws.proofs.count_laws.once_nodes.Rooted.{none_some, same_initialise}
-use Rattle.object_initialiser_laws.specs.once_initialised.Once.{initialises}
+use Rattle.valid_unit_laws.specs.object_initialiser_laws.once_initialised.Once.{initialises}
 use Rattle.core_node_laws.proofs.standing_laws.Descending.{sense_before, child_before}
-use Rattle.declared_type_laws.proofs.passed.owner_laws.Whole.{grown_of}
+use Rattle.declaration_laws.proofs.declared_type_laws.passed.owner_laws.Whole.{grown_of}
 use Rattle.declaration_laws.proofs.function_laws.passed.definition_laws.linkage_laws.Seen.{no_both, apart}
 use Rattle.declaration_laws.proofs.function_laws.named_definitions.Naming.{definitions_named}
 use Rattle.valid_unit_laws.proofs.body_node_laws.own_initials.Roots.{IsRoot, root_counts, root_within, one_below, two_below}

@@ -27,15 +27,15 @@ use Rattle.parsed_tree_laws.proofs.family_laws.Reading.{units_families}
 use Rattle.parsed_tree_laws.specs.sign_parts.Parts.{IsBrought}
 use Rattle.parsed_tree_laws.proofs.sign_parts.Reading as signs
 use Rattle.parsed_tree_laws.proofs.grown_parts.Reading.{units_bring}
-use Rattle.declared_type_laws.specs.declared_leaves.Leaves.{IsDeclaredBy}
-use Rattle.declared_type_laws.proofs.declared_leaves.Climbing.{leaves_declared}
+use Rattle.declaration_laws.specs.declared_type_laws.declared_leaves.Leaves.{IsDeclaredBy}
+use Rattle.declaration_laws.proofs.declared_type_laws.declared_leaves.Climbing.{leaves_declared}
 use Rattle.declaration_laws.proofs.function_laws.passed.definition_laws.linkage_laws.Seen.{some_same, no_both, parent_is, parent_holds}
 use Rattle.declaration_laws.proofs.function_laws.passed.definition_laws.linkage_laws.Linked as linked
 use Rattle.declaration_laws.proofs.function_laws.passed.definition_laws.linkage_laws.Reading.{tree_is}
-use Rattle.built_unit_laws.proofs.run_laws.Times.{known_at, told_before}
+use Rattle.core_node_laws.proofs.built_unit_laws.run_laws.Times.{known_at, told_before}
 use Rattle.declaration_laws.proofs.function_laws.passed.definition_laws.single_initialisers.Apart.{stands_outermost}
 use Rattle.declaration_laws.proofs.function_laws.passed.definition_laws.single_initialisers.Parts.{member, Holds, in_rest, in_other, holder, inner_holder, item_in, no_declarator_in}
-use Rattle.declared_type_laws.proofs.known_entities.Known.{entities_known}
+use Rattle.declaration_laws.proofs.declared_type_laws.known_entities.Known.{entities_known}
 use Rattle.valid_unit_laws.specs.body_node_laws.own_initials.PassedOn.{IsOwnInitial}
 use Rattle.valid_unit_laws.proofs.body_node_laws.own_initials.PassedOn.{initialisers_own}
 use Rattle.valid_unit_laws.proofs.body_node_laws.own_initials.Names.{both}

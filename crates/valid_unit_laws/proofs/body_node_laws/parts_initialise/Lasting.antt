@@ -33,7 +33,7 @@ use Rattle.parsed_tree_laws.proofs.family_laws.Reading.{units_families}
 use Rattle.parsed_tree_laws.proofs.span_laws.Whole.{units_are_spanned}
 use Rattle.core_node_laws.proofs.standing_laws.Climbing.{in_list}
 use Rattle.core_node_laws.proofs.standing_laws.Descending.{sense_before, child_before}
-use Rattle.declared_type_laws.proofs.passed.owner_laws.Whole.{grown_of}
+use Rattle.declaration_laws.proofs.declared_type_laws.passed.owner_laws.Whole.{grown_of}
 use Rattle.declaration_laws.proofs.function_laws.passed.definition_laws.linkage_laws.Seen.{some_same, no_both, apart, parent_is, parent_holds, list_in, node_within}
 use Rattle.declaration_laws.proofs.function_laws.passed.definition_laws.linkage_laws.Reading.{tree_is}
 use Rattle.core_node_laws.specs.count_laws.count_rows.Counts.{Count, own_weight, count_in}
@@ -42,7 +42,7 @@ use Rattle.core_node_laws.specs.count_laws.Counting.{sum_below, bodies, seen_at,
 use Rattle.core_node_laws.specs.count_laws.Counting as counts
 use Rattle.core_node_laws.proofs.count_laws.Main.{counting}
 use Rattle.core_node_laws.proofs.count_laws.once_nodes.Found.{some_one, Found, top, one_found, two_found}
-use Rattle.object_initialiser_laws.specs.once_initialised.Once.{initialises}
+use Rattle.valid_unit_laws.specs.object_initialiser_laws.once_initialised.Once.{initialises}
 use Rattle.valid_unit_laws.proofs.body_node_laws.own_initials.Names.{both, opening_differs}
 use Rattle.valid_unit_laws.proofs.body_node_laws.own_initials.Rests.{name_in}
 use Rattle.valid_unit_laws.proofs.body_node_laws.own_initials.Roots.{root_counts}

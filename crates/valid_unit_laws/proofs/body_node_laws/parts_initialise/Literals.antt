@@ -32,38 +32,38 @@ use Rattle.parsed_tree_laws.specs.family_laws.Families.{Families, IsChild}
 use Rattle.parsed_tree_laws.proofs.family_laws.Reading.{units_families}
 use Rattle.parsed_tree_laws.specs.span_laws.Spans.{Spanned}
 use Rattle.parsed_tree_laws.proofs.span_laws.Whole.{units_are_spanned}
-use Rattle.declared_type_laws.proofs.passed.owner_laws.Whole.{grown_of}
+use Rattle.declaration_laws.proofs.declared_type_laws.passed.owner_laws.Whole.{grown_of}
 use Rattle.declaration_laws.proofs.function_laws.passed.definition_laws.linkage_laws.Linked as linked
 use Rattle.declaration_laws.proofs.function_laws.passed.definition_laws.linkage_laws.Reading.{tree_is}
 use Rattle.parsed_tree_laws.proofs.grown_parts.Reading.{units_bring}
 use Rattle.declaration_laws.proofs.name_order.Ordered.{units_ordered}
-use Rattle.declared_type_laws.specs.declared_leaves.Leaves.{IsNamed, Own, Inner}
-use Rattle.declared_type_laws.proofs.declared_leaves.Climbing.{leaves_declared}
-use Rattle.object_initialiser_laws.proofs.passed.internal_name_laws.representative_names.Declaring.{linked_declares}
-use Rattle.declared_type_laws.proofs.known_entities.Known.{entities_known}
+use Rattle.declaration_laws.specs.declared_type_laws.declared_leaves.Leaves.{IsNamed, Own, Inner}
+use Rattle.declaration_laws.proofs.declared_type_laws.declared_leaves.Climbing.{leaves_declared}
+use Rattle.valid_unit_laws.proofs.object_initialiser_laws.passed.internal_name_laws.representative_names.Declaring.{linked_declares}
+use Rattle.declaration_laws.proofs.declared_type_laws.known_entities.Known.{entities_known}
 use Rattle.declaration_laws.proofs.function_laws.passed.definition_laws.single_initialisers.Apart.{stands_outermost}
 use Rattle.parsed_tree_laws.proofs.sign_parts.Reading as signs
-use Rattle.built_unit_laws.proofs.run_laws.Times.{known_at, told_before}
+use Rattle.core_node_laws.proofs.built_unit_laws.run_laws.Times.{known_at, told_before}
 use Rattle.core_node_laws.specs.literal_nodes.Holding.{Holds}
 use Rattle.core_node_laws.specs.literal_nodes.Unnamed.{IsUnnamed}
 use Rattle.core_node_laws.proofs.literal_nodes.Unnamed.{unnamed}
-use Rattle.built_unit_laws.proofs.unlinked_laws.Inside.{in_body_holds}
-use Rattle.built_unit_laws.specs.built_laws.Placed.{IsInBody}
-use Rattle.built_unit_laws.specs.built_rows.Rows.{types_declared}
-use Rattle.sense_laws.specs.Sound.{Sound, AllSound, RowOver, list_of}
-use Rattle.sense_laws.specs.Senses.{SoundSense}
-use Rattle.sense_laws.proofs.All.{asked_sound}
-use Rattle.built_unit_laws.proofs.align_laws.Fitting.{asked_aligns_fit}
-use Rattle.sense_laws.proofs.parsed_laws.Constants.{constants_fit}
-use Rattle.object_initialiser_laws.specs.passed.internal_name_laws.text_rows.Texts.{TypesFit}
-use Rattle.object_initialiser_laws.proofs.passed.internal_name_laws.text_rows.Fitting.{grown, asked_fit}
+use Rattle.core_node_laws.proofs.built_unit_laws.unlinked_laws.Inside.{in_body_holds}
+use Rattle.core_node_laws.specs.built_unit_laws.built_laws.Placed.{IsInBody}
+use Rattle.core_node_laws.specs.built_unit_laws.built_rows.Rows.{types_declared}
+use Rattle.parsed_tree_laws.specs.sense_laws.Sound.{Sound, AllSound, RowOver, list_of}
+use Rattle.parsed_tree_laws.specs.sense_laws.Senses.{SoundSense}
+use Rattle.parsed_tree_laws.proofs.sense_laws.All.{asked_sound}
+use Rattle.core_node_laws.proofs.built_unit_laws.align_laws.Fitting.{asked_aligns_fit}
+use Rattle.parsed_tree_laws.proofs.sense_laws.parsed_laws.Constants.{constants_fit}
+use Rattle.valid_unit_laws.specs.object_initialiser_laws.passed.internal_name_laws.text_rows.Texts.{TypesFit}
+use Rattle.valid_unit_laws.proofs.object_initialiser_laws.passed.internal_name_laws.text_rows.Fitting.{grown, asked_fit}
 use Rattle.core_node_laws.specs.count_laws.Counting.{sum_below, bodies, seen_at, world_of, Makes}
 use Rattle.core_node_laws.proofs.count_laws.Main.{counting}
 use Rattle.core_node_laws.proofs.count_laws.Rooms.{apart}
 use Rattle.core_node_laws.proofs.count_laws.once_nodes.Found.{some_one}
 use Rattle.core_node_laws.proofs.count_laws.once_nodes.Rooted.{none_some, found_where}
 use Rattle.core_node_laws.proofs.count_laws.single_nodes.Places.{once_only}
-use Rattle.object_initialiser_laws.specs.once_initialised.Once.{initialises}
+use Rattle.valid_unit_laws.specs.object_initialiser_laws.once_initialised.Once.{initialises}
 use Rattle.valid_unit_laws.proofs.body_node_laws.own_initials.Names.{both}
 use Rattle.valid_unit_laws.proofs.body_node_laws.own_initials.Rests.{name_in, seen_later}
 use Rattle.valid_unit_laws.specs.body_node_laws.parts_initialise.Initialise.{IsRaised, IsBodyOf}

@@ -30,9 +30,9 @@ use Rattle.core_node_laws.proofs.standing_laws.Climbing.{in_list}
 use Rattle.declaration_laws.proofs.function_laws.passed.definition_laws.linkage_laws.Seen.{some_same, parent_holds}
 use Rattle.declaration_laws.proofs.function_laws.passed.definition_laws.linkage_laws.Reading.{tree_is}
 use Rattle.parsed_tree_laws.proofs.grown_parts.Reading.{units_bring}
-use Rattle.declared_type_laws.proofs.declared_leaves.Climbing.{leaves_declared}
-use Rattle.built_unit_laws.proofs.run_laws.Times.{known_at, known, told_before}
-use Rattle.object_initialiser_laws.proofs.passed.internal_name_laws.representative_names.Standing.{representatives_known}
+use Rattle.declaration_laws.proofs.declared_type_laws.declared_leaves.Climbing.{leaves_declared}
+use Rattle.core_node_laws.proofs.built_unit_laws.run_laws.Times.{known_at, known, told_before}
+use Rattle.valid_unit_laws.proofs.object_initialiser_laws.passed.internal_name_laws.representative_names.Standing.{representatives_known}
 use Rattle.valid_unit_laws.proofs.body_node_laws.own_initials.Names.{both}
 use Rattle.valid_unit_laws.proofs.body_node_laws.own_initials.Rests.{name_in, seen_later}
 use Rattle.valid_unit_laws.proofs.body_node_laws.own_initials.Automatic.{Initial, initial}

@@ -25,11 +25,11 @@ use Rattle.c_senses.specs.Statements.{objects_in, cores_in}
 use Rattle.c_senses.specs.Sense.{Sense, IsCore, sense_in}
 use Rattle.c_senses.specs.Rows.{AreSenses}
 use Rattle.c_senses.specs.Right.{Numbering, SameKind, SameBody, StandsBy, Declared, declared_name, Within, Itself, Below, IsBody, core_of_sense}
-use Rattle.object_initialiser_laws.specs.once_initialised.Once.{initialises}
-use Rattle.object_initialiser_laws.proofs.once_initialised.Whole.{initialised_once}
+use Rattle.valid_unit_laws.specs.object_initialiser_laws.once_initialised.Once.{initialises}
+use Rattle.valid_unit_laws.proofs.object_initialiser_laws.once_initialised.Whole.{initialised_once}
 use Rattle.core_node_laws.proofs.count_laws.once_nodes.Found.{some_one, Found, top, inside, found_stands, kind_there}
 use Rattle.core_node_laws.proofs.count_laws.once_nodes.Rooted.{same_initialise, found_where}
-use Rattle.built_unit_laws.proofs.run_laws.Times.{known_at, world_of, row_as}
+use Rattle.core_node_laws.proofs.built_unit_laws.run_laws.Times.{known_at, world_of, row_as}
 use Rattle.declaration_laws.proofs.function_laws.passed.definition_laws.linkage_laws.Seen.{node_within}
 use Rattle.valid_unit_laws.proofs.body_node_laws.own_initials.Own.{units_initialise_own}
 use Rattle.valid_unit_laws.proofs.body_node_laws.own_initials.Automatic.{automatic}

@@ -28,8 +28,8 @@ use Rattle.declaration_laws.proofs.function_laws.passed.definition_laws.linkage_
 use Rattle.core_node_laws.specs.literal_nodes.Holding.{Holds}
 use Rattle.core_node_laws.specs.literal_nodes.Unnamed.{IsUnnamed}
 use Rattle.core_node_laws.proofs.literal_nodes.Unnamed.{unnamed}
-use Rattle.built_unit_laws.specs.built_laws.Placed.{IsInBody}
-use Rattle.built_unit_laws.proofs.unlinked_laws.Inside.{in_body_holds}
+use Rattle.core_node_laws.specs.built_unit_laws.built_laws.Placed.{IsInBody}
+use Rattle.core_node_laws.proofs.built_unit_laws.unlinked_laws.Inside.{in_body_holds}
 use Rattle.unit_finish.specs.declared.unit_parts.declared.Declared.{Declared}
 use Rattle.unit_finish.specs.declared.unit_parts.literals.LiteralAt.{LiteralAt}
 use Rattle.unit_finish.specs.unit_parts.Numbered.{moved}

@@ -25,44 +25,44 @@ use Rattle.c_senses.specs.Initialised.{name_of_declarator, opening}
 use Rattle.c_inits.specs.Initial.{Outcome, Places, NoPlace}
 use Rattle.c_senses.specs.Right.{core_of_sense, representative, declared_name, IsPart, Within, Itself, Below}
 use Rattle.c_senses.specs.Right as right
-use Rattle.sense_laws.specs.Sound.{Sound, AllSound, AgreesWith, Gives, NamedOver, FunctionNameOver, list_of, MeaningFits, IsVariadicOf}
-use Rattle.sense_laws.specs.Senses.{SoundSense}
-use Rattle.sense_laws.specs.Asked.{FirstFits, OutcomeStands}
-use Rattle.sense_laws.proofs.All.{asked_sound}
-use Rattle.built_unit_laws.specs.align_laws.Aligns.{AskedElseFit}
-use Rattle.built_unit_laws.proofs.align_laws.Fitting.{asked_aligns_fit}
-use Rattle.sense_laws.proofs.parsed_laws.Constants.{constants_fit}
-use Rattle.sense_laws.proofs.statement_laws.Grammar.{statements_parsed}
+use Rattle.parsed_tree_laws.specs.sense_laws.Sound.{Sound, AllSound, AgreesWith, Gives, NamedOver, FunctionNameOver, list_of, MeaningFits, IsVariadicOf}
+use Rattle.parsed_tree_laws.specs.sense_laws.Senses.{SoundSense}
+use Rattle.parsed_tree_laws.specs.sense_laws.Asked.{FirstFits, OutcomeStands}
+use Rattle.parsed_tree_laws.proofs.sense_laws.All.{asked_sound}
+use Rattle.core_node_laws.specs.built_unit_laws.align_laws.Aligns.{AskedElseFit}
+use Rattle.core_node_laws.proofs.built_unit_laws.align_laws.Fitting.{asked_aligns_fit}
+use Rattle.parsed_tree_laws.proofs.sense_laws.parsed_laws.Constants.{constants_fit}
+use Rattle.parsed_tree_laws.proofs.sense_laws.statement_laws.Grammar.{statements_parsed}
 use Rattle.core_node_laws.specs.standing_laws.Standing.{IsGrown}
-use Rattle.built_unit_laws.specs.built_rows.Rows.{types_declared}
-use Rattle.object_initialiser_laws.specs.passed.internal_name_laws.initialised_rows.PassedOn.{TypesFit}
-use Rattle.object_initialiser_laws.proofs.passed.internal_name_laws.initialised_rows.PassedOn.{asked_fit}
-use Rattle.object_initialiser_laws.proofs.passed.internal_name_laws.initialised_rows.PassedOn.{types_fit, tree_grown}
-use Rattle.object_initialiser_laws.proofs.passed.internal_name_laws.initialised_rows.Owning.{linked_fit}
-use Rattle.object_initialiser_laws.proofs.passed.internal_name_laws.internal_names.Reading.{internals_fit}
-use Rattle.object_initialiser_laws.proofs.passed.internal_name_laws.internal_names.Order.{used, earlier}
-use Rattle.object_initialiser_laws.proofs.passed.internal_name_laws.internal_names.Seen.{Entry, entry, row, sees}
-use Rattle.object_initialiser_laws.proofs.passed.internal_name_laws.internal_names.Lists.{last_is}
-use Rattle.object_initialiser_laws.specs.passed.internal_name_laws.internal_names.PassedOn.{AreScoped}
-use Rattle.object_initialiser_laws.proofs.passed.internal_name_laws.internal_names.PassedOn.{linked_scoped}
-use Rattle.declared_type_laws.proofs.agreed_internals.PassedOn.{In}
-use Rattle.declared_type_laws.proofs.agreed_internals.Lists.{found_at, behind_front}
-use Rattle.declared_type_laws.proofs.plain_names.Fitting.{found_node, own_named, own_entity}
+use Rattle.core_node_laws.specs.built_unit_laws.built_rows.Rows.{types_declared}
+use Rattle.valid_unit_laws.specs.object_initialiser_laws.passed.internal_name_laws.initialised_rows.PassedOn.{TypesFit}
+use Rattle.valid_unit_laws.proofs.object_initialiser_laws.passed.internal_name_laws.initialised_rows.PassedOn.{asked_fit}
+use Rattle.valid_unit_laws.proofs.object_initialiser_laws.passed.internal_name_laws.initialised_rows.PassedOn.{types_fit, tree_grown}
+use Rattle.valid_unit_laws.proofs.object_initialiser_laws.passed.internal_name_laws.initialised_rows.Owning.{linked_fit}
+use Rattle.valid_unit_laws.proofs.object_initialiser_laws.passed.internal_name_laws.internal_names.Reading.{internals_fit}
+use Rattle.valid_unit_laws.proofs.object_initialiser_laws.passed.internal_name_laws.internal_names.Order.{used, earlier}
+use Rattle.valid_unit_laws.proofs.object_initialiser_laws.passed.internal_name_laws.internal_names.Seen.{Entry, entry, row, sees}
+use Rattle.valid_unit_laws.proofs.object_initialiser_laws.passed.internal_name_laws.internal_names.Lists.{last_is}
+use Rattle.valid_unit_laws.specs.object_initialiser_laws.passed.internal_name_laws.internal_names.PassedOn.{AreScoped}
+use Rattle.valid_unit_laws.proofs.object_initialiser_laws.passed.internal_name_laws.internal_names.PassedOn.{linked_scoped}
+use Rattle.declaration_laws.proofs.declared_type_laws.agreed_internals.PassedOn.{In}
+use Rattle.declaration_laws.proofs.declared_type_laws.agreed_internals.Lists.{found_at, behind_front}
+use Rattle.declaration_laws.proofs.declared_type_laws.plain_names.Fitting.{found_node, own_named, own_entity}
 use Rattle.declaration_laws.proofs.function_laws.passed.definition_laws.own_initialisers.Standing.{initialisers_stand}
 use Rattle.declaration_laws.specs.function_laws.passed.definition_laws.scope_laws.Scoped.{DeclaredOnce}
 use Rattle.declaration_laws.proofs.function_laws.passed.definition_laws.scope_laws.Whole.{names_declared_once}
-use Rattle.declared_type_laws.proofs.known_entities.Known.{entities_known}
-use Rattle.declared_type_laws.proofs.known_entities.Further.{further_found}
-use Rattle.declared_type_laws.proofs.passed.owner_laws.Whole.{grown_of}
+use Rattle.declaration_laws.proofs.declared_type_laws.known_entities.Known.{entities_known}
+use Rattle.declaration_laws.proofs.declared_type_laws.known_entities.Further.{further_found}
+use Rattle.declaration_laws.proofs.declared_type_laws.passed.owner_laws.Whole.{grown_of}
 use Rattle.core_node_laws.proofs.count_laws.once_nodes.Rooted.{OfBlock, OfInitial, body_is, body_by}
-use Rattle.object_initialiser_laws.proofs.once_initialised.Whole.{opening_differs}
-use Rattle.built_unit_laws.specs.built_laws.Placed.{IsInBody}
+use Rattle.valid_unit_laws.proofs.object_initialiser_laws.once_initialised.Whole.{opening_differs}
+use Rattle.core_node_laws.specs.built_unit_laws.built_laws.Placed.{IsInBody}
 use Rattle.parsed_tree_laws.proofs.family_laws.Reading.{units_families}
 use Rattle.declaration_laws.proofs.function_laws.passed.definition_laws.single_initialisers.Apart.{stands_outermost}
 use Rattle.parsed_tree_laws.proofs.sign_parts.Reading as signs
 use Rattle.parsed_tree_laws.proofs.grown_parts.Reading.{units_bring}
 use Rattle.declaration_laws.proofs.name_order.Ordered.{units_ordered}
-use Rattle.declared_type_laws.proofs.declared_leaves.Climbing.{leaves_declared}
+use Rattle.declaration_laws.proofs.declared_type_laws.declared_leaves.Climbing.{leaves_declared}
 use Rattle.declaration_laws.proofs.function_laws.passed.definition_laws.linkage_laws.Seen.{some_same, no_both, node_within}
 use Rattle.declaration_laws.proofs.function_laws.passed.definition_laws.linkage_laws.Linked as linked
 use Rattle.declaration_laws.proofs.function_laws.passed.definition_laws.linkage_laws.Reading.{tree_is}

@@ -23,13 +23,13 @@ use Rattle.parsed_tree_laws.proofs.span_laws.Whole.{units_are_spanned}
 use Rattle.core_node_laws.specs.count_laws.count_rows.Counts.{own_weight, unless_left_out, count_in, count_under}
 use Rattle.core_node_laws.specs.count_laws.Counting.{sum_below, seen_at, world_of, Makes}
 use Rattle.core_node_laws.proofs.count_laws.Main.{counting}
-use Rattle.object_initialiser_laws.specs.once_initialised.Once.{initialises}
-use Rattle.object_initialiser_laws.proofs.once_initialised.Whole.{opening_differs}
+use Rattle.valid_unit_laws.specs.object_initialiser_laws.once_initialised.Once.{initialises}
+use Rattle.valid_unit_laws.proofs.object_initialiser_laws.once_initialised.Whole.{opening_differs}
 use Rattle.declaration_laws.proofs.function_laws.passed.definition_laws.single_initialisers.Apart.{stands_outermost}
 use Rattle.parsed_tree_laws.proofs.sign_parts.Reading as signs
 use Rattle.parsed_tree_laws.proofs.grown_parts.Reading.{units_bring}
-use Rattle.declared_type_laws.proofs.declared_leaves.Climbing.{leaves_declared}
-use Rattle.declared_type_laws.proofs.known_entities.Known.{entities_known}
+use Rattle.declaration_laws.proofs.declared_type_laws.declared_leaves.Climbing.{leaves_declared}
+use Rattle.declaration_laws.proofs.declared_type_laws.known_entities.Known.{entities_known}
 use Rattle.declaration_laws.proofs.function_laws.passed.definition_laws.linkage_laws.Seen.{no_both, node_within}
 use Rattle.declaration_laws.proofs.function_laws.passed.definition_laws.linkage_laws.Linked as linked
 use Rattle.declaration_laws.proofs.function_laws.passed.definition_laws.linkage_laws.Reading.{tree_is}

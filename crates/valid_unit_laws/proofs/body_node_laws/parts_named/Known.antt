@@ -20,7 +20,7 @@ use Rattle.c_senses.specs.Sense.{sense_in}
 use Rattle.c_senses.specs.Entities.{is_linked, is_internal}
 use Rattle.c_senses.specs.Right.{Within, declared_name}
 use Rattle.c_senses.specs.Right as right
-use Rattle.built_unit_laws.specs.built_laws.Placed.{IsInBody}
+use Rattle.core_node_laws.specs.built_unit_laws.built_laws.Placed.{IsInBody}
 use Rattle.unit_finish.specs.declared.unit_parts.declared.Declared.{Declared}
 use Rattle.unit_finish.specs.own_bodies.Own.{is_automatic, lasting_bodies}
 use Rattle.declaration_laws.proofs.function_laws.passed.definition_laws.linkage_laws.Seen.{no_both}

@@ -17,10 +17,10 @@ use Rattle.c_senses.specs.Right.{of_internal, with_one, representative, internal
 use Rattle.declaration_laws.proofs.function_laws.passed.definition_laws.linkage_laws.Linked as linked
 use Rattle.declaration_laws.proofs.function_laws.passed.definition_laws.linkage_laws.Reading.{tree_is}
 use Rattle.declaration_laws.proofs.function_laws.passed.definition_laws.linkage_laws.Unlinked.{stands_for}
-use Rattle.declared_type_laws.specs.agreed_internals.PassedOn.{IsDeclaredOnce}
-use Rattle.declared_type_laws.proofs.agreed_internals.PassedOn.{declared_once}
-use Rattle.declared_type_laws.specs.agreed_internals.Agreeing.{AreAgreed}
-use Rattle.declared_type_laws.proofs.agreed_internals.Agreeing.{internals_agree}
+use Rattle.declaration_laws.specs.declared_type_laws.agreed_internals.PassedOn.{IsDeclaredOnce}
+use Rattle.declaration_laws.proofs.declared_type_laws.agreed_internals.PassedOn.{declared_once}
+use Rattle.declaration_laws.specs.declared_type_laws.agreed_internals.Agreeing.{AreAgreed}
+use Rattle.declaration_laws.proofs.declared_type_laws.agreed_internals.Agreeing.{internals_agree}
 use Rattle.valid_unit_laws.specs.body_node_laws.parts_named.Named.{IsDeclared}
 use Rattle.valid_unit_laws.proofs.body_node_laws.parts_named.Owners.{both, declared_with, typed, named_name}
 

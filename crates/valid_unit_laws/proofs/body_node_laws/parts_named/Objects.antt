@@ -26,17 +26,17 @@ use Rattle.c_senses.specs.Right.{core_of_sense, declared_as, declared_name, decl
 use Rattle.c_senses.specs.Right as right
 use Rattle.core_node_laws.specs.near_nodes.Holding.{Holds, AllHold, OfSense, MeaningGives, RowGives, Closed}
 use Rattle.core_node_laws.proofs.near_nodes.All.{near_kept}
-use Rattle.built_unit_laws.proofs.run_laws.Automatic.{local_of, local_as}
+use Rattle.core_node_laws.proofs.built_unit_laws.run_laws.Automatic.{local_of, local_as}
 use Rattle.core_node_laws.proofs.count_laws.once_nodes.Rooted.{OfBlock, OfInitial, body_is, body_by}
-use Rattle.built_unit_laws.specs.built_laws.Placed.{IsInBody}
+use Rattle.core_node_laws.specs.built_unit_laws.built_laws.Placed.{IsInBody}
 use Rattle.declaration_laws.proofs.function_laws.passed.definition_laws.linkage_laws.Seen.{some_same, apart, node_within, parent_is}
 use Rattle.declaration_laws.proofs.function_laws.passed.definition_laws.linkage_laws.Linked as linked
 use Rattle.declaration_laws.proofs.function_laws.passed.definition_laws.linkage_laws.Reading.{tree_is}
 use Rattle.parsed_tree_laws.proofs.grown_parts.Reading.{units_bring}
-use Rattle.declared_type_laws.specs.declared_leaves.Leaves.{IsDeclaredBy}
-use Rattle.declared_type_laws.proofs.declared_leaves.Climbing.{leaves_declared}
+use Rattle.declaration_laws.specs.declared_type_laws.declared_leaves.Leaves.{IsDeclaredBy}
+use Rattle.declaration_laws.proofs.declared_type_laws.declared_leaves.Climbing.{leaves_declared}
 use Rattle.valid_unit_laws.specs.body_node_laws.parts_named.Named.{IsDeclared, AreDeclared}
-use Rattle.declared_type_laws.proofs.known_entities.Further.{further_found}
+use Rattle.declaration_laws.proofs.declared_type_laws.known_entities.Further.{further_found}
 use Rattle.valid_unit_laws.proofs.body_node_laws.parts_named.Owners.{named_name}
 use Rattle.valid_unit_laws.proofs.body_node_laws.parts_named.Linked.{entity_declared}
 use Rattle.valid_unit_laws.proofs.body_node_laws.parts_named.Roots.{seen_declarator, words_kept}

@@ -28,15 +28,15 @@ use Rattle.declaration_laws.proofs.function_laws.passed.definition_laws.linkage_
 use Rattle.declaration_laws.proofs.function_laws.passed.definition_laws.linkage_laws.Unlinked.{all_internal}
 use Rattle.parsed_tree_laws.proofs.grown_parts.Reading.{units_bring}
 use Rattle.declaration_laws.proofs.name_order.Ordered.{units_ordered}
-use Rattle.declared_type_laws.proofs.passed.owner_laws.Whole.{grown_of}
-use Rattle.object_initialiser_laws.specs.passed.internal_name_laws.representative_names.Representatives.{IsKnown}
-use Rattle.object_initialiser_laws.proofs.passed.internal_name_laws.representative_names.Declaring.{linked_declares}
-use Rattle.object_initialiser_laws.proofs.passed.internal_name_laws.representative_names.Standing.{representatives_known}
-use Rattle.declared_type_laws.proofs.passed.owner_laws.internal_laws.Reading.{definitions_known}
+use Rattle.declaration_laws.proofs.declared_type_laws.passed.owner_laws.Whole.{grown_of}
+use Rattle.valid_unit_laws.specs.object_initialiser_laws.passed.internal_name_laws.representative_names.Representatives.{IsKnown}
+use Rattle.valid_unit_laws.proofs.object_initialiser_laws.passed.internal_name_laws.representative_names.Declaring.{linked_declares}
+use Rattle.valid_unit_laws.proofs.object_initialiser_laws.passed.internal_name_laws.representative_names.Standing.{representatives_known}
+use Rattle.declaration_laws.proofs.declared_type_laws.passed.owner_laws.internal_laws.Reading.{definitions_known}
 use Rattle.unit_finish.specs.declared.unit_parts.declared.Declared.{Declared}
 use Rattle.unit_finish.specs.unit_parts.Entities.{numbering_of, is_owner_known}
 use Rattle.unit_finish.specs.Walked.{declared_seen}
-use Rattle.declared_type_laws.specs.declared_leaves.Leaves.{IsNamed, Own, Inner}
+use Rattle.declaration_laws.specs.declared_type_laws.declared_leaves.Leaves.{IsNamed, Own, Inner}
 use Rattle.valid_unit_laws.specs.body_node_laws.parts_named.Named.{AreParts, PartsOwned}
 use Rattle.valid_unit_laws.proofs.body_node_laws.parts_named.Listing.{all_of, planted_back, name_there, entry, IsOfName, IsOfLiteral}
 

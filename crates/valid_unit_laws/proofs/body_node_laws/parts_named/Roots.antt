@@ -36,7 +36,7 @@ use Rattle.core_node_laws.proofs.count_laws.once_nodes.Rooted.{OfBlock, OfInitia
 use Rattle.declaration_laws.proofs.function_laws.passed.definition_laws.block_laws.Whole.{blocks_differ}
 use Rattle.core_node_laws.proofs.standing_laws.Climbing.{in_list}
 use Rattle.core_node_laws.proofs.standing_laws.Descending.{sense_before, child_before}
-use Rattle.declared_type_laws.proofs.passed.owner_laws.Whole.{grown_of}
+use Rattle.declaration_laws.proofs.declared_type_laws.passed.owner_laws.Whole.{grown_of}
 use Rattle.declaration_laws.proofs.function_laws.passed.definition_laws.linkage_laws.Seen.{some_same, none_some, no_both, apart, node_within, parent_holds}
 use Rattle.declaration_laws.proofs.function_laws.passed.definition_laws.linkage_laws.Linked as linked
 use Rattle.declaration_laws.proofs.function_laws.passed.definition_laws.linkage_laws.Reading.{tree_is}
@@ -44,15 +44,15 @@ use Rattle.declaration_laws.specs.function_laws.passed.definition_laws.function_
 use Rattle.declaration_laws.proofs.function_laws.passed.definition_laws.function_definitions.Reading.{definitions_declare}
 use Rattle.declaration_laws.proofs.function_laws.function_bodies.Reading.{parts_of, declarators_of}
 use Rattle.declaration_laws.proofs.function_laws.function_bodies.Standing.{named_by}
-use Rattle.object_initialiser_laws.specs.passed.internal_name_laws.representative_names.Representatives.{IsKnown}
-use Rattle.object_initialiser_laws.proofs.passed.internal_name_laws.representative_names.Standing.{representatives_known}
+use Rattle.valid_unit_laws.specs.object_initialiser_laws.passed.internal_name_laws.representative_names.Representatives.{IsKnown}
+use Rattle.valid_unit_laws.proofs.object_initialiser_laws.passed.internal_name_laws.representative_names.Standing.{representatives_known}
 use Rattle.declaration_laws.proofs.function_laws.passed.definition_laws.initialiser_laws.Found.{initialisers_found}
-use Rattle.object_initialiser_laws.specs.initial_entities.Own.{IsOwnInitial}
-use Rattle.object_initialiser_laws.proofs.initial_entities.Rows.{initialisers_own}
-use Rattle.object_initialiser_laws.specs.placed_initialisers.PassedOn.{IsPlaced}
-use Rattle.object_initialiser_laws.proofs.placed_initialisers.Whole.{units_place}
+use Rattle.valid_unit_laws.specs.object_initialiser_laws.initial_entities.Own.{IsOwnInitial}
+use Rattle.valid_unit_laws.proofs.object_initialiser_laws.initial_entities.Rows.{initialisers_own}
+use Rattle.valid_unit_laws.specs.object_initialiser_laws.placed_initialisers.PassedOn.{IsPlaced}
+use Rattle.valid_unit_laws.proofs.object_initialiser_laws.placed_initialisers.Whole.{units_place}
 use Rattle.parsed_tree_laws.proofs.grown_parts.Reading.{units_bring}
-use Rattle.declared_type_laws.proofs.declared_leaves.Climbing.{leaves_declared}
+use Rattle.declaration_laws.proofs.declared_type_laws.declared_leaves.Climbing.{leaves_declared}
 use Rattle.valid_unit_laws.proofs.body_node_laws.parts_named.Counts.{literals_of, few_literals}
 use Rattle.valid_unit_laws.proofs.body_node_laws.parts_named.Owners.{both, found_above, and_then_some}
 

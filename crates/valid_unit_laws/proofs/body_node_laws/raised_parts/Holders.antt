@@ -37,19 +37,19 @@ use Rattle.declaration_laws.proofs.function_laws.passed.definition_laws.linkage_
 use Rattle.parsed_tree_laws.proofs.grown_parts.Reading.{units_bring}
 use Rattle.declaration_laws.specs.name_order.Order as order
 use Rattle.declaration_laws.proofs.name_order.Ordered.{units_ordered}
-use Rattle.declared_type_laws.specs.declared_leaves.Leaves.{IsDeclaredBy, IsNamed, Own, Inner}
-use Rattle.declared_type_laws.proofs.declared_leaves.Climbing.{leaves_declared}
+use Rattle.declaration_laws.specs.declared_type_laws.declared_leaves.Leaves.{IsDeclaredBy, IsNamed, Own, Inner}
+use Rattle.declaration_laws.proofs.declared_type_laws.declared_leaves.Climbing.{leaves_declared}
 use Rattle.core_node_laws.proofs.standing_laws.Climbing.{in_list}
-use Rattle.declared_type_laws.proofs.passed.owner_laws.Whole.{grown_of}
+use Rattle.declaration_laws.proofs.declared_type_laws.passed.owner_laws.Whole.{grown_of}
 use Rattle.declaration_laws.proofs.function_laws.named_definitions.Naming.{definitions_named}
-use Rattle.declared_type_laws.proofs.passed.owner_laws.held_parts.Whole.{units_hold_parts}
-use Rattle.declared_type_laws.specs.passed.owner_laws.held_runs.Runs.{BlockWith}
-use Rattle.declared_type_laws.proofs.passed.owner_laws.held_runs.Whole.{climb}
-use Rattle.declared_type_laws.specs.passed.owner_laws.automatic_runs.Automatic.{RunsFor}
-use Rattle.declared_type_laws.proofs.passed.owner_laws.automatic_runs.Whole.{automatic_runs}
+use Rattle.declaration_laws.proofs.declared_type_laws.passed.owner_laws.held_parts.Whole.{units_hold_parts}
+use Rattle.declaration_laws.specs.declared_type_laws.passed.owner_laws.held_runs.Runs.{BlockWith}
+use Rattle.declaration_laws.proofs.declared_type_laws.passed.owner_laws.held_runs.Whole.{climb}
+use Rattle.declaration_laws.specs.declared_type_laws.passed.owner_laws.automatic_runs.Automatic.{RunsFor}
+use Rattle.declaration_laws.proofs.declared_type_laws.passed.owner_laws.automatic_runs.Whole.{automatic_runs}
 use Rattle.core_node_laws.specs.count_laws.Counting.{sum_below, bodies}
-use Rattle.object_initialiser_laws.specs.once_initialised.Once.{initialises}
-use Rattle.object_initialiser_laws.proofs.once_initialised.Whole.{initialised_once}
+use Rattle.valid_unit_laws.specs.object_initialiser_laws.once_initialised.Once.{initialises}
+use Rattle.valid_unit_laws.proofs.object_initialiser_laws.once_initialised.Whole.{initialised_once}
 use Rattle.valid_unit_laws.proofs.body_node_laws.parts_initialise.PassedOn.{both}
 use Rattle.valid_unit_laws.proofs.body_node_laws.parts_initialise.PassedOn.{stands, one_in}
 use Rattle.valid_unit_laws.proofs.body_node_laws.parts_initialise.PassedOn.{child}

@@ -44,11 +44,11 @@ use Rattle.unit_finish.specs.Walked.{declared_seen, literal_entry}
 use Rattle.unit_finish.proofs.Lists.{literal_back, kept_from, body_back, get_map, map_back}
 use Rattle.unit_finish.proofs.Standing.{at_within, number_same, marked_node, kept_there, copy_of}
 use Rattle.core_node_laws.proofs.count_laws.once_nodes.Rooted.{found_where}
-use Rattle.built_unit_laws.proofs.run_laws.Times.{known_at, world_of, row_as}
+use Rattle.core_node_laws.proofs.built_unit_laws.run_laws.Times.{known_at, world_of, row_as}
 use Rattle.declaration_laws.proofs.function_laws.passed.definition_laws.linkage_laws.Seen.{node_within}
 use Rattle.valid_unit_laws.proofs.body_node_laws.parts_initialise.PassedOn.{IsBlock}
-use Rattle.built_unit_laws.specs.built_parts.Parts.{ArePut}
-use Rattle.built_unit_laws.proofs.built_parts.Building as building
+use Rattle.core_node_laws.specs.built_unit_laws.built_parts.Parts.{ArePut}
+use Rattle.core_node_laws.proofs.built_unit_laws.built_parts.Building as building
 use Rattle.valid_unit_laws.specs.body_node_laws.parts_initialise.Initialise.{IsRaised, IsLasting}
 use Rattle.valid_unit_laws.proofs.body_node_laws.parts_initialise.Stored.{BlockAt, StaysAt, lasting_root}
 use Rattle.valid_unit_laws.proofs.body_node_laws.parts_initialise.Forest.{node_initialises}

@@ -20,12 +20,12 @@ use Rattle.c_senses.specs.Right.{of_internal, representative}
 use Rattle.c_senses.specs.Sense.{Sense, sense_in}
 use Rattle.parsed_tree_laws.proofs.placed_laws.Climbing.{Grown}
 use Rattle.declaration_laws.specs.name_order.Order.{Rises}
-use Rattle.declared_type_laws.specs.declared_leaves.Leaves.{IsDeclaredBy}
+use Rattle.declaration_laws.specs.declared_type_laws.declared_leaves.Leaves.{IsDeclaredBy}
 use Rattle.declaration_laws.specs.joined_types.Joined.{AllAgree, AllBelow}
 use Rattle.declaration_laws.proofs.joined_types.Joining.{types_joined}
 use Rattle.valid_unit_laws.specs.object_size_laws.parameter_sizes.PassedOn.{TypeSized, Sized, Complete, Open}
 use Rattle.valid_unit_laws.proofs.object_size_laws.parameter_sizes.PassedOn.{has_type}
-use Rattle.declared_type_laws.specs.function_types.Typed.{FunctionsTyped, IsNamedType}
+use Rattle.declaration_laws.specs.declared_type_laws.function_types.Typed.{FunctionsTyped, IsNamedType}
 use Rattle.valid_unit_laws.proofs.object_size_laws.entity_sizes.Lists.{In, along_in, made_in, such_in, kept_in, in_kept, earlier_first, entry_is, found_entry}
 use Rattle.valid_unit_laws.proofs.object_size_laws.entity_sizes.Known.{Among, LinkedKnown, no_typedef, stands_among}
 use Rattle.valid_unit_laws.proofs.object_size_laws.entity_sizes.Words.{not_both}

@@ -21,11 +21,11 @@ use Rattle.declaration_laws.specs.joined_types.Joined.{AllAgree}
 use Rattle.parsed_tree_laws.proofs.placed_laws.Climbing.{Grown}
 use Rattle.declaration_laws.proofs.function_laws.passed.definition_laws.linkage_laws.Seen.{parent_is}
 use Rattle.declaration_laws.proofs.function_laws.body_returns.Built.{placed}
-use Rattle.declared_type_laws.specs.declared_leaves.Leaves.{IsDeclaredBy}
-use Rattle.declared_type_laws.specs.agreed_internals.PassedOn.{IsDeclaredOnce}
-use Rattle.declared_type_laws.proofs.agreed_internals.PassedOn.{declared_once}
-use Rattle.declared_type_laws.specs.agreed_internals.Agreeing.{AreAgreed}
-use Rattle.declared_type_laws.proofs.agreed_internals.Agreeing.{internals_agree}
+use Rattle.declaration_laws.specs.declared_type_laws.declared_leaves.Leaves.{IsDeclaredBy}
+use Rattle.declaration_laws.specs.declared_type_laws.agreed_internals.PassedOn.{IsDeclaredOnce}
+use Rattle.declaration_laws.proofs.declared_type_laws.agreed_internals.PassedOn.{declared_once}
+use Rattle.declaration_laws.specs.declared_type_laws.agreed_internals.Agreeing.{AreAgreed}
+use Rattle.declaration_laws.proofs.declared_type_laws.agreed_internals.Agreeing.{internals_agree}
 use Rattle.valid_unit_laws.proofs.object_size_laws.entity_sizes.Lists.{In, kept_in, in_kept, found_entry}
 
 -- a name with linkage has a declarator that is no member's, and the declarations of an internal name agree one after another

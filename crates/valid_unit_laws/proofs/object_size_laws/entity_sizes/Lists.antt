@@ -16,8 +16,8 @@ use Rattle.parsed_tree_laws.proofs.placed_laws.Climbing.{Grown}
 use Rattle.declaration_laws.proofs.function_laws.passed.definition_laws.linkage_laws.Seen.{parent_is}
 use Rattle.declaration_laws.specs.name_order.Order.{declaring, IsNameOf, Declares, Enumerates, Names, Rises}
 use Rattle.declaration_laws.specs.name_order.Order as order
-use Rattle.declared_type_laws.specs.declared_leaves.Leaves.{IsNamed, Own, Inner}
-use Rattle.declared_type_laws.proofs.declared_leaves.Climbing.{outermost_is}
+use Rattle.declaration_laws.specs.declared_type_laws.declared_leaves.Leaves.{IsNamed, Own, Inner}
+use Rattle.declaration_laws.proofs.declared_type_laws.declared_leaves.Climbing.{outermost_is}
 
 some_one : {X : Type 0} → {x y : X} → ◌≡◌ {A = Option X} (Some x) (Some y) → x ≡ y
 some_one h = cc

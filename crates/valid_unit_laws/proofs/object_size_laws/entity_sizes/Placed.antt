@@ -19,8 +19,8 @@ use Rattle.parsed_tree_laws.proofs.placed_laws.Climbing.{Grown}
 use Rattle.parsed_tree_laws.specs.grown_parts.Parts.{Brings, IsBrought}
 use Rattle.parsed_tree_laws.proofs.grown_parts.Declaring.{AllIn}
 use Rattle.parsed_tree_laws.proofs.grown_parts.Allowed.{rows_in, brings_in}
-use Rattle.declared_type_laws.specs.declared_leaves.Leaves.{IsDeclaredBy}
-use Rattle.declared_type_laws.proofs.declared_leaves.Climbing.{leaves_declared}
+use Rattle.declaration_laws.specs.declared_type_laws.declared_leaves.Leaves.{IsDeclaredBy}
+use Rattle.declaration_laws.proofs.declared_type_laws.declared_leaves.Climbing.{leaves_declared}
 use Rattle.valid_unit_laws.proofs.object_size_laws.parameter_sizes.PassedOn.{found_above}
 use Rattle.valid_unit_laws.proofs.object_size_laws.parameter_sizes.Sizes.{named_at, sense_within}
 

@@ -31,9 +31,9 @@ use Rattle.c_senses.specs.Rows.{world_at}
 use Rattle.c_senses.specs.Right.{Declared as Declares, IsDeclaredAt, IsLiteralOf, is_declaring, is_defined_parameter, stands_in_declaration, declares_entity, declared_as, entity_type, internal_type, representative, storage_at, of_internal}
 use Rattle.c_senses.specs.Right as right
 use Rattle.c_senses.specs.Sense.{Sense, sense_in}
-use Rattle.sense_laws.specs.Senses.{SoundSense}
-use Rattle.built_unit_laws.specs.built_rows.Rows.{types_declared}
-use Rattle.built_unit_laws.specs.built_units.Built.{IsBuilt}
+use Rattle.parsed_tree_laws.specs.sense_laws.Senses.{SoundSense}
+use Rattle.core_node_laws.specs.built_unit_laws.built_rows.Rows.{types_declared}
+use Rattle.core_node_laws.specs.built_unit_laws.built_units.Built.{IsBuilt}
 use Rattle.core_node_laws.specs.standing_laws.Standing.{IsGrown}
 use Rattle.parsed_tree_laws.proofs.placed_laws.Climbing.{Grown}
 use Rattle.parsed_tree_laws.specs.grown_parts.Parts.{IsBrought}
@@ -47,14 +47,14 @@ use Rattle.declaration_laws.specs.function_laws.passed.definition_laws.function_
 use Rattle.declaration_laws.proofs.function_laws.passed.definition_laws.function_definitions.Reading.{definitions_declare}
 use Rattle.declaration_laws.specs.function_laws.function_bodies.Bodies.{FunctionFits}
 use Rattle.declaration_laws.proofs.function_laws.function_bodies.Reading.{parts_of, declarators_of, functions_stand}
-use Rattle.built_unit_laws.proofs.value_laws.Shapes.{structure_complete, union_complete}
+use Rattle.core_node_laws.proofs.built_unit_laws.value_laws.Shapes.{structure_complete, union_complete}
 use Rattle.declaration_laws.proofs.function_laws.function_bodies.Standing.{named_by}
 use Rattle.valid_unit_laws.specs.object_size_laws.parameter_sizes.PassedOn.{TypeSized, Sized, Complete, Open, IsSizedType}
 use Rattle.valid_unit_laws.proofs.object_size_laws.parameter_sizes.PassedOn.{objects_sized}
 use Rattle.valid_unit_laws.proofs.object_size_laws.parameter_sizes.Sizes.{parameters_sized}
 use Rattle.valid_unit_laws.proofs.object_size_laws.literal_sizes.Sizes.{literals_sized}
-use Rattle.declared_type_laws.specs.function_types.Typed.{FunctionsTyped, IsNamedType}
-use Rattle.declared_type_laws.proofs.function_types.Reading.{functions_given}
+use Rattle.declaration_laws.specs.declared_type_laws.function_types.Typed.{FunctionsTyped, IsNamedType}
+use Rattle.declaration_laws.proofs.declared_type_laws.function_types.Reading.{functions_given}
 use Rattle.valid_unit_laws.specs.object_size_laws.entity_sizes.Entities.{EntitiesSized}
 use Rattle.valid_unit_laws.proofs.object_size_laws.entity_sizes.Known.{LinkedKnown, linked_known}
 use Rattle.valid_unit_laws.proofs.object_size_laws.entity_sizes.Placed.{object_placed}

@@ -13,9 +13,9 @@ use Rattle.c_senses.specs.Entities.{specified, has_storage}
 use Rattle.c_senses.specs.Rows.{AreSenses}
 use Rattle.c_senses.specs.Sense.{Sense, Nothing, IsSpecified, Specified, sense_in}
 use Rattle.core_node_laws.proofs.standing_laws.Climbing.{found_where}
-use Rattle.sense_laws.specs.Sound.{Gives}
-use Rattle.sense_laws.proofs.Giving.{if_given}
-use Rattle.built_unit_laws.proofs.run_laws.Times.{known_at, world_of, row_as, fitted}
+use Rattle.parsed_tree_laws.specs.sense_laws.Sound.{Gives}
+use Rattle.parsed_tree_laws.proofs.sense_laws.Giving.{if_given}
+use Rattle.core_node_laws.proofs.built_unit_laws.run_laws.Times.{known_at, world_of, row_as, fitted}
 
 both : (a b : Bool) → (a && b) ≡ true → (a ≡ true) × (b ≡ true)
 both true b e = (refl, e)

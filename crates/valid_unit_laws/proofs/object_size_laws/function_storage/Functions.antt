@@ -20,12 +20,12 @@ use Rattle.c_senses.specs.Rows.{AreSenses}
 use Rattle.c_senses.specs.Right.{is_declaring, stands_in_declaration, entity_type, internal_type, representative, storage_at, of_internal}
 use Rattle.c_senses.specs.Right as right
 use Rattle.c_senses.specs.Sense.{Sense, Nothing, IsDeclarator, IsParameter, Parameter, sense_in}
-use Rattle.sense_laws.specs.Sound.{Gives}
-use Rattle.sense_laws.proofs.Giving.{if_given}
+use Rattle.parsed_tree_laws.specs.sense_laws.Sound.{Gives}
+use Rattle.parsed_tree_laws.proofs.sense_laws.Giving.{if_given}
 use Rattle.core_node_laws.specs.standing_laws.Standing.{IsGrown}
 use Rattle.parsed_tree_laws.proofs.placed_laws.Climbing.{Grown}
 use Rattle.parsed_tree_laws.specs.grown_parts.Parts.{IsBrought}
-use Rattle.built_unit_laws.proofs.run_laws.Times.{known_at, world_of, row_as, fitted}
+use Rattle.core_node_laws.proofs.built_unit_laws.run_laws.Times.{known_at, world_of, row_as, fitted}
 use Rattle.declaration_laws.specs.joined_types.Joined.{Below, AllBelow}
 use Rattle.declaration_laws.proofs.joined_types.Joining.{types_joined}
 use Rattle.valid_unit_laws.proofs.object_size_laws.object_sizes.Sizes.{has_type, no_function}

@@ -12,12 +12,12 @@ use Rattle.c_senses.specs.Right.{Within, Itself, Below, IsLiteralOf, sense_of, d
 use Rattle.c_senses.specs.Right as right
 use Rattle.c_senses.specs.Rows.{AreSenses}
 use Rattle.c_senses.specs.Sense.{Sense, IsCore, IsInitial, sense_in}
-use Rattle.sense_laws.specs.Sound.{Sound, AllSound, list_of, RowOver}
-use Rattle.sense_laws.specs.Senses.{SoundSense}
+use Rattle.parsed_tree_laws.specs.sense_laws.Sound.{Sound, AllSound, list_of, RowOver}
+use Rattle.parsed_tree_laws.specs.sense_laws.Senses.{SoundSense}
 use Rattle.core_node_laws.specs.literal_nodes.Holding.{Holds}
 use Rattle.core_node_laws.specs.literal_nodes.Unnamed.{IsUnnamed}
 use Rattle.core_node_laws.proofs.literal_nodes.Unnamed.{unnamed}
-use Rattle.built_unit_laws.proofs.unlinked_laws.Inside.{in_body_holds}
+use Rattle.core_node_laws.proofs.built_unit_laws.unlinked_laws.Inside.{in_body_holds}
 
 some_one : {X : Type 0} → {x y : X} → ◌≡◌ {A = Option X} (Some x) (Some y) → x ≡ y
 some_one h = cc

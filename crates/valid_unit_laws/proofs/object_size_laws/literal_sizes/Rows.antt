@@ -19,10 +19,10 @@ use Rattle.c_senses.specs.Entities.{with_length, is_in_static}
 use Rattle.c_senses.specs.Initialised.{new_length, most_elements, seen, outcome_of, opening, brace, braced, made_of, placed_cores, is_in_body, literal_of, literal_core, literal_type, literal_in, Made}
 use Rattle.c_senses.specs.Sense.{Sense, IsType, fits, sense_in}
 use Rattle.c_senses.specs.Rows.{world_at}
-use Rattle.sense_laws.specs.Sound.{Gives}
-use Rattle.sense_laws.proofs.Giving.{then_gives, if_given, and_left}
-use Rattle.sense_laws.proofs.Types.{anything}
-use Rattle.built_unit_laws.specs.built_rows.Rows.{core_type_of}
+use Rattle.parsed_tree_laws.specs.sense_laws.Sound.{Gives}
+use Rattle.parsed_tree_laws.proofs.sense_laws.Giving.{then_gives, if_given, and_left}
+use Rattle.parsed_tree_laws.proofs.sense_laws.Types.{anything}
+use Rattle.core_node_laws.specs.built_unit_laws.built_rows.Rows.{core_type_of}
 use Rattle.valid_unit_laws.proofs.object_size_laws.literal_sizes.Shapes.{shape_complete, complete_sized}
 
 some_map : {A B : Type 0} (g : A → B) (o : Option A) → is_some (option_map g o) ≡ true → is_some o ≡ true

@@ -18,13 +18,13 @@ use Rattle.c_senses.specs.Rows.{AreSenses, world_at}
 use Rattle.c_senses.specs.Sense.{Sense, Nothing, sense_in}
 use Rattle.c_senses.specs.Right as right
 use Rattle.c_senses.specs.Right.{IsLiteralOf}
-use Rattle.sense_laws.specs.Senses.{ChildrenFirst}
+use Rattle.parsed_tree_laws.specs.sense_laws.Senses.{ChildrenFirst}
 use Rattle.core_node_laws.proofs.standing_laws.Climbing.{found_where}
 use Rattle.declaration_laws.proofs.function_laws.body_returns.Built.{grown}
-use Rattle.built_unit_laws.proofs.run_laws.Times.{known_at, world_of, row_as, fitted}
+use Rattle.core_node_laws.proofs.built_unit_laws.run_laws.Times.{known_at, world_of, row_as, fitted}
 use Rattle.limit_laws.proofs.member_laws.Growing.{sized_stays}
-use Rattle.built_unit_laws.specs.built_rows.Rows.{is_list_of, parenthesis_of, core_type_of, types_declared}
-use Rattle.built_unit_laws.specs.built_rows.Rows as rows
+use Rattle.core_node_laws.specs.built_unit_laws.built_rows.Rows.{is_list_of, parenthesis_of, core_type_of, types_declared}
+use Rattle.core_node_laws.specs.built_unit_laws.built_rows.Rows as rows
 use Rattle.valid_unit_laws.proofs.object_size_laws.object_sizes.Sizes.{sized_closed}
 use Rattle.valid_unit_laws.specs.object_size_laws.literal_sizes.Literals.{LiteralsSized}
 use Rattle.valid_unit_laws.proofs.object_size_laws.literal_sizes.Inside.{literal_type_is, literal_unnamed}

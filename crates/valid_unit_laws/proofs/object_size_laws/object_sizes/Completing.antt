@@ -16,11 +16,11 @@ use Rattle.c_senses.specs.Tree.{Source, is_a, children_at, child_of, any_where, 
 use Rattle.c_senses.specs.Tags.{tag_of, completed_from, members_under}
 use Rattle.c_senses.specs.Rows.{world_at, AreSenses}
 use Rattle.c_senses.specs.Sense.{Sense, IsMembers, sense_in}
-use Rattle.sense_laws.specs.Senses.{ChildrenFirst}
+use Rattle.parsed_tree_laws.specs.sense_laws.Senses.{ChildrenFirst}
 use Rattle.core_node_laws.proofs.standing_laws.Climbing.{found_where, in_list}
-use Rattle.built_unit_laws.proofs.run_laws.Times.{row_as}
-use Rattle.built_unit_laws.proofs.run_laws.Running.{first_in}
-use Rattle.built_unit_laws.proofs.value_laws.Shapes.{structure_complete, union_complete}
+use Rattle.core_node_laws.proofs.built_unit_laws.run_laws.Times.{row_as}
+use Rattle.core_node_laws.proofs.built_unit_laws.run_laws.Running.{first_in}
+use Rattle.core_node_laws.proofs.built_unit_laws.value_laws.Shapes.{structure_complete, union_complete}
 
 both : (a b : Bool) → (a && b) ≡ true → (a ≡ true) × (b ≡ true)
 both true b e = (refl, e)

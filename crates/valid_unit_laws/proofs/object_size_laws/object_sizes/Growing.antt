@@ -10,8 +10,8 @@ use Rattle.c_senses.specs.World.{World, extent, has_size}
 use Rattle.c_senses.specs.Limits.{is_small, within_limits}
 use Rattle.c_senses.specs.Rows.{world_at}
 use Rattle.c_senses.specs.Sense.{Sense}
-use Rattle.sense_laws.specs.Laws.{Grows}
-use Rattle.sense_laws.specs.Senses.{ChildrenFirst}
+use Rattle.parsed_tree_laws.specs.sense_laws.Laws.{Grows}
+use Rattle.parsed_tree_laws.specs.sense_laws.Senses.{ChildrenFirst}
 use Rattle.limit_laws.proofs.member_laws.Growing.{grows_to, IsSmall}
 
 both : (a b : Bool) → (a && b) ≡ true → (a ≡ true) × (b ≡ true)

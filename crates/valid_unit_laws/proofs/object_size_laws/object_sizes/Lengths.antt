@@ -19,10 +19,10 @@ use Rattle.c_senses.specs.Initialised.{new_length, most_elements, seen, outcome_
 use Rattle.c_senses.specs.Places.{own_place}
 use Rattle.c_senses.specs.Sense.{Sense, Nothing, IsDeclarator, IsInitial, Derivation, Specified, sense_in}
 use Rattle.c_senses.specs.Rows.{AreSenses}
-use Rattle.sense_laws.specs.Sound.{Gives}
-use Rattle.sense_laws.proofs.Giving.{then_gives, if_given, and_left}
-use Rattle.sense_laws.proofs.Types.{anything}
-use Rattle.built_unit_laws.proofs.run_laws.Times.{known_at, world_of, told_before, known, row_as, fitted}
+use Rattle.parsed_tree_laws.specs.sense_laws.Sound.{Gives}
+use Rattle.parsed_tree_laws.proofs.sense_laws.Giving.{then_gives, if_given, and_left}
+use Rattle.parsed_tree_laws.proofs.sense_laws.Types.{anything}
+use Rattle.core_node_laws.proofs.built_unit_laws.run_laws.Times.{known_at, world_of, told_before, known, row_as, fitted}
 
 -- what an array's initialiser is
 module _ (w : World) (s : Source) (f : ℕ → Sense) (of : Ctype) where

@@ -25,17 +25,17 @@ use Rattle.core_node_laws.proofs.standing_laws.Climbing.{parent_holds}
 use Rattle.parsed_tree_laws.proofs.placed_laws.Climbing.{IsNamedPart, Grown}
 use Rattle.declaration_laws.proofs.function_laws.body_returns.Naming.{Told, told}
 use Rattle.declaration_laws.proofs.function_laws.body_returns.Built.{grown, placed}
-use Rattle.declared_type_laws.specs.declared_leaves.Leaves.{IsNamed, Own, Inner, IsDeclaredBy}
-use Rattle.built_unit_laws.proofs.run_laws.Times.{known_at, world_of}
-use Rattle.built_unit_laws.proofs.run_laws.Times as times
-use Rattle.declared_type_laws.proofs.plain_names.Later.{Later, known_later, initialiser_same}
-use Rattle.declared_type_laws.proofs.plain_names.Later as later
+use Rattle.declaration_laws.specs.declared_type_laws.declared_leaves.Leaves.{IsNamed, Own, Inner, IsDeclaredBy}
+use Rattle.core_node_laws.proofs.built_unit_laws.run_laws.Times.{known_at, world_of}
+use Rattle.core_node_laws.proofs.built_unit_laws.run_laws.Times as times
+use Rattle.declaration_laws.proofs.declared_type_laws.plain_names.Later.{Later, known_later, initialiser_same}
+use Rattle.declaration_laws.proofs.declared_type_laws.plain_names.Later as later
 use Rattle.limit_laws.proofs.member_laws.Growing.{sized_stays}
-use Rattle.built_unit_laws.proofs.value_laws.Shapes.{structure_complete, union_complete}
+use Rattle.core_node_laws.proofs.built_unit_laws.value_laws.Shapes.{structure_complete, union_complete}
 use Rattle.declaration_laws.specs.function_laws.passed.definition_laws.initialiser_laws.Initialisers.{InitialisersAreOf}
 use Rattle.declaration_laws.proofs.function_laws.passed.definition_laws.initialiser_laws.Found.{initialisers_found}
-use Rattle.object_initialiser_laws.specs.placed_initialisers.PassedOn.{InitialisersPlaced}
-use Rattle.object_initialiser_laws.proofs.placed_initialisers.Whole.{units_place}
+use Rattle.valid_unit_laws.specs.object_initialiser_laws.placed_initialisers.PassedOn.{InitialisersPlaced}
+use Rattle.valid_unit_laws.proofs.object_initialiser_laws.placed_initialisers.Whole.{units_place}
 use Rattle.valid_unit_laws.specs.object_size_laws.object_sizes.Sized.{TypeSized, Sized, Complete, Open, ObjectsSized}
 use Rattle.valid_unit_laws.proofs.object_size_laws.object_sizes.Growing.{grows_between, array_sized, one_sized}
 use Rattle.valid_unit_laws.proofs.object_size_laws.object_sizes.Completing.{structure_is, union_is}

@@ -11,7 +11,7 @@ use Rattle.c_senses.specs.Declarators.{inner_derivations, derives_nothing, is_fi
 use Rattle.c_senses.specs.Entities.{defined_parameter, is_parameter_complete, parameter_named, named_row, by_place}
 use Rattle.c_senses.specs.Sense.{Sense, IsDeclarator, Derivation, sense_in}
 use Rattle.parsed_tree_laws.specs.family_laws.Families.{Ascend}
-use Rattle.built_unit_laws.proofs.run_laws.Times.{known_at, known, unknown}
+use Rattle.core_node_laws.proofs.built_unit_laws.run_laws.Times.{known_at, known, unknown}
 
 when_true : {A : Type 0} (b : Bool) (x y : A) → b ≡ true → cond b x y ≡ x
 when_true true x y e = refl

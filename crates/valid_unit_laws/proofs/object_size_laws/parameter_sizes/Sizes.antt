@@ -27,9 +27,9 @@ use Rattle.parsed_tree_laws.proofs.grown_parts.Reading.{units_bring}
 use Rattle.parsed_tree_laws.proofs.placed_laws.Climbing.{Grown}
 use Rattle.declaration_laws.proofs.function_laws.body_returns.Naming.{Told, told}
 use Rattle.declaration_laws.proofs.function_laws.body_returns.Built.{grown, placed}
-use Rattle.declared_type_laws.specs.declared_leaves.Leaves.{IsDeclaredBy}
-use Rattle.declared_type_laws.proofs.declared_leaves.Climbing.{leaves_declared}
-use Rattle.built_unit_laws.proofs.run_laws.Times.{known_at, world_of, known, told_later, row_as}
+use Rattle.declaration_laws.specs.declared_type_laws.declared_leaves.Leaves.{IsDeclaredBy}
+use Rattle.declaration_laws.proofs.declared_type_laws.declared_leaves.Climbing.{leaves_declared}
+use Rattle.core_node_laws.proofs.built_unit_laws.run_laws.Times.{known_at, world_of, known, told_later, row_as}
 use Rattle.limit_laws.proofs.member_laws.Growing.{sized_stays}
 use Rattle.declaration_laws.proofs.function_laws.passed.definition_laws.function_definitions.Whole.{declarator_gives, declarator_asks}
 use Rattle.valid_unit_laws.specs.object_size_laws.object_sizes.Sized.{IsSizedType}

@@ -10,7 +10,7 @@ use Rattle.c_inits.specs.Shapes.{Path}
 use Rattle.c_senses.specs.Names.{source_of, numbered}
 use Rattle.c_senses.specs.Rows.{AreSenses}
 use Rattle.c_senses.specs.Sense.{Sense}
-use Rattle.built_unit_laws.specs.built_laws.Placed.{IsInBody}
+use Rattle.core_node_laws.specs.built_unit_laws.built_laws.Placed.{IsInBody}
 use Rattle.valid_unit_laws.specs.body_node_laws.parts_named.Named.{IsDeclared, IsLiteralThere}
 
 -- of what is declared by a name, or of a compound literal that stands in a body too

@@ -11,7 +11,7 @@ use Rattle.c_senses.specs.Sense.{Sense, sense_in}
 use Rattle.c_senses.specs.Rows.{AreSenses}
 use Rattle.c_senses.specs.Entities.{is_linked}
 use Rattle.c_senses.specs.Right.{Declared, declared_name}
-use Rattle.built_unit_laws.specs.built_laws.Placed.{IsInBody}
+use Rattle.core_node_laws.specs.built_unit_laws.built_laws.Placed.{IsInBody}
 
 -- each is declared: in a declaration, or as a parameter of a definition
 abbrev pub NamesKnown : Type 0

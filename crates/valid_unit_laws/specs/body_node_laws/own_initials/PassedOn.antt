@@ -1,2 +1,2 @@
 -- What this crate passes on, from those below it to those above it.
-pub use Rattle.object_initialiser_laws.specs.initial_entities.Own.{IsOwnInitial}
+pub use Rattle.valid_unit_laws.specs.object_initialiser_laws.initial_entities.Own.{IsOwnInitial}

@@ -17,7 +17,7 @@ use Rattle.c_senses.specs.Rows.{AreSenses}
 use Rattle.c_senses.specs.Sense.{Sense}
 use Rattle.c_senses.specs.Right.{Numbering, Declared, declared_name, IsDeclaredAt, IsEntityOf, InitialisesOnce}
 use Rattle.c_senses.specs.Right.{IsBody}
-use Rattle.object_initialiser_laws.specs.passed.internal_name_laws.text_rows.Texts.{TypesFit}
+use Rattle.valid_unit_laws.specs.object_initialiser_laws.passed.internal_name_laws.text_rows.Texts.{TypesFit}
 
 -- the node is the body of that entity
 abbrev pub IsBodyOf : Unit → ℕ → ℕ → Type 0

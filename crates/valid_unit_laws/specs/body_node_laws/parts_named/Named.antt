@@ -14,7 +14,7 @@ use Rattle.c_senses.specs.Names.{source_of, numbered}
 use Rattle.c_senses.specs.Sense.{Sense, sense_in}
 use Rattle.c_senses.specs.Entities.{is_linked}
 use Rattle.c_senses.specs.Right as right
-use Rattle.built_unit_laws.specs.built_laws.Placed.{IsInBody}
+use Rattle.core_node_laws.specs.built_unit_laws.built_laws.Placed.{IsInBody}
 use Rattle.unit_finish.specs.declared.unit_parts.declared.Declared.{Declared}
 use Rattle.unit_finish.specs.unit_parts.Renamed.{literals_in}
 use Rattle.unit_finish.specs.unit_parts.Entities.{numbering_of, is_owner_known, EachApart}

@@ -14,7 +14,7 @@ use Rattle.c_senses.specs.Right.{Declared as Declares, declared_name, Within, In
 use Rattle.unit_finish.specs.declared.unit_parts.declared.Declared.{Declared}
 use Rattle.unit_finish.specs.own_bodies.Own.{HaveOwnBodies}
 use Rattle.valid_unit_laws.specs.body_node_laws.parts_initialise.PassedOn.{TypesFit}
-use Rattle.built_unit_laws.specs.built_parts.Parts.{ArePut}
+use Rattle.core_node_laws.specs.built_unit_laws.built_parts.Parts.{ArePut}
 
 -- what has an automatic object's initialiser in its body, and is no automatic object itself, is known by a leaf
 -- before that object's

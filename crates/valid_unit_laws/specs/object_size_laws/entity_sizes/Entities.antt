@@ -12,9 +12,9 @@ use Rattle.core_tree.specs.Valid.{EntitySized}
 use Rattle.c_senses.specs.Names.{source_of, numbered}
 use Rattle.c_senses.specs.Rows.{world_at}
 use Rattle.c_senses.specs.Sense.{sense_in}
-use Rattle.sense_laws.specs.Senses.{SoundSense}
-use Rattle.built_unit_laws.specs.built_rows.Rows.{types_declared}
-use Rattle.built_unit_laws.specs.built_units.Built.{IsBuilt}
+use Rattle.parsed_tree_laws.specs.sense_laws.Senses.{SoundSense}
+use Rattle.core_node_laws.specs.built_unit_laws.built_rows.Rows.{types_declared}
+use Rattle.core_node_laws.specs.built_unit_laws.built_units.Built.{IsBuilt}
 
 -- each entity of a unit that is built of a text has a size or is only declared, where what is complete has a size,
 -- and all senses are sound

@@ -16,8 +16,8 @@ use Rattle.c_senses.specs.Tree.{Source, is_a, parent_of}
 use Rattle.c_senses.specs.Entities.{is_linked, is_typedef, is_parameter, declares_function, has_storage}
 use Rattle.c_senses.specs.Entities.{initialiser_for, own_type}
 use Rattle.c_senses.specs.Sense.{Sense, sense_in}
-use Rattle.declared_type_laws.specs.declared_leaves.Leaves.{IsDeclaredBy}
-use Rattle.built_unit_laws.specs.built_units.Built.{IsBuilt}
+use Rattle.declaration_laws.specs.declared_type_laws.declared_leaves.Leaves.{IsDeclaredBy}
+use Rattle.core_node_laws.specs.built_unit_laws.built_units.Built.{IsBuilt}
 
 -- the type of a name has a size, and a length if the name has no linkage; or it is a complete structure or union;
 -- or it is open and the name only declared

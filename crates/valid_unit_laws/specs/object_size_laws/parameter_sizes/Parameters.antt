@@ -10,7 +10,7 @@ use Rattle.c_senses.specs.Names.{source_of, numbered}
 use Rattle.c_senses.specs.Entities.{is_parameter, own_type}
 use Rattle.c_senses.specs.Sense.{sense_in}
 use Rattle.c_senses.specs.Right.{is_declaring, is_defined_parameter}
-use Rattle.built_unit_laws.specs.built_units.Built.{IsBuilt}
+use Rattle.core_node_laws.specs.built_unit_laws.built_units.Built.{IsBuilt}
 use Rattle.valid_unit_laws.specs.object_size_laws.object_sizes.Sized.{IsSizedType}
 
 -- so it is in each unit that is built of a text

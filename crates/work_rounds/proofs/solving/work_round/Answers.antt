@@ -3,7 +3,7 @@ use Rattle.std.proofs.lemmas.List.Elements.{Contains-get_or}
 use Rattle.sol_model.specs.declared.system.System.{System}
 use Rattle.sol_model.specs.Systems.{IsRow, width_of}
 use Rattle.set_rows.specs.Calls.{view}
-use Rattle.delta_prop.specs.declared.turn.Turn.{Turn}
+use Rattle.round_pieces.specs.declared.delta_prop.turn.Turn.{Turn}
 use Rattle.round_pieces.specs.Rounds.{HasServed, IsChange}
 use Rattle.new_members.specs.News.{words_at}
 use Rattle.new_members.proofs.Answering.{on_ok}

@@ -1,1 +1,1 @@
-pub use Rattle.sense_laws.proofs.parsed_laws.InOrder.{children_first}
+pub use Rattle.parsed_tree_laws.proofs.sense_laws.parsed_laws.InOrder.{children_first}

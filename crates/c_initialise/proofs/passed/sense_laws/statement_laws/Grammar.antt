@@ -1,1 +1,1 @@
-pub use Rattle.sense_laws.proofs.statement_laws.Grammar.{statements_parsed}
+pub use Rattle.parsed_tree_laws.proofs.sense_laws.statement_laws.Grammar.{statements_parsed}

@@ -1,1 +1,1 @@
-pub use Rattle.definition_laws.proofs.Reading.{reach_down, has_definition, block_parts}
+pub use Rattle.declaration_laws.proofs.definition_laws.Reading.{reach_down, has_definition, block_parts}

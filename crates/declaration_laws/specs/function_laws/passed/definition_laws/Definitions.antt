@@ -1,2 +1,2 @@
-pub use Rattle.definition_laws.specs.Definitions.{is_definition, InDefinition, itself, below, HasDefinition}
-pub use Rattle.definition_laws.specs.Definitions.{is_block_part}
+pub use Rattle.declaration_laws.specs.definition_laws.Definitions.{is_definition, InDefinition, itself, below, HasDefinition}
+pub use Rattle.declaration_laws.specs.definition_laws.Definitions.{is_block_part}

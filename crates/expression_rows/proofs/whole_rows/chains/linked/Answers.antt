@@ -10,7 +10,7 @@ use Rattle.c_results.specs.Standing.{senses_made}
 use Rattle.tree_reads.specs.Sources.{source_read}
 use Rattle.expression_rows.proofs.whole_rows.Linking.{link_same}
 use Rattle.c_conversions.specs.Constants.{HasRows}
-use Rattle.sense_laws.proofs.row_trees.Expressions.{step_rows}
+use Rattle.parsed_tree_laws.proofs.sense_laws.row_trees.Expressions.{step_rows}
 use Rattle.expression_rows.proofs.whole_rows.Keeping.{sense_rows}
 use Rattle.expression_rows.proofs.whole_rows.Worlds.{bare_world, knows_itself, made_has}
 use Rattle.expression_rows.proofs.whole_rows.chains.linked.Goals as goal

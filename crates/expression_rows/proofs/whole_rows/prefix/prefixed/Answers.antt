@@ -4,7 +4,7 @@ use Rattle.c_senses.specs.Expressions as expressions
 use Rattle.core_nodes.proofs.Failing.{follows}
 use Rattle.c_results.specs.Standing.{senses_made, Rowed}
 use Rattle.expression_rows.proofs.c_rows.Steps.{two_of}
-use Rattle.sense_laws.proofs.row_trees.Expressions.{prefixed_rows}
+use Rattle.parsed_tree_laws.proofs.sense_laws.row_trees.Expressions.{prefixed_rows}
 use Rattle.expression_rows.proofs.whole_rows.Keeping.{sense_rows}
 use Rattle.expression_rows.proofs.whole_rows.Prefixes.{made_rows}
 use Rattle.expression_rows.proofs.whole_rows.Worlds.{bare_world, bare_source, knows_itself}

@@ -3,7 +3,7 @@ use Rattle.c_senses.specs.Given.{Fits}
 use Rattle.c_senses.specs.Objects.{size_number}
 use Rattle.core_nodes.specs.Standing.{Made}
 use Rattle.c_conversions.specs.Constants.{HasRows}
-use Rattle.sense_laws.proofs.row_trees.Objects.{size_number_rows}
+use Rattle.parsed_tree_laws.proofs.sense_laws.row_trees.Objects.{size_number_rows}
 use Rattle.expression_rows.proofs.whole_rows.Worlds.{bare_world, made_has}
 use Rattle.expression_rows.proofs.whole_rows.prefix.size_number.Goals as goal
 

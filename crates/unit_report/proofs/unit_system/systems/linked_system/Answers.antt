@@ -1,4 +1,4 @@
-use Rattle.system_laws.proofs.filled_laws.Placed.{linked_placed}
+use Rattle.linked_laws.proofs.system_laws.filled_laws.Placed.{linked_placed}
 use Rattle.linked_laws.proofs.location_laws.named_laws.Whole.{linked_whole}
 use Rattle.unit_report.proofs.unit_system.Refused.{program_refused}
 use Rattle.unit_report.proofs.unit_system.Rightness.{right_of}

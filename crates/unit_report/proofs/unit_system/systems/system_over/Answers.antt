@@ -2,8 +2,8 @@ use Rattle.std.proofs.Common.{List, arith, sym, subst}
 use Rattle.obj_space.specs.declared.location.Location.{Location}
 use Rattle.obj_space.specs.View.{view_of}
 use Rattle.constraints.specs.System.{IsFaultOf as IsSystemFault}
-use Rattle.system_laws.proofs.demand_laws.Fitting.{count_is}
-use Rattle.system_laws.proofs.filled_laws.PassedOn.{spots_fit}
+use Rattle.linked_laws.proofs.system_laws.demand_laws.Fitting.{count_is}
+use Rattle.linked_laws.proofs.system_laws.filled_laws.PassedOn.{spots_fit}
 use Rattle.unit_report.proofs.unit_system.Validity.{some_located, valid_of}
 use Rattle.unit_report.proofs.unit_system.systems.system_over.Goals as goal
 

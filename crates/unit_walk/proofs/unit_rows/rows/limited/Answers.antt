@@ -5,7 +5,7 @@ use Rattle.c_senses.specs.Tree.{production_at, children_at}
 use Rattle.c_grammar.specs.Productions.{p_struct}
 use Rattle.c_results.specs.Standing.{sense_made, senses_made, Rowed}
 use Rattle.name_places.specs.Named.{IsNamedSense}
-use Rattle.sense_laws.specs.row_trees.Trees.{SenseHasRows}
+use Rattle.parsed_tree_laws.specs.sense_laws.row_trees.Trees.{SenseHasRows}
 use Rattle.unit_walk.specs.row_shapes.Kept as shapes
 use Rattle.statement_rows.specs.Kept.{HasAllRows}
 use Rattle.c_declarators.specs.Limited.{AreFlexible}

@@ -1,1 +1,1 @@
-pub use Rattle.definition_laws.proofs.block_laws.Whole.{blocks_differ}
+pub use Rattle.declaration_laws.proofs.definition_laws.block_laws.Whole.{blocks_differ}

@@ -1,1 +1,1 @@
-pub use Rattle.definition_laws.proofs.function_definitions.Defining.{node, outer}
+pub use Rattle.declaration_laws.proofs.definition_laws.function_definitions.Defining.{node, outer}

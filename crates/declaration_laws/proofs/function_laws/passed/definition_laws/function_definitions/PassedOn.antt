@@ -1,1 +1,1 @@
-pub use Rattle.definition_laws.proofs.function_definitions.PassedOn.{HasOrigin, origin, origins, nodes, Tree, tree_is}
+pub use Rattle.declaration_laws.proofs.definition_laws.function_definitions.PassedOn.{HasOrigin, origin, origins, nodes, Tree, tree_is}

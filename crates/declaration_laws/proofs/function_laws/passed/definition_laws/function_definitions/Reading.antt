@@ -1,1 +1,1 @@
-pub use Rattle.definition_laws.proofs.function_definitions.Reading.{definitions_declare, heads}
+pub use Rattle.declaration_laws.proofs.definition_laws.function_definitions.Reading.{definitions_declare, heads}

@@ -1,1 +1,1 @@
-pub use Rattle.definition_laws.proofs.function_definitions.Whole.{declarator_gives, declarator_asks}
+pub use Rattle.declaration_laws.proofs.definition_laws.function_definitions.Whole.{declarator_gives, declarator_asks}

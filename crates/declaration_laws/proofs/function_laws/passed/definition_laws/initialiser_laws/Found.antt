@@ -1,1 +1,1 @@
-pub use Rattle.definition_laws.proofs.initialiser_laws.Found.{initialisers_found}
+pub use Rattle.declaration_laws.proofs.definition_laws.initialiser_laws.Found.{initialisers_found}

@@ -1,1 +1,1 @@
-pub use Rattle.definition_laws.proofs.linkage_laws.Linked.{stands_linked, Named, Tree, declaration_is, linked_named}
+pub use Rattle.declaration_laws.proofs.definition_laws.linkage_laws.Linked.{stands_linked, Named, Tree, declaration_is, linked_named}

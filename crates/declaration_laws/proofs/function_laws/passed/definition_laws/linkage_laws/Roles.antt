@@ -1,1 +1,1 @@
-pub use Rattle.definition_laws.proofs.linkage_laws.Roles.{role_handed, declared_specs, opens}
+pub use Rattle.declaration_laws.proofs.definition_laws.linkage_laws.Roles.{role_handed, declared_specs, opens}

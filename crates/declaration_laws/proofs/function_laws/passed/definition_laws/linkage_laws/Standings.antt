@@ -1,1 +1,1 @@
-pub use Rattle.definition_laws.proofs.linkage_laws.Standings.{HasParent, parents}
+pub use Rattle.declaration_laws.proofs.definition_laws.linkage_laws.Standings.{HasParent, parents}

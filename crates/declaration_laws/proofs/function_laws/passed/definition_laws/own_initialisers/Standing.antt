@@ -1,1 +1,1 @@
-pub use Rattle.definition_laws.proofs.own_initialisers.Standing.{initialisers_stand}
+pub use Rattle.declaration_laws.proofs.definition_laws.own_initialisers.Standing.{initialisers_stand}

@@ -1,1 +1,1 @@
-pub use Rattle.definition_laws.proofs.parameter_lists.Whole.{parameters_listed}
+pub use Rattle.declaration_laws.proofs.definition_laws.parameter_lists.Whole.{parameters_listed}

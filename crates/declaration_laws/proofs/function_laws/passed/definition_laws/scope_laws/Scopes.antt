@@ -1,1 +1,1 @@
-pub use Rattle.definition_laws.proofs.scope_laws.Scopes.{Part, Below, children_are, IsOf}
+pub use Rattle.declaration_laws.proofs.definition_laws.scope_laws.Scopes.{Part, Below, children_are, IsOf}

@@ -1,1 +1,1 @@
-pub use Rattle.definition_laws.proofs.scope_laws.Standings.{each_stands}
+pub use Rattle.declaration_laws.proofs.definition_laws.scope_laws.Standings.{each_stands}

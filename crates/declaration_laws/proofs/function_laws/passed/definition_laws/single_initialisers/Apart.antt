@@ -1,1 +1,1 @@
-pub use Rattle.definition_laws.proofs.single_initialisers.Apart.{stands_outermost}
+pub use Rattle.declaration_laws.proofs.definition_laws.single_initialisers.Apart.{stands_outermost}

@@ -1,1 +1,1 @@
-pub use Rattle.definition_laws.specs.earlier_initialisers.Earlier.{StandsDeclaring}
+pub use Rattle.declaration_laws.specs.definition_laws.earlier_initialisers.Earlier.{StandsDeclaring}

@@ -1,1 +1,1 @@
-pub use Rattle.definition_laws.specs.function_definitions.Defined.{Defines}
+pub use Rattle.declaration_laws.specs.definition_laws.function_definitions.Defined.{Defines}

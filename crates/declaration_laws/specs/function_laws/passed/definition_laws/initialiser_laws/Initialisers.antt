@@ -1,1 +1,1 @@
-pub use Rattle.definition_laws.specs.initialiser_laws.Initialisers.{InitialisersAreOf}
+pub use Rattle.declaration_laws.specs.definition_laws.initialiser_laws.Initialisers.{InitialisersAreOf}

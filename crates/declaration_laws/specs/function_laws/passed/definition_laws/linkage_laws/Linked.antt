@@ -1,1 +1,1 @@
-pub use Rattle.definition_laws.specs.linkage_laws.Linked.{StandsLinked}
+pub use Rattle.declaration_laws.specs.definition_laws.linkage_laws.Linked.{StandsLinked}

@@ -1,1 +1,1 @@
-pub use Rattle.definition_laws.specs.own_initialisers.Own.{InitialisersAreOwn}
+pub use Rattle.declaration_laws.specs.definition_laws.own_initialisers.Own.{InitialisersAreOwn}

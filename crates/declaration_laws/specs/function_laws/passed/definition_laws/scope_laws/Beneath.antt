@@ -1,1 +1,1 @@
-pub use Rattle.definition_laws.specs.scope_laws.Beneath.{Beneath, part, deeper}
+pub use Rattle.declaration_laws.specs.definition_laws.scope_laws.Beneath.{Beneath, part, deeper}

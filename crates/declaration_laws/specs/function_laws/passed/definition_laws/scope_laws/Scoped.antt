@@ -1,1 +1,1 @@
-pub use Rattle.definition_laws.specs.scope_laws.Scoped.{IsPart, Rooted, DeclaredOnce}
+pub use Rattle.declaration_laws.specs.definition_laws.scope_laws.Scoped.{IsPart, Rooted, DeclaredOnce}

@@ -1,1 +1,1 @@
-pub use Rattle.object_initialiser_laws.proofs.all_listed.Whole.{units_list}
+pub use Rattle.valid_unit_laws.proofs.object_initialiser_laws.all_listed.Whole.{units_list}

@@ -1,1 +1,1 @@
-pub use Rattle.object_initialiser_laws.proofs.bodies_fit.PassedOn.{linked_fit}
+pub use Rattle.valid_unit_laws.proofs.object_initialiser_laws.bodies_fit.PassedOn.{linked_fit}

@@ -1,1 +1,1 @@
-pub use Rattle.object_initialiser_laws.proofs.owners_known.Known.{owners_known}
+pub use Rattle.valid_unit_laws.proofs.object_initialiser_laws.owners_known.Known.{owners_known}

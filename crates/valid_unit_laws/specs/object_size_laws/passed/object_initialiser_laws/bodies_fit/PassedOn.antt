@@ -1,1 +1,1 @@
-pub use Rattle.object_initialiser_laws.specs.bodies_fit.PassedOn.{InternalFit}
+pub use Rattle.valid_unit_laws.specs.object_initialiser_laws.bodies_fit.PassedOn.{InternalFit}

@@ -1,1 +1,1 @@
-pub use Rattle.object_initialiser_laws.specs.owners_known.Known.{OwnersRight}
+pub use Rattle.valid_unit_laws.specs.object_initialiser_laws.owners_known.Known.{OwnersRight}

@@ -1,5 +1,0 @@
-use Rattle.built_unit_laws.proofs.built_laws.Uses.{uses_right}
-use Rattle.built_unit_laws.proofs.built_laws.laws.uses_are_right.Goals as goal
-
-pub returns : goal.returns
-returns c = uses_right

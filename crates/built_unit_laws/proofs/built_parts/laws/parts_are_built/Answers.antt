@@ -1,5 +1,0 @@
-use Rattle.built_unit_laws.proofs.built_parts.Building.{parts_built}
-use Rattle.built_unit_laws.proofs.built_parts.laws.parts_are_built.Goals as goal
-
-pub returns : goal.returns
-returns c = parts_built

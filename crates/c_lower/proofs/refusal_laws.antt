@@ -1,7 +1,0 @@
-mod Steps
-mod Values
-mod Expressions
-mod Declaring
-mod Statements
-pub mod Rows
-pub mod Faults

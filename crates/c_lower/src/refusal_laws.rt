@@ -1,2 +1,0 @@
-//! That no row says of what stands at its node that it isn't built.
-pub mod laws;

@@ -1,0 +1,3 @@
+-- What this crate passes on, from those below it to those above it.
+pub use Rattle.core_node_laws.specs.built_unit_laws.built_rows.Rows.{types_declared}
+pub use Rattle.core_node_laws.specs.built_unit_laws.run_laws.PassedOn.{IsGrown}

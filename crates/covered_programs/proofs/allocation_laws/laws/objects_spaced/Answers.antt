@@ -1,5 +1,0 @@
-use Rattle.covered_programs.proofs.allocation_laws.Spaced.{objects_spaced}
-use Rattle.covered_programs.proofs.allocation_laws.laws.objects_spaced.Goals as goal
-
-pub returns : goal.returns
-returns c = objects_spaced

@@ -1,5 +1,0 @@
-use Rattle.covered_programs.proofs.library_names.Numbers.{numbers_known}
-use Rattle.covered_programs.proofs.library_names.laws.numbers_known.Goals as goal
-
-pub returns : goal.returns
-returns c = numbers_known

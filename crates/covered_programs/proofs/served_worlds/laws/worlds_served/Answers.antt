@@ -1,5 +1,0 @@
-use Rattle.covered_programs.proofs.served_worlds.Serving.{worlds_served}
-use Rattle.covered_programs.proofs.served_worlds.laws.worlds_served.Goals as goal
-
-pub returns : goal.returns
-returns c = worlds_served

@@ -1,4 +1,0 @@
-//! That each run of a program is covered by the sets of its report: this function does nothing, and its contract is the law.
-#![tactic(auto)]
-
-pub mod laws;

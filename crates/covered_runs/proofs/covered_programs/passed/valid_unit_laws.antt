@@ -1,0 +1,2 @@
+pub mod object_size_laws
+pub mod plain_functions

@@ -1,0 +1,1 @@
+pub use Rattle.covered_runs.specs.machine_sound.covered_start.Objects.{IsSolved}

@@ -1,0 +1,6 @@
+#![tactic(auto)]
+
+pub mod covered_programs;
+pub mod covered_steps;
+pub mod machine_sound;
+pub mod touched_runs;

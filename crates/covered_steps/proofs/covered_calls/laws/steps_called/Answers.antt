@@ -1,5 +1,0 @@
-use Rattle.covered_steps.proofs.covered_calls.Entering.{steps_called}
-use Rattle.covered_steps.proofs.covered_calls.laws.steps_called.Goals as goal
-
-pub returns : goal.returns
-returns c = steps_called

@@ -1,5 +1,0 @@
-use Rattle.covered_steps.proofs.covered_calls.Results.{steps_given}
-use Rattle.covered_steps.proofs.covered_calls.laws.steps_given.Goals as goal
-
-pub returns : goal.returns
-returns c = steps_given

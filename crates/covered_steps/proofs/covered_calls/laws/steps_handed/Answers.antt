@@ -1,5 +1,0 @@
-use Rattle.covered_steps.proofs.covered_calls.Handed.{steps_handed}
-use Rattle.covered_steps.proofs.covered_calls.laws.steps_handed.Goals as goal
-
-pub returns : goal.returns
-returns c = steps_handed

@@ -1,5 +1,0 @@
-use Rattle.covered_steps.proofs.covered_effects.Traces.{effects_traced}
-use Rattle.covered_steps.proofs.covered_effects.laws.effects_traced.Goals as goal
-
-pub returns : goal.returns
-returns c = effects_traced

@@ -1,5 +1,0 @@
-use Rattle.covered_steps.proofs.covered_effects.Reaching.{reached_covered}
-use Rattle.covered_steps.proofs.covered_effects.laws.reached_covered.Goals as goal
-
-pub returns : goal.returns
-returns c = reached_covered

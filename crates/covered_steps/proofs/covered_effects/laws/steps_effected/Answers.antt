@@ -1,5 +1,0 @@
-use Rattle.covered_steps.proofs.covered_effects.Effects.{steps_effected}
-use Rattle.covered_steps.proofs.covered_effects.laws.steps_effected.Goals as goal
-
-pub returns : goal.returns
-returns c = steps_effected

@@ -1,5 +1,0 @@
-use Rattle.covered_steps.proofs.covered_effects.Ending.{steps_kept}
-use Rattle.covered_steps.proofs.covered_effects.laws.steps_kept.Goals as goal
-
-pub returns : goal.returns
-returns c = steps_kept

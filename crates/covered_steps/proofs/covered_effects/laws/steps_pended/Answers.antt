@@ -1,5 +1,0 @@
-use Rattle.covered_steps.proofs.covered_effects.Reaching.{steps_pended}
-use Rattle.covered_steps.proofs.covered_effects.laws.steps_pended.Goals as goal
-
-pub returns : goal.returns
-returns c = steps_pended

@@ -1,5 +1,0 @@
-use Rattle.covered_steps.proofs.covered_statements.Nodes.{begun_steady}
-use Rattle.covered_steps.proofs.covered_statements.laws.begun_steady.Goals as goal
-
-pub returns : goal.returns
-returns c = begun_steady

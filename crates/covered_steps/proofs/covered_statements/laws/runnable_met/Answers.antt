@@ -1,5 +1,0 @@
-use Rattle.covered_steps.proofs.covered_statements.Founded.{runnable_met}
-use Rattle.covered_steps.proofs.covered_statements.laws.runnable_met.Goals as goal
-
-pub returns : goal.returns
-returns c = runnable_met

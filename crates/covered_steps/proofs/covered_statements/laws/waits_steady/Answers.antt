@@ -1,5 +1,0 @@
-use Rattle.covered_steps.proofs.covered_statements.Nodes.{waits_steady}
-use Rattle.covered_steps.proofs.covered_statements.laws.waits_steady.Goals as goal
-
-pub returns : goal.returns
-returns c = waits_steady

@@ -1,5 +1,0 @@
-use Rattle.covered_steps.proofs.covered_values.Passed.{choices_covered}
-use Rattle.covered_steps.proofs.covered_values.laws.choices_covered.Goals as goal
-
-pub returns : goal.returns
-returns c world memory n node d a b v stands there kind children = choices_covered world memory n node d a b v stands there kind children

@@ -1,5 +1,0 @@
-use Rattle.covered_steps.proofs.covered_values.Computed.{values_covered}
-use Rattle.covered_steps.proofs.covered_values.laws.values_covered.Goals as goal
-
-pub returns : goal.returns
-returns c world memory own n node values word e stands all there each may x = values_covered world memory own n node values word e stands all there each may x

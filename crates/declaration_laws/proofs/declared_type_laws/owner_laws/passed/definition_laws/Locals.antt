@@ -1,0 +1,1 @@
+pub use Rattle.declaration_laws.proofs.definition_laws.Locals.{locals}

@@ -1,0 +1,1 @@
+pub use Rattle.declaration_laws.proofs.definition_laws.linkage_laws.Reading.{tree_is}

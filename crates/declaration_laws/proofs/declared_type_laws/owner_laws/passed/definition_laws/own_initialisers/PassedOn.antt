@@ -1,0 +1,1 @@
+pub use Rattle.declaration_laws.proofs.definition_laws.own_initialisers.PassedOn.{sign_taken}

@@ -1,0 +1,1 @@
+pub use Rattle.declaration_laws.proofs.declared_type_laws.owner_laws.Whole.{grown_of}

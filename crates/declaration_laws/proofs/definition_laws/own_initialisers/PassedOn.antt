@@ -1,0 +1,2 @@
+-- What this crate passes on, from those below it to those above it.
+pub use Rattle.declaration_laws.proofs.definition_laws.function_definitions.Tokens.{sign_taken}

@@ -1,0 +1,2 @@
+-- What this crate passes on, from those below it to those above it.
+pub use Rattle.declaration_laws.specs.declared_type_laws.owner_laws.held_parts.Held.{InSome, IsHeld, StandsIn}

@@ -1,0 +1,1 @@
+pub use Rattle.declaration_laws.specs.definition_laws.Definitions.{InDefinition, itself, below, is_definition, HasDefinition}

@@ -1,0 +1,1 @@
+pub use Rattle.declaration_laws.specs.definition_laws.earlier_initialisers.Earlier.{StandsDeclaring, InitialisersComeFirst}

@@ -1,0 +1,1 @@
+pub use Rattle.core_node_laws.specs.built_unit_laws.built_units.Built.{IsBuilt}

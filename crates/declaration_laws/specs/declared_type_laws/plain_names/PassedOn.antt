@@ -1,0 +1,2 @@
+-- What this crate passes on, from those below it to those above it.
+pub use Rattle.core_node_laws.specs.built_unit_laws.built_rows.Rows.{literal_type, types_declared}

@@ -1,0 +1,3 @@
+-- What this crate passes on, from those below it to those above it.
+pub use Rattle.declaration_laws.specs.definition_laws.Definitions.{HasDefinition, is_definition}
+pub use Rattle.core_node_laws.specs.built_unit_laws.built_units.Built.{IsBuilt}

@@ -1,5 +1,0 @@
-use Rattle.declared_type_laws.proofs.declared_leaves.Climbing.{leaves_declared}
-use Rattle.declared_type_laws.proofs.declared_leaves.laws.leaves_declared.Goals as goal
-
-pub returns : goal.returns
-returns c = leaves_declared

@@ -1,5 +1,0 @@
-use Rattle.declared_type_laws.proofs.linked_names.Fitting.{external_names_fit}
-use Rattle.declared_type_laws.proofs.linked_names.laws.external_names_fit.Goals as goal
-
-pub returns : goal.returns
-returns c = external_names_fit

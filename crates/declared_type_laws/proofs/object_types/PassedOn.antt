@@ -1,4 +1,0 @@
--- What this crate passes on, from those below it to those above it.
-pub use Rattle.declared_type_laws.proofs.plain_names.Later.{Grown, Later, derived_later, initialiser_for_same, known_later, own_later}
-pub use Rattle.declared_type_laws.proofs.plain_names.Fitting.{SomeFits, found_node, meaning_fits, no_value, plain_names_fit}
-pub use Rattle.declared_type_laws.proofs.declared_leaves.Climbing.{leaves_declared, outermost_is}

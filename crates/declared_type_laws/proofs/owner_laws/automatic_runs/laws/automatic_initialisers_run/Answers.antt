@@ -1,5 +1,0 @@
-use Rattle.declared_type_laws.proofs.owner_laws.automatic_runs.Whole.{automatic_runs}
-use Rattle.declared_type_laws.proofs.owner_laws.automatic_runs.laws.automatic_initialisers_run.Goals as goal
-
-pub returns : goal.returns
-returns c = automatic_runs

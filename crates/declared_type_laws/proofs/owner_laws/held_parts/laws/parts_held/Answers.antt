@@ -1,5 +1,0 @@
-use Rattle.declared_type_laws.proofs.owner_laws.held_parts.Whole.{units_hold_parts}
-use Rattle.declared_type_laws.proofs.owner_laws.held_parts.laws.parts_held.Goals as goal
-
-pub returns : goal.returns
-returns c = units_hold_parts

@@ -1,5 +1,0 @@
-use Rattle.declared_type_laws.proofs.owner_laws.held_runs.Whole.{runs_are_held}
-use Rattle.declared_type_laws.proofs.owner_laws.held_runs.laws.runs_held.Goals as goal
-
-pub returns : goal.returns
-returns c = runs_are_held

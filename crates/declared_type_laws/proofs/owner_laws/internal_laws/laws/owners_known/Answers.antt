@@ -1,5 +1,0 @@
-use Rattle.declared_type_laws.proofs.owner_laws.internal_laws.Reading.{owners_known}
-use Rattle.declared_type_laws.proofs.owner_laws.internal_laws.laws.owners_known.Goals as goal
-
-pub returns : goal.returns
-returns c = owners_known

@@ -1,5 +1,0 @@
-use Rattle.declared_type_laws.proofs.owner_laws.left_laws.Left.{lefts_stand}
-use Rattle.declared_type_laws.proofs.owner_laws.left_laws.laws.lefts_stand.Goals as goal
-
-pub returns : goal.returns
-returns c = lefts_stand

@@ -1,1 +1,0 @@
-pub use Rattle.definition_laws.proofs.block_laws.Whole.{blocks_differ}

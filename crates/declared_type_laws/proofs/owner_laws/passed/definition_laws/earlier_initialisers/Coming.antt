@@ -1,1 +1,0 @@
-pub use Rattle.definition_laws.proofs.earlier_initialisers.Coming.{initialisers_earlier}

@@ -1,1 +1,0 @@
-pub use Rattle.definition_laws.proofs.function_definitions.Reading.{definitions_declare}

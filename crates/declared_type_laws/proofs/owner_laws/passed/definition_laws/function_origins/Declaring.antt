@@ -1,1 +1,0 @@
-pub use Rattle.definition_laws.proofs.function_origins.Declaring.{declares}

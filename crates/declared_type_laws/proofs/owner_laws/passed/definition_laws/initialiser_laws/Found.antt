@@ -1,1 +1,0 @@
-pub use Rattle.definition_laws.proofs.initialiser_laws.Found.{initialisers_found}

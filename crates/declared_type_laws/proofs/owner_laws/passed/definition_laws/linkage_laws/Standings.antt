@@ -1,1 +1,0 @@
-pub use Rattle.definition_laws.proofs.linkage_laws.Standings.{HasParent, parents}

@@ -1,1 +1,0 @@
-pub use Rattle.definition_laws.proofs.own_initialisers.Parts.{MaybeInit, Absent, Present, MaybeAsm, NoAsm, Asm, Further, Over, Next, IsRestList, Begins, rest_list, mark, IsNaming, Naming, IsOther, Assert, Alone, Body, external_list}

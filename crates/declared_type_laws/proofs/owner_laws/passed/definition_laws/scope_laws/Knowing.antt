@@ -1,1 +1,0 @@
-pub use Rattle.definition_laws.proofs.scope_laws.Knowing.{In, every_at, S, IsNameMade, IsTagMade, IsUseOf, IsKnown, no_tag, all_known, paired_in, one_maker, made_below}

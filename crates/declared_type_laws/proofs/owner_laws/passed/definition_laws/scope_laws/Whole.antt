@@ -1,1 +1,0 @@
-pub use Rattle.definition_laws.proofs.scope_laws.Whole.{names_declared_once}

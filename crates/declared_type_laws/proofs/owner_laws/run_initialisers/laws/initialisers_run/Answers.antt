@@ -1,5 +1,0 @@
-use Rattle.declared_type_laws.proofs.owner_laws.run_initialisers.Whole.{units_run_initialisers}
-use Rattle.declared_type_laws.proofs.owner_laws.run_initialisers.laws.initialisers_run.Goals as goal
-
-pub returns : goal.returns
-returns c = units_run_initialisers

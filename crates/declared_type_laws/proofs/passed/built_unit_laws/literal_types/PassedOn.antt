@@ -1,1 +1,0 @@
-pub use Rattle.built_unit_laws.proofs.literal_types.PassedOn.{declarations_run, rows_asked, in_list, parent_is}

@@ -1,1 +1,0 @@
-pub use Rattle.declared_type_laws.proofs.owner_laws.automatic_runs.Whole.{automatic_runs}

@@ -1,2 +1,0 @@
--- What this crate passes on, from those below it to those above it.
-pub use Rattle.declared_type_laws.specs.owner_laws.held_parts.Held.{InSome, IsHeld, StandsIn}

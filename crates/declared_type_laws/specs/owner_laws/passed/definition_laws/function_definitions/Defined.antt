@@ -1,1 +1,0 @@
-pub use Rattle.definition_laws.specs.function_definitions.Defined.{Defines}

@@ -1,1 +1,0 @@
-pub use Rattle.definition_laws.specs.function_origins.Origins.{In, IsFunctionBy, Listed, Typed}

@@ -1,1 +1,0 @@
-pub use Rattle.definition_laws.specs.initialiser_laws.Initialisers.{InitialisersAreOf}

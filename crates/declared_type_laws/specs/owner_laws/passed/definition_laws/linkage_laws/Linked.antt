@@ -1,1 +1,0 @@
-pub use Rattle.definition_laws.specs.linkage_laws.Linked.{StandsLinked}

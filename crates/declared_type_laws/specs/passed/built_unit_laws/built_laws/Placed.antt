@@ -1,1 +1,0 @@
-pub use Rattle.built_unit_laws.specs.built_laws.Placed.{IsInBody}

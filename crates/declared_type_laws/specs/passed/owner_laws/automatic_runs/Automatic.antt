@@ -1,1 +1,0 @@
-pub use Rattle.declared_type_laws.specs.owner_laws.automatic_runs.Automatic.{RunsFor}

@@ -1,2 +1,0 @@
--- What this crate passes on, from those below it to those above it.
-pub use Rattle.built_unit_laws.specs.built_rows.Rows.{literal_type, types_declared}

@@ -1,8 +1,0 @@
-//! That the types of the declarations of an internal name agree.
-ghost use Rattle.declared_type_laws.specs.agreed_internals.Agreeing.{InternalsAgree};
-
-/// In a unit whose rows all fit, the types that the declarations of an internal name give it agree one after another (C11 6.2.7p2), and
-/// the entity by which the name is known has the same declarations (6.2.2p2).
-pub fn internals_agree()
-    ensures { InternalsAgree }
-{}

@@ -1,5 +1,0 @@
-use Rattle.definition_laws.proofs.Locals.{locals}
-use Rattle.definition_laws.proofs.laws.locals_are_defined.Goals as goal
-
-pub returns : goal.returns
-returns c = locals

@@ -1,5 +1,0 @@
-use Rattle.definition_laws.proofs.linkage_laws.Reading.{linked_stand}
-use Rattle.definition_laws.proofs.linkage_laws.laws.linked_names_stand.Goals as goal
-
-pub returns : goal.returns
-returns c = linked_stand

@@ -1,2 +1,0 @@
--- What this crate passes on, from those below it to those above it.
-pub use Rattle.definition_laws.proofs.function_definitions.Tokens.{sign_taken}

@@ -1,5 +1,0 @@
-use Rattle.definition_laws.proofs.own_initialisers.Standing.{initialisers_stand}
-use Rattle.definition_laws.proofs.own_initialisers.laws.initialisers_stand.Goals as goal
-
-pub returns : goal.returns
-returns c = initialisers_stand

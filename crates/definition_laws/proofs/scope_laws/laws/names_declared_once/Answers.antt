@@ -1,5 +1,0 @@
-use Rattle.definition_laws.proofs.scope_laws.Whole.{names_declared_once}
-use Rattle.definition_laws.proofs.scope_laws.laws.names_declared_once.Goals as goal
-
-pub returns : goal.returns
-returns c = names_declared_once

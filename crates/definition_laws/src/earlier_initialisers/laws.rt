@@ -1,8 +1,0 @@
-//! That an initialiser stands before each later declarator.
-ghost use Rattle.definition_laws.specs.earlier_initialisers.Earlier.{InitialisersEarlier};
-
-/// The initialiser of a declarator stands before each declarator of a declaration that comes behind that one (C11 6.7): no declaration
-/// stands within an initialiser.
-pub fn initialisers_earlier()
-    ensures { InitialisersEarlier }
-{}

@@ -1,7 +1,0 @@
-//! That no two initialisers are of one declarator.
-ghost use Rattle.definition_laws.specs.single_initialisers.Single.{InitialisersApart};
-
-/// In a unit that is read no two initialisers are of one declarator (C11 6.7): each declarator of a declaration has one at most.
-pub fn initialisers_apart()
-    ensures { InitialisersApart }
-{}

@@ -1,3 +1,0 @@
--- What this crate passes on, from those below it to those above it.
-pub use Rattle.object_initialiser_laws.proofs.internal_name_laws.text_rows.Fitting.{asked_fit, grown}
-pub use Rattle.object_initialiser_laws.proofs.internal_name_laws.text_rows.Linked.{tree_grown, types_fit}

@@ -1,5 +1,0 @@
-use Rattle.object_initialiser_laws.proofs.internal_name_laws.internal_types.Reading.{entity_types_known}
-use Rattle.object_initialiser_laws.proofs.internal_name_laws.internal_types.laws.entity_types_known.Goals as goal
-
-pub returns : goal.returns
-returns c = entity_types_known

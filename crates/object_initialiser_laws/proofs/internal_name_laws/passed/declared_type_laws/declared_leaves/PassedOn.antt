@@ -1,1 +1,0 @@
-pub use Rattle.declared_type_laws.proofs.declared_leaves.PassedOn.{known_at, world_of, known, told_before, row_as, fitted, first_in, last_found}

@@ -1,1 +1,0 @@
-pub use Rattle.declared_type_laws.proofs.known_entities.Known.{entities_known}

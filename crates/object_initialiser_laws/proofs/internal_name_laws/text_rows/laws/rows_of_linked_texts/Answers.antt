@@ -1,5 +1,0 @@
-use Rattle.object_initialiser_laws.proofs.internal_name_laws.text_rows.Linked.{rows_of_linked_texts}
-use Rattle.object_initialiser_laws.proofs.internal_name_laws.text_rows.laws.rows_of_linked_texts.Goals as goal
-
-pub returns : goal.returns
-returns c = rows_of_linked_texts

@@ -1,5 +1,0 @@
-use Rattle.object_initialiser_laws.proofs.static_value_laws.built_filled.Filling.{built_are_filled}
-use Rattle.object_initialiser_laws.proofs.static_value_laws.built_filled.laws.built_are_filled.Goals as goal
-
-pub returns : goal.returns
-returns c = built_are_filled

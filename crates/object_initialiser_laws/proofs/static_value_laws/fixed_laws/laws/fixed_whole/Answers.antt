@@ -1,5 +1,0 @@
-use Rattle.object_initialiser_laws.proofs.static_value_laws.fixed_laws.Whole.{fixed_whole}
-use Rattle.object_initialiser_laws.proofs.static_value_laws.fixed_laws.laws.fixed_whole.Goals as goal
-
-pub returns : goal.returns
-returns c = fixed_whole

@@ -1,5 +1,0 @@
-use Rattle.object_initialiser_laws.proofs.static_value_laws.static_literals.Whole.{literals_built}
-use Rattle.object_initialiser_laws.proofs.static_value_laws.static_literals.laws.literals_static.Goals as goal
-
-pub returns : goal.returns
-returns c = literals_built

@@ -1,3 +1,0 @@
--- What this crate passes on, from those below it to those above it.
-pub use Rattle.declared_type_laws.specs.agreed_internals.Agreeing.{AreAgreed}
-pub use Rattle.object_initialiser_laws.specs.internal_name_laws.initialised_rows.Rows.{InternalFit}

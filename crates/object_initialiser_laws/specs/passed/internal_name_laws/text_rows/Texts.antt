@@ -1,1 +1,0 @@
-pub use Rattle.object_initialiser_laws.specs.internal_name_laws.text_rows.Texts.{TypesFit}

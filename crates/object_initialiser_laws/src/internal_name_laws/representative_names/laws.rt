@@ -1,7 +1,0 @@
-//! That the declaration which stands for an internal name is one of it.
-ghost use Rattle.object_initialiser_laws.specs.internal_name_laws.representative_names.Representatives.{RepresentativesKnown};
-
-/// The declaration by whose initialiser or definition an internal name has its body declares the name's own entity (C11 6.2.2p2).
-pub fn representatives_known()
-    ensures { RepresentativesKnown }
-{}

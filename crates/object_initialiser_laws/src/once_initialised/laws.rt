@@ -1,8 +1,0 @@
-//! The law: a function that does nothing, whose contract it is.
-ghost use Rattle.object_initialiser_laws.specs.once_initialised.Once.{InitialisedOnce};
-
-/// In all bodies that the senses of a text that is read bring (blocks of functions, and initialisers that don't run where they stand), the
-/// Initialise of a name without linkage stands once at most (C11 6.7.9).
-pub fn initialised_once()
-    ensures { InitialisedOnce }
-{}

@@ -1,0 +1,5 @@
+use Rattle.parsed_tree_laws.proofs.sense_laws.All.{asked_sound}
+use Rattle.parsed_tree_laws.proofs.sense_laws.laws.asked_senses_sound.Goals as goal
+
+pub returns : goal.returns
+returns c = λ entities s senses are first ints grammar fit i. asked_sound entities s senses are first ints grammar fit i

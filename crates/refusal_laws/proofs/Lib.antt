@@ -1,0 +1,6 @@
+mod Steps
+mod Values
+mod Expressions
+mod Declaring
+mod Statements
+pub mod Rows

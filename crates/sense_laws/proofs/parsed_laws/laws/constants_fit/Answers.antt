@@ -1,5 +1,0 @@
-use Rattle.sense_laws.proofs.parsed_laws.Constants.{constants_fit}
-use Rattle.sense_laws.proofs.parsed_laws.laws.constants_fit.Goals as goal
-
-pub returns : goal.returns
-returns c = λ tokens tree tag_number is. constants_fit tokens tree tag_number is

@@ -1,5 +1,0 @@
-use Rattle.system_laws.proofs.filled_laws.Placed.{linked_placed}
-use Rattle.system_laws.proofs.filled_laws.laws.linked_placed.Goals as goal
-
-pub returns : goal.returns
-returns c = λ names. linked_placed {names = names}

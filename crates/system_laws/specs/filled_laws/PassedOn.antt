@@ -1,2 +1,0 @@
--- What this crate passes on, from those below it to those above it.
-pub use Rattle.system_laws.specs.item_laws.Items.{ArePlaced}

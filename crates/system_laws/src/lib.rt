@@ -1,9 +1,0 @@
-//! Laws of the systems of programs: these functions do nothing, and their contracts are the laws.
-#![tactic(auto)]
-
-pub mod demand_laws;
-pub mod fact_laws;
-pub mod filled_laws;
-pub mod item_laws;
-pub mod laws;
-pub mod parameter_laws;

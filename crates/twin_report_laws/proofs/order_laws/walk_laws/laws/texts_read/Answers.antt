@@ -1,0 +1,5 @@
+use Rattle.twin_report_laws.proofs.order_laws.walk_laws.Texts.{texts_read}
+use Rattle.twin_report_laws.proofs.order_laws.walk_laws.laws.texts_read.Goals as goal
+
+pub returns : goal.returns
+returns c = texts_read

@@ -1,0 +1,5 @@
+use Rattle.valid_unit_laws.proofs.object_initialiser_laws.internal_name_laws.text_rows.Fitting.{rows_of_texts}
+use Rattle.valid_unit_laws.proofs.object_initialiser_laws.internal_name_laws.text_rows.laws.rows_of_texts.Goals as goal
+
+pub returns : goal.returns
+returns c = rows_of_texts

@@ -1,0 +1,1 @@
+pub use Rattle.valid_unit_laws.proofs.object_initialiser_laws.internal_name_laws.internal_types.Initials.{initialised_words}

@@ -1,0 +1,2 @@
+-- What this crate passes on, from those below it to those above it.
+pub use Rattle.valid_unit_laws.specs.object_initialiser_laws.block_trees.Covered.{AllCovered, Covered, IsBare, IsBlockOf, ListsIt}

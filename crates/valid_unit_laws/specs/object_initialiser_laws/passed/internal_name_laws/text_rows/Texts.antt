@@ -1,0 +1,1 @@
+pub use Rattle.valid_unit_laws.specs.object_initialiser_laws.internal_name_laws.text_rows.Texts.{TypesFit}
