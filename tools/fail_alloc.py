@@ -120,8 +120,9 @@ class Refusing:
             if not was:
                 break
             kind = answer(ended, whole)
+            is_fit = kind in ("out of memory", "the whole answer") or (kind == SILENT and not seen["out of memory"])
             seen[kind] += 1
-            if kind not in ("out of memory", "the whole answer"):
+            if not is_fit:
                 odd.append(number)
         counts = ", ".join(f"{kind}: {count}" for kind, count in seen.items())
         print(f"{name}: status {whole.status} with all memory; {number - 1} allocations refused in turn; {counts}", flush=True)
@@ -130,13 +131,17 @@ class Refusing:
         return len(odd)
 
 
+# The words are had first: what is refused before the first line `out of memory` may be their room, of which nothing is said.
+SILENT = "status 9 without a line"
+
+
 def answer(ended, whole):
     """What a run with a refused allocation answered."""
     if (ended.status, ended.out, ended.err) == (whole.status, whole.out, whole.err):
         return "the whole answer"
     if ended.status == 9 and not ended.out:
-        # (where the words themselves find no room, nothing is written)
-        return "out of memory" if ended.err in (b"out of memory\n", b"") else f"status 9 with the line {ended.err[:60]!r}"
+        said = {b"out of memory\n": "out of memory", b"": SILENT}
+        return said.get(ended.err, f"status 9 with the line {ended.err[:60]!r}")
     return f"status {ended.status} with {len(ended.out)} bytes of out and the line {ended.err[:60]!r}"
 
 

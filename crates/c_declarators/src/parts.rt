@@ -11,17 +11,12 @@ ghost use Rattle.c_results.specs.Parts.{DeclaratorSeen, derivation_in};
 ghost use Rattle.tree_reads.specs.Sources.{source_read};
 ghost use Rattle.c_declarators.specs.Parts.{first_declarator, step_of};
 
+use c_grammar::productions::{FIELD, REST, SPECS};
 use c_results::{Derivation, Results, declarator_at, derivation_at, specified_at};
 use c_types::term::TypeId;
 use core_nodes::CheckFault;
 use std::alloc::Global;
 use tree_reads::{Syntax, Test, child_of, first_where, has_sign, is_a};
-
-const P_REST: u32 = 2;
-
-const P_SPECS: u32 = 6;
-
-const P_FIELD: u32 = 15;
 
 const SIGN_STAR: u8 = 11;
 
@@ -183,7 +178,7 @@ pub fn declaration_around(syntax: &Syntax, node: u32) -> Option<u32>
     ensures declaration { result ≡ spec.declaration_around (source_read syntax.now) node }
     ensures within { IfSome result (λ d. d < length syntax.now.tree.now.nodes.items) }
 {
-    if is_a(syntax, P_REST, node) || is_a(syntax, P_FIELD, node) {
+    if is_a(syntax, REST, node) || is_a(syntax, FIELD, node) {
         syntax.parent_of(node)
     } else {
         Some(node)
@@ -197,7 +192,7 @@ pub fn specs_of(syntax: &Syntax, node: u32) -> Option<u32>
 {
     let parent = syntax.parent_of(node)?;
     let declaration = declaration_around(syntax, parent)?;
-    child_of(syntax, P_SPECS, declaration)
+    child_of(syntax, SPECS, declaration)
 }
 
 /// The type of the specifiers before a declarator.

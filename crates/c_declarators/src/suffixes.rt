@@ -20,6 +20,7 @@ use crate::lists::list_of;
 use crate::parameters::is_parameter_array;
 use c_consts::{ConstFault, constant};
 use c_conversions::constant_values::leaf_of_node;
+use c_grammar::productions::{ASSIGNMENT, QUALIFIER};
 use c_results::{BoxedDerivation, Derivation, Made, Results, node_at};
 use c_types::table::TypeTable;
 use c_types::term::{Term, TypeId};
@@ -29,10 +30,6 @@ use core_tree::node::Unit;
 use pta_base::Kind;
 use std::alloc::Global;
 use tree_reads::{Syntax, Test, any_where, child_of, has_sign};
-
-const P_QUALIFIER: u32 = 9;
-
-const P_ASSIGNMENT: u32 = 32;
 
 const SIGN_LEFT_BRACKET: u8 = 0;
 
@@ -155,7 +152,7 @@ fn array_length(
         LengthMade result
         (spec.array_length w (source_read syntax.now) (sense_in (senses_made unit.now results.now)) at rest.now) }
 {
-    match child_of(syntax, P_ASSIGNMENT, at) {
+    match child_of(syntax, ASSIGNMENT, at) {
         Some(expression) => match node_at(results, expression) {
             Some(node) => node_length(unit, syntax, results, at, node),
             None => Err(CheckFault::BadOperand(at)),
@@ -175,7 +172,7 @@ fn has_array_words(syntax: &Syntax, rest: &[u32]) -> bool
     ensures { (w : World) (sense : ℕ → Sense) → result ≡ spec.has_array_words w (source_read syntax.now) sense rest.now }
 {
     any_where(syntax, Test::Word(WORD_STATIC), rest)
-        || any_where(syntax, Test::IsA(P_QUALIFIER), rest)
+        || any_where(syntax, Test::IsA(QUALIFIER), rest)
 }
 
 // Whether static and qualifiers stand in a parameter's outermost array alone.

@@ -7,13 +7,8 @@ ghost use Rattle.core_nodes.specs.passed.c_senses.Entities as spec;
 ghost use Rattle.tree_reads.specs.Sources.{source_read};
 
 use c_declarators::declaration_around;
+use c_grammar::productions::{BLOCK, EXTERNAL, PARAMETER};
 use tree_reads::{Above, Syntax, child_of, is_a, nearest_above};
-
-const P_EXTERNAL: u32 = 1;
-
-const P_PARAMETER: u32 = 23;
-
-const P_BLOCK: u32 = 29;
 
 /// The declaration, external declaration or parameter that declares a name, by the leaf of the name (C11 6.7, 6.9); None
 /// where the name stands in no declarator.
@@ -33,7 +28,7 @@ pub fn is_at_file(syntax: &Syntax, leaf: u32) -> bool
     ensures { (sense : ℕ → Sense) → result ≡ spec.is_at_file (source_read syntax.now) sense leaf }
 {
     match declaration_of(syntax, leaf) {
-        Some(declaration) => is_a(syntax, P_EXTERNAL, declaration),
+        Some(declaration) => is_a(syntax, EXTERNAL, declaration),
         None => false,
     }
 }
@@ -44,7 +39,7 @@ pub fn is_parameter(syntax: &Syntax, leaf: u32) -> bool
     ensures { (sense : ℕ → Sense) → result ≡ spec.is_parameter (source_read syntax.now) sense leaf }
 {
     match declaration_of(syntax, leaf) {
-        Some(declaration) => is_a(syntax, P_PARAMETER, declaration),
+        Some(declaration) => is_a(syntax, PARAMETER, declaration),
         None => false,
     }
 }
@@ -54,7 +49,7 @@ fn is_definition(syntax: &Syntax, declaration: u32) -> bool
     ensures { let s = source_read syntax.now in
         result ≡ (is_a s p_external declaration && is_some (child_of s p_block declaration)) }
 {
-    is_a(syntax, P_EXTERNAL, declaration) && child_of(syntax, P_BLOCK, declaration).is_some()
+    is_a(syntax, EXTERNAL, declaration) && child_of(syntax, BLOCK, declaration).is_some()
 }
 
 /// Whether a name is that of a function which is defined there (C11 6.9.1).

@@ -7,11 +7,8 @@ ghost use Rattle.core_nodes.specs.passed.c_senses.Entities as spec;
 ghost use Rattle.tree_reads.specs.Order.{ascends};
 ghost use Rattle.tree_reads.specs.Sources.{source_read};
 
+use c_grammar::productions::{ASM_NAME, REST};
 use tree_reads::{Above, Syntax, children_of, first_from, has_sign, is_a, nearest_above};
-
-const P_REST: u32 = 2;
-
-const P_ASM_NAME: u32 = 5;
 
 const SIGN_ASSIGN: u8 = 34;
 
@@ -72,7 +69,7 @@ fn without_asm<'a>(syntax: &Syntax, list: &'a [u32]) -> &'a [u32]
     if list.is_empty() {
         return list;
     }
-    if is_a(syntax, P_ASM_NAME, list[0]) {
+    if is_a(syntax, ASM_NAME, list[0]) {
         &list[1..]
     } else {
         list
@@ -85,7 +82,7 @@ fn rest_initialiser(syntax: &Syntax, node: u32) -> Option<u32>
         let s = source_read syntax.now in
         result ≡ (if is_a s p_rest node then spec.initialiser_in s sense (children_at s node) else None) }
 {
-    if is_a(syntax, P_REST, node) {
+    if is_a(syntax, REST, node) {
         initialiser_in(syntax, children_of(syntax, node))
     } else {
         None
@@ -110,7 +107,7 @@ fn initialiser_within(syntax: &Syntax, parent: u32, declarator: u32) -> Option<u
         result ≡ (if is_a s p_rest parent then spec.initialiser_in s sense list else spec.in_rest s sense list) }
 {
     let list = without_asm(syntax, behind_among(syntax, parent, declarator));
-    if is_a(syntax, P_REST, parent) {
+    if is_a(syntax, REST, parent) {
         initialiser_in(syntax, list)
     } else {
         in_rest(syntax, list)

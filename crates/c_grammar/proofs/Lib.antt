@@ -4,4 +4,5 @@ pub mod Unique
 pub mod Yield
 pub mod Order
 pub mod Meanings
+pub mod Entries
 pub mod Combines

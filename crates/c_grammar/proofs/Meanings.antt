@@ -14,7 +14,9 @@ use Rattle.std.proofs.lemmas.Bool.{cases_Bool, cond-true, cond-false}
 use mathlib.Core.Logic.{⊎_elim}
 use Rattle.c_grammar.specs.declared.scopes.Declared.{Declared}
 use Rattle.c_grammar.specs.Names.{Declaration, meaning, scope_of, is_type}
-use Rattle.c_grammar.specs.Log.{seen, seen_all, seen_scope, itself, log, flat, entry_of, known, Meanings, Recorded, Restores, Says, Kept, Forgets}
+use Rattle.c_grammar.specs.declared.current.Current.{Current}
+use Rattle.c_grammar.specs.Current.{place_in, meant_at, known, Indexed, Means}
+use Rattle.c_grammar.specs.Log.{seen, seen_all, seen_scope, itself, log, Recorded, Restores, Says, Kept, Forgets}
 
 pub meaning-append : (b : Option Bool) (xs ys : List Declaration) (n : List ℕ) → meaning b (xs ++ ys) n ≡ meaning (meaning b xs n) ys n
 meaning-append b [] ys n = refl
@@ -57,12 +59,12 @@ choose_inner : (b : Bool) (x y z : Option Bool) → cond b x (cond b y z) ≡ co
 choose_inner true x y z = refl
 choose_inner false x y z = refl
 
-some_flat : (o : Option (Option Bool)) (b : Bool) → flat o ≡ Some b → IsSome o
-some_flat None b h = let e : ◌≡◌ {A = Option Bool} None (Some b) = h in absurd (cc)
-some_flat (Some m) b h = search rules
+some_meant : (meant : List (Option Bool)) (o : Option ℕ) (b : Bool) → meant_at meant o ≡ Some b → IsSome o
+some_meant meant None b h = let e : ◌≡◌ {A = Option Bool} None (Some b) = h in absurd (cc)
+some_meant meant (Some place) b h = search rules
 
 -- a declaration more
-pub says_more : (e ds : List Declared) (d : Declared) (m m' : Meanings) → Says e ds m → d.before ≡ known m d.name.items
+pub says_more : (e ds : List Declared) (d : Declared) (m m' : Current) → Says e ds m → d.before ≡ known m d.name.items
     → ((q : List ℕ) → known m' q ≡ cond (bytes_eq d.name.items q) (Some d.is_type) (known m q)) → Says e (ds ++ d ∷ []) m'
 says_more e ds d m m' h b k = (
   recorded-append e ds (d ∷ []) h.0 (b ∙ h.1 d.name.items, tt),
@@ -71,13 +73,13 @@ says_more e ds d m m' h b k = (
 )
 
 -- the last declaration is taken back
-pub says_less : (e ds : List Declared) (d : Declared) (m m' : Meanings) → Says e (ds ++ d ∷ []) m → Restores m d.name.items d.before m' → Says e ds m'
+pub says_less : (e ds : List Declared) (d : Declared) (m m' : Current) → Says e (ds ++ d ∷ []) m → Restores m d.name.items d.before m' → Says e ds m'
 says_less e ds d m m' h r =
     let one : (q : List ℕ) → known m q ≡ cond (bytes_eq d.name.items q) (Some d.is_type) (meaning None (seen_all (e ++ ds)) q)
     = λ q. h.1 q ∙ (ap (λ l. meaning None (seen_all l) q) (sym (append_assoc e ds (d ∷ []))) ∙ meaning_one (e ++ ds) d q) in
     let back = recorded_back e ds (d ∷ []) h.0 in
     let own : known m d.name.items ≡ Some d.is_type = one d.name.items ∙ cond-true (bytes_eq d.name.items d.name.items) (Some d.is_type) (meaning None (seen_all (e ++ ds)) d.name.items) (nat_list_eq_equiv.refl d.name.items) in
-    let there = some_flat (entry_of m d.name.items) d.is_type own in (
+    let there = some_meant m.meant.items (place_in m.places d.name.items) d.is_type own in (
       recorded_front e ds (d ∷ []) h.0,
       λ q. r there q ∙ (ap (λ x. cond (bytes_eq d.name.items q) d.before x) (one q)
           ∙ (choose_inner (bytes_eq d.name.items q) d.before (Some d.is_type) (meaning None (seen_all (e ++ ds)) q)
@@ -110,35 +112,31 @@ pub updates_bytes : {X : Type 0} (bs : List ℕ) (m n : BTreeMap (Vec ℕ) X) (w
 updates_bytes bs m n w h = by_bytes (λ ds. lookup (λ k. bytes_eq ds k.items) m.entries) (λ ds. lookup (λ k. bytes_eq ds k.items) n.entries) bs w (sym (found_at bs n.entries) ∙ h.1)
     (λ cs e. other_entries _ _ _ _ h.3 _ (λ x y l. nat_list_eq_equiv.congr cs x.items y.items l ∙ sym (is_eq-slice_cmp x.items y.items)) (λ k l. apart bs cs k.items e (sym (is_eq-slice_cmp bs k.items) ∙ l)))
 
-flat-cond : (b : Bool) (x y : Option (Option Bool)) → flat (cond b x y) ≡ cond b (flat x) (flat y)
-flat-cond true x y = refl
-flat-cond false x y = refl
-
-pub updates_known : (bs : List ℕ) (m n : Meanings) (w : Option Bool) → UpdatesBy (λ x y. slice_cmp nat_cmp x.items y.items) (λ k. slice_cmp nat_cmp bs k.items) m n (Some w)
-    → (cs : List ℕ) → known n cs ≡ cond (bytes_eq bs cs) w (known m cs)
-updates_known bs m n w h cs = ap flat (updates_bytes bs m n (Some w) h cs) ∙ flat-cond (bytes_eq bs cs) (Some w) (entry_of m cs)
-
 log_left : (es : List (Vec Declared)) (s : Vec Declared) → flat_map itself (es ++ s ∷ []) ≡ log es s.items
 log_left [] s = append-nil s.items
 log_left (e ∷ es) s = ap (λ l. e.items ++ l) (log_left es s) ∙ sym (append_assoc e.items (flat_map itself es) s.items)
 
 -- the innermost scope is taken back, and the one around it is the innermost
-pub kept_left : (enclosing new : List (Vec Declared)) (innermost : List Declared) (scope : Vec Declared) (m m' : Meanings) → enclosing ≡ new ++ scope ∷ [] → Kept enclosing innermost m → Forgets innermost m m'
+pub kept_left : (enclosing new : List (Vec Declared)) (innermost : List Declared) (scope : Vec Declared) (m m' : Current) → enclosing ≡ new ++ scope ∷ [] → Kept enclosing innermost m → Forgets innermost m m' → Indexed m'
     → Kept new scope.items m'
-kept_left enclosing new innermost scope m m' e k f =
+kept_left enclosing new innermost scope m m' e k f indexed =
     let xs : List Declared = flat_map itself enclosing in
-    let h = f xs (recorded_back [] xs innermost k.0, k.1) in
+    let h = f xs (recorded_back [] xs innermost k.says.0, k.says.1) in
     let g : xs ≡ log new scope.items = ap (λ l. flat_map itself l) e ∙ log_left new scope in
-    (subst (λ l. Recorded [] l) g (recorded_front [] xs innermost k.0), λ q. h.1 q ∙ ap (λ l. meaning None (seen_all l) q) (append-nil xs ∙ g))
+    record { says = (subst (λ l. Recorded [] l) g (recorded_front [] xs innermost k.says.0), λ q. h.1 q ∙ ap (λ l. meaning None (seen_all l) q) (append-nil xs ∙ g)); indexed = indexed }
 
 -- the innermost scope declares a name more
-pub kept_more : (enclosing : List (Vec Declared)) (innermost new : List Declared) (d : Declared) (m m' : Meanings) → new ≡ innermost ++ d ∷ [] → Kept enclosing innermost m → d.before ≡ known m d.name.items
-    → ((q : List ℕ) → known m' q ≡ cond (bytes_eq d.name.items q) (Some d.is_type) (known m q)) → Kept enclosing new m'
-kept_more enclosing innermost new d m m' e k b f =
+pub kept_more : (enclosing : List (Vec Declared)) (innermost new : List Declared) (d : Declared) (m m' : Current) → new ≡ innermost ++ d ∷ [] → Kept enclosing innermost m → d.before ≡ known m d.name.items
+    → ((q : List ℕ) → known m' q ≡ cond (bytes_eq d.name.items q) (Some d.is_type) (known m q)) → Indexed m' → Kept enclosing new m'
+kept_more enclosing innermost new d m m' e k b f indexed =
     let g : log enclosing innermost ++ d ∷ [] ≡ log enclosing new = append_assoc (flat_map itself enclosing) innermost (d ∷ []) ∙ ap (λ l. flat_map itself enclosing ++ l) (sym e) in
-    subst (λ l. Says [] l m') g (says_more [] (log enclosing innermost) d m m' k b f)
+    record { says = subst (λ l. Says [] l m') g (says_more [] (log enclosing innermost) d m m' k.says b f); indexed = indexed }
 
-pub is_type_kept : (enclosing : List (Vec Declared)) (innermost : List Declared) (m : Meanings) (name : List ℕ) → Kept enclosing innermost m
+-- the entries say what they said
+pub kept_same : (enclosing : List (Vec Declared)) (innermost : List Declared) (m m' : Current) → Kept enclosing innermost m → ((q : List ℕ) → known m' q ≡ known m q) → Indexed m' → Kept enclosing innermost m'
+kept_same enclosing innermost m m' k f indexed = record { says = (k.says.0, λ q. f q ∙ k.says.1 q); indexed = indexed }
+
+pub is_type_kept : (enclosing : List (Vec Declared)) (innermost : List Declared) (m : Current) (name : List ℕ) → Kept enclosing innermost m
     → is_type (record { enclosing = map seen_scope enclosing; innermost = seen_all innermost }) name ≡ unwrap_or (known m name) (bytes_eq name (codes "__builtin_va_list"))
 unfolding is_type
-is_type_kept enclosing innermost m name k = ap (λ l. unwrap_or (meaning None l name) (bytes_eq name (codes "__builtin_va_list"))) (sym (log_seen enclosing innermost)) ∙ ap (λ o. unwrap_or o (bytes_eq name (codes "__builtin_va_list"))) (sym (k.1 name))
+is_type_kept enclosing innermost m name k = ap (λ l. unwrap_or (meaning None l name) (bytes_eq name (codes "__builtin_va_list"))) (sym (log_seen enclosing innermost)) ∙ ap (λ o. unwrap_or o (bytes_eq name (codes "__builtin_va_list"))) (sym (k.says.1 name))

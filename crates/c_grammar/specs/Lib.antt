@@ -3,6 +3,7 @@ pub mod Held
 pub mod Words
 pub mod Productions
 pub mod Names
+pub mod Current
 pub mod Log
 pub mod Terminals
 pub mod Tree

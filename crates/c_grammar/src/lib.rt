@@ -6,6 +6,7 @@ ghost use Rattle.std.specs.Prelude.{◌≡◌, ◌<◌, ◌^◌};
 ghost use Rattle.std.specs.Option.{OnSome};
 
 mod children;
+mod current;
 mod firsts;
 pub mod laws;
 pub mod looks;

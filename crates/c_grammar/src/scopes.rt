@@ -1,12 +1,13 @@
 //! The scopes of names while a unit is read.
-ghost use Rattle.c_grammar.specs.Log.{known, seen, seen_all, Restores, Forgets};
+ghost use Rattle.c_grammar.specs.Current.{Indexed};
+ghost use Rattle.c_grammar.specs.Log.{seen, seen_all, Forgets};
 ghost use Rattle.c_grammar.specs.Names as names;
 ghost use Rattle.c_grammar.specs.Names.{Names};
 ghost use Rattle.std.specs.Prelude.{◌≡◌, ◌<◌, nat_lt, length, IfOk, OnOk, OnErr};
 
+use crate::current::{Current, copied, meaning, meant, numbered, restore, set};
 use pta_base::OutOfMemory;
 use std::alloc::Global;
-use std::collections::BTreeMap;
 use std::marker::Model;
 
 /// A declared name, whether it is a typedef name, and what the name meant before.
@@ -33,15 +34,12 @@ impl Declared {
     }
 }
 
-/// What each name means now: whether it is a typedef name, or nothing where no open scope declares it.
-type Meanings = BTreeMap<Vec<u8>, Option<bool>>;
-
 /// The open scopes with the names that they declare (C11 6.2.1). The file's scope is always open.
 #[derive(Drop)]
 pub struct Scopes {
     enclosing: Vec<Vec<Declared>>,
     innermost: Vec<Declared>,
-    current: Meanings,
+    current: Current,
     alloc: Global,
 }
 
@@ -58,37 +56,11 @@ impl Model for Scopes {
     ghost invariant = { λ s. Kept s.enclosing.items s.innermost.items s.current };
 }
 
-/// A copy of a name.
-fn copied(name: &[u8], alloc: Global) -> Result<Vec<u8>, OutOfMemory>
-    ensures { IfOk result (λ copy. copy.items ≡ name.now) }
-{
-    let mut copy = Vec::new(alloc);
-    copy.extend_from_slice(name)?;
-    Ok(copy)
-}
-
-/// What a name means now.
-fn meaning(current: &Meanings, name: &[u8]) -> Option<bool>
-    ensures { result ≡ known current.now name.now }
-{
-    match current.get(name) {
-        Some(meaning) => *meaning,
-        None => None,
-    }
-}
-
-/// Gives a name that has been declared the meaning that it had before.
-fn restore(current: &mut Meanings, name: &[u8], before: Option<bool>)
-    ensures { Restores current.old name.now before current.new }
-{
-    if let Some(meaning) = current.get_mut(name) {
-        *meaning = before;
-    }
-}
-
 /// Gives all names of a scope, from the last one on, the meanings that they had before.
-fn forget(scope: &[Declared], current: &mut Meanings)
-    ensures { Forgets scope.now current.old current.new }
+fn forget(scope: &[Declared], current: &mut Current)
+    requires { Indexed current.old }
+    ensures indexed { Indexed current.new }
+    ensures forgets { Forgets scope.now current.old current.new }
 {
     let mut rest = scope.len();
     while rest > 0 {
@@ -106,7 +78,7 @@ impl Scopes {
         Scopes {
             enclosing: Vec::new(alloc),
             innermost: Vec::new(alloc),
-            current: BTreeMap::new(alloc),
+            current: Current::new(alloc),
             alloc,
         }
     }
@@ -148,21 +120,16 @@ impl Scopes {
         ensures ok { OnOk result (self.new ≡ names.declared self.old (name.now, is_type)) }
         ensures err { OnErr result (self.new ≡ self.old) }
     {
-        let key = copied(name, self.alloc)?;
         let kept = copied(name, self.alloc)?;
-        let before = meaning(&self.current, name);
+        let place = numbered(&mut self.current, name, self.alloc)?;
+        let before = meant(&self.current, place);
         self.innermost.push(Declared {
             name: kept,
             is_type,
             before,
         })?;
-        match self.current.insert(key, Some(is_type)) {
-            Ok(_) => Ok(()),
-            Err(_) => {
-                let _ = self.innermost.pop();
-                Err(OutOfMemory)
-            }
-        }
+        set(&mut self.current, place, Some(is_type));
+        Ok(())
     }
 
     /// Whether a name is a typedef name: the innermost declaration of it says (C11 6.2.1p4). Without a declaration only

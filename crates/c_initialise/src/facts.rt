@@ -12,6 +12,7 @@ ghost use Rattle.core_nodes.specs.Standing.{core_at, IsReady};
 ghost use Rattle.tree_reads.specs.Sources.{source_read};
 ghost use Rattle.c_initialise.specs.Facts.{AreKnown, no_world, told, index_told};
 
+use c_grammar::productions::ASSIGNMENT;
 use c_inits::cursor::Expression;
 use c_inits::designators::Designator;
 use c_results::{Results, node_at, value_at};
@@ -21,8 +22,6 @@ use core_tree::node::{NodeKind, Unit};
 use std::alloc::Global;
 use std::str::from_utf8;
 use tree_reads::{Syntax, Test, child_of, children_of, first_where, spelling_of};
-
-const P_ASSIGNMENT: u32 = 32;
 
 /// The value of a negative index: no array has so many elements.
 const PAST_EVERY_ARRAY: u128 = 18446744073709551616;
@@ -60,7 +59,7 @@ pub(crate) fn expression_at(source: &Source, node: u32) -> Expression
         ty: source.void,
         text: false,
     };
-    let Some(child) = child_of(source.syntax, P_ASSIGNMENT, node) else {
+    let Some(child) = child_of(source.syntax, ASSIGNMENT, node) else {
         return nothing;
     };
     match node_at(source.results, child) {

@@ -9,12 +9,11 @@ ghost use Rattle.c_results.specs.Standing.{senses_made, IsWithin, Rowed};
 ghost use Rattle.tree_reads.specs.Sources.{source_in};
 
 use c_conversions::constant_values::constant_in;
+use c_grammar::productions::CONDITIONAL;
 use c_results::{Made, Number, Results};
 use core_nodes::CheckFault;
 use core_tree::node::Unit;
 use tree_reads::{Syntax, child_of, has_sign};
-
-const P_CONDITIONAL: u32 = 33;
 
 const SIGN_LEFT_BRACKET: u8 = 0;
 
@@ -42,7 +41,7 @@ pub fn designator_row(
     if !has_sign(syntax, SIGN_LEFT_BRACKET, children[0]) {
         return Ok(Made::Nothing);
     }
-    let Some(child) = child_of(syntax, P_CONDITIONAL, at) else {
+    let Some(child) = child_of(syntax, CONDITIONAL, at) else {
         return Err(CheckFault::BadOperand(at));
     };
     match constant_in(unit, syntax, results, at, child) {

@@ -12,10 +12,9 @@ ghost use Rattle.tree_reads.specs.Sources.{source_read};
 ghost use Rattle.c_initials.specs.Scope.{AreFunctions};
 
 use c_entities::{has_storage, is_at_file, is_parameter};
+use c_grammar::productions::BLOCK;
 use c_results::Results;
 use tree_reads::{Syntax, is_a, is_name};
-
-const P_BLOCK: u32 = 29;
 
 const WORD_EXTERN: u8 = 11;
 
@@ -40,7 +39,7 @@ fn block_above(syntax: &Syntax, node: u32) -> Option<u32>
         let Some(parent) = next else {
             return None;
         };
-        if is_a(syntax, P_BLOCK, parent) {
+        if is_a(syntax, BLOCK, parent) {
             return Some(parent);
         }
         next = syntax.parent_of(parent);

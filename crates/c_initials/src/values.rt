@@ -21,6 +21,7 @@ ghost use Rattle.c_initials.specs.Scope.{value_as};
 use c_consts::converted;
 use c_conversions::table::conversion;
 use c_conversions::values::value;
+use c_grammar::productions::ASSIGNMENT;
 use c_results::{Results, node_at};
 use c_types::table::TypeTable;
 use c_types::term::{Term, TypeId};
@@ -32,8 +33,6 @@ use core_tree::node::{NodeKind, Unit};
 use std::alloc::Global;
 use tree_reads::{Syntax, child_of};
 
-const P_ASSIGNMENT: u32 = 32;
-
 /// The core node of an initialiser's expression, where there is one.
 pub(crate) fn expression_of(syntax: &Syntax, results: &Results, init: u32) -> Option<u32>
     ensures seen { (u : UnitSpec) (w : World) →
@@ -42,7 +41,7 @@ pub(crate) fn expression_of(syntax: &Syntax, results: &Results, init: u32) -> Op
     ensures within { (u : UnitSpec) → All (IsWithin u) results.now → IfSome result (λ i. i < length u.nodes.items) }
     ensures rows { (u : UnitSpec) → All (HasConstants u) results.now → IfSome result (λ i. HasRows (core_at u i)) }
 {
-    match child_of(syntax, P_ASSIGNMENT, init) {
+    match child_of(syntax, ASSIGNMENT, init) {
         Some(child) => node_at(results, child),
         None => None,
     }

@@ -23,6 +23,7 @@ use crate::storage::has_initialiser;
 use crate::types::{is_open, type_thinned};
 use c_entities::own_type;
 use c_entities::remembered_names::{Remembered, found_at, remember, steps_of, type_made};
+use c_grammar::productions::ENUMERATOR;
 use c_results::{Results, value_at};
 use c_types::table::TypeTable;
 use c_types::term::{Term, TypeId};
@@ -31,8 +32,6 @@ use core_tree::node::Unit;
 use name_chains::linked_link;
 use std::alloc::Global;
 use tree_reads::{Syntax, is_a};
-
-const P_ENUMERATOR: u32 = 18;
 
 /// What a name means (C11 6.2.3, 6.5.1): an object or a function, by the leaf of its entity and with its type; a type; or an
 /// enumerator's value.
@@ -434,7 +433,7 @@ fn meaning_of(
     let Some(parent) = syntax.parent_of(leaf) else {
         return Ok(None);
     };
-    if is_a(syntax, P_ENUMERATOR, parent) {
+    if is_a(syntax, ENUMERATOR, parent) {
         return Ok(enumerated(results, parent));
     }
     declared_meaning(alloc, unit, syntax, names, results, linkages, leaf)

@@ -17,6 +17,7 @@ use crate::completeness::is_parameter_complete;
 use crate::named::{Declared, named_row};
 use crate::said::Said;
 use c_declarators::adjusted;
+use c_grammar::productions::{FIELD, PARAMETER};
 use c_results::Results;
 use c_types::term::TypeId;
 use core_nodes::CheckFault;
@@ -24,10 +25,6 @@ use core_tree::node::Unit;
 use name_places::is_listed_parameter;
 use std::alloc::Global;
 use tree_reads::{Syntax, is_a};
-
-const P_FIELD: u32 = 15;
-
-const P_PARAMETER: u32 = 23;
 
 // Whether a parameter may stand there, by whether a function is defined that has it and whether its type is complete.
 fn may_stand(listed: bool, complete: bool) -> bool
@@ -92,10 +89,10 @@ pub(crate) fn by_place(
     let Some(parent) = syntax.parent_of(declared.at) else {
         return Ok(());
     };
-    if is_a(syntax, P_FIELD, parent) {
+    if is_a(syntax, FIELD, parent) {
         return Ok(());
     }
-    if is_a(syntax, P_PARAMETER, parent) {
+    if is_a(syntax, PARAMETER, parent) {
         let ty = adjusted(unit, declared.ty)?;
         let Declared { at, leaf, .. } = declared;
         return parameter_named(unit, syntax, results, completed, Declared { at, leaf, ty });

@@ -18,6 +18,7 @@ use crate::choices::CaseMap;
 use crate::parts::{body, switched, void_type};
 use c_consts::converted;
 use c_conversions::constant_values::constant_in;
+use c_grammar::productions::CONDITIONAL;
 use c_results::Results;
 use c_types::table::TypeTable;
 use c_types::term::{Term, TypeId};
@@ -28,8 +29,6 @@ use core_tree::held::Number;
 use core_tree::node::{NodeKind, Unit};
 use std::alloc::Global;
 use tree_reads::{Above, Syntax, child_of, children_of, nearest_above, place_of};
-
-const P_CONDITIONAL: u32 = 33;
 
 // A number as one of a type (C11 6.3.1.3).
 fn number_as(types: &TypeTable, ty: TypeId, number: i128) -> i128
@@ -171,7 +170,7 @@ pub fn case_row(
         let sense = sense_in (senses_made unit.old results.now) in
         AreCases w s sense at cases.now → CoreMade unit.new result (spec.case_row w s sense at children.now) }
 {
-    let Some(part) = child_of(syntax, P_CONDITIONAL, at) else {
+    let Some(part) = child_of(syntax, CONDITIONAL, at) else {
         return Err(CheckFault::BadOperand(at));
     };
     let number = match constant_in(unit, syntax, results, at, part) {

@@ -13,6 +13,7 @@ ghost use Rattle.tree_reads.specs.leaf_maps.Numbers.{number_at};
 ghost use Rattle.c_statements.specs.Labels as labels;
 ghost use Rattle.c_statements.specs.Labels.{case_at, is_choice, AreDefaults, AreCases};
 
+use c_grammar::productions::STATEMENT;
 use c_results::{Results, node_at};
 use core_nodes::reads::kind_of_node;
 use core_tree::node::{NodeKind, Unit};
@@ -21,8 +22,6 @@ use std::collections::BTreeMap;
 use std::marker::Model;
 use tree_reads::leaf_maps::LeafMap;
 use tree_reads::{Above, Syntax, children_of, has_word, is_a, nearest_above};
-
-const P_STATEMENT: u32 = 30;
 
 const WORD_CASE: u8 = 2;
 
@@ -82,7 +81,7 @@ fn is_statement_of(syntax: &Syntax, word: u8, node: u32) -> bool
     ensures { (w : World) (uses : List (ℕ × ℕ)) (sense : ℕ → Sense) →
         result ≡ spec.is_statement_of w (source_in syntax.now uses) sense word node }
 {
-    if !is_a(syntax, P_STATEMENT, node) {
+    if !is_a(syntax, STATEMENT, node) {
         return false;
     }
     match children_of(syntax, node).first() {
@@ -261,7 +260,7 @@ impl Choices {
             AreCases before s (sense_in (take at senses)) at self.old.cases →
             OnOk result (AreCases after s (sense_in senses) (at + 1) self.new.cases) }
     {
-        if !is_a(syntax, P_STATEMENT, at) {
+        if !is_a(syntax, STATEMENT, at) {
             return Ok(());
         }
         self.note_default(unit, syntax, results, at)?;

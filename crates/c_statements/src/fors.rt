@@ -14,6 +14,7 @@ ghost use Rattle.c_senses.specs.Tree.{Source};
 use crate::parts::{body, value_of, void_type};
 use crate::places::own_place;
 use crate::simple::expression_row;
+use c_grammar::productions::{DECLARATION, EXPRESSION};
 use c_results::{Made, Results};
 use core_nodes::CheckFault;
 use core_nodes::reads::type_of_node;
@@ -24,10 +25,6 @@ use core_tree::node::{NodeKind, Unit};
 use pta_base::Listing;
 use std::alloc::Global;
 use tree_reads::{Syntax, has_sign, is_a, place_of};
-
-const P_DECLARATION: u32 = 3;
-
-const P_EXPRESSION: u32 = 31;
 
 const SIGN_SEMICOLON: u8 = 32;
 
@@ -46,7 +43,7 @@ fn expression_before(syntax: &Syntax, list: &[u32]) -> Option<u32>
 {
     match list.first() {
         Some(node) => {
-            if is_a(syntax, P_EXPRESSION, *node) {
+            if is_a(syntax, EXPRESSION, *node) {
                 Some(*node)
             } else {
                 None
@@ -81,7 +78,7 @@ pub fn for_parts(syntax: &Syntax, list: &[u32]) -> ForParts
             after: None,
         };
     }
-    if is_a(syntax, P_DECLARATION, list[0]) {
+    if is_a(syntax, DECLARATION, list[0]) {
         let rest = &list[1..];
         return ForParts {
             first: Some(list[0]),
@@ -143,7 +140,7 @@ fn for_first(
     let Some(part) = first else {
         return Ok(Listing::new(alloc));
     };
-    if is_a(syntax, P_DECLARATION, part) {
+    if is_a(syntax, DECLARATION, part) {
         return run_of(alloc, results, part);
     }
     let place = own_place(syntax, part);

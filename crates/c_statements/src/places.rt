@@ -7,58 +7,15 @@ ghost use Rattle.c_senses.specs.Tree.{Source};
 ghost use Rattle.tree_reads.specs.Sources.{source_read};
 ghost use Rattle.c_statements.specs.Owning.{own_seen, own_of_others};
 
+use c_grammar::productions::{
+    ABSTRACT, ADDITIVE, AND, ASSIGNMENT, CAST, CONDITIONAL, DECLARATOR, EITHER, EQUALITY,
+    EXCLUSIVE_OR, EXPRESSION, FIELD, INCLUSIVE_OR, INIT, LOGICAL_AND, LOGICAL_OR, MULTIPLICATIVE,
+    PARAMETER, POST, PRIMARY, RELATIONAL, SHIFT, STATEMENT, UNARY,
+};
 use pta_base::Place;
 use tree_reads::{
     Syntax, Test, children_of, first_where, has_sign, is_a, is_leaf, last_where, place_of,
 };
-
-const P_FIELD: u32 = 15;
-
-const P_DECLARATOR: u32 = 19;
-
-const P_ABSTRACT: u32 = 20;
-
-const P_EITHER: u32 = 21;
-
-const P_PARAMETER: u32 = 23;
-
-const P_INIT: u32 = 25;
-
-const P_STATEMENT: u32 = 30;
-
-const P_EXPRESSION: u32 = 31;
-
-const P_ASSIGNMENT: u32 = 32;
-
-const P_CONDITIONAL: u32 = 33;
-
-const P_LOGICAL_OR: u32 = 34;
-
-const P_LOGICAL_AND: u32 = 35;
-
-const P_INCLUSIVE_OR: u32 = 36;
-
-const P_EXCLUSIVE_OR: u32 = 37;
-
-const P_AND: u32 = 38;
-
-const P_EQUALITY: u32 = 39;
-
-const P_RELATIONAL: u32 = 40;
-
-const P_SHIFT: u32 = 41;
-
-const P_ADDITIVE: u32 = 42;
-
-const P_MULTIPLICATIVE: u32 = 43;
-
-const P_CAST: u32 = 44;
-
-const P_UNARY: u32 = 45;
-
-const P_POST: u32 = 46;
-
-const P_PRIMARY: u32 = 47;
 
 const SIGN_COLON: u8 = 31;
 
@@ -76,9 +33,7 @@ pub enum Own {
 fn is_declarator_part(syntax: &Syntax, node: u32) -> bool
     ensures { result ≡ spec.is_declarator_part (source_read syntax.now) node }
 {
-    is_a(syntax, P_DECLARATOR, node)
-        || is_a(syntax, P_EITHER, node)
-        || is_a(syntax, P_ABSTRACT, node)
+    is_a(syntax, DECLARATOR, node) || is_a(syntax, EITHER, node) || is_a(syntax, ABSTRACT, node)
 }
 
 // The first declarator of a list.
@@ -133,7 +88,7 @@ fn last_part(children: &[u32]) -> u32
 fn of_field(syntax: &Syntax, children: &[u32]) -> Own
     ensures { own_seen result ≡ spec.own_of_field (source_read syntax.now) children.now }
 {
-    match first_where(syntax, Test::IsA(P_DECLARATOR), children) {
+    match first_where(syntax, Test::IsA(DECLARATOR), children) {
         Some(part) => Own::OfPart(part),
         None => leaf_or_first(first_where(syntax, Test::Sign(SIGN_COLON), children)),
     }
@@ -191,7 +146,7 @@ fn of_parts(syntax: &Syntax, children: &[u32]) -> Own
 fn of_cast(syntax: &Syntax, children: &[u32]) -> Own
     ensures { own_seen result ≡ spec.own_of_cast (source_read syntax.now) children.now }
 {
-    match last_where(syntax, Test::IsA(P_POST), children) {
+    match last_where(syntax, Test::IsA(POST), children) {
         Some(part) => Own::OfPart(part),
         None => of_parts(syntax, children),
     }
@@ -217,19 +172,19 @@ fn of_statement(syntax: &Syntax, children: &[u32]) -> Own
 fn is_operators(syntax: &Syntax, node: u32) -> bool
     ensures { result ≡ spec.is_operators (source_read syntax.now) node }
 {
-    is_a(syntax, P_EXPRESSION, node)
-        || is_a(syntax, P_ASSIGNMENT, node)
-        || is_a(syntax, P_CONDITIONAL, node)
-        || is_a(syntax, P_LOGICAL_OR, node)
-        || is_a(syntax, P_LOGICAL_AND, node)
-        || is_a(syntax, P_INCLUSIVE_OR, node)
-        || is_a(syntax, P_EXCLUSIVE_OR, node)
-        || is_a(syntax, P_AND, node)
-        || is_a(syntax, P_EQUALITY, node)
-        || is_a(syntax, P_RELATIONAL, node)
-        || is_a(syntax, P_SHIFT, node)
-        || is_a(syntax, P_ADDITIVE, node)
-        || is_a(syntax, P_MULTIPLICATIVE, node)
+    is_a(syntax, EXPRESSION, node)
+        || is_a(syntax, ASSIGNMENT, node)
+        || is_a(syntax, CONDITIONAL, node)
+        || is_a(syntax, LOGICAL_OR, node)
+        || is_a(syntax, LOGICAL_AND, node)
+        || is_a(syntax, INCLUSIVE_OR, node)
+        || is_a(syntax, EXCLUSIVE_OR, node)
+        || is_a(syntax, AND, node)
+        || is_a(syntax, EQUALITY, node)
+        || is_a(syntax, RELATIONAL, node)
+        || is_a(syntax, SHIFT, node)
+        || is_a(syntax, ADDITIVE, node)
+        || is_a(syntax, MULTIPLICATIVE, node)
 }
 
 // Where the own token of a node is, if it is neither a declarator nor a member nor a parameter.
@@ -239,13 +194,13 @@ fn of_others(syntax: &Syntax, node: u32) -> Own
     let children = children_of(syntax, node);
     if is_operators(syntax, node) {
         of_operators(children)
-    } else if is_a(syntax, P_PRIMARY, node) {
+    } else if is_a(syntax, PRIMARY, node) {
         of_primary(syntax, children)
-    } else if is_a(syntax, P_CAST, node) {
+    } else if is_a(syntax, CAST, node) {
         of_cast(syntax, children)
-    } else if is_a(syntax, P_UNARY, node) || is_a(syntax, P_INIT, node) {
+    } else if is_a(syntax, UNARY, node) || is_a(syntax, INIT, node) {
         of_parts(syntax, children)
-    } else if is_a(syntax, P_STATEMENT, node) {
+    } else if is_a(syntax, STATEMENT, node) {
         of_statement(syntax, children)
     } else {
         Own::First
@@ -256,9 +211,9 @@ fn of_others(syntax: &Syntax, node: u32) -> Own
 fn own_of(syntax: &Syntax, node: u32) -> Own
     ensures { own_seen result ≡ spec.own_of (source_read syntax.now) node }
 {
-    if is_declarator_part(syntax, node) || is_a(syntax, P_PARAMETER, node) {
+    if is_declarator_part(syntax, node) || is_a(syntax, PARAMETER, node) {
         leaf_or_first(name_within(syntax, node))
-    } else if is_a(syntax, P_FIELD, node) {
+    } else if is_a(syntax, FIELD, node) {
         of_field(syntax, children_of(syntax, node))
     } else {
         of_others(syntax, node)

@@ -13,6 +13,7 @@ ghost use Rattle.c_statements.specs.Others.{returned};
 use crate::parts::void_type;
 use c_conversions::table::conversion;
 use c_conversions::values::value;
+use c_grammar::productions::EXPRESSION;
 use c_results::{Results, node_at};
 use c_types::term::TypeId;
 use core_nodes::CheckFault;
@@ -20,8 +21,6 @@ use core_nodes::trees::{push_leaf, push_over};
 use core_tree::node::{NodeKind, Unit};
 use std::alloc::Global;
 use tree_reads::{Syntax, Test, first_where, place_of};
-
-const P_EXPRESSION: u32 = 31;
 
 // The value of an expression as one of the type that a function returns.
 fn returned_value(
@@ -80,7 +79,7 @@ pub fn return_row(
         TypeSeen unit.old returned (spec.returned_type w s sense at) →
         CoreMade unit.new result (spec.return_row w s sense at (spec.expression_in w s sense children.now)) }
 {
-    let Some(part) = first_where(syntax, Test::IsA(P_EXPRESSION), children) else {
+    let Some(part) = first_where(syntax, Test::IsA(EXPRESSION), children) else {
         let ty = match void_type(unit) {
             Ok(ty) => ty,
             Err(_) => return Err(CheckFault::OutOfMemory),

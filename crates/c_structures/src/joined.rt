@@ -17,15 +17,12 @@ use crate::earlier::members_before;
 use crate::lists::{MemberLists, moved};
 use crate::members::{member_declaration, members_row};
 use crate::rows::field_row;
+use c_grammar::productions::{MEMBER, MEMBERS};
 use c_results::{Made, Results};
 use core_nodes::CheckFault;
 use core_tree::node::Unit;
 use std::alloc::Global;
 use tree_reads::{Syntax, children_of, production_of};
-
-const P_MEMBERS: u32 = 13;
-
-const P_MEMBER: u32 = 14;
 
 // The row of a field, where the members before it are gathered anew.
 fn gathered_field(
@@ -144,10 +141,10 @@ pub fn listed_member(
         Rowed unit.new result (declaring_row w s sense (production_at s at) at (children_at s at)) }
 {
     let production = production_of(syntax, at);
-    if production == P_MEMBERS {
+    if production == MEMBERS {
         return members_row(alloc, results, children_of(syntax, at));
     }
-    if production == P_MEMBER {
+    if production == MEMBER {
         let children = children_of(syntax, at);
         return member_declaration(alloc, unit, syntax, results, unions, at, children);
     }

@@ -20,16 +20,13 @@ ghost use Rattle.c_structures.specs.Members.{parts_or};
 
 use crate::places::{is_in_union, untagged_in};
 use c_declarators::ends_flexible;
+use c_grammar::productions::{FIELD, SPECS};
 use c_results::{Made, Results, copied_member, members_at, type_at};
 use c_types::term::{MemberTerm, TypeId};
 use core_nodes::CheckFault;
 use core_tree::node::Unit;
 use std::alloc::Global;
 use tree_reads::{Syntax, Test, any_where, child_of};
-
-const P_SPECS: u32 = 6;
-
-const P_FIELD: u32 = 15;
 
 // Adds the same members once more.
 fn add_copies(
@@ -194,10 +191,10 @@ pub fn member_declaration(
         Rowed unit.now result
         (spec.member_declaration w (source_in syntax.now uses) (sense_in (senses_made unit.now results.now)) at children.now) }
 {
-    let Some(specs) = child_of(syntax, P_SPECS, at) else {
+    let Some(specs) = child_of(syntax, SPECS, at) else {
         return Ok(Made::Members(Vec::new(alloc)));
     };
-    if any_where(syntax, Test::IsA(P_FIELD), children) {
+    if any_where(syntax, Test::IsA(FIELD), children) {
         return members_row(alloc, results, children);
     }
     let untagged = untagged_type(syntax, results, specs);

@@ -8,13 +8,8 @@ ghost use Rattle.c_senses.specs.Tags as spec;
 ghost use Rattle.tree_reads.specs.Sources.{source_read};
 ghost use Rattle.c_structures.specs.Members.{last_declaration};
 
+use c_grammar::productions::{FIELD, SPECS, STRUCT};
 use tree_reads::{Syntax, Test, any_where, child_of, children_of, first_where, is_a, last_where};
-
-const P_SPECS: u32 = 6;
-
-const P_STRUCT: u32 = 12;
-
-const P_FIELD: u32 = 15;
 
 const WORD_UNION: u8 = 29;
 
@@ -24,7 +19,7 @@ fn first_holding(syntax: &Syntax, list: &[u32]) -> Option<u32>
         result ≡ tree.first_where (λ t. tree.any_where (tree.is_a s p_struct) (tree.children_at s t)) list.now }
 {
     for node in list {
-        if any_where(syntax, Test::IsA(P_STRUCT), children_of(syntax, *node)) {
+        if any_where(syntax, Test::IsA(STRUCT), children_of(syntax, *node)) {
             return Some(*node);
         }
     }
@@ -42,7 +37,7 @@ pub fn tag_leaf(syntax: &Syntax, node: u32) -> Option<u32>
 fn is_untagged(syntax: &Syntax, node: u32) -> bool
     ensures { let s = source_read syntax.now in result ≡ (tree.is_a s p_struct node && is_none (spec.tag_leaf s node)) }
 {
-    is_a(syntax, P_STRUCT, node) && tag_leaf(syntax, node).is_none()
+    is_a(syntax, STRUCT, node) && tag_leaf(syntax, node).is_none()
 }
 
 // The first specifier of a structure or union without a tag.
@@ -114,8 +109,8 @@ fn has_untagged(syntax: &Syntax, specs: Option<u32>) -> bool
 fn declares_members(syntax: &Syntax, member: u32) -> bool
     ensures { (w : World) (sense : ℕ → Sense) → result ≡ spec.declares_members w (source_read syntax.now) sense member }
 {
-    child_of(syntax, P_FIELD, member).is_some()
-        || has_untagged(syntax, child_of(syntax, P_SPECS, member))
+    child_of(syntax, FIELD, member).is_some()
+        || has_untagged(syntax, child_of(syntax, SPECS, member))
 }
 
 // The node, if it is a declaration that declares a member, or the one before.
@@ -163,7 +158,7 @@ fn is_last_of_declaration(syntax: &Syntax, member: u32, field: u32) -> bool
     ensures { (w : World) (sense : ℕ → Sense) →
         let s = source_read syntax.now in result ≡ spec.is_last_in w s sense (tree.is_a s p_field) member field }
 {
-    match last_where(syntax, Test::IsA(P_FIELD), children_of(syntax, member)) {
+    match last_where(syntax, Test::IsA(FIELD), children_of(syntax, member)) {
         Some(last) => last == field,
         None => false,
     }

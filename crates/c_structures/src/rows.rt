@@ -20,16 +20,13 @@ use crate::bits::width_field;
 use crate::fields::plain_field;
 use c_conversions::constant_values::constant_in;
 use c_declarators::{declarator_child, derived, specified_child};
+use c_grammar::productions::{CONDITIONAL, DECLARATOR};
 use c_results::{Made, Results};
 use c_types::term::TypeId;
 use core_nodes::CheckFault;
 use core_tree::node::Unit;
 use std::alloc::Global;
 use tree_reads::{Syntax, child_of};
-
-const P_DECLARATOR: u32 = 19;
-
-const P_CONDITIONAL: u32 = 33;
 
 // A field by its node, its name and its type.
 #[derive(Clone, Copy)]
@@ -53,7 +50,7 @@ fn width_of(
         Knows w unit.now →
         WidthMade w (source_in syntax.now uses) (sense_in (senses_made unit.now results.now)) at result }
 {
-    match child_of(syntax, P_CONDITIONAL, at) {
+    match child_of(syntax, CONDITIONAL, at) {
         Some(width) => Some(constant_in(unit, syntax, results, at, width)),
         None => None,
     }
@@ -126,7 +123,7 @@ pub fn field_row(
         return Err(CheckFault::BadOperand(at));
     };
     let width = width_of(unit, syntax, results, at);
-    let Some((leaf, steps)) = declarator_child(syntax, results, P_DECLARATOR, at) else {
+    let Some((leaf, steps)) = declarator_child(syntax, results, DECLARATOR, at) else {
         let field = Field {
             at,
             leaf: None,

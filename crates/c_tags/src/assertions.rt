@@ -14,13 +14,12 @@ ghost use Rattle.tree_reads.specs.Sources.{source_read};
 ghost use Rattle.std.specs.Prelude.{not};
 
 use c_conversions::constant_values::constant_in;
+use c_grammar::productions::CONDITIONAL;
 use c_results::{Made, Results, type_at};
 use core_nodes::CheckFault;
 use core_nodes::sorts::has_size;
 use core_tree::node::Unit;
 use tree_reads::{Syntax, child_of, is_leaf};
-
-const P_CONDITIONAL: u32 = 33;
 
 // Whether a number is 0.
 fn is_zero(value: i128) -> bool
@@ -45,7 +44,7 @@ pub fn assert_row(
         Rowed unit.now result
         (statements.assert_row w (source_in syntax.now uses) (sense_in (senses_made unit.now results.now)) at) }
 {
-    let Some(expression) = child_of(syntax, P_CONDITIONAL, at) else {
+    let Some(expression) = child_of(syntax, CONDITIONAL, at) else {
         return Err(CheckFault::BadOperand(at));
     };
     match constant_in(unit, syntax, results, at, expression) {

@@ -14,14 +14,11 @@ ghost use Rattle.tree_reads.specs.Sources.{source_read, source_in};
 ghost use Rattle.c_conversions.specs.constant_values.Constants.{HasConstants};
 
 use c_conversions::constant_values::constant_in;
+use c_grammar::productions::{CONDITIONAL, ENUMERATOR};
 use c_results::{Made, Number, Results, value_at};
 use core_nodes::CheckFault;
 use core_tree::node::Unit;
 use tree_reads::{Syntax, child_of, children_of, first_from, is_a};
-
-const P_ENUMERATOR: u32 = 18;
-
-const P_CONDITIONAL: u32 = 33;
 
 // Whether a node is an enumerator before another node.
 fn is_before(syntax: &Syntax, at: u32, node: u32) -> bool
@@ -30,7 +27,7 @@ fn is_before(syntax: &Syntax, at: u32, node: u32) -> bool
     if node >= at {
         return false;
     }
-    is_a(syntax, P_ENUMERATOR, node)
+    is_a(syntax, ENUMERATOR, node)
 }
 
 // The last enumerator of a list that stands before a node, looked for from the end.
@@ -179,6 +176,6 @@ pub fn enumerator_row(
         return Err(CheckFault::BadOperand(at));
     }
     let leaf = children[0];
-    let expression = child_of(syntax, P_CONDITIONAL, at);
+    let expression = child_of(syntax, CONDITIONAL, at);
     enumerator_named(unit, syntax, results, at, leaf, expression)
 }

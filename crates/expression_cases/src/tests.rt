@@ -3,472 +3,161 @@
 use c_check::{Known, Meaning};
 use c_types::term::{Name, TypeId};
 use core_tree::node::Unit;
-use expression_texts::texts::{Shape, answer, gives, is_refusal, refusal};
+use expression_texts::texts::{answer, gives, is_refusal, refusal};
 use pta_base::Kind;
 use std::alloc::Global;
 use std::test::Fail;
 
-// Sizes, constants, strings and casts with their core nodes, written by hand.
-static SIZES_AND_CASTS: [(&str, &[Shape<'static>]); 26] = [
-    // A size leaves nothing but its number: the operand isn't evaluated, and an array stays one (C11 6.5.3.4p2, 6.3.2.1p3).
-    ("sizeof a", &[(b'4', 1, &[])]),
-    ("sizeof e", &[(b'4', 1, &[])]),
-    ("sizeof(a+b)", &[(b'4', 1, &[])]),
-    ("sizeof \"abc\"", &[(b'4', 1, &[])]),
-    ("sizeof p", &[(b'8', 1, &[])]),
-    // Constants of octal digits, and characters, of which a tab is 9 in ASCII (C11 6.4.4.1, 6.4.4.4).
-    ("07", &[(b'7', 1, &[])]),
-    ("'\\t'", &[(b'9', 1, &[])]),
-    // A string in parentheses is a string, and strings side by side are one, at the place of the first (C11 5.1.1.2p6, 6.5.1p5).
-    ("(\"xy\")", &[(b'T', 2, &[])]),
-    ("\"ab\" \"c\"", &[(b'T', 1, &[])]),
-    ("&e", &[(b'e', 2, &[]), (b'&', 1, &[0])]),
-    // The size of a type, and its alignment, where an array has its element's (C11 6.5.3.4p2, p3). A pointer to a function that takes two
-    // parameters is a pointer (6.7.7).
-    ("sizeof(char)", &[(b'1', 1, &[])]),
-    ("sizeof(int[2])", &[(b'8', 1, &[])]),
-    ("sizeof(char(*)(int,char*))", &[(b'8', 1, &[])]),
-    ("sizeof(t)", &[(b'8', 1, &[])]),
-    ("_Alignof(int[2])", &[(b'4', 1, &[])]),
-    // A cast to the type that a value has adds nothing; one to another type is a conversion at the operand's place (C11 6.5.4).
-    ("(int)a", &[(b'a', 6, &[]), (b'F', 6, &[0])]),
-    (
-        "(char)a",
-        &[(b'a', 7, &[]), (b'F', 7, &[0]), (b'C', 7, &[1])],
-    ),
-    ("(t)v", &[(b'd', 4, &[]), (b'F', 4, &[0]), (b'C', 4, &[1])]),
-    (
-        "*(int*)v",
-        &[
-            (b'd', 8, &[]),
-            (b'F', 8, &[0]),
-            (b'C', 8, &[1]),
-            (b'*', 1, &[2]),
-        ],
-    ),
-    // A cast of the constant 0 to a pointer is a null value (C11 6.3.2.3p3).
-    ("(void*)0", &[(b'N', 8, &[])]),
-    // Parameters in the list of a type name may have names, of functions and in parentheses too, and the type is the same (C11 6.7.6.3,
-    // 6.7.7). A pointer to a function is converted to another one (6.3.2.3p8).
-    ("(int(*)(int b))0", &[(b'N', 16, &[])]),
-    (
-        "(int(*)(int(*b)[2],int d(char g)))f",
-        &[(b'f', 35, &[]), (b'D', 35, &[0]), (b'C', 35, &[1])],
-    ),
-    // An enumerator is a constant of type int, also where a constant is asked for (C11 6.4.4.3, 6.6p6).
-    ("c", &[(b'2', 1, &[])]),
-    ("sizeof c", &[(b'4', 1, &[])]),
-    ("sizeof(char[c])", &[(b'2', 1, &[])]),
-    (
-        "a+c",
-        &[
-            (b'a', 1, &[]),
-            (b'2', 3, &[]),
-            (b'F', 1, &[0]),
-            (b'+', 2, &[2, 1]),
-        ],
-    ),
-];
+// Sizes, constants, strings and casts with their core nodes, written by hand: see `gives`.
+const SIZES_AND_CASTS: &str =
+    "# A size leaves nothing but its number: the operand isn't evaluated, and an array stays one (C11 6.5.3.4p2, 6.3.2.1p3).
+sizeof a => 41
+sizeof e => 41
+sizeof(a+b) => 41
+sizeof \"abc\" => 41
+sizeof p => 81
+# Constants of octal digits, and characters, of which a tab is 9 in ASCII (C11 6.4.4.1, 6.4.4.4).
+07 => 71
+'\\t' => 91
+# A string in parentheses is a string, and strings side by side are one, at the place of the first (C11 5.1.1.2p6, 6.5.1p5).
+(\"xy\") => T2
+\"ab\" \"c\" => T1
+&e => e2 &1:0
+# The size of a type, and its alignment, where an array has its element's (C11 6.5.3.4p2, p3). A pointer to a function that takes two
+# parameters is a pointer (6.7.7).
+sizeof(char) => 11
+sizeof(int[2]) => 81
+sizeof(char(*)(int,char*)) => 81
+sizeof(t) => 81
+_Alignof(int[2]) => 41
+# A cast to the type that a value has adds nothing; one to another type is a conversion at the operand's place (C11 6.5.4).
+(int)a => a6 F6:0
+(char)a => a7 F7:0 C7:1
+(t)v => d4 F4:0 C4:1
+*(int*)v => d8 F8:0 C8:1 *1:2
+# A cast of the constant 0 to a pointer is a null value (C11 6.3.2.3p3).
+(void*)0 => N8
+# Parameters in the list of a type name may have names, of functions and in parentheses too, and the type is the same (C11 6.7.6.3,
+# 6.7.7). A pointer to a function is converted to another one (6.3.2.3p8).
+(int(*)(int b))0 => N16
+(int(*)(int(*b)[2],int d(char g)))f => f35 D35:0 C35:1
+# An enumerator is a constant of type int, also where a constant is asked for (C11 6.4.4.3, 6.6p6).
+c => 21
+sizeof c => 41
+sizeof(char[c]) => 21
+a+c => a1 23 F1:0 +2:2.1";
 
 // The same of operators between operands, calls, and what an expression declares.
-static VALUES_AND_CALLS: [(&str, &[Shape<'static>]); 22] = [
-    // A product is made before the sum that it is part of (C11 6.5.5, 6.5.6).
-    (
-        "a+b*2",
-        &[
-            (b'a', 1, &[]),
-            (b'b', 3, &[]),
-            (b'2', 5, &[]),
-            (b'F', 3, &[1]),
-            (b'x', 4, &[3, 2]),
-            (b'F', 1, &[0]),
-            (b'+', 2, &[5, 4]),
-        ],
-    ),
-    // An assignment that computes takes the place itself and the right operand's value (C11 6.5.16.2).
-    (
-        "a+=b",
-        &[
-            (b'a', 1, &[]),
-            (b'b', 4, &[]),
-            (b'F', 4, &[1]),
-            (b'u', 2, &[0, 2]),
-        ],
-    ),
-    // What counts up a pointer is under the star (C11 6.5.2.4, 6.5.3.2).
-    (
-        "*p++",
-        &[
-            (b'c', 2, &[]),
-            (b'1', 3, &[]),
-            (b'U', 3, &[0, 1]),
-            (b'*', 1, &[2]),
-        ],
-    ),
-    // An integer may stand before the brackets; the pointer comes first (C11 6.5.2.1p2).
-    (
-        "a[p]",
-        &[
-            (b'a', 1, &[]),
-            (b'c', 3, &[]),
-            (b'F', 1, &[0]),
-            (b'F', 3, &[1]),
-            (b'P', 2, &[3, 2]),
-            (b'*', 2, &[4]),
-        ],
-    ),
-    // The right operand of && stands in a branch alone (C11 6.5.13p4).
-    (
-        "a&&b",
-        &[
-            (b'a', 1, &[]),
-            (b'b', 4, &[]),
-            (b'F', 1, &[0]),
-            (b'F', 4, &[1]),
-            (b'1', 2, &[]),
-            (b'0', 2, &[]),
-            (b'?', 2, &[3, 4, 5]),
-            (b'0', 2, &[]),
-            (b'?', 2, &[2, 6, 7]),
-        ],
-    ),
-    // A constant 0 that is assigned to a pointer, or stands beside one, is a null value, also where it has to be computed
-    // (C11 6.3.2.3p3, 6.5.16.1p1).
-    (
-        "p=1-1",
-        &[(b'c', 1, &[]), (b'N', 4, &[]), (b'A', 2, &[0, 1])],
-    ),
-    // Beside a pointer to void the other one is converted (C11 6.5.9p5).
-    (
-        "p==v",
-        &[
-            (b'c', 1, &[]),
-            (b'd', 4, &[]),
-            (b'F', 1, &[0]),
-            (b'F', 4, &[1]),
-            (b'C', 1, &[2]),
-            (b'=', 2, &[4, 3]),
-        ],
-    ),
-    // Beside a pointer the constant 0 of a choice becomes one (C11 6.5.15p6).
-    (
-        "a?p:0",
-        &[
-            (b'a', 1, &[]),
-            (b'c', 3, &[]),
-            (b'F', 1, &[0]),
-            (b'F', 3, &[1]),
-            (b'N', 5, &[]),
-            (b'?', 2, &[2, 3, 4]),
-        ],
-    ),
-    // A call takes the value of what is called and of each argument, one past the list too, and one for a parameter is converted to its
-    // type (C11 6.5.2.2p4, p7).
-    (
-        "f(p,a)",
-        &[
-            (b'f', 1, &[]),
-            (b'c', 3, &[]),
-            (b'a', 5, &[]),
-            (b'D', 1, &[0]),
-            (b'F', 3, &[1]),
-            (b'F', 5, &[2]),
-            (b'(', 2, &[3, 4, 5]),
-        ],
-    ),
-    // A function without a list of parameters takes any, where no declaration of its name before may have given one (C11 6.5.2.2p6,
-    // 6.2.7p4).
-    (
-        "g(a)",
-        &[
-            (b'f', 1, &[]),
-            (b'a', 3, &[]),
-            (b'D', 1, &[0]),
-            (b'F', 3, &[1]),
-            (b'(', 2, &[2, 3]),
-        ],
-    ),
-    (
-        "f(0)",
-        &[
-            (b'f', 1, &[]),
-            (b'D', 1, &[0]),
-            (b'N', 3, &[]),
-            (b'(', 2, &[1, 2]),
-        ],
-    ),
-    // A function that is declared several times takes what its declarations say together, and an array has the length that one of them
-    // gives (C11 6.2.7p4).
-    (
-        "h(a)",
-        &[
-            (b'f', 1, &[]),
-            (b'a', 3, &[]),
-            (b'D', 1, &[0]),
-            (b'F', 3, &[1]),
-            (b'(', 2, &[2, 3]),
-        ],
-    ),
-    ("sizeof k", &[(b'3', 1, &[])]),
-    // Structures are named by their tags, and an operand of sizeof may declare some, with members, or enumerators that are constants from
-    // there on (C11 6.7.2.1 to 6.7.2.3).
-    (
-        "(struct s*)v",
-        &[(b'd', 12, &[]), (b'F', 12, &[0]), (b'C', 12, &[1])],
-    ),
-    ("sizeof(struct r*)", &[(b'8', 1, &[])]),
-    ("sizeof(struct{char i[3];})", &[(b'3', 1, &[])]),
-    ("sizeof(union{int i;char j;})", &[(b'4', 1, &[])]),
-    ("sizeof(enum{m=5})", &[(b'4', 1, &[])]),
-    ("sizeof(char[sizeof(enum{m=5})+m])", &[(b'9', 1, &[])]),
-    // A parameter is an object of its type within its own list (C11 6.2.1p4), and an initialiser in an operand of sizeof makes nothing, but
-    // it gives an array its length (6.7.9p22).
-    ("sizeof(int(*)(int n,int[sizeof n]))", &[(b'8', 1, &[])]),
-    ("sizeof(char[]){1,2}", &[(b'2', 1, &[])]),
-    // One of the names of the function around, which is a string (C11 6.4.2.2p1).
-    ("__func__", &[(b'T', 1, &[])]),
-];
+const VALUES_AND_CALLS: &str =
+    "# A product is made before the sum that it is part of (C11 6.5.5, 6.5.6).
+a+b*2 => a1 b3 25 F3:1 x4:3.2 F1:0 +2:5.4
+# An assignment that computes takes the place itself and the right operand's value (C11 6.5.16.2).
+a+=b => a1 b4 F4:1 u2:0.2
+# What counts up a pointer is under the star (C11 6.5.2.4, 6.5.3.2).
+*p++ => c2 13 U3:0.1 *1:2
+# An integer may stand before the brackets; the pointer comes first (C11 6.5.2.1p2).
+a[p] => a1 c3 F1:0 F3:1 P2:3.2 *2:4
+# The right operand of && stands in a branch alone (C11 6.5.13p4).
+a&&b => a1 b4 F1:0 F4:1 12 02 ?2:3.4.5 02 ?2:2.6.7
+# A constant 0 that is assigned to a pointer, or stands beside one, is a null value, also where it has to be computed
+# (C11 6.3.2.3p3, 6.5.16.1p1).
+p=1-1 => c1 N4 A2:0.1
+# Beside a pointer to void the other one is converted (C11 6.5.9p5).
+p==v => c1 d4 F1:0 F4:1 C1:2 =2:4.3
+# Beside a pointer the constant 0 of a choice becomes one (C11 6.5.15p6).
+a?p:0 => a1 c3 F1:0 F3:1 N5 ?2:2.3.4
+# A call takes the value of what is called and of each argument, one past the list too, and one for a parameter is converted to its
+# type (C11 6.5.2.2p4, p7).
+f(p,a) => f1 c3 a5 D1:0 F3:1 F5:2 (2:3.4.5
+# A function without a list of parameters takes any, where no declaration of its name before may have given one (C11 6.5.2.2p6,
+# 6.2.7p4).
+g(a) => f1 a3 D1:0 F3:1 (2:2.3
+f(0) => f1 D1:0 N3 (2:1.2
+# A function that is declared several times takes what its declarations say together, and an array has the length that one of them
+# gives (C11 6.2.7p4).
+h(a) => f1 a3 D1:0 F3:1 (2:2.3
+sizeof k => 31
+# Structures are named by their tags, and an operand of sizeof may declare some, with members, or enumerators that are constants from
+# there on (C11 6.7.2.1 to 6.7.2.3).
+(struct s*)v => d12 F12:0 C12:1
+sizeof(struct r*) => 81
+sizeof(struct{char i[3];}) => 31
+sizeof(union{int i;char j;}) => 41
+sizeof(enum{m=5}) => 41
+sizeof(char[sizeof(enum{m=5})+m]) => 91
+# A parameter is an object of its type within its own list (C11 6.2.1p4), and an initialiser in an operand of sizeof makes nothing, but
+# it gives an array its length (6.7.9p22).
+sizeof(int(*)(int n,int[sizeof n])) => 81
+sizeof(char[]){1,2} => 21
+# One of the names of the function around, which is a string (C11 6.4.2.2p1).
+__func__ => T1";
 
 // The same of operators before one operand, members, pointers and conversions between them.
-static PREFIXES_AND_PLACES: [(&str, &[Shape<'static>]); 25] = [
-    // Operators before one operand (C11 6.5.3.1, 6.5.3.2, 6.5.3.3); what a star and an ampersand undo stays.
-    ("-a", &[(b'a', 2, &[]), (b'F', 2, &[0]), (b'-', 1, &[1])]),
-    ("~a", &[(b'a', 2, &[]), (b'F', 2, &[0]), (b'~', 1, &[1])]),
-    ("!p", &[(b'c', 2, &[]), (b'F', 2, &[0]), (b'!', 1, &[1])]),
-    ("++a", &[(b'a', 3, &[]), (b'1', 1, &[]), (b'u', 1, &[0, 1])]),
-    ("*&a", &[(b'a', 3, &[]), (b'&', 2, &[0]), (b'*', 1, &[1])]),
-    // A place of array type gives the pointer to its first element (C11 6.3.2.1p3).
-    (
-        "e[0]",
-        &[
-            (b'e', 1, &[]),
-            (b'0', 3, &[]),
-            (b'D', 1, &[0]),
-            (b'P', 2, &[2, 1]),
-            (b'*', 2, &[3]),
-        ],
-    ),
-    // A member of a place, through a pointer, and of a value (C11 6.5.2.3p3, p4).
-    ("z.x", &[(b'h', 1, &[]), (b'M', 2, &[0])]),
-    (
-        "(&z)->x",
-        &[
-            (b'h', 3, &[]),
-            (b'&', 2, &[0]),
-            (b'*', 5, &[1]),
-            (b'M', 5, &[2]),
-        ],
-    ),
-    (
-        "(a?z:z).x",
-        &[
-            (b'a', 2, &[]),
-            (b'h', 4, &[]),
-            (b'h', 6, &[]),
-            (b'F', 2, &[0]),
-            (b'F', 4, &[1]),
-            (b'F', 6, &[2]),
-            (b'?', 3, &[3, 4, 5]),
-            (b'V', 8, &[6]),
-        ],
-    ),
-    // Integers, pointers and differences of pointers (C11 6.5.6 to 6.5.8, 6.5.12); the pointer of a sum comes first.
-    (
-        "p-p",
-        &[
-            (b'c', 1, &[]),
-            (b'c', 3, &[]),
-            (b'F', 1, &[0]),
-            (b'F', 3, &[1]),
-            (b'-', 2, &[2, 3]),
-        ],
-    ),
-    (
-        "p-1",
-        &[
-            (b'c', 1, &[]),
-            (b'1', 3, &[]),
-            (b'F', 1, &[0]),
-            (b'Q', 2, &[2, 1]),
-        ],
-    ),
-    (
-        "1+p",
-        &[
-            (b'1', 1, &[]),
-            (b'c', 3, &[]),
-            (b'F', 3, &[1]),
-            (b'P', 2, &[2, 0]),
-        ],
-    ),
-    (
-        "a<<b",
-        &[
-            (b'a', 1, &[]),
-            (b'b', 4, &[]),
-            (b'F', 1, &[0]),
-            (b'F', 4, &[1]),
-            (b'L', 2, &[2, 3]),
-        ],
-    ),
-    (
-        "a<b",
-        &[
-            (b'a', 1, &[]),
-            (b'b', 3, &[]),
-            (b'F', 1, &[0]),
-            (b'F', 3, &[1]),
-            (b'<', 2, &[2, 3]),
-        ],
-    ),
-    (
-        "a|b",
-        &[
-            (b'a', 1, &[]),
-            (b'b', 3, &[]),
-            (b'F', 1, &[0]),
-            (b'F', 3, &[1]),
-            (b'|', 2, &[2, 3]),
-        ],
-    ),
-    // The right operand of || stands in a branch alone (C11 6.5.14p4).
-    (
-        "a||b",
-        &[
-            (b'a', 1, &[]),
-            (b'b', 4, &[]),
-            (b'F', 1, &[0]),
-            (b'F', 4, &[1]),
-            (b'1', 2, &[]),
-            (b'1', 2, &[]),
-            (b'0', 2, &[]),
-            (b'?', 2, &[3, 5, 6]),
-            (b'?', 2, &[2, 4, 7]),
-        ],
-    ),
-    // A structure is assigned as a whole, and a comma puts values one after the other (C11 6.5.16.1p1, 6.5.17).
-    (
-        "z=z",
-        &[
-            (b'h', 1, &[]),
-            (b'h', 3, &[]),
-            (b'F', 3, &[1]),
-            (b'A', 2, &[0, 2]),
-        ],
-    ),
-    (
-        "a,b",
-        &[
-            (b'a', 1, &[]),
-            (b'b', 3, &[]),
-            (b'F', 1, &[0]),
-            (b'F', 3, &[1]),
-            (b',', 2, &[2, 3]),
-        ],
-    ),
-    // Casts to void, from pointers to _Bool and to integers, and between pointers: to integers of one size, and to pointers (C11 6.3.1.2,
-    // 6.3.2.3p6, p7, 6.5.4p2). One from a structure to the type of its first member goes up a step (6.7.2.1p15).
-    (
-        "(void)a",
-        &[(b'a', 7, &[]), (b'F', 7, &[0]), (b'C', 7, &[1])],
-    ),
-    (
-        "(_Bool)p",
-        &[(b'c', 8, &[]), (b'F', 8, &[0]), (b'C', 8, &[1])],
-    ),
-    (
-        "(long)p",
-        &[(b'c', 7, &[]), (b'F', 7, &[0]), (b'C', 7, &[1])],
-    ),
-    (
-        "(unsigned*)p",
-        &[(b'c', 12, &[]), (b'F', 12, &[0]), (b'C', 12, &[1])],
-    ),
-    (
-        "(char**)&p",
-        &[(b'c', 10, &[]), (b'&', 9, &[0]), (b'C', 9, &[1])],
-    ),
-    (
-        "(char*)&z",
-        &[(b'h', 9, &[]), (b'&', 8, &[0]), (b'S', 8, &[1])],
-    ),
-    // Of what is only looked at on the way nothing has to be known.
-    ("sizeof q", &[(b'4', 1, &[])]),
-];
+const PREFIXES_AND_PLACES: &str =
+    "# Operators before one operand (C11 6.5.3.1, 6.5.3.2, 6.5.3.3); what a star and an ampersand undo stays.
+-a => a2 F2:0 -1:1
+~a => a2 F2:0 ~1:1
+!p => c2 F2:0 !1:1
+++a => a3 11 u1:0.1
+*&a => a3 &2:0 *1:1
+# A place of array type gives the pointer to its first element (C11 6.3.2.1p3).
+e[0] => e1 03 D1:0 P2:2.1 *2:3
+# A member of a place, through a pointer, and of a value (C11 6.5.2.3p3, p4).
+z.x => h1 M2:0
+(&z)->x => h3 &2:0 *5:1 M5:2
+(a?z:z).x => a2 h4 h6 F2:0 F4:1 F6:2 ?3:3.4.5 V8:6
+# Integers, pointers and differences of pointers (C11 6.5.6 to 6.5.8, 6.5.12); the pointer of a sum comes first.
+p-p => c1 c3 F1:0 F3:1 -2:2.3
+p-1 => c1 13 F1:0 Q2:2.1
+1+p => 11 c3 F3:1 P2:2.0
+a<<b => a1 b4 F1:0 F4:1 L2:2.3
+a<b => a1 b3 F1:0 F3:1 <2:2.3
+a|b => a1 b3 F1:0 F3:1 |2:2.3
+# The right operand of || stands in a branch alone (C11 6.5.14p4).
+a||b => a1 b4 F1:0 F4:1 12 12 02 ?2:3.5.6 ?2:2.4.7
+# A structure is assigned as a whole, and a comma puts values one after the other (C11 6.5.16.1p1, 6.5.17).
+z=z => h1 h3 F3:1 A2:0.2
+a,b => a1 b3 F1:0 F3:1 ,2:2.3
+# Casts to void, from pointers to _Bool and to integers, and between pointers: to integers of one size, and to pointers (C11 6.3.1.2,
+# 6.3.2.3p6, p7, 6.5.4p2). One from a structure to the type of its first member goes up a step (6.7.2.1p15).
+(void)a => a7 F7:0 C7:1
+(_Bool)p => c8 F8:0 C8:1
+(long)p => c7 F7:0 C7:1
+(unsigned*)p => c12 F12:0 C12:1
+(char**)&p => c10 &9:0 C9:1
+(char*)&z => h9 &8:0 S8:1
+# Of what is only looked at on the way nothing has to be known.
+sizeof q => 41";
 
 // Tags that the expression itself declares (C11 6.7.2.3): untagged, incomplete, with members, in the list of another one, and named again.
 // An enumerator is named after its declaration in the same expression (6.2.1p7).
-static OWN_TAGS: [(&str, &[Shape<'static>]); 6] = [
-    (
-        "(enum{m=3})0+m",
-        &[(b'0', 12, &[]), (b'3', 14, &[]), (b'+', 13, &[0, 1])],
-    ),
-    (
-        "(struct{int i;}*)v",
-        &[(b'd', 18, &[]), (b'F', 18, &[0]), (b'C', 18, &[1])],
-    ),
-    (
-        "(struct u*)v",
-        &[(b'd', 12, &[]), (b'F', 12, &[0]), (b'C', 12, &[1])],
-    ),
-    (
-        "((struct u{char m;int i;}*)v)->i",
-        &[
-            (b'd', 28, &[]),
-            (b'F', 28, &[0]),
-            (b'C', 28, &[1]),
-            (b'*', 30, &[2]),
-            (b'M', 30, &[3]),
-        ],
-    ),
-    (
-        "((struct{struct u{int i;}w;struct u*x;}*)v)->x->i",
-        &[
-            (b'd', 42, &[]),
-            (b'F', 42, &[0]),
-            (b'C', 42, &[1]),
-            (b'*', 44, &[2]),
-            (b'M', 44, &[3]),
-            (b'F', 44, &[4]),
-            (b'*', 47, &[5]),
-            (b'M', 47, &[6]),
-        ],
-    ),
-    (
-        "sizeof(struct u{char m;int i;}),((struct u*)v)->i",
-        &[
-            (b'8', 1, &[]),
-            (b'd', 45, &[]),
-            (b'F', 45, &[1]),
-            (b'C', 45, &[2]),
-            (b'*', 47, &[3]),
-            (b'M', 47, &[4]),
-            (b'F', 47, &[5]),
-            (b',', 32, &[0, 6]),
-        ],
-    ),
-];
+const OWN_TAGS: &str = "(enum{m=3})0+m => 012 314 +13:0.1
+(struct{int i;}*)v => d18 F18:0 C18:1
+(struct u*)v => d12 F12:0 C12:1
+((struct u{char m;int i;}*)v)->i => d28 F28:0 C28:1 *30:2 M30:3
+((struct{struct u{int i;}w;struct u*x;}*)v)->x->i => d42 F42:0 C42:1 *44:2 M44:3 F44:4 *47:5 M47:6
+sizeof(struct u{char m;int i;}),((struct u*)v)->i => 81 d45 F45:1 C45:2 *47:3 M47:4 F47:5 ,32:0.6";
 
 #[test]
 fn sizes_and_casts(rt: HostRuntime) -> Result<(), Fail> {
-    for (text, shapes) in &SIZES_AND_CASTS {
-        assert!(rt; gives(rt.alloc(), text, shapes)?, "{text:?}");
+    for row in SIZES_AND_CASTS.split('\n') {
+        assert!(rt; gives(rt.alloc(), row)?, "{row}");
     }
     Ok(())
 }
 
 #[test]
 fn values_and_calls(rt: HostRuntime) -> Result<(), Fail> {
-    for (text, shapes) in &VALUES_AND_CALLS {
-        assert!(rt; gives(rt.alloc(), text, shapes)?, "{text:?}");
+    for row in VALUES_AND_CALLS.split('\n') {
+        assert!(rt; gives(rt.alloc(), row)?, "{row}");
     }
     Ok(())
 }
 
 #[test]
 fn prefixes_and_places(rt: HostRuntime) -> Result<(), Fail> {
-    for (text, shapes) in &PREFIXES_AND_PLACES {
-        assert!(rt; gives(rt.alloc(), text, shapes)?, "{text:?}");
+    for row in PREFIXES_AND_PLACES.split('\n') {
+        assert!(rt; gives(rt.alloc(), row)?, "{row}");
     }
     Ok(())
 }
@@ -544,8 +233,8 @@ fn refusals(rt: HostRuntime) -> Result<(), Fail> {
 
 #[test]
 fn own_tags(rt: HostRuntime) -> Result<(), Fail> {
-    for (text, shapes) in &OWN_TAGS {
-        assert!(rt; gives(rt.alloc(), text, shapes)?, "{text:?}");
+    for row in OWN_TAGS.split('\n') {
+        assert!(rt; gives(rt.alloc(), row)?, "{row}");
     }
     Ok(())
 }

@@ -20,35 +20,20 @@ use crate::c_rows::primary_row;
 use crate::whole_rows::{
     assignment_row, binary_row, cast_row, conditional_row, post_row, unary_row,
 };
+use c_grammar::productions::{
+    ASSIGNMENT, CAST, CONDITIONAL, EXPRESSION, LOGICAL_OR, MULTIPLICATIVE, POST, PRIMARY, UNARY,
+};
 use c_results::{Made, Results};
 use core_nodes::CheckFault;
 use core_tree::node::Unit;
 use std::alloc::Global;
 use tree_reads::{Syntax, children_of, production_of};
 
-const P_EXPRESSION: u32 = 31;
-
-const P_ASSIGNMENT: u32 = 32;
-
-const P_CONDITIONAL: u32 = 33;
-
-const P_LOGICAL_OR: u32 = 34;
-
-const P_MULTIPLICATIVE: u32 = 43;
-
-const P_CAST: u32 = 44;
-
-const P_UNARY: u32 = 45;
-
-const P_POST: u32 = 46;
-
-const P_PRIMARY: u32 = 47;
-
 // Whether a production has operators between its operands.
 fn is_binary(production: u32) -> bool
     ensures { (w : World) (s : Source) (sense : ℕ → Sense) → result ≡ expressions.is_binary w s sense production }
 {
-    production == P_EXPRESSION || (P_LOGICAL_OR <= production && production <= P_MULTIPLICATIVE)
+    production == EXPRESSION || (LOGICAL_OR <= production && production <= MULTIPLICATIVE)
 }
 
 // A node by its production.
@@ -77,22 +62,22 @@ fn by_production(
         FitsAround w unit.old s sense production children.now around.now →
         Rowed unit.new result (built_row w s sense production at children.now) }
 {
-    if production == P_PRIMARY {
+    if production == PRIMARY {
         return primary_row(alloc, unit, syntax, results, at, children, around);
     }
-    if production == P_POST {
+    if production == POST {
         return post_row(alloc, unit, syntax, results, at, children, around.may_call);
     }
-    if production == P_UNARY {
+    if production == UNARY {
         return unary_row(alloc, unit, syntax, results, at, children);
     }
-    if production == P_CAST {
+    if production == CAST {
         return cast_row(alloc, unit, syntax, results, at, children);
     }
-    if production == P_CONDITIONAL {
+    if production == CONDITIONAL {
         return conditional_row(alloc, unit, syntax, results, at, children);
     }
-    if production == P_ASSIGNMENT {
+    if production == ASSIGNMENT {
         return assignment_row(alloc, unit, syntax, results, at, children);
     }
     if is_binary(production) {

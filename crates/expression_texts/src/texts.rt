@@ -1,6 +1,9 @@
 // Expressions from the texts of their units to their core nodes, through the parser.
 
-ghost use Rattle.std.specs.Prelude.{◌≡◌, ◌<◌, IfOk, length};
+ghost use Rattle.std.specs.Prelude.{◌<◌, IfOk, length};
+ghost use Rattle.c_lexer.specs.Cut.{IsTokens};
+ghost use Rattle.c_parser.specs.c_units.Units.{IsUnit};
+ghost use Rattle.c_scope.specs.Resolves.{IsBound};
 ghost use Rattle.core_nodes.specs.Standing.{IsReady};
 
 use c_check::{CheckFault, Known, Meaning, check_expression, is_told};
@@ -11,7 +14,7 @@ use c_parser::c_units::parse_unit;
 use c_scope::{Bound, resolve};
 use c_types::table::TypeTable;
 use c_types::term::{Form, Term, TypeId, TypeList};
-use core_tree::node::{Entity, Linkage, NodeKind, Op, Storage, Unit};
+use core_tree::node::{Entity, Linkage, Node, NodeKind, Op, Storage, Unit};
 use parsed_tree_laws::sense_laws::parsed_laws::laws::children_first;
 use pta_base::{Kind, Place, Text};
 use std::alloc::Global;
@@ -47,25 +50,11 @@ pub fn place_at(column: u32) -> Place {
     }
 }
 
-// The types of the objects.
-#[derive(Clone, Copy)]
-struct ObjectTypes {
-    int: TypeId,
-    pointer: TypeId,
-    void_pointer: TypeId,
-    array: TypeId,
-    function: TypeId,
-    plain: TypeId,
-    structure: TypeId,
-    nothing: TypeId,
-}
+// The names of the objects and functions, in the order of their entities.
+const NAMES: &str = "a b p v e f g z h k w";
 
-// The unit that has these types and neither nodes nor entities.
-fn bare_unit(alloc: Global) -> Result<(Unit, ObjectTypes), Fail>
-    ensures ready { IfOk result (λ made. IsReady made.0) }
-{
-    let name = Text::copy_of(alloc, "sum.c")?;
-    let mut types = TypeTable::new(alloc);
+// The types of those names.
+fn object_types(alloc: Global, types: &mut TypeTable) -> Result<[TypeId; 11], Fail> {
     let int = types.add(Term::Integer {
         size: 4,
         rank: 4,
@@ -73,16 +62,14 @@ fn bare_unit(alloc: Global) -> Result<(Unit, ObjectTypes), Fail>
     })?;
     let pointer = types.add(Term::Pointer(int))?;
     let void = types.add(Term::Void)?;
-    let void_pointer = types.add(Term::Pointer(void))?;
+    let any = types.add(Term::Pointer(void))?;
     let array = types.add(Term::Array {
         of: int,
         length: Some(1),
     })?;
-    let mut parameters = Vec::new(alloc);
-    parameters.push(pointer)?;
     let function = types.add(Term::Function {
         result: int,
-        parameters: TypeList::from_items(parameters),
+        parameters: TypeList::from_items(Vec::from_slice(alloc, &[pointer])?),
         form: Form::Variadic,
     })?;
     let plain = types.add(Term::Function {
@@ -97,26 +84,9 @@ fn bare_unit(alloc: Global) -> Result<(Unit, ObjectTypes), Fail>
     })?;
     let tag = types.tag()?;
     let structure = types.add(Term::Structure(tag))?;
-    let unit = Unit {
-        name,
-        types,
-        tags: Vec::new(alloc),
-        nodes: Vec::new(alloc),
-        entities: Vec::new(alloc),
-    };
-    Ok((
-        unit,
-        ObjectTypes {
-            int,
-            pointer,
-            void_pointer,
-            array,
-            function,
-            plain,
-            structure,
-            nothing,
-        },
-    ))
+    Ok([
+        int, int, pointer, any, array, function, plain, structure, plain, array, nothing,
+    ])
 }
 
 // An object or a function with external linkage.
@@ -134,25 +104,31 @@ fn object(alloc: Global, name: &str, ty: TypeId) -> Result<Entity, Fail> {
     })
 }
 
+// The objects and functions with these types.
+fn objects(alloc: Global, types: &[TypeId; 11]) -> Result<Vec<Entity>, Fail> {
+    let mut entities = Vec::new(alloc);
+    for (name, ty) in NAMES.split(' ').zip(types) {
+        entities.push(object(alloc, name, *ty)?)?;
+    }
+    Ok(entities)
+}
+
 // The unit of the objects a and b of type int, p of type int *, v of type void * and e of type int[1], of the functions
 // int f(int *, ...) and int g(), of an object of a structure, of the function int h(int), an array k, and the function void w(void).
 fn unit_of_objects(alloc: Global) -> Result<Unit, Fail>
     ensures ready { IfOk result (λ unit. IsReady unit) }
 {
-    let (unit, types) = bare_unit(alloc)?;
-    let mut unit = unit;
-    unit.entities.push(object(alloc, "a", types.int)?)?;
-    unit.entities.push(object(alloc, "b", types.int)?)?;
-    unit.entities.push(object(alloc, "p", types.pointer)?)?;
-    unit.entities.push(object(alloc, "v", types.void_pointer)?)?;
-    unit.entities.push(object(alloc, "e", types.array)?)?;
-    unit.entities.push(object(alloc, "f", types.function)?)?;
-    unit.entities.push(object(alloc, "g", types.plain)?)?;
-    unit.entities.push(object(alloc, "z", types.structure)?)?;
-    unit.entities.push(object(alloc, "h", types.plain)?)?;
-    unit.entities.push(object(alloc, "k", types.array)?)?;
-    unit.entities.push(object(alloc, "w", types.nothing)?)?;
-    Ok(unit)
+    let name = Text::copy_of(alloc, "sum.c")?;
+    let mut types = TypeTable::new(alloc);
+    let ids = object_types(alloc, &mut types)?;
+    let entities = objects(alloc, &ids)?;
+    Ok(Unit {
+        name,
+        types,
+        tags: Vec::new(alloc),
+        nodes: Vec::new(alloc),
+        entities,
+    })
 }
 
 // What is known of a name, or of a tag.
@@ -252,8 +228,56 @@ fn refusal_of(found: &Tokens<'_>, tree: &Tree, fault: CheckFault) -> Result<Refu
     }
 }
 
-// The unit with the core nodes of the expression under the last node of a production in a text, what is known afterwards, and a refusal
-// where there is one.
+// Checks the expression at a node, and tells what refuses it.
+fn checked(
+    alloc: Global,
+    found: &Tokens<'_>,
+    tree: &Tree,
+    bound: &Bound,
+    node: u32,
+    known: &mut Known,
+    unit: &mut Unit,
+) -> Result<Option<Refusal>, Fail>
+    requires tokens { IsTokens found.now.text.now found.now.list.items }
+    requires read { IsUnit found.now tree.now.unit tree.now }
+    requires bound { IsBound found.now tree.now bound.now }
+    requires node { node < length tree.now.nodes.items }
+    requires ready { IsReady unit.old }
+{
+    children_first();
+    let Ok(told) = is_told(alloc, found, tree, bound, node, known, unit) else {
+        return Err(Fail::new("out of memory"));
+    };
+    if !told {
+        return Ok(Some((Kind::NotBuilt, column_of(found, tree, node))));
+    }
+    match check_expression(alloc, found, tree, bound, node, known, unit) {
+        Ok(_) => Ok(None),
+        Err(fault) => Ok(Some(refusal_of(found, tree, fault)?)),
+    }
+}
+
+// The unit with the core nodes of the expression at a node, what is known afterwards, and a refusal where there is one.
+fn answer_at(
+    alloc: Global,
+    found: &Tokens<'_>,
+    tree: &Tree,
+    bound: &Bound,
+    node: u32,
+    owner: Option<u32>,
+) -> Result<(Unit, Known, Option<Refusal>), Fail>
+    requires tokens { IsTokens found.now.text.now found.now.list.items }
+    requires read { IsUnit found.now tree.now.unit tree.now }
+    requires bound { IsBound found.now tree.now bound.now }
+    requires node { node < length tree.now.nodes.items }
+{
+    let mut known = known_names(alloc, found, tree, bound, owner)?;
+    let mut unit = unit_of_objects(alloc)?;
+    let refusal = checked(alloc, found, tree, bound, node, &mut known, &mut unit)?;
+    Ok((unit, known, refusal))
+}
+
+// The same of the expression under the last node of a production in a text.
 fn answer_under(
     alloc: Global,
     whole: &str,
@@ -270,29 +294,11 @@ fn answer_under(
     let Ok(bound) = resolve(alloc, &found, &tree) else {
         return Err(Fail::new("no names"));
     };
-    children_first();
-    let Some(node) = last_under(&tree, production) else {
-        return Err(Fail::new("no expression"));
-    };
-    if node as usize >= tree.nodes.len() {
-        return Err(Fail::new("no node"));
-    }
-    let mut unit = unit_of_objects(alloc)?;
-    let mut known = known_names(alloc, &found, &tree, &bound, owner)?;
-    let Ok(told) = is_told(alloc, &found, &tree, &bound, node, &known, &unit) else {
-        return Err(Fail::new("out of memory"));
-    };
-    if !told {
-        let column = column_of(&found, &tree, node);
-        return Ok((unit, known, Some((Kind::NotBuilt, column))));
-    }
-    let result = check_expression(alloc, &found, &tree, &bound, node, &mut known, &mut unit);
-    match result {
-        Ok(_) => Ok((unit, known, None)),
-        Err(fault) => {
-            let refusal = refusal_of(&found, &tree, fault)?;
-            Ok((unit, known, Some(refusal)))
+    match last_under(&tree, production) {
+        Some(node) if (node as usize) < tree.nodes.len() => {
+            answer_at(alloc, &found, &tree, &bound, node, owner)
         }
+        _ => Err(Fail::new("no expression")),
     }
 }
 
@@ -310,9 +316,6 @@ pub fn answer_outside(alloc: Global, text: &str) -> Result<(Unit, Known, Option<
     let whole = format!(in alloc; "{}\n{}\n{}\n\n{}\n", OBJECTS, OTHERS, PARTS, text)?;
     answer_under(alloc, whole.as_str(), INITIALISER, None)
 }
-
-/// What a core node is: a letter for its kind, its column, and its children.
-pub type Shape<'a> = (u8, u32, &'a [u32]);
 
 // A letter for an operator.
 fn letter_of_operator(op: Op) -> u8 {
@@ -361,26 +364,54 @@ fn letter_of(kind: &NodeKind) -> u8 {
     }
 }
 
-/// Whether the nodes of a unit are these, in order.
-pub fn has_shapes(unit: &Unit, shapes: &[Shape<'_>]) -> bool {
-    if unit.nodes.len() != shapes.len() {
-        return false;
+/// Whether numbers are those of a text, behind one another with dots between them; a dash is none.
+pub fn are_numbers(numbers: &[u32], text: &str) -> bool {
+    if text == "-" {
+        return numbers.is_empty();
     }
-    for (node, shape) in unit.nodes.iter().zip(shapes) {
-        if letter_of(&node.kind) != shape.0
-            || node.place != place_at(shape.1)
-            || node.children.as_slice() != shape.2
-        {
+    for (at, number) in text.split('.').enumerate() {
+        if number.parse::<u32>().ok() != numbers.get(at).copied() {
             return false;
         }
     }
-    true
+    numbers.len() == text.split('.').count()
 }
 
-/// Whether a text gives these core nodes and no others.
-pub fn gives(alloc: Global, text: &str, shapes: &[Shape<'_>]) -> Result<bool, Fail> {
+// Whether a core node is what a word tells, as `+2:4.1`: a letter for its kind, its column, and its children, if it has any.
+fn is_shape(node: &Node, word: &str) -> bool {
+    let (head, children) = word.split_once(':').unwrap_or((word, "-"));
+    let Some(column) = head.strip_prefix(char::from(letter_of(&node.kind))) else {
+        return false;
+    };
+    match column.parse::<u32>() {
+        Ok(column) => {
+            node.place == place_at(column) && are_numbers(node.children.as_slice(), children)
+        }
+        Err(_) => false,
+    }
+}
+
+/// Whether the nodes of a unit are those of a text in order, a word each: a letter for the kind, the column in the expression's line, and
+/// behind a colon the numbers of the children.
+pub fn has_shapes(unit: &Unit, words: &str) -> bool {
+    for (at, word) in words.split(' ').enumerate() {
+        match unit.nodes.get(at) {
+            Some(node) if is_shape(node, word) => {}
+            _ => return false,
+        }
+    }
+    unit.nodes.len() == words.split(' ').count()
+}
+
+/// Whether the text of a row gives the core nodes behind its arrow and no others. What begins with a hash mark and a space is no row, but a
+/// remark: it asks for nothing.
+pub fn gives(alloc: Global, row: &str) -> Result<bool, Fail> {
+    if row.starts_with("# ") {
+        return Ok(true);
+    }
+    let (text, words) = row.split_once(" => ").unwrap_or((row, ""));
     let (unit, _known, refusal) = answer(alloc, text)?;
-    Ok(refusal.is_none() && has_shapes(&unit, shapes))
+    Ok(refusal.is_none() && has_shapes(&unit, words))
 }
 
 /// What refuses a text.

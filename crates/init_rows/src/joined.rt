@@ -17,6 +17,7 @@ ghost use Rattle.init_rows.specs.Joined.{IsInitialPart};
 
 use crate::literals::items_row;
 use crate::rows::init_row;
+use c_grammar::productions::{INIT, ITEMS};
 use c_initials::rows::designator_row;
 use c_initials::storage::Scope;
 use c_meanings::Names;
@@ -26,10 +27,6 @@ use core_nodes::CheckFault;
 use core_tree::node::Unit;
 use std::alloc::Global;
 use tree_reads::{children_of, production_of};
-
-const P_INIT: u32 = 25;
-
-const P_ITEMS: u32 = 26;
 
 /// The row of a node that is an initialiser, a list of them or a designator (C11 6.5.2.5, 6.7.9), by its production. Each is refused as its
 /// own row is. `said` is what is said of the name that `initialised_name` answers, and is asked for that alone.
@@ -62,10 +59,10 @@ pub fn initial(
         Rowed unit.new result (declaring_row w s sense (production_at s at) at (children_at s at)) }
 {
     let production = production_of(scope.syntax, at);
-    if production == P_INIT {
+    if production == INIT {
         return init_row(alloc, unit, scope, names, said, at);
     }
-    if production == P_ITEMS {
+    if production == ITEMS {
         return items_row(alloc, unit, scope, at);
     }
     let children = children_of(scope.syntax, at);

@@ -26,6 +26,7 @@ ghost use Rattle.init_rows.specs.Literals.{sign_or, IsTypedAs, fitting};
 use crate::objects::{Object, Target, list_initialised};
 use crate::types::{both, is_small};
 use c_entities::with_length;
+use c_grammar::productions::{CAST, TYPE_NAME, UNARY};
 use c_initials::storage::{Scope, is_in_body};
 use c_results::{Made, type_at};
 use c_types::table::TypeTable;
@@ -37,12 +38,6 @@ use name_places::is_in_static;
 use pta_base::{Kind, Place};
 use std::alloc::Global;
 use tree_reads::{Syntax, Test, child_of, children_of, first_where, is_a, place_of};
-
-const P_TYPE_NAME: u32 = 24;
-
-const P_CAST: u32 = 44;
-
-const P_UNARY: u32 = 45;
 
 const SIGN_LEFT_PARENTHESIS: u8 = 2;
 
@@ -212,7 +207,7 @@ fn literal_row(
 fn takes_literals(syntax: &Syntax, node: u32) -> bool
     ensures { let s = source_read syntax.now in result ≡ (is_a s p_cast node || is_a s p_unary node) }
 {
-    is_a(syntax, P_CAST, node) || is_a(syntax, P_UNARY, node)
+    is_a(syntax, CAST, node) || is_a(syntax, UNARY, node)
 }
 
 /// The row of a list of initialisers (C11 6.5.2.5): behind a type name it is a compound literal, which gives its object's node; any other
@@ -244,7 +239,7 @@ pub fn items_row(alloc: Global, unit: &mut Unit, scope: &Scope, at: u32) -> Resu
     if !takes_literals(scope.syntax, parent) {
         return Ok(Made::Nothing);
     }
-    let Some(named) = child_of(scope.syntax, P_TYPE_NAME, parent) else {
+    let Some(named) = child_of(scope.syntax, TYPE_NAME, parent) else {
         return Err(CheckFault::BadOperand(at));
     };
     match type_at(scope.results, named) {

@@ -24,6 +24,7 @@ ghost use Rattle.init_rows.specs.Objects.{IsTarget, JudgedAs, known_length};
 use crate::agreeing::{initialised_fits, seen_type};
 use crate::objects::{Object, Target, object_initialised};
 use crate::types::{Declared, declared_type};
+use c_grammar::productions::REST;
 use c_initials::storage::{Scope, is_static_object};
 use c_meanings::{Names, entity_of};
 use c_named::Said;
@@ -34,8 +35,6 @@ use core_tree::node::Unit;
 use name_places::{declared_name, initialised_by};
 use std::alloc::Global;
 use tree_reads::{Syntax, is_a};
-
-const P_REST: u32 = 2;
 
 /// The name of the object whose whole initialiser a node is (C11 6.7.9p1), by its leaf: None for an initialiser within braces, and where
 /// the declarator before it has no name.
@@ -48,7 +47,7 @@ pub fn initialised_name(syntax: &Syntax, results: &Results, at: u32) -> Option<u
     let Some(parent) = syntax.parent_of(at) else {
         return None;
     };
-    if !is_a(syntax, P_REST, parent) {
+    if !is_a(syntax, REST, parent) {
         return None;
     }
     match initialised_by(syntax, at) {
@@ -305,7 +304,7 @@ pub fn init_row(
     let Some(parent) = scope.syntax.parent_of(at) else {
         return Ok(Made::Nothing);
     };
-    if !is_a(scope.syntax, P_REST, parent) {
+    if !is_a(scope.syntax, REST, parent) {
         return Ok(Made::Nothing);
     }
     let Some(declarator) = initialised_by(scope.syntax, at) else {

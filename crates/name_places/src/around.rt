@@ -17,6 +17,7 @@ ghost use Rattle.name_places.specs.Named.{IsNamedIn};
 use crate::levels::{Level, nearest};
 use crate::names::{declarator_of, declared_name};
 use c_entities::own_type;
+use c_grammar::productions::DECLARATOR;
 use c_results::{Derivation, Results};
 use c_types::table::TypeTable;
 use c_types::term::{Form, Term, TypeId};
@@ -25,15 +26,13 @@ use core_tree::node::Unit;
 use std::alloc::Global;
 use tree_reads::{Syntax, child_of, spelling_of};
 
-const P_DECLARATOR: u32 = 19;
-
 // The name of what an external declaration defines.
 fn defined_name(syntax: &Syntax, results: &Results, definition: u32) -> Option<u32>
     ensures name { (u : UnitSpec) →
         result ≡ spec.defined_name (source_read syntax.now) (sense_in (senses_made u results.now)) definition }
     ensures within { (count : ℕ) → All (IsNamedIn count) results.now → IfSome result (λ leaf. leaf < count) }
 {
-    match child_of(syntax, P_DECLARATOR, definition) {
+    match child_of(syntax, DECLARATOR, definition) {
         Some(declarator) => declared_name(results, declarator),
         None => None,
     }
@@ -81,7 +80,7 @@ fn is_variadic_definition(syntax: &Syntax, results: &Results, definition: u32) -
     ensures { (u : UnitSpec) →
         result ≡ spec.is_variadic_definition (source_read syntax.now) (sense_in (senses_made u results.now)) definition }
 {
-    let Some(node) = child_of(syntax, P_DECLARATOR, definition) else {
+    let Some(node) = child_of(syntax, DECLARATOR, definition) else {
         return false;
     };
     match declarator_of(results, node) {

@@ -12,16 +12,9 @@ ghost use Rattle.std.specs.Prelude.{Some};
 use crate::lists::is_defined_list;
 use crate::names::declared_name;
 use c_entities::declaration_of;
+use c_grammar::productions::{DECLARATION, EXTERNAL, PARAMETER, STATEMENT};
 use c_results::Results;
 use tree_reads::{Above, Syntax, is_a, is_name, nearest_above};
-
-const P_EXTERNAL: u32 = 1;
-
-const P_DECLARATION: u32 = 3;
-
-const P_PARAMETER: u32 = 23;
-
-const P_STATEMENT: u32 = 30;
 
 /// Whether a name is declared in the head of a `for` (C11 6.8.5p3).
 pub fn is_in_for(syntax: &Syntax, leaf: u32) -> bool
@@ -32,7 +25,7 @@ pub fn is_in_for(syntax: &Syntax, leaf: u32) -> bool
         return false;
     };
     match syntax.parent_of(declaration) {
-        Some(parent) => is_a(syntax, P_STATEMENT, parent),
+        Some(parent) => is_a(syntax, STATEMENT, parent),
         None => false,
     }
 }
@@ -95,9 +88,9 @@ pub fn stands_in_declaration(syntax: &Syntax, results: &Results, leaf: u32) -> b
     let Some(declaration) = declaration_of(syntax, leaf) else {
         return false;
     };
-    let external = is_a(syntax, P_EXTERNAL, declaration);
-    let plain = is_a(syntax, P_DECLARATION, declaration);
-    let parameter = is_a(syntax, P_PARAMETER, declaration);
+    let external = is_a(syntax, EXTERNAL, declaration);
+    let plain = is_a(syntax, DECLARATION, declaration);
+    let parameter = is_a(syntax, PARAMETER, declaration);
     let defined = is_defined_parameter(syntax, results, leaf);
     is_kept(external, plain, parameter, defined)
 }

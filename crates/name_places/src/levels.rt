@@ -5,31 +5,11 @@ ghost use Rattle.c_senses.specs.Entities as spec;
 ghost use Rattle.tree_reads.specs.Sources.{source_read};
 ghost use Rattle.name_places.specs.Levels.{asks, is_definition, is_in_rest, level_seen, no_senses};
 
+use c_grammar::productions::{
+    ALIGN, ASSERT, BLOCK, DESIGNATOR, ENUMERATOR, EXTERNAL, FIELD, INIT, REST, STATEMENT, SUFFIX,
+    UNARY,
+};
 use tree_reads::{Syntax, child_of, children_of, has_word, is_a, production_of};
-
-const P_EXTERNAL: u32 = 1;
-
-const P_REST: u32 = 2;
-
-const P_ASSERT: u32 = 4;
-
-const P_ALIGN: u32 = 10;
-
-const P_FIELD: u32 = 15;
-
-const P_ENUMERATOR: u32 = 18;
-
-const P_SUFFIX: u32 = 22;
-
-const P_INIT: u32 = 25;
-
-const P_DESIGNATOR: u32 = 28;
-
-const P_BLOCK: u32 = 29;
-
-const P_STATEMENT: u32 = 30;
-
-const P_UNARY: u32 = 45;
 
 const WORD_SIZEOF: u8 = 24;
 
@@ -47,7 +27,7 @@ pub(crate) enum Level {
 pub(crate) fn is_definition(syntax: &Syntax, node: u32) -> bool
     ensures { result ≡ is_definition (source_read syntax.now) node }
 {
-    is_a(syntax, P_EXTERNAL, node) && child_of(syntax, P_BLOCK, node).is_some()
+    is_a(syntax, EXTERNAL, node) && child_of(syntax, BLOCK, node).is_some()
 }
 
 // Whether a node is the keyword `sizeof` or `_Alignof`.
@@ -73,7 +53,7 @@ fn is_in_rest(syntax: &Syntax, node: u32) -> bool
     ensures { result ≡ is_in_rest (source_read syntax.now) node }
 {
     match syntax.parent_of(node) {
-        Some(parent) => is_a(syntax, P_REST, parent),
+        Some(parent) => is_a(syntax, REST, parent),
         None => false,
     }
 }
@@ -83,7 +63,7 @@ pub(crate) fn is_object_initialiser(syntax: &Syntax, node: u32) -> bool
     requires { node < length syntax.now.tree.now.nodes.items }
     ensures { result ≡ spec.is_object_initialiser (source_read syntax.now) no_senses node }
 {
-    is_a(syntax, P_INIT, node) && is_in_rest(syntax, node)
+    is_a(syntax, INIT, node) && is_in_rest(syntax, node)
 }
 
 // Whether a node decides if what is in it initialises a static object.
@@ -92,15 +72,15 @@ fn is_boundary(syntax: &Syntax, node: u32) -> bool
     ensures { result ≡ spec.is_boundary (source_read syntax.now) no_senses node }
 {
     let production = production_of(syntax, node);
-    (production == P_UNARY && first_asks(syntax, children_of(syntax, node)))
-        || production == P_SUFFIX
-        || production == P_ALIGN
-        || production == P_ENUMERATOR
-        || production == P_FIELD
-        || production == P_DESIGNATOR
-        || production == P_STATEMENT
-        || production == P_ASSERT
-        || (production == P_INIT && is_in_rest(syntax, node))
+    (production == UNARY && first_asks(syntax, children_of(syntax, node)))
+        || production == SUFFIX
+        || production == ALIGN
+        || production == ENUMERATOR
+        || production == FIELD
+        || production == DESIGNATOR
+        || production == STATEMENT
+        || production == ASSERT
+        || (production == INIT && is_in_rest(syntax, node))
 }
 
 // Whether a node passes a test.

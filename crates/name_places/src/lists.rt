@@ -12,12 +12,9 @@ ghost use Rattle.c_entities.specs.PassedOn.{is_definition_of, no_steps};
 
 use crate::levels::is_definition;
 use crate::names::inner;
+use c_grammar::productions::{PARAMETER, SUFFIX};
 use c_results::{Derivation, Results};
 use tree_reads::{Above, Syntax, Test, children_of, first_where, last_where, nearest_above};
-
-const P_SUFFIX: u32 = 22;
-
-const P_PARAMETER: u32 = 23;
 
 // Whether there are no derivations.
 fn has_none(steps: &[Derivation]) -> bool
@@ -43,7 +40,7 @@ fn is_first_suffix(syntax: &Syntax, declarator: u32, node: u32) -> bool
     ensures { (w : World) (sense : ℕ → Sense) →
         result ≡ spec.is_first_suffix w (source_read syntax.now) sense declarator node }
 {
-    match first_where(syntax, Test::IsA(P_SUFFIX), children_of(syntax, declarator)) {
+    match first_where(syntax, Test::IsA(SUFFIX), children_of(syntax, declarator)) {
         Some(first) => first == node,
         None => false,
     }
@@ -100,7 +97,7 @@ fn is_last_parameter(syntax: &Syntax, list: u32, parameter: u32) -> bool
     ensures { (w : World) (sense : ℕ → Sense) →
         result ≡ is_last_parameter w (source_read syntax.now) sense list parameter }
 {
-    match last_where(syntax, Test::IsA(P_PARAMETER), children_of(syntax, list)) {
+    match last_where(syntax, Test::IsA(PARAMETER), children_of(syntax, list)) {
         Some(last) => last == parameter,
         None => false,
     }

@@ -13,10 +13,9 @@ ghost use Rattle.name_places.specs.Statics.{is_declarator_before};
 use crate::levels::{Level, is_object_initialiser, nearest};
 use crate::names::declared_name;
 use c_entities::{has_storage, is_at_file};
+use c_grammar::productions::DECLARATOR;
 use c_results::Results;
 use tree_reads::{Syntax, child_of, children_of, first_from, is_a};
-
-const P_DECLARATOR: u32 = 19;
 
 const WORD_EXTERN: u8 = 11;
 
@@ -29,7 +28,7 @@ fn is_before(syntax: &Syntax, initialiser: u32, node: u32) -> bool
     if node >= initialiser {
         return false;
     }
-    is_a(syntax, P_DECLARATOR, node)
+    is_a(syntax, DECLARATOR, node)
 }
 
 // The last declarator among some nodes that stands before another node, looked for from the end.
@@ -78,7 +77,7 @@ pub fn initialised_by(syntax: &Syntax, initialiser: u32) -> Option<u32>
         Some(declarator) => Some(declarator),
         None => {
             let declaration = syntax.parent_of(parent)?;
-            child_of(syntax, P_DECLARATOR, declaration)
+            child_of(syntax, DECLARATOR, declaration)
         }
     }
 }

@@ -7,22 +7,19 @@ ghost use Rattle.c_senses.specs.Sense.{sense_in};
 ghost use Rattle.tree_reads.specs.Sources.{source_in};
 ghost use Rattle.name_uses.specs.Alone.{PassesOn};
 
+use c_grammar::productions::{EXPRESSION, UNARY};
 use c_results::{Made, Results, node_at};
 use core_nodes::CheckFault;
 use expression_rows::c_rows::parts::passed_on;
 use std::alloc::Global;
 use tree_reads::{Syntax, children_of, is_leaf, production_of};
 
-const P_EXPRESSION: u32 = 31;
-
-const P_UNARY: u32 = 45;
-
 // The only part of a node of a level of operators that has none (C11 6.5.3 to 6.5.17).
 pub(crate) fn lone_part(syntax: &Syntax, at: u32) -> Option<u32>
     ensures { (uses : List (ℕ × ℕ)) → IfSome result (PassesOn (source_in syntax.now uses) at) }
 {
     let production = production_of(syntax, at);
-    if production < P_EXPRESSION || production > P_UNARY {
+    if production < EXPRESSION || production > UNARY {
         return None;
     }
     let children = children_of(syntax, at);

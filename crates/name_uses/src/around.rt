@@ -22,6 +22,7 @@ ghost use Rattle.name_uses.specs.Looked.{Looked};
 
 use crate::named::named_of;
 use crate::uses::{further_of, may_call};
+use c_grammar::productions::{POST, PRIMARY};
 use c_lexer::TokenKind;
 use c_meanings::{Linkages, Meaning, Names, meaning_at};
 use c_results::{Results, node_at};
@@ -32,10 +33,6 @@ use name_places::own_name;
 use pta_base::Kind;
 use std::alloc::Global;
 use tree_reads::{Syntax, children_of, kind_of, production_of};
-
-const P_POST: u32 = 46;
-
-const P_PRIMARY: u32 = 47;
 
 // Around a node that is no name and no call nothing is looked up.
 fn nothing<'a>(may_call: bool) -> Around<'a>
@@ -316,11 +313,11 @@ pub fn around_of<'a>(
         (names_strangely w s (production_at s at) (children_at s at)) at result }
 {
     let production = production_of(syntax, at);
-    if production == P_PRIMARY {
+    if production == PRIMARY {
         let children = children_of(syntax, at);
         return around_primary(alloc, unit, syntax, names, results, linkages, at, children);
     }
-    if production == P_POST {
+    if production == POST {
         return Ok(nothing(may_call(syntax, results, at)));
     }
     Ok(nothing(false))

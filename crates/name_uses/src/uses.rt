@@ -14,12 +14,11 @@ ghost use Rattle.name_places.specs.Named.{IsNamedIn};
 ghost use Rattle.name_uses.specs.Around.{may_name_at};
 
 use c_entities::declaration_of;
+use c_grammar::productions::PARAMETER;
 use c_meanings::{Names, entity_of, is_automatic, storage_of};
 use c_results::Results;
 use name_places::{closes_list, function_around, is_in_static, is_in_variadic};
 use tree_reads::{Syntax, is_a};
-
-const P_PARAMETER: u32 = 23;
 
 /// Whether a function may be called at a node: not in the initialiser of an object that lasts for the whole run, but for operands there
 /// that aren't evaluated (C11 6.6p3, 6.7.9p4). It takes as long as the nesting around the node is deep.
@@ -95,7 +94,7 @@ fn is_last_of(syntax: &Syntax, results: &Results, parameter: u32) -> bool
         result
         ≡ (is_production s p_parameter parameter && entities.closes_list w s (sense_in (senses_made u results.now)) parameter) }
 {
-    is_a(syntax, P_PARAMETER, parameter) && closes_list(syntax, results, parameter)
+    is_a(syntax, PARAMETER, parameter) && closes_list(syntax, results, parameter)
 }
 
 /// The entity of the variadic function whose definition has its last parameter declared at a leaf (C11 7.16.1.4p4). It takes as long as the

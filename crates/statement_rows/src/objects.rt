@@ -12,16 +12,11 @@ ghost use Rattle.statement_rows.specs.Parts.{name_in, is_placed, object_at, obje
 
 use crate::kinds::NameKinds;
 use c_entities::{has_storage, is_at_file, is_parameter};
+use c_grammar::productions::{DECLARATION, DECLARATOR, REST};
 use c_results::{Made, Results, made_at};
 use core_nodes::CheckFault;
 use std::alloc::Global;
 use tree_reads::{Syntax, Test, children_of, first_where, is_a};
-
-const P_REST: u32 = 2;
-
-const P_DECLARATION: u32 = 3;
-
-const P_DECLARATOR: u32 = 19;
 
 const WORD_EXTERN: u8 = 11;
 
@@ -127,7 +122,7 @@ fn add_object(
         OnOk result (list.new.items ≡ list.old.items ++ object_at w s sense node) }
     ensures memory { IsOkUnless result CheckFault.OutOfMemory }
 {
-    if is_a(syntax, P_DECLARATOR, node) {
+    if is_a(syntax, DECLARATOR, node) {
         add_name(list, syntax, results, kinds, node)
     } else {
         Ok(())
@@ -174,7 +169,7 @@ fn add_declared(
 {
     let children = children_of(syntax, declaration);
     add_among(list, syntax, results, kinds, children)?;
-    match first_where(syntax, Test::IsA(P_REST), children) {
+    match first_where(syntax, Test::IsA(REST), children) {
         Some(rest) => add_among(list, syntax, results, kinds, children_of(syntax, rest)),
         None => Ok(()),
     }
@@ -196,7 +191,7 @@ fn add_part(
         OnOk result (list.new.items ≡ list.old.items ++ objects_at w s sense part) }
     ensures memory { IsOkUnless result CheckFault.OutOfMemory }
 {
-    if is_a(syntax, P_DECLARATION, part) {
+    if is_a(syntax, DECLARATION, part) {
         add_declared(list, syntax, results, kinds, part)
     } else {
         Ok(())

@@ -16,6 +16,7 @@ ghost use Rattle.statement_rows.specs.Parts.{is_definition};
 
 use crate::objects::name_at;
 use c_entities::own_type;
+use c_grammar::productions::{BLOCK, DECLARATOR, EXTERNAL};
 use c_results::Results;
 use c_types::table::TypeTable;
 use c_types::term::{Term, TypeId};
@@ -24,17 +25,11 @@ use core_tree::node::Unit;
 use std::alloc::Global;
 use tree_reads::{Syntax, child_of, is_a};
 
-const P_EXTERNAL: u32 = 1;
-
-const P_DECLARATOR: u32 = 19;
-
-const P_BLOCK: u32 = 29;
-
 // Whether a node is a function definition.
 fn is_definition(syntax: &Syntax, node: u32) -> bool
     ensures { result ≡ is_definition (source_read syntax.now) node }
 {
-    is_a(syntax, P_EXTERNAL, node) && child_of(syntax, P_BLOCK, node).is_some()
+    is_a(syntax, EXTERNAL, node) && child_of(syntax, BLOCK, node).is_some()
 }
 
 // The function definition around a node.
@@ -63,7 +58,7 @@ fn function_around(syntax: &Syntax, results: &Results, node: u32) -> Option<u32>
         result ≡ entities.function_around (source_read syntax.now) (sense_in (senses_made u results.now)) node }
 {
     let definition = definition_around(syntax, node)?;
-    let declarator = child_of(syntax, P_DECLARATOR, definition)?;
+    let declarator = child_of(syntax, DECLARATOR, definition)?;
     name_at(results, declarator)
 }
 

@@ -17,17 +17,12 @@ use crate::declarations::{declaration_row, rest_row};
 use crate::kinds::NameKinds;
 use crate::objects::objects_in;
 use crate::statements::{Told, made_of, statement_row};
+use c_grammar::productions::{BLOCK, DECLARATION, REST};
 use c_results::{Made, Results};
 use core_nodes::CheckFault;
 use core_tree::node::Unit;
 use std::alloc::Global;
 use tree_reads::{Syntax, children_of, production_of};
-
-const P_REST: u32 = 2;
-
-const P_DECLARATION: u32 = 3;
-
-const P_BLOCK: u32 = 29;
 
 /// The row of a block (C11 6.8.2): it lists the automatic objects of its own declarations, and stands over the statements and the
 /// initialisers in it, in order. Only memory may want.
@@ -85,13 +80,13 @@ pub fn row(
 {
     let production = production_of(syntax, at);
     let children = children_of(syntax, at);
-    if production == P_REST {
+    if production == REST {
         return rest_row(alloc, syntax, results, told.kinds, at);
     }
-    if production == P_DECLARATION {
+    if production == DECLARATION {
         return declaration_row(alloc, results, children);
     }
-    if production == P_BLOCK {
+    if production == BLOCK {
         return block_row(alloc, unit, syntax, results, told.kinds, at, children);
     }
     statement_row(alloc, unit, syntax, results, told, at, children)

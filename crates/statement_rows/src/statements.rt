@@ -18,6 +18,7 @@ ghost use Rattle.statement_rows.specs.Words as words;
 use crate::kinds::NameKinds;
 use crate::objects::for_objects;
 use crate::returned::returned_type;
+use c_grammar::productions::EXPRESSION;
 use c_results::{Made, Results, copied_at};
 use c_statements::{
     Choices, break_row, case_row, continue_row, default_row, do_row, expression_row, for_parts,
@@ -28,8 +29,6 @@ use core_nodes::CheckFault;
 use core_tree::node::Unit;
 use std::alloc::Global;
 use tree_reads::{Syntax, has_sign, is_a, is_leaf, is_name, word_of};
-
-const P_EXPRESSION: u32 = 31;
 
 const SIGN_SEMICOLON: u8 = 32;
 
@@ -336,7 +335,7 @@ pub fn statement_row(
     if is_leaf(syntax, first) {
         return made_of(leaf_statement(alloc, unit, syntax, results, told, at, first, children));
     }
-    if is_a(syntax, P_EXPRESSION, first) {
+    if is_a(syntax, EXPRESSION, first) {
         let place = own_place(syntax, first);
         return made_of(expression_row(alloc, unit, results, at, first, place));
     }

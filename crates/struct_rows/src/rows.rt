@@ -26,6 +26,7 @@ ghost use Rattle.struct_rows.specs.Built.{HasTagTypes, completed_row, built_stru
 
 use crate::completion::{complete, is_small_type};
 use crate::taking::takes;
+use c_grammar::productions::MEMBERS;
 use c_results::{Made, Results, members_at};
 use c_structures::members_among;
 use c_tags::{SeenTag, named_tag};
@@ -36,8 +37,6 @@ use core_tree::node::Unit;
 use pta_base::Kind;
 use std::alloc::Global;
 use tree_reads::{Syntax, Test, any_where, child_of, children_of};
-
-const P_MEMBERS: u32 = 13;
 
 const WORD_UNION: u8 = 29;
 
@@ -191,7 +190,7 @@ pub fn struct_row(
     if !stands_as(&unit.types, tag.number, is_union) {
         return Err(CheckFault::Unsupported(Kind::NotBuilt, at));
     }
-    match child_of(syntax, P_MEMBERS, at) {
+    match child_of(syntax, MEMBERS, at) {
         Some(list) => listed(alloc, unit, results, tag.number, is_union, at, list),
         None => Ok(Made::Typed(TypeId(tag.number))),
     }

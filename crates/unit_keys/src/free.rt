@@ -14,6 +14,7 @@ ghost use Rattle.unit_keys.specs.Free.{first_untaken, AreFree, TakenBelow};
 
 use crate::names::leaves_with;
 use crate::words::{Words, add_word, has_word};
+use c_grammar::productions::STRUCT;
 use c_results::Results;
 use std::alloc::{AllocError, Global};
 use std::collections::BTreeMap;
@@ -21,13 +22,11 @@ use tree_reads::leaf_maps::LeafMap;
 use tree_reads::node_roles::{Role, is_specifier_at};
 use tree_reads::{Syntax, Test, children_of, first_where, is_a, spelling_of};
 
-const P_STRUCT: u32 = 12;
-
 // Whether a node is the specifier of a structure or union without a tag.
 fn is_untagged(syntax: &Syntax, node: u32) -> bool
     ensures { (uses : List (ℕ × ℕ)) (sense : ℕ → Sense) → result ≡ keys.is_untagged (source_in syntax.now uses) sense node }
 {
-    is_a(syntax, P_STRUCT, node)
+    is_a(syntax, STRUCT, node)
         && first_where(syntax, Test::Name, children_of(syntax, node)).is_none()
 }
 

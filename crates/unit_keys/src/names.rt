@@ -10,17 +10,10 @@ ghost use Rattle.c_results.specs.Standing.{sense_made, senses_made};
 ghost use Rattle.tree_reads.specs.Sources.{source_in};
 ghost use Rattle.unit_keys.specs.Free.{name_in, leaf_in};
 
+use c_grammar::productions::{DECLARATOR, EXTERNAL, REST, SPECS};
 use c_results::{Made, Results, made_at};
 use std::alloc::{AllocError, Global};
 use tree_reads::{Syntax, child_of, children_of, is_a};
-
-const P_EXTERNAL: u32 = 1;
-
-const P_REST: u32 = 2;
-
-const P_SPECS: u32 = 6;
-
-const P_DECLARATOR: u32 = 19;
 
 // The name of a declarator, if that is what has been made.
 fn name_of(made: &Made) -> Option<u32>
@@ -49,7 +42,7 @@ fn leaf_at(syntax: &Syntax, results: &Results, node: u32) -> Option<u32>
     ensures { (u : UnitSpec) (uses : List (ℕ × ℕ)) →
         result ≡ leaf_in (source_in syntax.now uses) (sense_in (senses_made u results.now)) node }
 {
-    if is_a(syntax, P_DECLARATOR, node) {
+    if is_a(syntax, DECLARATOR, node) {
         name_at(results, node)
     } else {
         None
@@ -64,7 +57,7 @@ pub fn declaration_with(syntax: &Syntax, node: u32) -> Option<u32>
 {
     let ty = syntax.parent_of(node)?;
     let specs = syntax.parent_of(ty)?;
-    if is_a(syntax, P_SPECS, specs) {
+    if is_a(syntax, SPECS, specs) {
         syntax.parent_of(specs)
     } else {
         None
@@ -107,7 +100,7 @@ fn leaves_in(
     let mut leaves = Vec::new(alloc);
     let children = children_of(syntax, declaration);
     add_leaves(&mut leaves, syntax, results, children)?;
-    let rest: &[u32] = match child_of(syntax, P_REST, declaration) {
+    let rest: &[u32] = match child_of(syntax, REST, declaration) {
         Some(rest) => children_of(syntax, rest),
         None => &[],
     };
@@ -130,7 +123,7 @@ pub fn leaves_with(
     let Some(declaration) = declaration_with(syntax, node) else {
         return Ok(Vec::new(alloc));
     };
-    if !is_a(syntax, P_EXTERNAL, declaration) {
+    if !is_a(syntax, EXTERNAL, declaration) {
         return Ok(Vec::new(alloc));
     }
     let leaves = leaves_in(alloc, syntax, results, declaration)?;

@@ -16,14 +16,13 @@ ghost use Rattle.tree_reads.specs.Sources.{source_in};
 ghost use Rattle.tree_reads.specs.node_roles.Roles.{AreRoles};
 ghost use Rattle.unit_keys.specs.Placed.{AreNoted, ArePositions};
 
+use c_grammar::productions::MEMBER;
 use c_results::{Results, members_at};
 use pta_base::OutOfMemory;
 use std::alloc::{AllocError, Global};
 use tree_reads::leaf_maps::LeafMap;
 use tree_reads::node_roles::{Role, is_member_at};
 use tree_reads::{Syntax, children_of, is_a};
-
-const P_MEMBER: u32 = 14;
 
 /// How many members have been made for a node.
 pub fn parts_of(results: &Results, node: u32) -> usize
@@ -52,7 +51,7 @@ fn is_member_of(syntax: &Syntax, list: u32, node: u32) -> bool
         let s = source_in syntax.now uses in
         result ≡ (tree.is_a s p_member node && tree.is_number (tree.parent_of s node) list) }
 {
-    if !is_a(syntax, P_MEMBER, node) || node as usize >= syntax.tree.nodes.len() {
+    if !is_a(syntax, MEMBER, node) || node as usize >= syntax.tree.nodes.len() {
         return false;
     }
     match syntax.parent_of(node) {

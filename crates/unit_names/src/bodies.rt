@@ -11,10 +11,9 @@ ghost use Rattle.tree_reads.specs.Sources.{source_in};
 ghost use Rattle.unit_names.specs.Bodies.{core_of, place_of_body};
 
 use c_entities::{declaration_of, initialiser_for, is_defined};
+use c_grammar::productions::BLOCK;
 use c_results::{Made, Results, made_at};
 use tree_reads::{Syntax, child_of};
-
-const P_BLOCK: u32 = 29;
 
 // The core node of a block or of an initialiser, if that is what has been made.
 fn core_node(made: &Made) -> Option<u32>
@@ -48,7 +47,7 @@ fn block_for(syntax: &Syntax, leaf: u32) -> Option<u32>
         result ≡ right.block_for (source_in syntax.now uses) senses leaf }
 {
     match declaration_of(syntax, leaf) {
-        Some(declaration) => child_of(syntax, P_BLOCK, declaration),
+        Some(declaration) => child_of(syntax, BLOCK, declaration),
         None => None,
     }
 }

@@ -17,18 +17,17 @@ ghost use Rattle.c_check.specs.known_tags.Values.{new_pair, own_values, pair_of,
 use crate::known_tags::given::Given;
 use crate::known_tags::known::Meaning;
 use crate::known_tags::own::flag_at;
+use c_grammar::productions::ENUMERATOR;
 use c_results::{Results, value_at};
 use core_nodes::CheckFault;
 use std::alloc::Global;
 use tree_reads::{Syntax, children_of, is_a};
 
-const P_ENUMERATOR: u32 = 18;
-
 // Whether a node is an enumerator, and flagged.
 fn is_enumerator(syntax: &Syntax, flags: &[bool], node: u32) -> bool
     ensures { result ≡ (own.flag_at flags.now node && tree.is_a (source_read syntax.now) p_enumerator node) }
 {
-    flag_at(flags, node) && is_a(syntax, P_ENUMERATOR, node)
+    flag_at(flags, node) && is_a(syntax, ENUMERATOR, node)
 }
 
 // The name of an enumerator, the first of its children, where nothing is known of it.

@@ -17,15 +17,12 @@ ghost use Rattle.tree_reads.specs.leaf_maps.Numbers.{number_at};
 use crate::SeenTag;
 use crate::tag_numbers::declaring::{Declaring, tag_declared};
 use crate::tag_numbers::specifiers::next_specifier;
+use c_grammar::productions::{ENUMERATORS, MEMBERS};
 use pta_base::OutOfMemory;
 use std::alloc::Global;
 use tree_reads::leaf_maps::LeafMap;
 use tree_reads::node_roles::{Role, is_specifier_at, is_structure_at};
 use tree_reads::{Syntax, child_of, is_leaf, word_of};
-
-const P_MEMBERS: u32 = 13;
-
-const P_ENUMERATORS: u32 = 17;
 
 /// What is known of the tags of specifiers: the number of each by its node, and those that may not stand. All other nodes take no memory.
 #[derive(Drop)]
@@ -50,7 +47,7 @@ impl SeenTags {
 fn has_list(syntax: &Syntax, node: u32) -> bool
     ensures { (uses : List (ℕ × ℕ)) → result ≡ spec.has_list (source_in syntax.now uses) node }
 {
-    child_of(syntax, P_MEMBERS, node).is_some() || child_of(syntax, P_ENUMERATORS, node).is_some()
+    child_of(syntax, MEMBERS, node).is_some() || child_of(syntax, ENUMERATORS, node).is_some()
 }
 
 // The specifier that declares a tag first.
@@ -259,7 +256,7 @@ fn completes(syntax: &Syntax, roles: &[Role], node: u32) -> bool
     ensures { (uses : List (ℕ × ℕ)) →
         let s = source_in syntax.now uses in AreRoles s roles.now → result ≡ completes s node }
 {
-    is_structure_at(roles, node) && child_of(syntax, P_MEMBERS, node).is_some()
+    is_structure_at(roles, node) && child_of(syntax, MEMBERS, node).is_some()
 }
 
 // Marks the tag of one more node, if it is a specifier with a list of members.

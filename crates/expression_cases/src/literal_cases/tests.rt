@@ -2,7 +2,7 @@
 
 use core_tree::node::{Entity, Linkage, NodeKind, Storage, Unit};
 use expression_texts::texts::{
-    Refusal, Shape, WITHIN, answer, answer_outside, has_shapes, is_refusal, place_at, refusal,
+    Refusal, WITHIN, answer, answer_outside, are_numbers, has_shapes, is_refusal, place_at, refusal,
 };
 use pta_base::Kind;
 use std::alloc::Global;
@@ -10,12 +10,6 @@ use std::test::Fail;
 
 // The number of the first entity that an expression can make.
 const FIRST: usize = 11;
-
-// The object of a compound literal: its column, the size of its type, and the node of its initialiser.
-type Object = (u32, u64, u32);
-
-// A text, its core nodes, the entities that its literals and their initialisers name, in the order of the nodes, and its objects.
-type Row<'a> = (&'a str, &'a [Shape<'a>], &'a [u32], &'a [Object]);
 
 // The size of an entity's type.
 fn size_of(unit: &Unit, entity: &Entity) -> Option<u64> {
@@ -26,36 +20,46 @@ fn size_of(unit: &Unit, entity: &Entity) -> Option<u64> {
     }
 }
 
-// Whether an entity is that object, with that storage and that owner.
+// The number in that position of a text in which numbers stand with dots between them.
+fn number(text: &str, at: usize) -> u32 {
+    let number = text.split('.').nth(at).unwrap_or("");
+    number.parse().unwrap_or(u32::MAX)
+}
+
+// Whether an entity is that object, with that storage and that owner. A text tells the object of a compound literal: its column, the size
+// of its type, and the node of its initialiser.
 fn is_object(
     unit: &Unit,
     entity: &Entity,
-    object: &Object,
+    object: &str,
     storage: Storage,
     owner: Option<u32>,
 ) -> bool {
     entity.name.as_str().is_empty()
         && entity.unit == place_at(1).unit
-        && entity.place == place_at(object.0)
-        && size_of(unit, entity) == Some(object.1)
+        && entity.place == place_at(number(object, 0))
+        && size_of(unit, entity) == Some(u64::from(number(object, 1)))
         && entity.linkage == Linkage::Local
         && entity.storage == storage
         && entity.owner == owner
-        && entity.body == Some(object.2)
+        && entity.body == Some(number(object, 2))
         && entity.used.is_none()
 }
 
-// Whether the last entities of a unit are these objects, and there are no others that are new.
-fn has_objects(unit: &Unit, objects: &[Object], storage: Storage, owner: Option<u32>) -> bool {
-    if unit.entities.len() != FIRST + objects.len() {
-        return false;
+// Whether the last entities of a unit are these objects, and there are no others that are new; a dash is none.
+fn has_objects(unit: &Unit, objects: &str, storage: Storage, owner: Option<u32>) -> bool {
+    if objects == "-" {
+        return unit.entities.len() == FIRST;
     }
-    for (entity, object) in unit.entities.iter().skip(FIRST).zip(objects) {
-        if !is_object(unit, entity, object, storage, owner) {
-            return false;
+    let mut count = FIRST;
+    for object in objects.split(' ') {
+        match unit.entities.get(count) {
+            Some(entity) if is_object(unit, entity, object, storage, owner) => {}
+            _ => return false,
         }
+        count = count.saturating_add(1);
     }
-    true
+    unit.entities.len() == count
 }
 
 // The entities that literals and initialisers name.
@@ -71,212 +75,90 @@ fn numbers_of(alloc: Global, unit: &Unit) -> Result<Vec<u32>, Fail> {
     Ok(numbers)
 }
 
-// Whether a unit has what a row says.
+// Whether a unit has what the fields of a row behind its text say.
 fn has_row(
     alloc: Global,
     unit: &Unit,
-    row: &Row<'_>,
+    row: &str,
     storage: Storage,
     owner: Option<u32>,
 ) -> Result<bool, Fail> {
     let numbers = numbers_of(alloc, unit)?;
+    let mut fields = row.split(" => ").skip(1);
+    let shapes = fields.next().unwrap_or("");
+    let named = fields.next().unwrap_or("");
+    let objects = fields.next().unwrap_or("");
     Ok(
-        has_shapes(unit, row.1)
-            && numbers.as_slice() == row.2
-            && has_objects(unit, row.3, storage, owner),
+        has_shapes(unit, shapes)
+            && are_numbers(numbers.as_slice(), named)
+            && has_objects(unit, objects, storage, owner),
     )
 }
 
-// Whether a text in a function gives what a row says.
-fn gives_within(alloc: Global, row: &Row<'_>) -> Result<bool, Fail> {
-    let (unit, _known, refusal) = answer(alloc, row.0)?;
+// The text of a row.
+fn text_of<'a>(row: &'a str) -> &'a str {
+    row.split(" => ").next().unwrap_or("")
+}
+
+// Whether the text of a row gives in a function what the row says; what begins with a hash mark and a space is a remark.
+fn gives_within(alloc: Global, row: &str) -> Result<bool, Fail> {
+    if row.starts_with("# ") {
+        return Ok(true);
+    }
+    let (unit, _known, refusal) = answer(alloc, text_of(row))?;
     Ok(refusal.is_none() && has_row(alloc, &unit, row, Storage::Automatic, Some(WITHIN))?)
 }
 
-// Whether a text outside of functions does.
-fn gives_outside(alloc: Global, row: &Row<'_>) -> Result<bool, Fail> {
-    let (unit, _known, refusal) = answer_outside(alloc, row.0)?;
+// Whether it gives that outside of functions.
+fn gives_outside(alloc: Global, row: &str) -> Result<bool, Fail> {
+    let (unit, _known, refusal) = answer_outside(alloc, text_of(row))?;
     Ok(refusal.is_none() && has_row(alloc, &unit, row, Storage::Static, None)?)
 }
 
-// Rows of texts in a function, written by hand.
-static WITHIN_FUNCTIONS: [Row<'static>; 13] = [
-    // The place of the literal is its parenthesis, that of its initialiser the brace.
-    (
-        "(int){1}",
-        &[(b'1', 7, &[]), (b'I', 6, &[0]), (b'{', 1, &[1])],
-        &[11, 11],
-        &[(1, 4, 1)],
-    ),
-    // As an operand it is read like any object (C11 6.3.2.1p2).
-    (
-        "(int){1}+a",
-        &[
-            (b'1', 7, &[]),
-            (b'I', 6, &[0]),
-            (b'{', 1, &[1]),
-            (b'a', 10, &[]),
-            (b'F', 1, &[2]),
-            (b'F', 10, &[3]),
-            (b'+', 9, &[4, 5]),
-        ],
-        &[11, 11],
-        &[(1, 4, 1)],
-    ),
-    // It is an lvalue, so it has an address (C11 6.5.2.5p4).
-    (
-        "&(int){2}",
-        &[
-            (b'2', 8, &[]),
-            (b'I', 7, &[0]),
-            (b'{', 2, &[1]),
-            (b'&', 1, &[2]),
-        ],
-        &[11, 11],
-        &[(2, 4, 1)],
-    ),
-    // A structure that is known, and a member of it.
-    (
-        "(struct s){'\\t',p}.y",
-        &[
-            (b'9', 12, &[]),
-            (b'c', 17, &[]),
-            (b'C', 12, &[0]),
-            (b'F', 17, &[1]),
-            (b'I', 11, &[2, 3]),
-            (b'{', 1, &[4]),
-            (b'M', 19, &[5]),
-        ],
-        &[11, 11],
-        &[(1, 16, 4)],
-    ),
-    // An element that a designator names, and the next one (C11 6.7.9p17).
-    (
-        "(int[3]){[1]=a,7}",
-        &[
-            (b'a', 14, &[]),
-            (b'7', 16, &[]),
-            (b'F', 14, &[0]),
-            (b'I', 9, &[2, 1]),
-            (b'{', 1, &[3]),
-        ],
-        &[11, 11],
-        &[(1, 12, 3)],
-    ),
-    // The initialiser completes a type of unknown length (C11 6.5.2.5p5, 6.7.9p22).
-    (
-        "(int[]){1,2}",
-        &[
-            (b'1', 9, &[]),
-            (b'2', 11, &[]),
-            (b'I', 8, &[0, 1]),
-            (b'{', 1, &[2]),
-        ],
-        &[11, 11],
-        &[(1, 8, 2)],
-    ),
-    // A literal in a literal comes first.
-    (
-        "(int*[]){&(int){1},p}",
-        &[
-            (b'1', 17, &[]),
-            (b'I', 16, &[0]),
-            (b'{', 11, &[1]),
-            (b'&', 10, &[2]),
-            (b'c', 20, &[]),
-            (b'F', 20, &[4]),
-            (b'I', 9, &[3, 5]),
-            (b'{', 1, &[6]),
-        ],
-        &[11, 11, 12, 12],
-        &[(11, 4, 1), (1, 16, 6)],
-    ),
-    // What is only looked at leaves nothing, also of a length that the initialiser gives (C11 6.5.3.4p2).
-    ("sizeof(int){1}", &[(b'4', 1, &[])], &[], &[]),
-    ("sizeof(char[]){1,2,3}", &[(b'3', 1, &[])], &[], &[]),
-    // A string in a literal is an array of its own, to which the member points.
-    (
-        "(struct{char*m;}){\"ab\"}",
-        &[
-            (b'T', 19, &[]),
-            (b'D', 19, &[0]),
-            (b'I', 18, &[1]),
-            (b'{', 1, &[2]),
-        ],
-        &[11, 11],
-        &[(1, 8, 2)],
-    ),
-    // Two literals are two objects, in their order.
-    (
-        "(int){1},(int){2}",
-        &[
-            (b'1', 7, &[]),
-            (b'I', 6, &[0]),
-            (b'{', 1, &[1]),
-            (b'2', 16, &[]),
-            (b'I', 15, &[3]),
-            (b'{', 10, &[4]),
-            (b'F', 1, &[2]),
-            (b'F', 10, &[5]),
-            (b',', 9, &[6, 7]),
-        ],
-        &[11, 11, 12, 12],
-        &[(1, 4, 1), (10, 4, 4)],
-    ),
-    // What is assigned to it is assigned to the object.
-    (
-        "(int){a}=b",
-        &[
-            (b'a', 7, &[]),
-            (b'F', 7, &[0]),
-            (b'I', 6, &[1]),
-            (b'{', 1, &[2]),
-            (b'b', 10, &[]),
-            (b'F', 10, &[4]),
-            (b'A', 9, &[3, 5]),
-        ],
-        &[11, 11],
-        &[(1, 4, 2)],
-    ),
-    // A literal of a structure that the expression itself declares.
-    (
-        "(struct u{int i;}){5}.i",
-        &[
-            (b'5', 20, &[]),
-            (b'I', 19, &[0]),
-            (b'{', 1, &[1]),
-            (b'M', 22, &[2]),
-        ],
-        &[11, 11],
-        &[(1, 4, 1)],
-    ),
-];
+// Texts in a function, written by hand, each with its core nodes (see `gives`), the entities that its literals and their initialisers
+// name, in the order of the nodes, and its objects (see `is_object`).
+const WITHIN_FUNCTIONS: &str =
+    "# The place of the literal is its parenthesis, that of its initialiser the brace.
+(int){1} => 17 I6:0 {1:1 => 11.11 => 1.4.1
+# As an operand it is read like any object (C11 6.3.2.1p2).
+(int){1}+a => 17 I6:0 {1:1 a10 F1:2 F10:3 +9:4.5 => 11.11 => 1.4.1
+# It is an lvalue, so it has an address (C11 6.5.2.5p4).
+&(int){2} => 28 I7:0 {2:1 &1:2 => 11.11 => 2.4.1
+# A structure that is known, and a member of it.
+(struct s){'\\t',p}.y => 912 c17 C12:0 F17:1 I11:2.3 {1:4 M19:5 => 11.11 => 1.16.4
+# An element that a designator names, and the next one (C11 6.7.9p17).
+(int[3]){[1]=a,7} => a14 716 F14:0 I9:2.1 {1:3 => 11.11 => 1.12.3
+# The initialiser completes a type of unknown length (C11 6.5.2.5p5, 6.7.9p22).
+(int[]){1,2} => 19 211 I8:0.1 {1:2 => 11.11 => 1.8.2
+# A literal in a literal comes first.
+(int*[]){&(int){1},p} => 117 I16:0 {11:1 &10:2 c20 F20:4 I9:3.5 {1:6 => 11.11.12.12 => 11.4.1 1.16.6
+# What is only looked at leaves nothing, also of a length that the initialiser gives (C11 6.5.3.4p2).
+sizeof(int){1} => 41 => - => -
+sizeof(char[]){1,2,3} => 31 => - => -
+# A string in a literal is an array of its own, to which the member points.
+(struct{char*m;}){\"ab\"} => T19 D19:0 I18:1 {1:2 => 11.11 => 1.8.2
+# Two literals are two objects, in their order.
+(int){1},(int){2} => 17 I6:0 {1:1 216 I15:3 {10:4 F1:2 F10:5 ,9:6.7 => 11.11.12.12 => 1.4.1 10.4.4
+# What is assigned to it is assigned to the object.
+(int){a}=b => a7 F7:0 I6:1 {1:2 b10 F10:4 A9:3.5 => 11.11 => 1.4.2
+# A literal of a structure that the expression itself declares.
+(struct u{int i;}){5}.i => 520 I19:0 {1:1 M22:2 => 11.11 => 1.4.1";
 
 #[test]
 fn literals_within_functions(rt: HostRuntime) -> Result<(), Fail> {
-    for row in &WITHIN_FUNCTIONS {
-        assert!(rt; gives_within(rt.alloc(), row)?, "{:?}", row.0);
+    for row in WITHIN_FUNCTIONS.split('\n') {
+        assert!(rt; gives_within(rt.alloc(), row)?, "{row}");
     }
     Ok(())
 }
 
 // Outside of functions a literal lives for the whole run, and no function owns it (C11 6.5.2.5p5).
-static OUTSIDE_FUNCTIONS: [Row<'static>; 1] = [(
-    "int*r=&(int){1};",
-    &[
-        (b'1', 14, &[]),
-        (b'I', 13, &[0]),
-        (b'{', 8, &[1]),
-        (b'&', 7, &[2]),
-    ],
-    &[11, 11],
-    &[(8, 4, 1)],
-)];
+const OUTSIDE_FUNCTIONS: &str = "int*r=&(int){1}; => 114 I13:0 {8:1 &7:2 => 11.11 => 8.4.1";
 
 #[test]
 fn literals_outside_functions(rt: HostRuntime) -> Result<(), Fail> {
-    for row in &OUTSIDE_FUNCTIONS {
-        assert!(rt; gives_outside(rt.alloc(), row)?, "{:?}", row.0);
+    for row in OUTSIDE_FUNCTIONS.split('\n') {
+        assert!(rt; gives_outside(rt.alloc(), row)?, "{row}");
     }
     Ok(())
 }

@@ -21,6 +21,7 @@ ghost use Rattle.expression_rows.specs.c_rows.Lists.{first_in, last_in, parts_se
 ghost use Rattle.expression_rows.specs.c_rows.Lists.{started_core};
 
 use crate::c_rows::parts::{core_of, sensed, type_of};
+use c_grammar::productions::TYPE_NAME;
 use c_operators::objects::address_row;
 use c_results::{Made, Results};
 use c_types::term::{Term, TypeId};
@@ -33,8 +34,6 @@ use core_tree::node::{NodeKind, Unit};
 use pta_base::{Kind, Place};
 use std::alloc::Global;
 use tree_reads::{Syntax, Test, count_where, first_where, is_a, last_where, place_of, spelling_of};
-
-const P_TYPE_NAME: u32 = 24;
 
 // Whether a node is a place of a list.
 fn is_list_place(unit: &Unit, node: u32) -> bool
@@ -431,7 +430,7 @@ fn list_two(
         (expressions.list_core w s sense at (place_at s first) (spelling_at s first) (pair.0 ∷ pair.1 ∷ [])) }
 {
     let place = place_of(syntax, first);
-    if is_a(syntax, P_TYPE_NAME, pair.1) {
+    if is_a(syntax, TYPE_NAME, pair.1) {
         return next_of(alloc, unit, results, place, at, pair.0, pair.1);
     }
     if is_copy(syntax, first) {

@@ -12,14 +12,13 @@ ghost use Rattle.expression_rows.specs.whole_rows.Whole as spec;
 
 use crate::c_rows::parts::{behind_first, passed_on, sensed, type_of};
 use crate::whole_rows::operands::operand_of;
+use c_grammar::productions::CAST;
 use c_results::{Made, Results};
 use core_nodes::CheckFault;
 use core_tree::node::Unit;
 use std::alloc::Global;
 use tree_reads::{Syntax, Test, is_a, is_leaf, last_where};
 use value_rows::assignments::cast_row as cast_node;
-
-const P_CAST: u32 = 44;
 
 // A cast over its type and its operand.
 fn cast_parts(
@@ -80,7 +79,7 @@ pub fn cast_row(
     let rest = behind_first(children);
     match last_where(syntax, Test::Inner, rest) {
         Some(part) => {
-            if !is_a(syntax, P_CAST, part) {
+            if !is_a(syntax, CAST, part) {
                 return passed_on(alloc, results, part);
             }
             if rest.is_empty() {

@@ -17,6 +17,7 @@ ghost use Rattle.expression_rows.specs.whole_rows.Prefix as spec;
 use crate::c_rows::counted;
 use crate::c_rows::parts::{behind_first, passed_on, sensed, type_of};
 use crate::whole_rows::operands::operand_of;
+use c_grammar::productions::TYPE_NAME;
 use c_lexer::TokenKind;
 use c_operators::objects::{address_row, indirection_row, not_row, promoted_row};
 use c_operators::operators::sort_of_node;
@@ -48,8 +49,6 @@ const SIGN_MINUS: u8 = 13;
 const SIGN_TILDE: u8 = 14;
 
 const SIGN_EXCLAMATION: u8 = 15;
-
-const P_TYPE_NAME: u32 = 24;
 
 const WORD_SIZEOF: u8 = 24;
 
@@ -311,7 +310,7 @@ fn sized_part(
         CoreMade unit.new result
         (spec.sized_part w (source_read syntax.now) (sense_in (senses_made unit.old results.now)) place at part) }
 {
-    if is_a(syntax, P_TYPE_NAME, part) {
+    if is_a(syntax, TYPE_NAME, part) {
         return match type_of(unit, results, at, part) {
             Ok(ty) => size_row(alloc, unit, place, at, ty),
             Err(fault) => Err(fault),

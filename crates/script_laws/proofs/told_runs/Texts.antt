@@ -167,7 +167,7 @@ module _ (p : Program) (system : System) (family : Family) (s : IsSolved p syste
   function_named number key function key_is function_is lt =
       let world = machine_world p system family s in
       let fact = zip_at (λ entry f. IsFunctionFact (trees_of world) (view_in world) entry.0 entry.1 f) (enumerate_from 0 (functions_of (trees_of world) (view_in world))) system.functions number (number, key) function s.is_system.functions
-          (numbered_at 0 (functions_of (trees_of world) (view_in world)) number number key (omega arith) key_is) function_is in
+      (numbered_at 0 (functions_of (trees_of world) (view_in world)) number number key (omega arith) key_is) function_is in
       let (l, l_is) = (function_there (trees_of world) (view_in world) number key key_is).1 in
       let here : function.location ≡ l = fact.location ∙ ap (λ (o : Option ℕ). unwrap_or o 0) l_is in
       let first : first_from 0 (locations_in p) key ≡ Some l = l_is in

@@ -11,18 +11,9 @@ ghost use Rattle.tree_reads.specs.node_roles.Roles as spec;
 ghost use Rattle.tree_reads.specs.node_roles.Roles.{AreRoles, role_at};
 
 use crate::{Syntax, Test, any_where, children_of, production_of};
+use c_grammar::productions::{BLOCK, ENUM, MEMBER, STRUCT, SUFFIX};
 use pta_base::OutOfMemory;
 use std::alloc::Global;
-
-const P_STRUCT: u32 = 12;
-
-const P_MEMBER: u32 = 14;
-
-const P_ENUM: u32 = 16;
-
-const P_SUFFIX: u32 = 22;
-
-const P_BLOCK: u32 = 29;
 
 const LEFT_PARENTHESIS: u8 = 2;
 
@@ -43,8 +34,8 @@ fn is_boundary(syntax: &Syntax, production: u32, node: u32) -> bool
         let s = source_in syntax.now uses in
         tree.production_at s node ≡ production → result ≡ spec.is_boundary s node }
 {
-    production == P_BLOCK
-        || (production == P_SUFFIX
+    production == BLOCK
+        || (production == SUFFIX
             && any_where(
                 syntax,
                 Test::Sign(LEFT_PARENTHESIS),
@@ -57,11 +48,11 @@ fn role_of(syntax: &Syntax, node: u32) -> Role
     ensures { (uses : List (ℕ × ℕ)) → result ≡ role_at (source_in syntax.now uses) node }
 {
     let production = production_of(syntax, node);
-    if production == P_STRUCT {
+    if production == STRUCT {
         Role::Structure
-    } else if production == P_ENUM {
+    } else if production == ENUM {
         Role::Enumeration
-    } else if production == P_MEMBER {
+    } else if production == MEMBER {
         Role::Member
     } else if is_boundary(syntax, production, node) {
         Role::Boundary

@@ -11,11 +11,10 @@ ghost use Rattle.tree_reads.specs.Sources.{source_in};
 ghost use Rattle.unit_keys.specs.Placed.{ArePositions};
 
 use crate::{declaration_with, parts_of};
+use c_grammar::productions::MEMBER;
 use c_results::Results;
 use tree_reads::leaf_maps::LeafMap;
 use tree_reads::{Syntax, is_a};
-
-const P_MEMBER: u32 = 14;
 
 /// The declaration of members that has a node as a word of its specifiers.
 pub fn member_around(syntax: &Syntax, node: u32) -> Option<u32>
@@ -24,7 +23,7 @@ pub fn member_around(syntax: &Syntax, node: u32) -> Option<u32>
     ensures within { IfSome result (λ p. p < length syntax.now.tree.now.nodes.items) }
 {
     match declaration_with(syntax, node) {
-        Some(declaration) => if is_a(syntax, P_MEMBER, declaration) {
+        Some(declaration) => if is_a(syntax, MEMBER, declaration) {
             Some(declaration)
         } else {
             None

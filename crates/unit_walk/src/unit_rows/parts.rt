@@ -16,6 +16,7 @@ ghost use Rattle.unit_walk.specs.unit_rows.Built.{is_part, is_derivation};
 use crate::unit_rows::known::Known;
 use crate::unit_rows::names::type_specifier;
 use c_declarators::{parameter_row, specs_row, suffix_row, type_name_row};
+use c_grammar::productions::{ALIGN, ASSERT, ENUM, PARAMETER, SPECS, SUFFIX, TYPE};
 use c_meanings::Linkages;
 use c_results::{Made, Results};
 use c_tags::{align_specifier, assert_row, enum_row, enumerator_row};
@@ -23,20 +24,6 @@ use core_nodes::CheckFault;
 use core_tree::node::Unit;
 use std::alloc::Global;
 use tree_reads::Syntax;
-
-const P_ASSERT: u32 = 4;
-
-const P_SPECS: u32 = 6;
-
-const P_ALIGN: u32 = 10;
-
-const P_TYPE: u32 = 11;
-
-const P_ENUM: u32 = 16;
-
-const P_SUFFIX: u32 = 22;
-
-const P_PARAMETER: u32 = 23;
 
 /// The row of an assertion, or of a part of specifiers.
 pub(in crate::unit_rows) fn specifier(
@@ -69,20 +56,20 @@ pub(in crate::unit_rows) fn specifier(
         Rowed unit.new result (spec.declaring_row w s sense production at children.now) }
 {
     let syntax = &known.numbered.syntax;
-    if production == P_ASSERT {
+    if production == ASSERT {
         return assert_row(unit, syntax, results, at);
     }
-    if production == P_SPECS {
+    if production == SPECS {
         return specs_row(alloc, unit, syntax, results, at, children);
     }
-    if production == P_ALIGN {
+    if production == ALIGN {
         return align_specifier(unit, syntax, results, at, children);
     }
-    if production == P_TYPE {
+    if production == TYPE {
         let names = known.names;
         return type_specifier(alloc, unit, syntax, names, results, linkages, at, children);
     }
-    if production == P_ENUM {
+    if production == ENUM {
         return enum_row(unit, syntax, known.numbered.tags.seen_at(at), at);
     }
     enumerator_row(unit, syntax, results, at, children)
@@ -110,10 +97,10 @@ pub(in crate::unit_rows) fn derivation(
         let sense = sense_in (senses_made unit.old results.now) in
         Rowed unit.new result (spec.declaring_row w (source_in syntax.now uses) sense production at children.now) }
 {
-    if production == P_SUFFIX {
+    if production == SUFFIX {
         return suffix_row(alloc, unit, syntax, results, at, children);
     }
-    if production == P_PARAMETER {
+    if production == PARAMETER {
         return parameter_row(alloc, unit, syntax, results, at);
     }
     type_name_row(alloc, unit, syntax, results, at)

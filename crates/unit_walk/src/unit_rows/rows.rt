@@ -26,6 +26,11 @@ use crate::unit_rows::initials::initial_row;
 use crate::unit_rows::known::Known;
 use crate::unit_rows::parts::{derivation, specifier};
 use crate::unit_rows::structures::structure;
+use c_grammar::productions::{
+    ABSTRACT, ALIGN, ASM_NAME, ASSERT, BLOCK, DECLARATION, DECLARATOR, EITHER, ENUM, ENUMERATOR,
+    ENUMERATORS, EXPRESSION, EXTERNAL, FIELD, FUNCTION, ITEM, MEMBER, MEMBERS, PARAMETER, PRIMARY,
+    QUALIFIER, REST, SPECS, STATEMENT, STORAGE, STRUCT, SUFFIX, TYPE, TYPE_NAME, UNIT,
+};
 use c_meanings::Linkages;
 use c_results::{Made, Results};
 use c_statements::Choices;
@@ -37,75 +42,15 @@ use statement_rows::{Told, row as statement_row};
 use std::alloc::Global;
 use tree_reads::{children_of, production_of};
 
-const P_UNIT: u32 = 0;
-
-const P_EXTERNAL: u32 = 1;
-
-const P_REST: u32 = 2;
-
-const P_DECLARATION: u32 = 3;
-
-const P_ASSERT: u32 = 4;
-
-const P_ASM_NAME: u32 = 5;
-
-const P_SPECS: u32 = 6;
-
-const P_STORAGE: u32 = 7;
-
-const P_FUNCTION: u32 = 8;
-
-const P_QUALIFIER: u32 = 9;
-
-const P_ALIGN: u32 = 10;
-
-const P_TYPE: u32 = 11;
-
-const P_STRUCT: u32 = 12;
-
-const P_MEMBERS: u32 = 13;
-
-const P_MEMBER: u32 = 14;
-
-const P_FIELD: u32 = 15;
-
-const P_ENUM: u32 = 16;
-
-const P_ENUMERATORS: u32 = 17;
-
-const P_ENUMERATOR: u32 = 18;
-
-const P_DECLARATOR: u32 = 19;
-
-const P_ABSTRACT: u32 = 20;
-
-const P_EITHER: u32 = 21;
-
-const P_SUFFIX: u32 = 22;
-
-const P_PARAMETER: u32 = 23;
-
-const P_TYPE_NAME: u32 = 24;
-
-const P_ITEM: u32 = 27;
-
-const P_BLOCK: u32 = 29;
-
-const P_STATEMENT: u32 = 30;
-
-const P_EXPRESSION: u32 = 31;
-
-const P_PRIMARY: u32 = 47;
-
 // Whether a node stands for nothing of its own: a leaf, or a production that only lists others.
 fn is_list(production: u32) -> bool
     ensures { result ≡ lists_others production }
 {
     match production {
-        P_UNIT | P_EXTERNAL | P_ASM_NAME => true,
-        P_STORAGE | P_FUNCTION | P_QUALIFIER => true,
-        P_ENUMERATORS | P_ITEM => true,
-        _ => production > P_PRIMARY,
+        UNIT | EXTERNAL | ASM_NAME => true,
+        STORAGE | FUNCTION | QUALIFIER => true,
+        ENUMERATORS | ITEM => true,
+        _ => production > PRIMARY,
     }
 }
 
@@ -114,8 +59,8 @@ fn is_part(production: u32) -> bool
     ensures { result ≡ is_part production }
 {
     match production {
-        P_ASSERT | P_SPECS | P_ALIGN => true,
-        P_TYPE | P_ENUM | P_ENUMERATOR => true,
+        ASSERT | SPECS | ALIGN => true,
+        TYPE | ENUM | ENUMERATOR => true,
         _ => false,
     }
 }
@@ -125,7 +70,7 @@ fn is_derivation(production: u32) -> bool
     ensures { result ≡ is_derivation production }
 {
     match production {
-        P_SUFFIX | P_PARAMETER | P_TYPE_NAME => true,
+        SUFFIX | PARAMETER | TYPE_NAME => true,
         _ => false,
     }
 }
@@ -135,7 +80,7 @@ fn is_statement(production: u32) -> bool
     ensures { result ≡ is_statement production }
 {
     match production {
-        P_REST | P_DECLARATION | P_BLOCK | P_STATEMENT => true,
+        REST | DECLARATION | BLOCK | STATEMENT => true,
         _ => false,
     }
 }
@@ -151,7 +96,7 @@ fn is_plain(production: u32) -> bool
 fn is_expression(production: u32) -> bool
     ensures { result ≡ is_expression production }
 {
-    P_EXPRESSION <= production && production <= P_PRIMARY
+    EXPRESSION <= production && production <= PRIMARY
 }
 
 // Whether a node is a list of members, a declaration of some or a field.
@@ -159,7 +104,7 @@ fn is_member(production: u32) -> bool
     ensures { result ≡ is_member production }
 {
     match production {
-        P_MEMBERS | P_MEMBER | P_FIELD => true,
+        MEMBERS | MEMBER | FIELD => true,
         _ => false,
     }
 }
@@ -169,7 +114,7 @@ fn is_declarator(production: u32) -> bool
     ensures { result ≡ is_declarator production }
 {
     match production {
-        P_DECLARATOR | P_ABSTRACT | P_EITHER => true,
+        DECLARATOR | ABSTRACT | EITHER => true,
         _ => false,
     }
 }
@@ -213,7 +158,7 @@ fn limited(
     let _count = unit.types.type_count();
     let syntax = &known.numbered.syntax;
     let production = production_of(syntax, at);
-    if production == P_STRUCT {
+    if production == STRUCT {
         return structure(alloc, unit, known, results, unions, at);
     }
     if is_member(production) {

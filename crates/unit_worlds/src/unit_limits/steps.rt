@@ -17,14 +17,11 @@ ghost use Rattle.unit_worlds.specs.unit_limits.Small.{IsTypeOf, tag_in};
 ghost use Rattle.unit_worlds.specs.unit_limits.Unions.{AreUnions};
 
 use crate::unit_limits::unions::note_type;
+use c_grammar::productions::{MEMBERS, STRUCT};
 use c_results::Made;
 use c_types::term::TypeId;
 use core_tree::node::Unit;
 use tree_reads::{Syntax, child_of, is_a};
-
-const P_STRUCT: u32 = 12;
-
-const P_MEMBERS: u32 = 13;
 
 // The type, if that is what has been made.
 fn typed(made: &Made) -> Option<TypeId>
@@ -51,10 +48,10 @@ fn completed_type(syntax: &Syntax, at: u32, made: &Made) -> Option<TypeId>
         (is_a s p_struct at ≡ true → struct_row w s sense at ≡ Fits (sense_made u made.now)) →
         IfSome result (λ ty. tag_in (type_of u.types ty.0) ≡ Some (tag_of s at)) }
 {
-    if !is_a(syntax, P_STRUCT, at) {
+    if !is_a(syntax, STRUCT, at) {
         return None;
     }
-    match child_of(syntax, P_MEMBERS, at) {
+    match child_of(syntax, MEMBERS, at) {
         Some(_) => typed(made),
         None => None,
     }

@@ -16,5 +16,6 @@ loop-rest-preserved c =
     record {
       within = omega arith;
       says = λ earlier h. says_less earlier (take i xs) d c.loop-rest.current c.restore.new.current (subst (λ ys. Says earlier ys c.loop-rest.current) e (c.loop-rest.invariant.says earlier h))
-          (subst (λ n. Restores c.loop-rest.current n d.before c.restore.new.current) c.deref.ensures.value c.restore.ensures);
+          (subst (λ n. Restores c.loop-rest.current n d.before c.restore.new.current) c.deref.ensures.value c.restore.ensures.restores);
+      indexed = c.restore.ensures.indexed;
     }

@@ -15,68 +15,68 @@ use Rattle.expression_rows.proofs.Productions.{chain_row, other_row, first_fits}
 use Rattle.expression_rows.proofs.Keeping.{named_world, named_knows, named_calls, named_values, identifier_fits, primary_kept}
 use Rattle.expression_rows.proofs.rows.by_production.Goals as goal
 
-pub returns-then-production-eq-P_PRIMARY-clause-built : goal.returns-then-production-eq-P_PRIMARY-clause-built
-returns-then-production-eq-P_PRIMARY-clause-built c w k fit =
+pub returns-then-production-eq-PRIMARY-clause-built : goal.returns-then-production-eq-PRIMARY-clause-built
+returns-then-production-eq-PRIMARY-clause-built c w k fit =
     let u = c.args.unit.now in
     let u1 = c.primary_row.new.unit in
     let s = source_read c.args.syntax.now in
     let S = sense_in (senses_made u c.args.results.now) in
     let at = c.args.at in
     let xs = c.args.children.now in
-    subst (λ (p : ℕ). Rowed u1 c.primary_row.result (built_row w s S p at xs)) (sym c.if-production-eq-P_PRIMARY.true) (c.primary_row.ensures.row w k (first_fits w u s S c.args.around.now xs (fit.primary c.if-production-eq-P_PRIMARY.true)))
+    subst (λ (p : ℕ). Rowed u1 c.primary_row.result (built_row w s S p at xs)) (sym c.if-production-eq-PRIMARY.true) (c.primary_row.ensures.row w k (first_fits w u s S c.args.around.now xs (fit.primary c.if-production-eq-PRIMARY.true)))
 
-pub returns-then-production-eq-P_POST-clause-built : goal.returns-then-production-eq-P_POST-clause-built
-returns-then-production-eq-P_POST-clause-built c w k fit =
+pub returns-then-production-eq-POST-clause-built : goal.returns-then-production-eq-POST-clause-built
+returns-then-production-eq-POST-clause-built c w k fit =
     let u = c.args.unit.now in
     let u1 = c.post_row.new.unit in
     let s = source_read c.args.syntax.now in
     let S = sense_in (senses_made u c.args.results.now) in
     let at = c.args.at in
     let xs = c.args.children.now in
-    subst (λ (p : ℕ). Rowed u1 c.post_row.result (built_row w s S p at xs)) (sym c.if-production-eq-P_POST.true) (c.post_row.ensures.row w k (fit.post c.if-production-eq-P_POST.true))
+    subst (λ (p : ℕ). Rowed u1 c.post_row.result (built_row w s S p at xs)) (sym c.if-production-eq-POST.true) (c.post_row.ensures.row w k (fit.post c.if-production-eq-POST.true))
 
-pub returns-then-production-eq-P_UNARY-clause-built : goal.returns-then-production-eq-P_UNARY-clause-built
-returns-then-production-eq-P_UNARY-clause-built c w k fit =
+pub returns-then-production-eq-UNARY-clause-built : goal.returns-then-production-eq-UNARY-clause-built
+returns-then-production-eq-UNARY-clause-built c w k fit =
     let u = c.args.unit.now in
     let u1 = c.unary_row.new.unit in
     let s = source_read c.args.syntax.now in
     let S = sense_in (senses_made u c.args.results.now) in
     let at = c.args.at in
     let xs = c.args.children.now in
-    subst (λ (p : ℕ). Rowed u1 c.unary_row.result (built_row w s S p at xs)) (sym c.if-production-eq-P_UNARY.true) (c.unary_row.ensures.row w k)
+    subst (λ (p : ℕ). Rowed u1 c.unary_row.result (built_row w s S p at xs)) (sym c.if-production-eq-UNARY.true) (c.unary_row.ensures.row w k)
 
-pub returns-then-production-eq-P_CAST-clause-built : goal.returns-then-production-eq-P_CAST-clause-built
-returns-then-production-eq-P_CAST-clause-built c w k fit =
+pub returns-then-production-eq-CAST-clause-built : goal.returns-then-production-eq-CAST-clause-built
+returns-then-production-eq-CAST-clause-built c w k fit =
     let u = c.args.unit.now in
     let u1 = c.cast_row.new.unit in
     let s = source_read c.args.syntax.now in
     let S = sense_in (senses_made u c.args.results.now) in
     let at = c.args.at in
     let xs = c.args.children.now in
-    subst (λ (p : ℕ). Rowed u1 c.cast_row.result (built_row w s S p at xs)) (sym c.if-production-eq-P_CAST.true) (c.cast_row.ensures.row w k)
+    subst (λ (p : ℕ). Rowed u1 c.cast_row.result (built_row w s S p at xs)) (sym c.if-production-eq-CAST.true) (c.cast_row.ensures.row w k)
 
-pub returns-then-production-eq-P_CONDITIONAL-clause-built : goal.returns-then-production-eq-P_CONDITIONAL-clause-built
-returns-then-production-eq-P_CONDITIONAL-clause-built c w k fit =
+pub returns-then-production-eq-CONDITIONAL-clause-built : goal.returns-then-production-eq-CONDITIONAL-clause-built
+returns-then-production-eq-CONDITIONAL-clause-built c w k fit =
     let u = c.args.unit.now in
     let u1 = c.conditional_row.new.unit in
     let s = source_read c.args.syntax.now in
     let S = sense_in (senses_made u c.args.results.now) in
     let at = c.args.at in
     let xs = c.args.children.now in
-    subst (λ (p : ℕ). Rowed u1 c.conditional_row.result (built_row w s S p at xs)) (sym c.if-production-eq-P_CONDITIONAL.true) (c.conditional_row.ensures.row w k)
+    subst (λ (p : ℕ). Rowed u1 c.conditional_row.result (built_row w s S p at xs)) (sym c.if-production-eq-CONDITIONAL.true) (c.conditional_row.ensures.row w k)
 
-pub returns-then-production-eq-P_ASSIGNMENT-clause-built : goal.returns-then-production-eq-P_ASSIGNMENT-clause-built
-returns-then-production-eq-P_ASSIGNMENT-clause-built c w k fit =
+pub returns-then-production-eq-ASSIGNMENT-clause-built : goal.returns-then-production-eq-ASSIGNMENT-clause-built
+returns-then-production-eq-ASSIGNMENT-clause-built c w k fit =
     let u = c.args.unit.now in
     let u1 = c.assignment_row.new.unit in
     let s = source_read c.args.syntax.now in
     let S = sense_in (senses_made u c.args.results.now) in
     let at = c.args.at in
     let xs = c.args.children.now in
-    subst (λ (p : ℕ). Rowed u1 c.assignment_row.result (built_row w s S p at xs)) (sym c.if-production-eq-P_ASSIGNMENT.true) (c.assignment_row.ensures.row w k)
+    subst (λ (p : ℕ). Rowed u1 c.assignment_row.result (built_row w s S p at xs)) (sym c.if-production-eq-ASSIGNMENT.true) (c.assignment_row.ensures.row w k)
 
-pub returns-then-production-eq-P_PRIMARY-clause-rows : goal.returns-then-production-eq-P_PRIMARY-clause-rows
-returns-then-production-eq-P_PRIMARY-clause-rows c =
+pub returns-then-production-eq-PRIMARY-clause-rows : goal.returns-then-production-eq-PRIMARY-clause-rows
+returns-then-production-eq-PRIMARY-clause-rows c =
     let u = c.args.unit.now in
     let u1 = c.primary_row.new.unit in
     let s = source_read c.args.syntax.now in
@@ -88,8 +88,8 @@ returns-then-production-eq-P_PRIMARY-clause-rows c =
     let sound = sense_rows u c.args.results.now c.requires.rows in
     made_rows u1 c.primary_row.result _ (c.primary_row.ensures.row w knows (λ some kind. identifier_fits u s S (get_or xs 0 0) (drop 1 xs) c.args.around.now)) (primary_kept w s S sound (named_values u c.args.around.now.may_call (option_copied c.args.around.now.own_name) c.args.around.now.further c.args.around.now.first c.requires.around) at xs)
 
-pub returns-then-production-eq-P_POST-clause-rows : goal.returns-then-production-eq-P_POST-clause-rows
-returns-then-production-eq-P_POST-clause-rows c =
+pub returns-then-production-eq-POST-clause-rows : goal.returns-then-production-eq-POST-clause-rows
+returns-then-production-eq-POST-clause-rows c =
     let u = c.args.unit.now in
     let u1 = c.post_row.new.unit in
     let s = source_read c.args.syntax.now in
@@ -101,8 +101,8 @@ returns-then-production-eq-P_POST-clause-rows c =
     let sound = sense_rows u c.args.results.now c.requires.rows in
     made_rows u1 c.post_row.result _ (c.post_row.ensures.row w knows (named_calls u c.args.around.now.may_call (option_copied c.args.around.now.own_name) c.args.around.now.further c.args.around.now.first)) (post_rows w s S sound at xs)
 
-pub returns-then-production-eq-P_CAST-clause-rows : goal.returns-then-production-eq-P_CAST-clause-rows
-returns-then-production-eq-P_CAST-clause-rows c =
+pub returns-then-production-eq-CAST-clause-rows : goal.returns-then-production-eq-CAST-clause-rows
+returns-then-production-eq-CAST-clause-rows c =
     let u = c.args.unit.now in
     let u1 = c.cast_row.new.unit in
     let s = source_read c.args.syntax.now in
@@ -114,8 +114,8 @@ returns-then-production-eq-P_CAST-clause-rows c =
     let sound = sense_rows u c.args.results.now c.requires.rows in
     made_rows u1 c.cast_row.result _ (c.cast_row.ensures.row w knows) (cast_row_rows w s S sound at xs)
 
-pub returns-then-production-eq-P_CONDITIONAL-clause-rows : goal.returns-then-production-eq-P_CONDITIONAL-clause-rows
-returns-then-production-eq-P_CONDITIONAL-clause-rows c =
+pub returns-then-production-eq-CONDITIONAL-clause-rows : goal.returns-then-production-eq-CONDITIONAL-clause-rows
+returns-then-production-eq-CONDITIONAL-clause-rows c =
     let u = c.args.unit.now in
     let u1 = c.conditional_row.new.unit in
     let s = source_read c.args.syntax.now in
@@ -127,8 +127,8 @@ returns-then-production-eq-P_CONDITIONAL-clause-rows c =
     let sound = sense_rows u c.args.results.now c.requires.rows in
     made_rows u1 c.conditional_row.result _ (c.conditional_row.ensures.row w knows) (conditional_rows w s S sound at xs)
 
-pub returns-then-production-eq-P_ASSIGNMENT-clause-rows : goal.returns-then-production-eq-P_ASSIGNMENT-clause-rows
-returns-then-production-eq-P_ASSIGNMENT-clause-rows c =
+pub returns-then-production-eq-ASSIGNMENT-clause-rows : goal.returns-then-production-eq-ASSIGNMENT-clause-rows
+returns-then-production-eq-ASSIGNMENT-clause-rows c =
     let u = c.args.unit.now in
     let u1 = c.assignment_row.new.unit in
     let s = source_read c.args.syntax.now in
@@ -149,7 +149,7 @@ returns-then-is_binary-clause-built c w k fit =
     let at = c.args.at in
     let xs = c.args.children.now in
     subst (λ (g : Given Sense). Rowed u1 c.binary_row.result g)
-    (sym (chain_row w s S c.args.production at xs c.if-production-eq-P_PRIMARY.false c.if-production-eq-P_POST.false c.if-production-eq-P_UNARY.false c.if-production-eq-P_CAST.false c.if-production-eq-P_CONDITIONAL.false c.if-production-eq-P_ASSIGNMENT.false (sym (c.is_binary.ensures w s S) ∙ c.if-is_binary.true)))
+    (sym (chain_row w s S c.args.production at xs c.if-production-eq-PRIMARY.false c.if-production-eq-POST.false c.if-production-eq-UNARY.false c.if-production-eq-CAST.false c.if-production-eq-CONDITIONAL.false c.if-production-eq-ASSIGNMENT.false (sym (c.is_binary.ensures w s S) ∙ c.if-is_binary.true)))
     (c.binary_row.ensures.row w k)
 
 pub returns-then-is_binary-clause-rows : goal.returns-then-is_binary-clause-rows
@@ -170,4 +170,4 @@ returns-clause-built c w k fit =
     let u = c.args.unit.now in
     let s = source_read c.args.syntax.now in
     let S = sense_in (senses_made u c.args.results.now) in
-    other_row w s S c.args.production c.args.at c.args.children.now c.if-production-eq-P_PRIMARY.false c.if-production-eq-P_POST.false c.if-production-eq-P_UNARY.false c.if-production-eq-P_CAST.false c.if-production-eq-P_CONDITIONAL.false c.if-production-eq-P_ASSIGNMENT.false (sym (c.is_binary.ensures w s S) ∙ c.if-is_binary.false)
+    other_row w s S c.args.production c.args.at c.args.children.now c.if-production-eq-PRIMARY.false c.if-production-eq-POST.false c.if-production-eq-UNARY.false c.if-production-eq-CAST.false c.if-production-eq-CONDITIONAL.false c.if-production-eq-ASSIGNMENT.false (sym (c.is_binary.ensures w s S) ∙ c.if-is_binary.false)

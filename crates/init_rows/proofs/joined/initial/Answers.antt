@@ -30,6 +30,6 @@ returns-clause-row c = λ w uses told.
     let s = source_in c.args.scope.now.syntax.now uses in
     let sense = sense_in (senses_made u c.args.scope.now.results.now) in
     let part = subst IsInitialPart (sym c.production_of-production.ensures) c.requires.part in
-    let is = sym c.production_of-production.ensures ∙ is_designator c.production_of-production.result part c.if-production-eq-P_INIT.false c.if-production-eq-P_ITEMS.false in
+    let is = sym c.production_of-production.ensures ∙ is_designator c.production_of-production.result part c.if-production-eq-INIT.false c.if-production-eq-ITEMS.false in
     subst (λ (p : ℕ). Rowed u c.designator_row.result (declaring_row w s sense p c.args.at (children_at s c.args.at))) (sym is)
     (subst (λ (l : List ℕ). Rowed u c.designator_row.result (spec.designator_row w s sense c.args.at l)) c.children_of-children.ensures (c.designator_row.ensures.row w uses told.list.told.knows))

@@ -16,8 +16,8 @@ use Rattle.unit_walk.specs.unit_rows.Standing.{source_known, nodes_known, world_
 use Rattle.unit_walk.proofs.unit_rows.Answers.{structure_there, keeps_there, unless, given, anyway, of_member, member_kind, of_declarator, of_initial, initial_there, declarator_there, limited_so, row_declaring, named_sense}
 use Rattle.unit_walk.proofs.unit_rows.rows.limited.Goals as goal
 
-pub returns-then-production-eq-P_STRUCT-clause-keeps : goal.returns-then-production-eq-P_STRUCT-clause-keeps
-returns-then-production-eq-P_STRUCT-clause-keeps c =
+pub returns-then-production-eq-STRUCT-clause-keeps : goal.returns-then-production-eq-STRUCT-clause-keeps
+returns-then-production-eq-STRUCT-clause-keeps c =
     let k = c.args.known.now in
     let s = source_known k in
     let at = c.args.at in
@@ -26,20 +26,20 @@ returns-then-production-eq-P_STRUCT-clause-keeps c =
     let w = world_there k c.args.unit.now rs at in
     let q = production_at s at in
     let ys = children_at s at in
-    let struct : q ≡ p_struct = sym c.production_of-production.ensures ∙ c.if-production-eq-P_STRUCT.true in
+    let struct : q ≡ p_struct = sym c.production_of-production.ensures ∙ c.if-production-eq-STRUCT.true in
     keeps_there (nodes_known k) c.args.unit.now c.structure.new.unit rs w s q at ys c.structure.result c.requires.stand.kept
     (structure_there s c.structure.new.unit w S at c.structure.result struct c.structure.ensures.row)
     (unless (is_expression q) (limited_so q c.requires.limited) c.structure.result (λ m. SenseHasRows (sense_made c.structure.new.unit m)))
     (subst (λ (p : ℕ). IfOk c.structure.result (λ m. shapes.is_initial p ≡ true → HasAllRows (sense_made c.structure.new.unit m))) (sym struct) (unless (shapes.is_initial p_struct) refl c.structure.result (λ m. HasAllRows (sense_made c.structure.new.unit m))))
     (subst (λ (p : ℕ). IfOk c.structure.result (λ m. shapes.is_declarator p ≡ true → IsNamedSense (nodes_known k) (sense_made c.structure.new.unit m))) (sym struct) (unless (shapes.is_declarator p_struct) refl c.structure.result (λ m. IsNamedSense (nodes_known k) (sense_made c.structure.new.unit m))))
 
-pub returns-then-production-eq-P_STRUCT-clause-row : goal.returns-then-production-eq-P_STRUCT-clause-row
-returns-then-production-eq-P_STRUCT-clause-row c =
+pub returns-then-production-eq-STRUCT-clause-row : goal.returns-then-production-eq-STRUCT-clause-row
+returns-then-production-eq-STRUCT-clause-row c =
     let k = c.args.known.now in
     let s = source_known k in
     let at = c.args.at in
     let rs = c.args.results.now in
-    let struct : production_at s at ≡ p_struct = sym c.production_of-production.ensures ∙ c.if-production-eq-P_STRUCT.true in
+    let struct : production_at s at ≡ p_struct = sym c.production_of-production.ensures ∙ c.if-production-eq-STRUCT.true in
     structure_there s c.structure.new.unit (world_there k c.args.unit.now rs at) (sense_in (senses_made c.args.unit.now rs)) at c.structure.result struct c.structure.ensures.row
 
 pub returns-then-is_member-clause-keeps : goal.returns-then-is_member-clause-keeps
@@ -119,7 +119,7 @@ returns-clause-keeps c =
     let ys = children_at s at in
     let kind : is_initial q ≡ true =
     subst (λ (p : ℕ). is_initial p ≡ true) c.production_of-production.ensures
-    (initial_there c.production_of-production.result (subst (λ (p : ℕ). is_limited p ≡ true) (sym c.production_of-production.ensures) c.requires.limited) c.if-production-eq-P_STRUCT.false (sym c.is_member.ensures ∙ c.if-is_member.false) (sym c.is_declarator.ensures ∙ c.if-is_declarator.false)) in
+    (initial_there c.production_of-production.result (subst (λ (p : ℕ). is_limited p ≡ true) (sym c.production_of-production.ensures) c.requires.limited) c.if-production-eq-STRUCT.false (sym c.is_member.ensures ∙ c.if-is_member.false) (sym c.is_declarator.ensures ∙ c.if-is_declarator.false)) in
     keeps_there (nodes_known k) c.args.unit.now c.initial_row.new.unit rs w s q at ys c.initial_row.result c.requires.stand.kept
     ((subst (λ (g : Given Sense). Rowed c.initial_row.new.unit c.initial_row.result g) (sym (row_declaring w s S q at ys (limited_so q c.requires.limited)))
     (c.initial_row.ensures.row w c.requires.knows c.requires.fills c.requires.limits)))
